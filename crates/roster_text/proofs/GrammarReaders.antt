@@ -1,0 +1,260 @@
+-- The parts of the four texts, field by field.
+use Rattle.std.proofs.Common.{◌≡◌, ◌⊎◌, ℕ, true, false, List, [], ◌∷◌, ◌++◌, length, Result, Ok, Err, refl, sym, ap, subst, ◌∙◌, codes}
+use Rattle.std.specs.List.{flat_map}
+use Rattle.roster_text.specs.declared.bundle.Assignment.{Assignment}
+use Rattle.roster_text.specs.declared.bundle.Bundle.{Bundle}
+use Rattle.roster_text.specs.declared.bundle.Contract.{Contract}
+use Rattle.roster_text.specs.declared.bundle.Day.{Day}
+use Rattle.roster_text.specs.declared.bundle.History.{History}
+use Rattle.roster_text.specs.declared.bundle.Listed.{Listed}
+use Rattle.roster_text.specs.declared.bundle.Number.{Number}
+use Rattle.roster_text.specs.declared.bundle.Nurse.{Nurse}
+use Rattle.roster_text.specs.declared.bundle.NurseHistory.{NurseHistory}
+use Rattle.roster_text.specs.declared.bundle.OffRequest.{OffRequest}
+use Rattle.roster_text.specs.declared.bundle.Pair.{Pair}
+use Rattle.roster_text.specs.declared.bundle.Requirement.{Requirement}
+use Rattle.roster_text.specs.declared.bundle.Scenario.{Scenario}
+use Rattle.roster_text.specs.declared.bundle.ShiftType.{ShiftType}
+use Rattle.roster_text.specs.declared.bundle.Solution.{Solution}
+use Rattle.roster_text.specs.declared.bundle.Succession.{Succession}
+use Rattle.roster_text.specs.declared.bundle.WeekData.{WeekData}
+use Rattle.roster_text.specs.declared.bundle.WeekPairs.{WeekPairs}
+use Rattle.roster_text.specs.declared.fault.Keyword.{Keyword}
+use Rattle.roster_text.specs.declared.fault.Keyword.TheVariants as keyword
+use Rattle.roster_text.specs.declared.fault.What.{What}
+use Rattle.roster_text.specs.declared.fault.What.TheVariants as what
+use Rattle.roster_text.specs.declared.token.Token.{Token}
+use Rattle.roster_text.specs.Token.{Seen, is_mark}
+use Rattle.roster_text.specs.Words.{keyword_text}
+use Rattle.roster_text.specs.Grammar as grammar
+use Rattle.roster_text.specs.Grammar.{Pattern, Fits, Spelled, fixed, name, number, placed, day, named, small, is_number}
+use Rattle.roster_text.specs.FirstFault.{wants_number}
+use Rattle.roster_text.specs.Reading.{Read, ◌>>=◌, word_at, key_at, name_at, number_at, value_at, small_at, day_at, times_at, listed_at, section_at, names_at, until_at, pair_at, shift_type_at, succession_at, contract_at, nurse_at, scenario_at, nurse_history_at, history_at, week_pairs_at, requirement_at, off_request_at, week_data_at, assignment_at, solution_at, bundle_at}
+use Rattle.roster_text.proofs.Readers.{Reader, done_reader, then}
+use Rattle.roster_text.proofs.OneToken.{one_reader, name_one, placed_one, value_one, zero_seen, zero_fits, day_one}
+use Rattle.roster_text.proofs.UntilSection.{Start, LineFrom, Lines, no_equals_name, until_reader}
+use Rattle.roster_text.proofs.Several.{AreMany, every, then_word, name_reader, names_reader, section_reader, listed_reader, times_reader}
+
+-- a field, and then the rest
+step : {A B : Type 0} {patA : A → List Pattern} {readA : List Seen → Read A} → Reader every patA readA → {V : B → Type 0} (get : B → A) {patB : B → List Pattern} {k : A → List Seen → Read B} → ((a : A) → Reader (λ b. V b × (get b ≡ a)) patB (k a))
+    → Reader V (λ b. patA (get b) ++ patB b) (λ ts. readA ts >>= λ x. k x.0 x.1)
+step {A} {B} {patA} {readA} first {V} get {patB} {k} rest = then every patA readA first V get (λ b v. tt) patB k (λ a v. rest a)
+
+-- a word, and then the rest
+word : {B : Type 0} {V : B → Type 0} (due : What) (text : List ℕ) → wants_number due ≡ false → {pat : B → List Pattern} {k : List Seen → Read B} → Reader V pat k → Reader V (λ b. fixed due text ∷ pat b) (λ ts. word_at due text ts >>= λ x. k x.1)
+word {B} {V} due text no_number {pat} {k} r = then_word V due text no_number pat k r
+
+-- all fields are read
+done : {B : Type 0} {V : B → Type 0} (b : B) → V b → ((x : B) → V x → x ≡ b) → Reader V (λ _. []) (λ ts. Ok (b, ts))
+done {B} {V} b valid only = done_reader V b valid only
+
+small_reader : Reader every small small_at
+small_reader = one_reader (number 999) (value_at 999) (value_one 999)
+
+day_reader : Reader every (λ d. day d ∷ []) day_at
+day_reader = one_reader day day_at day_one
+
+pair_reader : Reader every grammar.pair pair_at
+unfolding pair_at
+pair_reader =
+    word what.Open (codes "(") refl (step small_reader (λ b. b.least) (λ least.
+    word what.Comma (codes ",") refl (step small_reader (λ b. b.greatest) (λ greatest.
+    word what.Close (codes ")") refl (done (record { least = least; greatest = greatest }) ((tt, refl), refl) (λ b v i. record { least = v.0.1 i; greatest = v.1 i }))))))
+
+shift_type_reader : Reader every grammar.shift_type shift_type_at
+unfolding shift_type_at
+shift_type_reader =
+    step name_reader (λ b. b.name) (λ name.
+    step pair_reader (λ b. b.run) (λ run.
+    done (record { name = name; run = run }) ((tt, refl), refl) (λ b v i. record { name = v.0.1 i; run = v.1 i })))
+
+flag_reader : Reader every (λ n. number 1 n ∷ []) (value_at 1)
+flag_reader = one_reader (number 1) (value_at 1) (value_one 1)
+
+placed_reader : (limit : ℕ) → Reader every (λ (n : Number). placed n.token limit n.value ∷ []) (number_at limit)
+placed_reader limit = one_reader (λ (n : Number). placed n.token limit n.value) (number_at limit) (placed_one limit)
+
+-- so many of a kind, and then the rest
+many : {A B : Type 0} {pat : A → List Pattern} {read : List Seen → Read A} → Reader every pat read → (n : ℕ) {V : B → Type 0} (get : B → List A) → ((b : B) → V b → length (get b) ≡ n) → {patB : B → List Pattern} {k : List A → List Seen → Read B} → ((xs : List A) → length xs ≡ n → Reader (λ b. V b × (get b ≡ xs)) patB (k xs))
+    → Reader V (λ b. flat_map pat (get b) ++ patB b) (λ ts. times_at read n ts >>= λ x. k x.0 x.1)
+many {A} {B} {pat} {read} item n {V} get valid {patB} {k} rest = then (AreMany n) (flat_map pat) (times_at read n) (times_reader pat read item n) V get valid patB k rest
+
+-- ---- the scenario
+
+succession_reader : Reader every grammar.succession succession_at
+unfolding succession_at
+succession_reader =
+    step name_reader (λ b. b.shift) (λ shift.
+    step names_reader (λ b. b.forbidden) (λ forbidden.
+    done (record { shift = shift; forbidden = forbidden }) ((tt, refl), refl) (λ b v i. record { shift = v.0.1 i; forbidden = v.1 i })))
+
+contract_reader : Reader every grammar.contract contract_at
+unfolding contract_at
+contract_reader =
+    step name_reader (λ b. b.name) (λ name.
+    step pair_reader (λ b. b.total) (λ total.
+    step pair_reader (λ b. b.working) (λ working.
+    step pair_reader (λ b. b.free) (λ free.
+    step small_reader (λ b. b.weekends) (λ weekends.
+    step flag_reader (λ b. b.complete_weekends) (λ flag.
+    done (record { name = name; total = total; working = working; free = free; weekends = weekends; complete_weekends = flag }) ((((((tt, refl), refl), refl), refl), refl), refl)
+      (λ b v i. record { name = v.0.0.0.0.0.1 i; total = v.0.0.0.0.1 i; working = v.0.0.0.1 i; free = v.0.0.1 i; weekends = v.0.1 i; complete_weekends = v.1 i })))))))
+
+nurse_reader : Reader every grammar.nurse nurse_at
+unfolding nurse_at
+nurse_reader =
+    step name_reader (λ b. b.name) (λ name.
+    step name_reader (λ b. b.contract) (λ contract.
+    step names_reader (λ b. b.skills) (λ skills.
+    done (record { name = name; contract = contract; skills = skills }) (((tt, refl), refl), refl) (λ b v i. record { name = v.0.0.1 i; contract = v.0.1 i; skills = v.1 i }))))
+
+no_equals_number : (limit n : ℕ) (t : Seen) → Fits (number limit n) t → t.text ≡ codes "=" → ⊥
+unfolding is_mark
+no_equals_number limit n t f e = let no : is_number (codes "=") ≡ true = sym (ap is_number e) ∙ f.0 in let bad : false ≡ true = no in cc
+
+succession_lines : Lines grammar.succession what.Number
+succession_lines = record { starts = start; any = line }
+  where
+    start : (s : Succession) → Start what.Number (grammar.succession s)
+    start s = record { lead = s.shift; next = number 99999 (length s.forbidden); rest = (flat_map named s.forbidden ++ []) ++ []; is = refl; labelled = refl; no_equals = no_equals_number 99999 (length s.forbidden) }
+    line : (t : Token) → LineFrom grammar.succession what.Number t
+    line t = record { value = record { shift = t; forbidden = [] }; start = start (record { shift = t; forbidden = [] }); lead = refl; more = zero_seen ∷ []; spelled = (zero_fits 99999, tt) }
+
+successions_reader : Reader every (grammar.lines_until keyword.Contracts what.Number grammar.succession) (until_at succession_at keyword.Contracts)
+successions_reader = until_reader grammar.succession succession_at succession_reader keyword.Contracts what.Number succession_lines
+
+scenario_reader : Reader every grammar.scenario scenario_at
+unfolding scenario_at
+scenario_reader =
+    word (what.Keyword keyword.Scenario) (keyword_text keyword.Scenario) refl (word what.Equals (codes "=") refl (step name_reader (λ b. b.name) (λ name.
+    word (what.Keyword keyword.Weeks) (keyword_text keyword.Weeks) refl (word what.Equals (codes "=") refl (step (placed_reader 99999) (λ b. b.weeks) (λ weeks.
+    step (section_reader named name_at name_reader keyword.Skills) (λ b. b.skills) (λ skills.
+    step (section_reader grammar.shift_type shift_type_at shift_type_reader keyword.ShiftTypes) (λ b. b.shifts) (λ shifts.
+    word (what.Keyword keyword.Successions) (keyword_text keyword.Successions) refl (step successions_reader (λ b. b.successions) (λ successions.
+    step (listed_reader grammar.contract contract_at contract_reader) (λ b. b.contracts) (λ contracts.
+    step (section_reader grammar.nurse nurse_at nurse_reader keyword.Nurses) (λ b. b.nurses) (λ nurses.
+    done (record { name = name; weeks = weeks; skills = skills; shifts = shifts; successions = successions; contracts = contracts; nurses = nurses }) (((((((tt, refl), refl), refl), refl), refl), refl), refl)
+      (λ b v i. record { name = v.0.0.0.0.0.0.1 i; weeks = v.0.0.0.0.0.1 i; skills = v.0.0.0.0.1 i; shifts = v.0.0.0.1 i; successions = v.0.0.1 i; contracts = v.0.1 i; nurses = v.1 i })))))))))))))
+
+-- ---- the history
+
+nurse_history_reader : Reader every grammar.nurse_history nurse_history_at
+unfolding nurse_history_at
+nurse_history_reader =
+    step name_reader (λ b. b.nurse) (λ nurse.
+    step small_reader (λ b. b.assignments) (λ assignments.
+    step small_reader (λ b. b.weekends) (λ weekends.
+    step name_reader (λ b. b.last_shift) (λ last.
+    step small_reader (λ b. b.shift_run) (λ shift_run.
+    step small_reader (λ b. b.working_run) (λ working_run.
+    step small_reader (λ b. b.free_run) (λ free_run.
+    done (record { nurse = nurse; assignments = assignments; weekends = weekends; last_shift = last; shift_run = shift_run; working_run = working_run; free_run = free_run }) (((((((tt, refl), refl), refl), refl), refl), refl), refl)
+      (λ b v i. record { nurse = v.0.0.0.0.0.0.1 i; assignments = v.0.0.0.0.0.1 i; weekends = v.0.0.0.0.1 i; last_shift = v.0.0.0.1 i; shift_run = v.0.0.1 i; working_run = v.0.1 i; free_run = v.1 i }))))))))
+
+abbrev HasLines : ℕ → History → Type 0
+HasLines n h = length h.nurses ≡ n
+
+history_reader : (lines : ℕ) → Reader (HasLines lines) grammar.history (history_at lines)
+unfolding history_at
+history_reader lines =
+    word (what.Keyword keyword.History) (keyword_text keyword.History) refl (step (placed_reader 999) (λ b. b.week) (λ week.
+    step name_reader (λ b. b.scenario) (λ scenario.
+    word (what.Keyword keyword.NurseHistory) (keyword_text keyword.NurseHistory) refl (many nurse_history_reader lines (λ b. b.nurses) (λ b v. v.0.0) (λ nurses len.
+    done (record { week = week; scenario = scenario; nurses = nurses }) (((len, refl), refl), refl) (λ b v i. record { week = v.0.0.1 i; scenario = v.0.1 i; nurses = v.1 i }))))))
+
+-- ---- the weeks
+
+week_pairs_reader : Reader every grammar.week_pairs week_pairs_at
+unfolding week_pairs_at
+week_pairs_reader =
+    step pair_reader (λ b. b.monday) (λ monday.
+    step pair_reader (λ b. b.tuesday) (λ tuesday.
+    step pair_reader (λ b. b.wednesday) (λ wednesday.
+    step pair_reader (λ b. b.thursday) (λ thursday.
+    step pair_reader (λ b. b.friday) (λ friday.
+    step pair_reader (λ b. b.saturday) (λ saturday.
+    step pair_reader (λ b. b.sunday) (λ sunday.
+    done (record { monday = monday; tuesday = tuesday; wednesday = wednesday; thursday = thursday; friday = friday; saturday = saturday; sunday = sunday }) (((((((tt, refl), refl), refl), refl), refl), refl), refl)
+      (λ b v i. record { monday = v.0.0.0.0.0.0.1 i; tuesday = v.0.0.0.0.0.1 i; wednesday = v.0.0.0.0.1 i; thursday = v.0.0.0.1 i; friday = v.0.0.1 i; saturday = v.0.1 i; sunday = v.1 i }))))))))
+
+requirement_reader : Reader every grammar.requirement requirement_at
+unfolding requirement_at
+requirement_reader =
+    step name_reader (λ b. b.shift) (λ shift.
+    step name_reader (λ b. b.skill) (λ skill.
+    step week_pairs_reader (λ b. b.days) (λ days.
+    done (record { shift = shift; skill = skill; days = days }) (((tt, refl), refl), refl) (λ b v i. record { shift = v.0.0.1 i; skill = v.0.1 i; days = v.1 i }))))
+
+requirement_lines : Lines grammar.requirement what.Name
+requirement_lines = record { starts = start; any = line }
+  where
+    start : (r : Requirement) → Start what.Name (grammar.requirement r)
+    start r = record { lead = r.shift; next = name r.skill; rest = grammar.week_pairs r.days ++ []; is = refl; labelled = refl; no_equals = no_equals_name r.skill }
+    line : (t : Token) → LineFrom grammar.requirement what.Name t
+    line t = record {
+      value = record { shift = t; skill = name_one.value; days = week_pairs_reader.some.value };
+      start = start (record { shift = t; skill = name_one.value; days = week_pairs_reader.some.value });
+      lead = refl;
+      more = name_one.token ∷ week_pairs_reader.some.tokens;
+      spelled = (name_one.example, week_pairs_reader.some.spelled);
+    }
+
+requirements_reader : Reader every (grammar.lines_until keyword.ShiftOffRequests what.Name grammar.requirement) (until_at requirement_at keyword.ShiftOffRequests)
+requirements_reader = until_reader grammar.requirement requirement_at requirement_reader keyword.ShiftOffRequests what.Name requirement_lines
+
+off_request_reader : Reader every grammar.off_request off_request_at
+unfolding off_request_at
+off_request_reader =
+    step name_reader (λ b. b.nurse) (λ nurse.
+    step name_reader (λ b. b.shift) (λ shift.
+    step day_reader (λ b. b.day) (λ day.
+    done (record { nurse = nurse; shift = shift; day = day }) (((tt, refl), refl), refl) (λ b v i. record { nurse = v.0.0.1 i; shift = v.0.1 i; day = v.1 i }))))
+
+week_data_reader : Reader every grammar.week_data week_data_at
+unfolding week_data_at
+week_data_reader =
+    word (what.Keyword keyword.WeekData) (keyword_text keyword.WeekData) refl (step name_reader (λ b. b.scenario) (λ scenario.
+    word (what.Keyword keyword.Requirements) (keyword_text keyword.Requirements) refl (step requirements_reader (λ b. b.requirements) (λ requirements.
+    step (listed_reader grammar.off_request off_request_at off_request_reader) (λ b. b.off_requests) (λ off_requests.
+    done (record { scenario = scenario; requirements = requirements; off_requests = off_requests }) (((tt, refl), refl), refl) (λ b v i. record { scenario = v.0.0.1 i; requirements = v.0.1 i; off_requests = v.1 i }))))))
+
+-- ---- the solutions
+
+assignment_reader : Reader every grammar.assignment assignment_at
+unfolding assignment_at
+assignment_reader =
+    step name_reader (λ b. b.nurse) (λ nurse.
+    step day_reader (λ b. b.day) (λ day.
+    step name_reader (λ b. b.shift) (λ shift.
+    step name_reader (λ b. b.skill) (λ skill.
+    done (record { nurse = nurse; day = day; shift = shift; skill = skill }) ((((tt, refl), refl), refl), refl) (λ b v i. record { nurse = v.0.0.0.1 i; day = v.0.0.1 i; shift = v.0.1 i; skill = v.1 i })))))
+
+solution_reader : Reader every grammar.solution solution_at
+unfolding solution_at
+solution_reader =
+    word (what.Keyword keyword.Solution) (keyword_text keyword.Solution) refl (step (placed_reader 999) (λ b. b.week) (λ week.
+    step name_reader (λ b. b.scenario) (λ scenario.
+    step (section_reader grammar.assignment assignment_at assignment_reader keyword.Assignments) (λ b. b.assignments) (λ assignments.
+    done (record { week = week; scenario = scenario; assignments = assignments }) (((tt, refl), refl), refl) (λ b v i. record { week = v.0.0.1 i; scenario = v.0.1 i; assignments = v.1 i })))))
+
+-- ---- the bundle
+
+-- as many history lines as nurses, and as many weeks and solutions as the scenario says
+pub record Counted (b : Bundle) : Type 0 where
+  pub history_lines : length b.history.nurses ≡ length b.scenario.nurses.items
+  pub week_data_parts : length b.week_data ≡ b.scenario.weeks.value
+  pub solution_parts : length b.solutions ≡ b.scenario.weeks.value
+
+history_step : (s : Scenario) {V : Bundle → Type 0} → ((b : Bundle) → V b → length b.history.nurses ≡ length s.nurses.items) → {patB : Bundle → List Pattern} {k : History → List Seen → Read Bundle} → ((h : History) → length h.nurses ≡ length s.nurses.items → Reader (λ b. V b × (b.history ≡ h)) patB (k h))
+    → Reader V (λ b. grammar.history b.history ++ patB b) (λ ts. history_at (length s.nurses.items) ts >>= λ x. k x.0 x.1)
+history_step s {V} valid {patB} {k} rest = then (HasLines (length s.nurses.items)) grammar.history (history_at (length s.nurses.items)) (history_reader (length s.nurses.items)) V (λ b. b.history) valid patB k rest
+
+pub bundle_reader : Reader Counted grammar.bundle bundle_at
+unfolding bundle_at
+bundle_reader =
+    step scenario_reader (λ b. b.scenario) (λ s.
+    history_step s (λ b v. v.0.history_lines ∙ ap (λ (x : Scenario). length x.nurses.items) v.1) (λ h lines.
+    many week_data_reader s.weeks.value (λ b. b.week_data) (λ b v. v.0.0.week_data_parts ∙ ap (λ (x : Scenario). x.weeks.value) v.0.1) (λ ws weeks.
+    many solution_reader s.weeks.value (λ b. b.solutions) (λ b v. v.0.0.0.solution_parts ∙ ap (λ (x : Scenario). x.weeks.value) v.0.0.1) (λ ss solutions.
+    done (record { scenario = s; history = h; week_data = ws; solutions = ss }) ((((record { history_lines = lines; week_data_parts = weeks; solution_parts = solutions }, refl), refl), refl), refl)
+      (λ b v i. record { scenario = v.0.0.0.1 i; history = v.0.0.1 i; week_data = v.0.1 i; solutions = v.1 i })))))

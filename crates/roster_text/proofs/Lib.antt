@@ -1,0 +1,14 @@
+pub mod TokenFacts
+pub mod TokenLemmas
+pub mod TokenLines
+pub mod TokenRules
+pub mod Loops
+pub mod Spelling
+pub mod Readers
+pub mod OneToken
+pub mod Several
+pub mod UntilSection
+pub mod GrammarReaders
+pub mod FirstFaults
+pub mod Texts
+pub mod Lines

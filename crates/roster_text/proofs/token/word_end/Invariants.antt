@@ -1,0 +1,13 @@
+use Rattle.std.proofs.Common.{length, ◌-◌, ◌≡◌, ◌+◌, ◌≤◌, drop}
+use Rattle.std.specs.List.{prefix_len}
+use Rattle.roster_text.specs.Token.{is_word_byte}
+use Rattle.roster_text.proofs.token.word_end.Given as goal
+
+abbrev pub invariant-loop-at : goal.invariant-loop-at
+invariant-loop-at l = record {
+  in_text : l.at ≤ length l.text;
+  same_place : l.at + prefix_len is_word_byte (drop l.at l.text) ≡ l.fn.at + prefix_len is_word_byte (drop l.fn.at l.text);
+}
+
+abbrev pub decreases-loop-at : goal.decreases-loop-at
+decreases-loop-at l = length l.text - l.at

@@ -1,0 +1,78 @@
+-- Readers and writers under watch: what they give and take, and whether they have failed.
+use Rattle.std.specs.Prelude.{◌≡◌, ℕ, ◌+◌, ◌-◌, ◌^◌, ◌<◌, min, Bool, true, false, List, length, take, Ok, Err, Option, Result, nat_lt, ◌==◌, ◌&&◌}
+use Rattle.std.specs.Io.KnownBytes.{Appends, Consumes}
+use Rattle.roster_text.specs.declared.fault.TextFault.{TextFault}
+use Rattle.roster_text.specs.declared.fault.TextFault.TheVariants.{Memory, ReadFailed, TooLong}
+use Rattle.roster_text.specs.declared.fault.WriteFault.{WriteFault}
+use Rattle.roster_text.specs.declared.fault.WriteFault.TheVariants.{WriteFailed}
+
+-- a reader or a writer, and whether one of its calls has failed
+pub record Watched (T : Type 0) : Type 0 where
+  pub inner : T
+  pub failed : Bool
+
+-- a write of these bytes failed, or took none of at least one
+abbrev pub is_refused : {E : Type 0} → Result ℕ E → List ℕ → Bool
+is_refused (Ok n) bytes = n == 0 && nat_lt 0 (length bytes)
+is_refused (Err e) bytes = true
+
+-- a reader with these bytes left gave some of them, from the front
+abbrev pub TakesFront : Option (List ℕ) → Option (List ℕ) → Type 0
+TakesFront old new = (bytes : List ℕ) × Consumes old new bytes
+
+-- what can go wrong before there is a text
+abbrev pub IsReadFault : TextFault → Type 0
+IsReadFault Memory = Unit {0}
+IsReadFault ReadFailed = Unit {0}
+IsReadFault TooLong = Unit {0}
+IsReadFault _ = ⊥
+
+-- a read failed, and that is the answer
+abbrev pub is_read_failure : {A : Type 0} → Result A TextFault → Bool
+is_read_failure (Err ReadFailed) = true
+is_read_failure _ = false
+
+-- ---- writing a text; contents is what a writer holds
+
+-- the writer took the whole text, and no write failed
+pub record Writes {W : Type 0} (contents : W → Option (List ℕ)) (old new : Watched W) (text : List ℕ) : Type 0 where
+  pub taken : Appends (contents old.inner) (contents new.inner) text
+  pub failed : new.failed ≡ old.failed
+
+-- a write failed where the writer had taken just these first bytes of the text, and more were left
+pub record StopsAt {W : Type 0} (contents : W → Option (List ℕ)) (old new : Watched W) (text : List ℕ) (sent : ℕ) : Type 0 where
+  pub taken : Appends (contents old.inner) (contents new.inner) (take sent text)
+  pub left : sent < length text
+  pub failed : new.failed ≡ true
+
+-- how many bytes a fault says were sent
+abbrev pub sent_of : WriteFault → ℕ
+sent_of (WriteFailed sent) = sent
+
+-- a count that stops at 2 ^ 64 - 1
+abbrev pub saturated : ℕ → ℕ
+saturated n = min n (2 ^ 64 - 1)
+
+-- a write failed inside the text, and the fault counts the bytes that were taken before
+pub record StopsIn {W : Type 0} (contents : W → Option (List ℕ)) (old new : Watched W) (text : List ℕ) (fault : WriteFault) : Type 0 where
+  pub sent : ℕ
+  pub stops : StopsAt contents old new text sent
+  pub counted : fault ≡ WriteFailed (saturated sent)
+
+-- a write failed somewhere inside the text
+pub record Stops {W : Type 0} (contents : W → Option (List ℕ)) (old new : Watched W) (text : List ℕ) : Type 0 where
+  pub sent : ℕ
+  pub stops : StopsAt contents old new text sent
+
+-- ---- part of a text that is being sent; before and after count what was sent of the whole text
+
+-- the writer took the part
+pub record Sends {W : Type 0} (contents : W → Option (List ℕ)) (old new : Watched W) (before after : ℕ) (part : List ℕ) : Type 0 where
+  pub writes : Writes contents old new part
+  pub counted : after ≡ saturated (before + length part)
+
+-- a write failed inside the part, and the fault counts the whole text's bytes that were taken before
+pub record BreaksIn {W : Type 0} (contents : W → Option (List ℕ)) (old new : Watched W) (before : ℕ) (part : List ℕ) (fault : WriteFault) : Type 0 where
+  pub sent : ℕ
+  pub stops : StopsAt contents old new part sent
+  pub counted : fault ≡ WriteFailed (saturated (before + sent))

@@ -1,0 +1,263 @@
+//! What the four texts say: numbers, days, and names as tokens of the source.
+
+ghost use Rattle.std.specs.Prelude.{◌≡◌, ◌==◌, length};
+
+use crate::token::Token;
+use std::marker::Model;
+
+/// A day of the week.
+#[derive(Clone, Copy, Debug, PartialEq, Eq)]
+pub enum Day {
+    Monday,
+    Tuesday,
+    Wednesday,
+    Thursday,
+    Friday,
+    Saturday,
+    Sunday,
+}
+
+impl Day {
+    ghost use Rattle.std.specs.Prelude.{◌≡◌};
+    ghost use Rattle.roster_text.specs.Grammar.{short, long};
+
+    /// The days of a week, from Monday on.
+    pub const ALL: [Day; 7] = [
+        Day::Monday,
+        Day::Tuesday,
+        Day::Wednesday,
+        Day::Thursday,
+        Day::Friday,
+        Day::Saturday,
+        Day::Sunday,
+    ];
+
+    /// The day in three letters, as it is written.
+    pub fn short(self) -> &'static str
+        ensures { result.now ≡ short self }
+    {
+        match self {
+            Day::Monday => "Mon",
+            Day::Tuesday => "Tue",
+            Day::Wednesday => "Wed",
+            Day::Thursday => "Thu",
+            Day::Friday => "Fri",
+            Day::Saturday => "Sat",
+            Day::Sunday => "Sun",
+        }
+    }
+
+    /// The day written out, which is read too.
+    pub fn long(self) -> &'static str
+        ensures { result.now ≡ long self }
+    {
+        match self {
+            Day::Monday => "Monday",
+            Day::Tuesday => "Tuesday",
+            Day::Wednesday => "Wednesday",
+            Day::Thursday => "Thursday",
+            Day::Friday => "Friday",
+            Day::Saturday => "Saturday",
+            Day::Sunday => "Sunday",
+        }
+    }
+}
+
+/// The items of a section, in the order of the text.
+#[derive(Debug, Drop)]
+pub struct Items<T> {
+    items: Vec<T>,
+}
+
+impl<T> Model for Items<T> {
+    ghost use Rattle.std.specs.Prelude.{List};
+
+    ghost Value = { List T };
+
+    ghost view = { λ a. a.items.items };
+}
+
+impl<T> Items<T> {
+    pub(crate) fn from_vec(items: Vec<T>) -> Self
+        ensures { result ≡ items.items }
+    {
+        Items { items }
+    }
+
+    pub fn as_slice(&self) -> &[T]
+        ensures { result.now ≡ self.now }
+    {
+        self.items.as_slice()
+    }
+
+    /// How many there are.
+    pub fn len(&self) -> usize
+        ensures { result ≡ length self.now }
+    {
+        self.items.len()
+    }
+
+    pub fn is_empty(&self) -> bool
+        ensures { result ≡ (length self.now == 0) }
+    {
+        self.items.is_empty()
+    }
+}
+
+/// A number with the place where it stands.
+#[derive(Clone, Copy, Debug, PartialEq, Eq)]
+pub struct Number {
+    pub token: Token,
+    pub value: u32,
+}
+
+/// A section that begins with the count of its items, and where that count stands.
+#[derive(Debug, Drop)]
+pub struct Listed<T> {
+    pub count: Token,
+    pub items: Items<T>,
+}
+
+/// A least and a greatest number, or a minimum and an optimum, each from 0 to 999.
+#[derive(Clone, Copy, Debug, PartialEq, Eq)]
+pub struct Pair {
+    pub least: u16,
+    pub greatest: u16,
+}
+
+/// A shift, and how many days in a row it is to be worked.
+#[derive(Clone, Copy, Debug, PartialEq, Eq)]
+pub struct ShiftType {
+    pub name: Token,
+    pub run: Pair,
+}
+
+/// The shifts that may not follow a shift on the next day.
+#[derive(Debug, Drop)]
+pub struct Succession {
+    pub shift: Token,
+    pub forbidden: Items<Token>,
+}
+
+/// What a contract asks for: assignments, days in a row of work and of free time, worked weekends, whole weekends.
+#[derive(Clone, Copy, Debug, PartialEq, Eq)]
+pub struct Contract {
+    pub name: Token,
+    pub total: Pair,
+    pub working: Pair,
+    pub free: Pair,
+    pub weekends: u16,
+    /// 1 where a weekend is to be worked whole or not at all, else 0.
+    pub complete_weekends: u16,
+}
+
+/// A nurse with the name of a contract and the names of skills.
+#[derive(Debug, Drop)]
+pub struct Nurse {
+    pub name: Token,
+    pub contract: Token,
+    pub skills: Items<Token>,
+}
+
+/// The scenario: what stays the same in every week.
+#[derive(Debug, Drop)]
+pub struct Scenario {
+    pub name: Token,
+    pub weeks: Number,
+    pub skills: Listed<Token>,
+    pub shifts: Listed<ShiftType>,
+    pub successions: Items<Succession>,
+    pub contracts: Listed<Contract>,
+    pub nurses: Listed<Nurse>,
+}
+
+/// What a nurse did before the first Monday. The last shift may be the word `None`.
+#[derive(Clone, Copy, Debug, PartialEq, Eq)]
+pub struct NurseHistory {
+    pub nurse: Token,
+    pub assignments: u16,
+    pub weekends: u16,
+    pub last_shift: Token,
+    pub shift_run: u16,
+    pub working_run: u16,
+    pub free_run: u16,
+}
+
+/// The history: a line for each nurse.
+#[derive(Debug, Drop)]
+pub struct History {
+    pub week: Number,
+    pub scenario: Token,
+    pub nurses: Items<NurseHistory>,
+}
+
+/// A pair for each day of a week.
+#[derive(Clone, Copy, Debug, PartialEq, Eq)]
+pub struct WeekPairs {
+    pub monday: Pair,
+    pub tuesday: Pair,
+    pub wednesday: Pair,
+    pub thursday: Pair,
+    pub friday: Pair,
+    pub saturday: Pair,
+    pub sunday: Pair,
+}
+
+/// How many nurses a shift and skill needs at least, and at best, on each day of a week.
+#[derive(Clone, Copy, Debug, PartialEq, Eq)]
+pub struct Requirement {
+    pub shift: Token,
+    pub skill: Token,
+    pub days: WeekPairs,
+}
+
+/// A nurse's wish to have a day free of a shift; the shift may be the word `Any`.
+#[derive(Clone, Copy, Debug, PartialEq, Eq)]
+pub struct OffRequest {
+    pub nurse: Token,
+    pub shift: Token,
+    pub day: Day,
+}
+
+/// What one week asks for.
+#[derive(Debug, Drop)]
+pub struct WeekData {
+    pub scenario: Token,
+    pub requirements: Items<Requirement>,
+    pub off_requests: Listed<OffRequest>,
+}
+
+/// A nurse works a shift with a skill on a day.
+#[derive(Clone, Copy, Debug, PartialEq, Eq)]
+pub struct Assignment {
+    pub nurse: Token,
+    pub day: Day,
+    pub shift: Token,
+    pub skill: Token,
+}
+
+/// The roster of one week.
+#[derive(Debug, Drop)]
+pub struct Solution {
+    pub week: Number,
+    pub scenario: Token,
+    pub assignments: Listed<Assignment>,
+}
+
+/// The four texts: a scenario, a history, the data of each week and a solution for each week.
+#[derive(Debug, Drop)]
+pub struct Bundle {
+    pub scenario: Scenario,
+    pub history: History,
+    pub week_data: Items<WeekData>,
+    pub solutions: Items<Solution>,
+}
+
+impl Bundle {
+    /// How many weeks there are.
+    pub fn weeks(&self) -> usize
+        ensures { result ≡ length self.now.week_data }
+    {
+        self.week_data.len()
+    }
+}

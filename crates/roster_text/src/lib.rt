@@ -1,0 +1,25 @@
+//! The four texts of an instance: bytes, tokens, grammar, and the canonical text of a solution.
+#![tactic(auto)]
+
+mod bundle;
+mod fault;
+mod parser;
+mod parsing;
+mod parts;
+mod reading;
+mod token;
+mod view;
+mod watch;
+mod writing;
+
+pub use bundle::{
+    Assignment, Bundle, Contract, Day, History, Items, Listed, Number, Nurse, NurseHistory,
+    OffRequest, Pair, Requirement, Scenario, ShiftType, Solution, Succession, WeekData, WeekPairs,
+};
+pub use fault::{Keyword, TextFault, What, WriteFault};
+pub use parsing::{one_bundle, one_first_fault, parse_bundle};
+pub use reading::{MAX_INPUT, read_all};
+pub use token::{Token, tokens};
+pub use view::SolutionView;
+pub use watch::Watch;
+pub use writing::{write_bytes, write_number, write_solution};

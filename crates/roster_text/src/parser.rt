@@ -1,0 +1,357 @@
+//! Reading tokens from left to right: one token, so many of a kind, or lines up to the next section.
+
+ghost use Rattle.std.specs.Prelude.{◌≡◌, ◌≤◌, ◌<◌, ℕ, List, [], length, codes, Result, OnOk, IfOk, Option, Some, None, IsTrue, option_map, drop, min};
+ghost use Rattle.std.specs.Char.{digit_value, is_ascii_digit};
+ghost use Rattle.std.specs.List.{list_all};
+ghost use Rattle.std.specs.Str.Parse.{digits_value};
+ghost use Rattle.roster_text.specs.Grammar.{is_number, is_name};
+ghost use Rattle.roster_text.specs.Reading.{Read, Reads, begins_section, first_of, day_at, day_of, key_at, listed_at, name_at, names_at, number_at, section_at, small_at, times_at, until_at, value_at, word_at};
+ghost use Rattle.roster_text.specs.Token.{Seen};
+ghost use Rattle.roster_text.specs.Words.{keyword_text};
+
+use crate::bundle::{Day, Items, Listed, Number};
+use crate::fault::{Keyword, What};
+use crate::token::{Token, is_mark};
+use std::alloc::{AllocError, AllocFailed, Global};
+use std::marker::Model;
+
+/// Why the grammar doesn't go on at a token, or at the end.
+#[derive(Clone, Copy, Debug, PartialEq, Eq)]
+pub(crate) enum Refusal {
+    /// Something else is due there.
+    Due(What),
+    /// A number above the range of its place.
+    OutOfRange,
+}
+
+/// Why a part was not read.
+#[derive(Debug, Drop)]
+pub(crate) enum Stop {
+    Memory,
+    Refused(Refusal),
+}
+
+impl From<AllocError> for Stop {
+    ghost use Rattle.roster_text.specs.declared.parser.Stop.TheVariants.{Memory};
+
+    ghost from_gives = { λ _ e. e ≡ Memory };
+
+    fn from(_e: AllocError) -> Stop {
+        Stop::Memory
+    }
+}
+
+impl<T: Drop> From<AllocFailed<T>> for Stop {
+    ghost use Rattle.roster_text.specs.declared.parser.Stop.TheVariants.{Memory};
+
+    ghost from_gives = { λ _ e. e ≡ Memory };
+
+    fn from(_e: AllocFailed<T>) -> Stop {
+        Stop::Memory
+    }
+}
+
+/// The tokens that are left, each with its text. A part that is refused leaves the refused token first.
+#[derive(Drop)]
+pub(crate) struct Parser<'a> {
+    alloc: Global,
+    source: &'a [u8],
+    tokens: &'a [Token],
+}
+
+impl<'a> Model for Parser<'a> {
+    ghost use Rattle.std.specs.Prelude.{List, All, length};
+    ghost use Rattle.roster_text.specs.Token.{Seen, IsWithin, all_seen};
+
+    ghost Value = { List Seen };
+
+    ghost view = { λ p. all_seen p.source.now p.tokens.now };
+
+    ghost invariant = { λ p. All (IsWithin (length p.source.now)) p.tokens.now };
+}
+
+/// What can be read from the tokens that are left.
+pub(crate) trait Parse: Sized + Drop {
+    /// What reading gives on a list of tokens.
+    ghost read: { List Seen → Read Self };
+
+    fn parse(parser: &mut Parser<'_>) -> Result<Self, Stop>
+        ensures reads { Reads result parser.new (read parser.old) }
+        ensures takes { OnOk result (length parser.new < length parser.old) };
+}
+
+impl<'a> Parser<'a> {
+    ghost use Rattle.roster_text.specs.Token.{IsWithin, all_seen};
+    ghost use Rattle.std.specs.Prelude.{All};
+
+    pub(crate) fn new(alloc: Global, source: &'a [u8], tokens: &'a [Token]) -> Parser<'a>
+        requires { All (IsWithin (length source.now)) tokens.now }
+        ensures { result ≡ all_seen source.now tokens.now }
+    {
+        Parser {
+            alloc,
+            source,
+            tokens,
+        }
+    }
+
+    /// The next token with its text, if one is left.
+    fn next(&self) -> Option<(Token, &'a [u8])>
+        ensures { option_map (λ t. record { token = t.0; text = t.1.now }) result ≡ first_of self.now }
+    {
+        let token = *self.tokens.first()?;
+        Some((token, &self.source[token.start..token.end]))
+    }
+
+    /// The line of the next token, or None at the end.
+    pub(crate) fn line(&self) -> Option<usize>
+        ensures { result ≡ option_map (λ t. t.token.line) (first_of self.now) }
+    {
+        let (token, _) = self.next()?;
+        Some(token.line)
+    }
+
+    /// Goes behind the next token.
+    fn skip(&mut self)
+        requires { 0 < length self.old }
+        ensures { self.new ≡ drop 1 self.old }
+    {
+        self.tokens = &self.tokens[1..];
+    }
+
+    /// The next token is this text; `due` says what it is.
+    pub(crate) fn word(&mut self, due: What, text: &[u8]) -> Result<(), Stop>
+        ensures reads { Reads result self.new (word_at due text.now self.old) }
+        ensures takes { OnOk result (length self.new < length self.old) }
+    {
+        match self.next() {
+            Some((_, found)) if found == text => {
+                self.skip();
+                Ok(())
+            }
+            _ => Err(Stop::Refused(Refusal::Due(due))),
+        }
+    }
+
+    pub(crate) fn key(&mut self, keyword: Keyword) -> Result<(), Stop>
+        ensures reads { Reads result self.new (key_at keyword self.old) }
+        ensures takes { OnOk result (length self.new < length self.old) }
+    {
+        self.word(What::Keyword(keyword), keyword.text().as_bytes())
+    }
+
+    pub(crate) fn equals(&mut self) -> Result<(), Stop>
+        ensures reads { Reads result self.new (word_at What.Equals (codes "=") self.old) }
+        ensures takes { OnOk result (length self.new < length self.old) }
+    {
+        self.word(What::Equals, b"=")
+    }
+
+    pub(crate) fn name(&mut self) -> Result<Token, Stop>
+        ensures reads { Reads result self.new (name_at self.old) }
+        ensures takes { OnOk result (length self.new < length self.old) }
+    {
+        match self.next() {
+            Some((token, text)) if is_name(text) => {
+                self.skip();
+                Ok(token)
+            }
+            _ => Err(Stop::Refused(Refusal::Due(What::Name))),
+        }
+    }
+
+    /// A number from 0 to the limit.
+    pub(crate) fn number(&mut self, limit: u32) -> Result<Number, Stop>
+        requires { limit < BEYOND }
+        ensures reads { Reads result self.new (number_at limit self.old) }
+        ensures takes { OnOk result (length self.new < length self.old) }
+        ensures within { IfOk result (λ n. n.value ≤ limit) }
+    {
+        let Some((token, text)) = self.next() else {
+            return Err(Stop::Refused(Refusal::Due(What::Number)));
+        };
+        if !is_number(text) {
+            return Err(Stop::Refused(Refusal::Due(What::Number)));
+        }
+        let value = number_of(text);
+        if value > limit {
+            return Err(Stop::Refused(Refusal::OutOfRange));
+        }
+        self.skip();
+        Ok(Number { token, value })
+    }
+
+    /// A number from 0 to the limit, without its token.
+    pub(crate) fn value(&mut self, limit: u16) -> Result<u16, Stop>
+        ensures reads { Reads result self.new (value_at limit self.old) }
+        ensures takes { OnOk result (length self.new < length self.old) }
+    {
+        let number = self.number(u32::from(limit))?;
+        Ok(number.value as u16)
+    }
+
+    /// A number from 0 to 999.
+    pub(crate) fn small(&mut self) -> Result<u16, Stop>
+        ensures reads { Reads result self.new (small_at self.old) }
+        ensures takes { OnOk result (length self.new < length self.old) }
+    {
+        self.value(MAX_SMALL)
+    }
+
+    pub(crate) fn day(&mut self) -> Result<Day, Stop>
+        ensures reads { Reads result self.new (day_at self.old) }
+        ensures takes { OnOk result (length self.new < length self.old) }
+    {
+        let Some((_, text)) = self.next() else {
+            return Err(Stop::Refused(Refusal::Due(What::Day)));
+        };
+        let Some(day) = day_of(text) else {
+            return Err(Stop::Refused(Refusal::Due(What::Day)));
+        };
+        self.skip();
+        Ok(day)
+    }
+
+    /// The next two tokens are the keyword and `=`.
+    fn begins_section(&self, keyword: Keyword) -> bool
+        ensures { result ≡ begins_section keyword self.now }
+    {
+        match self.tokens {
+            [first, second, ..] => {
+                &self.source[first.start..first.end] == keyword.text().as_bytes()
+                    && &self.source[second.start..second.end] == b"=".as_slice()
+            }
+            _ => false,
+        }
+    }
+
+    /// So many, one after the other.
+    pub(crate) fn times<T: Parse>(&mut self, count: usize) -> Result<Items<T>, Stop>
+        ensures reads { Reads result self.new (times_at T.read count self.old) }
+        ensures takes { OnOk result (length self.new ≤ length self.old) }
+    {
+        let mut items = Vec::with_capacity(self.alloc, count.min(self.tokens.len()))?;
+        for _ in 0..count {
+            items.push(T::parse(self)?)?;
+        }
+        Ok(Items::from_vec(items))
+    }
+
+    /// A count, and that many.
+    #[tactic(auto, unfolding(crate::specs::Reading::listed_at))]
+    pub(crate) fn listed<T: Parse>(&mut self) -> Result<Listed<T>, Stop>
+        ensures reads { Reads result self.new (listed_at T.read self.old) }
+        ensures takes { OnOk result (length self.new < length self.old) }
+    {
+        let count = self.number(MAX_COUNT)?;
+        let items = self.times(count.value as usize)?;
+        Ok(Listed {
+            count: count.token,
+            items,
+        })
+    }
+
+    /// A keyword, `=`, a count, and that many.
+    #[tactic(auto, unfolding(crate::specs::Reading::section_at))]
+    pub(crate) fn section<T: Parse>(&mut self, keyword: Keyword) -> Result<Listed<T>, Stop>
+        ensures reads { Reads result self.new (section_at keyword T.read self.old) }
+        ensures takes { OnOk result (length self.new < length self.old) }
+    {
+        self.key(keyword)?;
+        self.equals()?;
+        self.listed()
+    }
+
+    /// A count of names, and the names.
+    #[tactic(auto, unfolding(crate::specs::Reading::names_at))]
+    pub(crate) fn names(&mut self) -> Result<Items<Token>, Stop>
+        ensures reads { Reads result self.new (names_at self.old) }
+        ensures takes { OnOk result (length self.new < length self.old) }
+    {
+        let count = self.number(MAX_COUNT)?;
+        self.times(count.value as usize)
+    }
+
+    /// Lines up to the keyword and `=` of the next section, and these two.
+    pub(crate) fn until<T: Parse>(&mut self, keyword: Keyword) -> Result<Items<T>, Stop>
+        ensures reads { Reads result self.new (until_at T.read keyword self.old) }
+        ensures takes { OnOk result (length self.new < length self.old) }
+    {
+        let mut items = Vec::new(self.alloc);
+        while !self.begins_section(keyword) {
+            items.push(T::parse(self)?)?;
+        }
+        self.skip();
+        self.skip();
+        Ok(Items::from_vec(items))
+    }
+}
+
+impl Parse for Token {
+    ghost read = { name_at };
+
+    fn parse(parser: &mut Parser<'_>) -> Result<Token, Stop> {
+        parser.name()
+    }
+}
+
+/// The greatest number in pairs, contracts, history lines and weeks.
+pub(crate) const MAX_SMALL: u16 = 999;
+
+/// The greatest count of items.
+pub(crate) const MAX_COUNT: u32 = 99_999;
+
+/// A number above every limit.
+const BEYOND: u32 = 1_000_000;
+
+/// A name is any word: a token that is no mark.
+fn is_name(text: &[u8]) -> bool
+    ensures { result ≡ is_name text.now }
+{
+    match text {
+        [] => false,
+        [first, ..] => !is_mark(*first),
+    }
+}
+
+/// Digits alone.
+fn is_number(text: &[u8]) -> bool
+    ensures { result ≡ is_number text.now }
+{
+    is_name(text) && are_digits(text)
+}
+
+fn are_digits(text: &[u8]) -> bool
+    ensures { result ≡ list_all is_ascii_digit text.now }
+{
+    text.iter().all(|byte| byte.is_ascii_digit())
+}
+
+/// The number that digits write, or a number above every limit.
+fn number_of(text: &[u8]) -> u32
+    ensures { result ≡ min (digits_value 10 text.now) BEYOND }
+{
+    let mut value = 0;
+    for byte in text {
+        value = (value * 10 + digit_value(*byte)).min(BEYOND);
+    }
+    value
+}
+
+/// The value of a digit, and something up to 36 for any other byte.
+fn digit_value(byte: u8) -> u32
+    ensures value { result ≡ digit_value byte }
+    ensures small { result ≤ 36 }
+{
+    char::from(byte).to_digit(36).unwrap_or(36)
+}
+
+/// The day that a text names, in either spelling.
+fn day_of(text: &[u8]) -> Option<Day>
+    ensures { result ≡ day_of text.now }
+{
+    Day::ALL
+        .iter()
+        .copied()
+        .find(|day| text == day.short().as_bytes() || text == day.long().as_bytes())
+}

@@ -1,0 +1,79 @@
+//! From tokens to what they say.
+
+ghost use Rattle.std.specs.Prelude.{◌≡◌, ◌≢◌, ℕ, List, IfOk, IfErr, MatchResult};
+ghost use Rattle.roster_text.specs.FirstFault.{IsFirstFault};
+ghost use Rattle.roster_text.specs.Grammar.{Spells};
+ghost use Rattle.roster_text.specs.Reading.{GivesUnlessMemory, bundle_at, whole_of, fault_of};
+ghost use Rattle.roster_text.specs.Token.{Seen, all_seen, line_at_end, tokens_of};
+
+use crate::bundle::Bundle;
+use crate::fault::TextFault;
+use crate::parser::{Parse, Parser, Refusal, Stop};
+use crate::token::{Token, line_at_end};
+use std::alloc::Global;
+
+/// The bundle that the tokens of a source spell: a scenario, a history, the data of as many weeks as it says,
+/// as many solutions, and nothing behind them. Names stay tokens of the source.
+pub fn parse_bundle(
+    alloc: Global,
+    source: &[u8],
+    tokens: &[Token],
+) -> Result<Bundle, TextFault>
+    requires { tokens.now ≡ tokens_of source.now }
+
+    // What is read is spelled.
+    ensures spelled { IfOk result (Spells (all_seen source.now tokens.now)) }
+
+    // What is spelled is read, unless memory runs out.
+    ensures accepted { (b : Bundle) → Spells (all_seen source.now tokens.now) b →
+        MatchResult result (λ c. c ≡ b) (λ f. f ≡ TextFault.Memory) }
+
+    // Any other answer is the first fault.
+    ensures refused { IfErr result (λ f. f ≢ TextFault.Memory →
+        IsFirstFault (line_at_end source.now) (all_seen source.now tokens.now) f) }
+{
+    bundle_of(alloc, source, tokens)
+}
+
+/// A list of tokens spells one bundle at most.
+pub fn one_bundle()
+    ensures { (ts : List Seen) (b c : Bundle) → Spells ts b → Spells ts c → b ≡ c }
+{
+}
+
+/// A list of tokens has one first fault at most: one place, and one word for what is due there.
+pub fn one_first_fault()
+    ensures { (end : ℕ) (ts : List Seen) (f g : TextFault) → IsFirstFault end ts f → IsFirstFault end ts g → f ≡ g }
+{
+}
+
+/// Reads from left to right, and says where and why it stops.
+fn bundle_of(alloc: Global, source: &[u8], tokens: &[Token]) -> Result<Bundle, TextFault>
+    requires { tokens.now ≡ tokens_of source.now }
+    ensures { GivesUnlessMemory result (whole_of (line_at_end source.now) (bundle_at (all_seen source.now tokens.now))) }
+{
+    let mut parser = Parser::new(alloc, source, tokens);
+    match Bundle::parse(&mut parser) {
+        Ok(bundle) => match parser.line() {
+            None => Ok(bundle),
+            Some(line) => Err(TextFault::AfterEnd { line }),
+        },
+        Err(Stop::Memory) => Err(TextFault::Memory),
+        Err(Stop::Refused(refusal)) => {
+            let line = match parser.line() {
+                None => line_at_end(source),
+                Some(line) => line,
+            };
+            Err(fault_of(refusal, line))
+        }
+    }
+}
+
+fn fault_of(refusal: Refusal, line: usize) -> TextFault
+    ensures { result ≡ fault_of refusal line }
+{
+    match refusal {
+        Refusal::Due(what) => TextFault::Expected { line, what },
+        Refusal::OutOfRange => TextFault::NumberRange { line },
+    }
+}

@@ -1,0 +1,216 @@
+//! The tokens of a text.
+
+ghost use Rattle.std.specs.Prelude.{◌≡◌, ℕ, ◌+◌, ◌-◌, ◌<◌, ◌≤◌, All, length, IfOk, IfErr, drop};
+ghost use Rattle.std.specs.List.{prefix_len};
+ghost use Rattle.roster_text.specs.Token.{is_separator, is_mark, is_word_byte, end_from, line_at, line_at_end, tokens_from, tokens_of, IsBetweenTokens, IsWithin, AreTokensOf};
+
+use crate::fault::TextFault;
+use std::alloc::Global;
+
+/// A token of a text: the bytes from `start` up to `end`, on this line (from 1).
+#[derive(Clone, Copy, Debug, PartialEq, Eq)]
+pub struct Token {
+    pub start: usize,
+    pub end: usize,
+    pub line: usize,
+}
+
+#[tactic(auto, unfolding(crate::specs::Token::is_separator))]
+fn is_separator(byte: u8) -> bool
+    ensures { result ≡ is_separator byte }
+{
+    matches!(byte, b' ' | b'\t' | b'\n' | b'\r')
+}
+
+#[tactic(auto, unfolding(crate::specs::Token::is_mark))]
+pub(crate) fn is_mark(byte: u8) -> bool
+    ensures { result ≡ is_mark byte }
+{
+    matches!(byte, b'(' | b')' | b',' | b'=')
+}
+
+// One test of all eight bytes, since this is what runs at each byte of a word.
+#[tactic(auto, unfolding(crate::specs::Token::is_word_byte, crate::specs::Token::is_separator, crate::specs::Token::is_mark))]
+fn is_word_byte(byte: u8) -> bool
+    ensures { result ≡ is_word_byte byte }
+{
+    !matches!(
+        byte,
+        b' ' | b'\t' | b'\n' | b'\r' | b'(' | b')' | b',' | b'='
+    )
+}
+
+// The first place from `at` on without a separator, or the end, with its line.
+#[tactic(auto, using(crate::proofs::TokenRules::line_rules))]
+fn next_start(text: &[u8], mut at: usize, mut line: usize) -> (usize, usize)
+    requires in_text { at ≤ length text.now }
+    requires on_line { line ≡ line_at text.now at }
+    ensures place { result.0 ≡ at + prefix_len is_separator (drop at text.now) }
+    ensures line { result.1 ≡ line_at text.now result.0 }
+{
+    while at < text.len() && is_separator(text[at]) {
+        if text[at] == b'\n' {
+            line += 1;
+        }
+        at += 1;
+    }
+    (at, line)
+}
+
+// The first place from `at` on without a word byte, or the end.
+fn word_end(text: &[u8], mut at: usize) -> usize
+    requires { at ≤ length text.now }
+    ensures { result ≡ at + prefix_len is_word_byte (drop at text.now) }
+{
+    while at < text.len() && is_word_byte(text[at]) {
+        at += 1;
+    }
+    at
+}
+
+// The end of the token that begins at `start`.
+#[tactic(auto, unfolding(crate::specs::Token::end_from))]
+fn token_end(text: &[u8], start: usize) -> usize
+    requires { start < length text.now }
+    ensures { result ≡ end_from text.now start }
+{
+    if is_mark(text[start]) {
+        start + 1
+    } else {
+        word_end(text, start)
+    }
+}
+
+// Goes over the tokens of a text.
+#[derive(Drop)]
+struct Scanner<'a> {
+    text: &'a [u8],
+    at: usize,
+    line: usize,
+    ghost in_text: { at ≤ length text.now },
+    ghost on_line: { line ≡ line_at text.now at },
+    ghost between_tokens: { IsBetweenTokens text.now at },
+}
+
+impl<'a> Scanner<'a> {
+    fn new(text: &'a [u8]) -> Self
+        ensures text { result.text.now ≡ text.now }
+        ensures at { result.at ≡ 0 }
+    {
+        Scanner {
+            text,
+            at: 0,
+            line: 1,
+        }
+    }
+}
+
+impl<'a> Iterator for Scanner<'a> {
+    ghost use Rattle.std.specs.Iterator.{YieldsFirst, item_count};
+
+    type Item = Token;
+
+    ghost next_gives = { YieldsFirst (λ s. tokens_from s.text.now s.at) };
+
+    ghost remaining = { item_count (λ s. tokens_from s.text.now s.at) };
+
+    fn next(&mut self) -> Option<Token> {
+        let (start, line) = next_start(self.text, self.at, self.line);
+        self.at = start;
+        self.line = line;
+        if start == self.text.len() {
+            return None;
+        }
+        self.at = token_end(self.text, start);
+        Some(Token {
+            start,
+            end: self.at,
+            line,
+        })
+    }
+}
+
+/// Cuts a text into its tokens. Blanks, tabs, CR and LF stand between them; each of `(`, `)`, `,` and `=` is a token
+/// alone, and every other longest run of bytes is a word. The only fault is `Memory`.
+pub fn tokens(alloc: Global, text: &[u8]) -> Result<Vec<Token>, TextFault>
+    ensures exact { IfOk result (λ ts. ts.items ≡ tokens_of text.now) }
+    ensures facts { IfOk result (λ ts. AreTokensOf text.now ts.items) }
+    ensures within { IfOk result (λ ts. All (IsWithin (length text.now)) ts.items) }
+    ensures only_memory { IfErr result (λ e. e ≡ TextFault.Memory) }
+{
+    let count = Scanner::new(text).count();
+    let mut kept = Vec::with_capacity(alloc, count)?;
+    for token in Scanner::new(text) {
+        kept.push(token)?;
+    }
+    Ok(kept)
+}
+
+/// The line on which a text ends, from 1.
+pub(crate) fn line_at_end(text: &[u8]) -> usize
+    ensures { result ≡ line_at_end text.now }
+{
+    1 + text.iter().filter(|byte| **byte == b'\n').count()
+}
+
+#[cfg(test)]
+mod tests {
+    use super::*;
+    use std::test::Fail;
+
+    fn token(start: usize, end: usize, line: usize) -> Token {
+        Token { start, end, line }
+    }
+
+    #[test]
+    fn cuts_texts(rt: HostRuntime) -> Result<(), Fail> {
+        let assignment = [token(0, 8, 1), token(9, 10, 1), token(11, 15, 1)];
+        let pair = [
+            token(0, 1, 1),
+            token(1, 2, 1),
+            token(2, 3, 1),
+            token(3, 4, 1),
+            token(4, 5, 1),
+        ];
+        let lines = [token(0, 1, 1), token(4, 5, 2), token(9, 11, 4)];
+        let bytes = [token(0, 4, 1), token(4, 5, 1), token(5, 7, 1)];
+        let cases: [(&[u8], &[Token]); 6] = [
+            (b"", &[]),
+            (b" \t\r\n\n", &[]),
+            (b"SCENARIO = mini\n", &assignment),
+            (b"(0,1)", &pair),
+            (b"a\r\n\tb \n\r\ncd", &lines),
+            (b"M\xfc\x00e=\xff\x1f", &bytes),
+        ];
+        for (text, want) in cases {
+            let all = tokens(rt.alloc(), text)?;
+            assert_eq!(rt; all.as_slice(), want);
+        }
+        Ok(())
+    }
+
+    #[test]
+    fn cuts_a_megabyte(rt: HostRuntime) -> Result<(), Fail> {
+        let mut text = Vec::new(rt.alloc());
+        for _line in 0..250_000 {
+            text.extend_from_slice(b"a,b\n")?;
+        }
+        let all = tokens(rt.alloc(), &text)?;
+        assert_eq!(rt; all.len(), 750_000);
+        assert_eq!(rt; all.last().copied(), Some(token(999_998, 999_999, 250_000)));
+        assert_eq!(rt; line_at_end(&text), 250_001);
+        Ok(())
+    }
+
+    #[test]
+    fn finds_the_last_line(rt: HostRuntime) {
+        for (text, want) in [
+            (b"".as_slice(), 1),
+            (b"a b", 1),
+            (b"a\n", 2),
+            (b"\r\n\n=", 3),
+        ] {
+            assert_eq!(rt; line_at_end(text), want);
+        }
+    }
+}
