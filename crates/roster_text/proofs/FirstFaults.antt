@@ -1,5 +1,5 @@
 -- Reading a bundle finds the one that is spelled, or the first fault.
-use Rattle.std.proofs.Common.{◌≡◌, ◌≢◌, ◌⊎◌, inl, inr, ℕ, Bool, true, false, cond, List, [], ◌∷◌, ◌++◌, length, Result, Ok, Err, refl, sym, ap, subst, ◌∙◌, append_assoc, ◌&&◌}
+use Rattle.std.proofs.Common.{◌≡◌, ◌≢◌, ◌⊎◌, inl, inr, ℕ, Bool, true, false, cond, List, [], ◌∷◌, ◌++◌, Result, Ok, Err, refl, sym, ap, subst, ◌∙◌, append_assoc, ◌&&◌}
 use Rattle.std.specs.Prelude.{MatchResult, IfOk, IfErr}
 use Rattle.std.proofs.lemmas.List.{append-nil}
 use Rattle.roster_text.specs.declared.bundle.Bundle.{Bundle}
@@ -11,9 +11,9 @@ use Rattle.roster_text.specs.declared.parser.Refusal.TheVariants.{Due, OutOfRang
 use Rattle.roster_text.specs.Token.{Seen}
 use Rattle.roster_text.specs.Grammar.{Pattern, Spelled, Spells, label, bundle, is_number}
 use Rattle.roster_text.specs.FirstFault.{GoesOn, AreDue, StopsBefore, wants_number, fault_at, IsFirstFault}
-use Rattle.roster_text.specs.Reading.{Read, bundle_at, line_of_first, fault_of, ended, whole_of, GivesUnlessMemory}
+use Rattle.roster_text.specs.Reading.{Read, bundle_at, line_of_first, fault_of, whole_of, GivesUnlessMemory}
 use Rattle.roster_text.proofs.Spelling.{spelled_append}
-use Rattle.roster_text.proofs.Readers.{Takes, Found, Stops, refusal, same_value, same_rest}
+use Rattle.roster_text.proofs.Readers.{Stops, refusal, same_value, same_rest}
 use Rattle.roster_text.proofs.GrammarReaders.{Counted, bundle_reader}
 
 counted : (ts : List Seen) (b : Bundle) → Spells ts b → Counted b
@@ -66,10 +66,18 @@ after_end end ts b t us e =
     let front = f.takes.front in
     let s : Spells front b = spells front b f.valid f.takes.spelled in
     record {
-      front = front; rest = t ∷ us; due = []; split = f.takes.split;
+      front = front;
+      rest = t ∷ us;
+      due = [];
+      split = f.takes.split;
       goes_on = record {
-        more = []; value = b; spells = subst (λ (vs : List Seen). Spells vs b) (sym (append-nil front)) s;
-        passed = bundle b; patterns = sym (append-nil (bundle b)); front_fits = f.takes.spelled; more_fits = tt;
+        more = [];
+        value = b;
+        spells = subst (λ (vs : List Seen). Spells vs b) (sym (append-nil front)) s;
+        passed = bundle b;
+        patterns = sym (append-nil (bundle b));
+        front_fits = f.takes.spelled;
+        more_fits = tt;
       };
       stops = λ g.
           let left : t ∷ g.more ≡ [] = same_rest b g.value (t ∷ g.more) [] (bundle_at (front ++ t ∷ g.more)) (read_whole front (t ∷ g.more) b s) (goes_on_read front t g) in
@@ -96,7 +104,10 @@ stopped end ts r left e =
     let s = bundle_reader.stops ts r left e in
     let all : Spelled (bundle s.value) (s.front ++ s.more) = subst (λ (ps : List Pattern). Spelled ps (s.front ++ s.more)) (sym s.patterns) (spelled_append s.done (s.next ∷ s.due) s.front s.more s.spelled s.goes_on) in
     record {
-      front = s.front; rest = left; due = s.next ∷ s.due; split = s.split;
+      front = s.front;
+      rest = left;
+      due = s.next ∷ s.due;
+      split = s.split;
       goes_on = record { more = s.more; value = s.value; spells = spells (s.front ++ s.more) s.value s.valid all; passed = s.done; patterns = s.patterns; front_fits = s.spelled; more_fits = s.goes_on };
       stops = stops_before ts r left e s;
       is = fault_is end s.next s.due r left s.is;
@@ -144,7 +155,6 @@ abbrev pub IsReadAs : Result Bundle TextFault → Bundle → Type 0
 IsReadAs r b = MatchResult r (λ c. c ≡ b) (λ f. f ≡ fault.Memory)
 
 module _ (end : ℕ) (ts : List Seen) (r : Result Bundle TextFault) (given : GivesUnlessMemory r (whole_of end (bundle_at ts))) where
-
   pub is_spelled : IfOk r (Spells ts)
   is_spelled =
       elim (unless_memory r (whole_of end (bundle_at ts)) given) [

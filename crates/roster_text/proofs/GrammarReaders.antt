@@ -1,25 +1,12 @@
 -- The parts of the four texts, field by field.
-use Rattle.std.proofs.Common.{◌≡◌, ◌⊎◌, ℕ, true, false, List, [], ◌∷◌, ◌++◌, length, Result, Ok, Err, refl, sym, ap, subst, ◌∙◌, codes}
+use Rattle.std.proofs.Common.{◌≡◌, ℕ, true, false, List, [], ◌∷◌, ◌++◌, length, Ok, refl, sym, ap, ◌∙◌, codes}
 use Rattle.std.specs.List.{flat_map}
-use Rattle.roster_text.specs.declared.bundle.Assignment.{Assignment}
 use Rattle.roster_text.specs.declared.bundle.Bundle.{Bundle}
-use Rattle.roster_text.specs.declared.bundle.Contract.{Contract}
-use Rattle.roster_text.specs.declared.bundle.Day.{Day}
 use Rattle.roster_text.specs.declared.bundle.History.{History}
-use Rattle.roster_text.specs.declared.bundle.Listed.{Listed}
 use Rattle.roster_text.specs.declared.bundle.Number.{Number}
-use Rattle.roster_text.specs.declared.bundle.Nurse.{Nurse}
-use Rattle.roster_text.specs.declared.bundle.NurseHistory.{NurseHistory}
-use Rattle.roster_text.specs.declared.bundle.OffRequest.{OffRequest}
-use Rattle.roster_text.specs.declared.bundle.Pair.{Pair}
 use Rattle.roster_text.specs.declared.bundle.Requirement.{Requirement}
 use Rattle.roster_text.specs.declared.bundle.Scenario.{Scenario}
-use Rattle.roster_text.specs.declared.bundle.ShiftType.{ShiftType}
-use Rattle.roster_text.specs.declared.bundle.Solution.{Solution}
 use Rattle.roster_text.specs.declared.bundle.Succession.{Succession}
-use Rattle.roster_text.specs.declared.bundle.WeekData.{WeekData}
-use Rattle.roster_text.specs.declared.bundle.WeekPairs.{WeekPairs}
-use Rattle.roster_text.specs.declared.fault.Keyword.{Keyword}
 use Rattle.roster_text.specs.declared.fault.Keyword.TheVariants as keyword
 use Rattle.roster_text.specs.declared.fault.What.{What}
 use Rattle.roster_text.specs.declared.fault.What.TheVariants as what
@@ -29,7 +16,7 @@ use Rattle.roster_text.specs.Words.{keyword_text}
 use Rattle.roster_text.specs.Grammar as grammar
 use Rattle.roster_text.specs.Grammar.{Pattern, Fits, Spelled, fixed, name, number, placed, day, named, small, is_number}
 use Rattle.roster_text.specs.FirstFault.{wants_number}
-use Rattle.roster_text.specs.Reading.{Read, ◌>>=◌, word_at, key_at, name_at, number_at, value_at, small_at, day_at, times_at, listed_at, section_at, names_at, until_at, pair_at, shift_type_at, succession_at, contract_at, nurse_at, scenario_at, nurse_history_at, history_at, week_pairs_at, requirement_at, off_request_at, week_data_at, assignment_at, solution_at, bundle_at}
+use Rattle.roster_text.specs.Reading.{Read, ◌>>=◌, word_at, name_at, number_at, value_at, small_at, day_at, times_at, until_at, pair_at, shift_type_at, succession_at, contract_at, nurse_at, scenario_at, nurse_history_at, history_at, week_pairs_at, requirement_at, off_request_at, week_data_at, assignment_at, solution_at, bundle_at}
 use Rattle.roster_text.proofs.Readers.{Reader, done_reader, then}
 use Rattle.roster_text.proofs.OneToken.{one_reader, name_one, placed_one, value_one, zero_seen, zero_fits, day_one}
 use Rattle.roster_text.proofs.UntilSection.{Start, LineFrom, Lines, no_equals_name, until_reader}
@@ -98,7 +85,7 @@ contract_reader =
     step small_reader (λ b. b.weekends) (λ weekends.
     step flag_reader (λ b. b.complete_weekends) (λ flag.
     done (record { name = name; total = total; working = working; free = free; weekends = weekends; complete_weekends = flag }) ((((((tt, refl), refl), refl), refl), refl), refl)
-      (λ b v i. record { name = v.0.0.0.0.0.1 i; total = v.0.0.0.0.1 i; working = v.0.0.0.1 i; free = v.0.0.1 i; weekends = v.0.1 i; complete_weekends = v.1 i })))))))
+    (λ b v i. record { name = v.0.0.0.0.0.1 i; total = v.0.0.0.0.1 i; working = v.0.0.0.1 i; free = v.0.0.1 i; weekends = v.0.1 i; complete_weekends = v.1 i })))))))
 
 nurse_reader : Reader every grammar.nurse nurse_at
 unfolding nurse_at
@@ -117,6 +104,7 @@ succession_lines = record { starts = start; any = line }
   where
     start : (s : Succession) → Start what.Number (grammar.succession s)
     start s = record { lead = s.shift; next = number 99999 (length s.forbidden); rest = (flat_map named s.forbidden ++ []) ++ []; is = refl; labelled = refl; no_equals = no_equals_number 99999 (length s.forbidden) }
+
     line : (t : Token) → LineFrom grammar.succession what.Number t
     line t = record { value = record { shift = t; forbidden = [] }; start = start (record { shift = t; forbidden = [] }); lead = refl; more = zero_seen ∷ []; spelled = (zero_fits 99999, tt) }
 
@@ -134,7 +122,7 @@ scenario_reader =
     step (listed_reader grammar.contract contract_at contract_reader) (λ b. b.contracts) (λ contracts.
     step (section_reader grammar.nurse nurse_at nurse_reader keyword.Nurses) (λ b. b.nurses) (λ nurses.
     done (record { name = name; weeks = weeks; skills = skills; shifts = shifts; successions = successions; contracts = contracts; nurses = nurses }) (((((((tt, refl), refl), refl), refl), refl), refl), refl)
-      (λ b v i. record { name = v.0.0.0.0.0.0.1 i; weeks = v.0.0.0.0.0.1 i; skills = v.0.0.0.0.1 i; shifts = v.0.0.0.1 i; successions = v.0.0.1 i; contracts = v.0.1 i; nurses = v.1 i })))))))))))))
+    (λ b v i. record { name = v.0.0.0.0.0.0.1 i; weeks = v.0.0.0.0.0.1 i; skills = v.0.0.0.0.1 i; shifts = v.0.0.0.1 i; successions = v.0.0.1 i; contracts = v.0.1 i; nurses = v.1 i })))))))))))))
 
 -- ---- the history
 
@@ -149,7 +137,7 @@ nurse_history_reader =
     step small_reader (λ b. b.working_run) (λ working_run.
     step small_reader (λ b. b.free_run) (λ free_run.
     done (record { nurse = nurse; assignments = assignments; weekends = weekends; last_shift = last; shift_run = shift_run; working_run = working_run; free_run = free_run }) (((((((tt, refl), refl), refl), refl), refl), refl), refl)
-      (λ b v i. record { nurse = v.0.0.0.0.0.0.1 i; assignments = v.0.0.0.0.0.1 i; weekends = v.0.0.0.0.1 i; last_shift = v.0.0.0.1 i; shift_run = v.0.0.1 i; working_run = v.0.1 i; free_run = v.1 i }))))))))
+    (λ b v i. record { nurse = v.0.0.0.0.0.0.1 i; assignments = v.0.0.0.0.0.1 i; weekends = v.0.0.0.0.1 i; last_shift = v.0.0.0.1 i; shift_run = v.0.0.1 i; working_run = v.0.1 i; free_run = v.1 i }))))))))
 
 abbrev HasLines : ℕ → History → Type 0
 HasLines n h = length h.nurses ≡ n
@@ -175,7 +163,7 @@ week_pairs_reader =
     step pair_reader (λ b. b.saturday) (λ saturday.
     step pair_reader (λ b. b.sunday) (λ sunday.
     done (record { monday = monday; tuesday = tuesday; wednesday = wednesday; thursday = thursday; friday = friday; saturday = saturday; sunday = sunday }) (((((((tt, refl), refl), refl), refl), refl), refl), refl)
-      (λ b v i. record { monday = v.0.0.0.0.0.0.1 i; tuesday = v.0.0.0.0.0.1 i; wednesday = v.0.0.0.0.1 i; thursday = v.0.0.0.1 i; friday = v.0.0.1 i; saturday = v.0.1 i; sunday = v.1 i }))))))))
+    (λ b v i. record { monday = v.0.0.0.0.0.0.1 i; tuesday = v.0.0.0.0.0.1 i; wednesday = v.0.0.0.0.1 i; thursday = v.0.0.0.1 i; friday = v.0.0.1 i; saturday = v.0.1 i; sunday = v.1 i }))))))))
 
 requirement_reader : Reader every grammar.requirement requirement_at
 unfolding requirement_at
@@ -190,6 +178,7 @@ requirement_lines = record { starts = start; any = line }
   where
     start : (r : Requirement) → Start what.Name (grammar.requirement r)
     start r = record { lead = r.shift; next = name r.skill; rest = grammar.week_pairs r.days ++ []; is = refl; labelled = refl; no_equals = no_equals_name r.skill }
+
     line : (t : Token) → LineFrom grammar.requirement what.Name t
     line t = record {
       value = record { shift = t; skill = name_one.value; days = week_pairs_reader.some.value };
@@ -257,4 +246,4 @@ bundle_reader =
     many week_data_reader s.weeks.value (λ b. b.week_data) (λ b v. v.0.0.week_data_parts ∙ ap (λ (x : Scenario). x.weeks.value) v.0.1) (λ ws weeks.
     many solution_reader s.weeks.value (λ b. b.solutions) (λ b v. v.0.0.0.solution_parts ∙ ap (λ (x : Scenario). x.weeks.value) v.0.0.1) (λ ss solutions.
     done (record { scenario = s; history = h; week_data = ws; solutions = ss }) ((((record { history_lines = lines; week_data_parts = weeks; solution_parts = solutions }, refl), refl), refl), refl)
-      (λ b v i. record { scenario = v.0.0.0.1 i; history = v.0.0.1 i; week_data = v.0.1 i; solutions = v.1 i })))))
+    (λ b v i. record { scenario = v.0.0.0.1 i; history = v.0.0.1 i; week_data = v.0.1 i; solutions = v.1 i })))))

@@ -1,5 +1,5 @@
 -- Reading parts one after the other, as a loop does.
-use Rattle.std.proofs.Common.{◌≡◌, ℕ, zero, suc, ◌-◌, ◌+◌, ◌≤◌, ◌<◌, Bool, true, false, List, [], ◌∷◌, ◌++◌, length, drop, Result, Ok, Err, refl, sym, ap, ◌∙◌, append_assoc, arith}
+use Rattle.std.proofs.Common.{◌≡◌, ℕ, suc, ◌-◌, ◌+◌, ◌≤◌, ◌<◌, true, false, List, [], ◌∷◌, ◌++◌, length, drop, Ok, Err, refl, sym, ap, ◌∙◌, append_assoc, arith}
 use Rattle.std.proofs.lemmas.List.{append-nil}
 use Rattle.roster_text.specs.declared.fault.Keyword.{Keyword}
 use Rattle.roster_text.specs.declared.parser.Stop.{Stop}
@@ -65,7 +65,7 @@ pub until_goes_on : {A : Type 0} (read : List Seen → Read A) (k : Keyword) (fr
 until_goes_on read k front ts x rest total no_end h shorter s =
     let n : s.tries ≡ suc (s.tries - 1) = omega (arith, s.enough) in
     let one : with_front front (until_with read k s.tries ts) ≡ with_front (front ++ x ∷ []) (until_with read k (s.tries - 1) rest) =
-        ap (λ (m : ℕ). with_front front (until_with read k m ts)) n ∙ rw (line read k (s.tries - 1) ts no_end, h) (regroup front x (until_with read k (s.tries - 1) rest)) in
+    ap (λ (m : ℕ). with_front front (until_with read k m ts)) n ∙ rw (line read k (s.tries - 1) ts no_end, h) (regroup front x (until_with read k (s.tries - 1) rest)) in
     record { tries = s.tries - 1; enough = omega (arith, s.enough); so_far = sym one ∙ s.so_far }
 
 pub until_stops : {A : Type 0} (read : List Seen → Read A) (k : Keyword) (front : List A) (ts left : List Seen) (e : Stop) (total : Read (List A)) → begins_section k ts ≡ false → Reads {A = A} (Err e) left (read ts)
@@ -74,7 +74,7 @@ until_stops read k front ts left stop.Memory total no_end h s = tt
 until_stops read k front ts left (stop.Refused r) total no_end h s =
     let n : s.tries ≡ suc (s.tries - 1) = omega (arith, s.enough) in
     let one : with_front front (until_with read k s.tries ts) ≡ Err (r, left) =
-        ap (λ (m : ℕ). with_front front (until_with read k m ts)) n ∙ rw (line read k (s.tries - 1) ts no_end, h) refl in
+    ap (λ (m : ℕ). with_front front (until_with read k m ts)) n ∙ rw (line read k (s.tries - 1) ts no_end, h) refl in
     sym s.so_far ∙ one
 
 pub until_done : {A : Type 0} (read : List Seen → Read A) (k : Keyword) (front : List A) (ts : List Seen) (total : Read (List A)) → begins_section k ts ≡ true
@@ -83,7 +83,7 @@ unfolding until_with
 until_done read k front ts total end s =
     let n : s.tries ≡ suc (s.tries - 1) = omega (arith, s.enough) in
     let one : with_front front (until_with read k s.tries ts) ≡ Ok (front, drop 2 ts) =
-        ap (λ (m : ℕ). with_front front (until_with read k m ts)) n ∙ rw end (ap (λ (xs : _). Ok (xs, drop 2 ts)) (append-nil front)) in
+    ap (λ (m : ℕ). with_front front (until_with read k m ts)) n ∙ rw end (ap (λ (xs : _). Ok (xs, drop 2 ts)) (append-nil front)) in
     sym s.so_far ∙ one
 
 pub two_skips : (ts : List Seen) → drop 1 (drop 1 ts) ≡ drop 2 ts

@@ -1,6 +1,6 @@
 -- The functions that read one token, each by its pattern.
-use Rattle.std.proofs.Common.{◌≡◌, ◌≤◌, ◌<◌, ◌⊎◌, inl, inr, ℕ, Bool, true, false, cond, leb, List, [], ◌∷◌, ◌++◌, Option, Some, None, Result, Ok, Err, refl, sym, ap, subst, ◌∙◌, codes, arith, ◌&&◌, ◌||◌, length}
-use Rattle.std.specs.List.{find, list_all}
+use Rattle.std.proofs.Common.{◌≡◌, ◌≤◌, ◌⊎◌, inl, inr, ℕ, Bool, true, false, cond, leb, List, [], ◌∷◌, ◌++◌, Option, Some, None, Ok, Err, refl, sym, ap, subst, ◌∙◌, arith, ◌||◌}
+use Rattle.std.specs.List.{find}
 use Rattle.std.specs.Str.{bytes_eq}
 use Rattle.std.specs.Str.Parse.{digits_value}
 use Rattle.std.proofs.lemmas.Bool.{leb-true, le-leb}
@@ -16,7 +16,7 @@ use Rattle.roster_text.specs.declared.token.Token.{Token}
 use Rattle.roster_text.specs.Token.{Seen, is_mark}
 use Rattle.roster_text.specs.Grammar.{Pattern, fixed, name, number, placed, day, Fits, Spelled, label, is_name, is_number, short, long}
 use Rattle.roster_text.specs.FirstFault.{wants_number}
-use Rattle.roster_text.specs.Reading.{Read, ◌>>=◌, word_at, name_at, number_at, value_at, is_day, day_of, all_days, day_or_stop, day_at}
+use Rattle.roster_text.specs.Reading.{Read, word_at, name_at, number_at, value_at, is_day, day_of, all_days, day_or_stop, day_at}
 use Rattle.roster_text.proofs.Readers.{Reader, Stops, Found, refusal, same_value, same_rest}
 
 -- The function answers the value that the first token fits, and refuses any other token, and the end.
@@ -59,16 +59,34 @@ module _ {A : Type 0} (p : A → Pattern) (read : List Seen → Read A) (one : O
       let none : [] ≡ left = ap (λ x. x.1) q in
       let why : Due (label (p one.value)) ≡ r = ap (λ x. x.0) q in
       record {
-        front = []; split = none; value = one.value; valid = tt; done = []; next = p one.value; due = []; patterns = refl; spelled = tt;
-        more = one.token ∷ []; goes_on = (one.example, tt);
+        front = [];
+        split = none;
+        value = one.value;
+        valid = tt;
+        done = [];
+        next = p one.value;
+        due = [];
+        patterns = refl;
+        spelled = tt;
+        more = one.token ∷ [];
+        goes_on = (one.example, tt);
         is = sym why ∙ ap (refusal (p one.value)) none;
         again = λ t us other h. let bad : [] ≡ t ∷ us = none ∙ h in absurd cc;
       }
   one_stops (t ∷ ts) r left e =
       let q = one.refused one.value t ts left r e in
       record {
-        front = []; split = sym q.1; value = one.value; valid = tt; done = []; next = p one.value; due = []; patterns = refl; spelled = tt;
-        more = one.token ∷ []; goes_on = (one.example, tt);
+        front = [];
+        split = sym q.1;
+        value = one.value;
+        valid = tt;
+        done = [];
+        next = p one.value;
+        due = [];
+        patterns = refl;
+        spelled = tt;
+        more = one.token ∷ [];
+        goes_on = (one.example, tt);
         is = q.0 ∙ ap (refusal (p one.value)) (sym q.1);
         again = λ u us other h.
             let heads : t ∷ ts ≡ u ∷ us = sym q.1 ∙ h in

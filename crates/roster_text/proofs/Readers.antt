@@ -1,17 +1,14 @@
 -- What it means that a reading function reads just what a list of patterns says, and how such functions are
 -- put together. A part of the grammar is then a line for each of its fields.
-use Rattle.std.proofs.Common.{◌≡◌, ◌⊎◌, inl, inr, ℕ, Bool, true, false, List, [], ◌∷◌, ◌++◌, Result, Ok, Err, refl, sym, ap, subst, ◌∙◌, append_assoc, ◌&&◌}
-use Rattle.std.proofs.lemmas.List.{append-nil}
+use Rattle.std.proofs.Common.{◌≡◌, ◌⊎◌, inl, inr, List, [], ◌∷◌, ◌++◌, Ok, Err, refl, sym, ap, subst, ◌∙◌, append_assoc, ◌&&◌}
 use Rattle.std.specs.Prelude.{if◌then◌else◌}
-use Rattle.roster_text.specs.declared.fault.What.{What}
-use Rattle.roster_text.specs.declared.fault.What.TheVariants as what
 use Rattle.roster_text.specs.declared.parser.Refusal.{Refusal}
 use Rattle.roster_text.specs.declared.parser.Refusal.TheVariants.{Due, OutOfRange}
 use Rattle.roster_text.specs.Token.{Seen}
-use Rattle.roster_text.specs.Grammar.{Pattern, fixed, name, number, placed, day, Fits, Spelled, label, is_number}
+use Rattle.roster_text.specs.Grammar.{Pattern, Spelled, label, is_number}
 use Rattle.roster_text.specs.FirstFault.{wants_number}
 use Rattle.roster_text.specs.Reading.{Read, ◌>>=◌}
-use Rattle.roster_text.proofs.Spelling.{spelled_append, Parted, parted, InFirst, InSecond, cut}
+use Rattle.roster_text.proofs.Spelling.{spelled_append, parted, cut}
 
 -- why a token that doesn't fit is refused: digits alone are a number out of range where a number is due
 abbrev pub refusal : Pattern → List Seen → Refusal
@@ -116,7 +113,6 @@ bind_stops r f d e = rw e refl
 module _ {A B : Type 0} (VA : A → Type 0) (patA : A → List Pattern) (readA : List Seen → Read A) (first : Reader VA patA readA)
     (V : B → Type 0) (get : B → A) (valid : (b : B) → V b → VA (get b))
     (patB : B → List Pattern) (k : A → List Seen → Read B) (rest_of : (a : A) → VA a → Reader (λ b. V b × (get b ≡ a)) patB (k a)) where
-
   abbrev both : B → List Pattern
   both b = patA (get b) ++ patB b
 

@@ -1,25 +1,18 @@
 -- Reading several of a kind: so many, a section, lines up to the next section.
-use Rattle.std.proofs.Common.{◌≡◌, ◌≢◌, ◌≤◌, ◌<◌, ◌⊎◌, inl, inr, ℕ, zero, suc, ◌+◌, Bool, true, false, cond, List, [], ◌∷◌, ◌++◌, length, drop, Result, Ok, Err, refl, sym, ap, subst, ◌∙◌, append_assoc, codes, arith, ◌&&◌}
-use Rattle.std.proofs.lemmas.List.{append-nil, length-append}
-use Rattle.std.proofs.lemmas.List.Concat.{flat_map-cons}
+use Rattle.std.proofs.Common.{◌≡◌, ℕ, zero, suc, false, List, [], ◌∷◌, ◌++◌, length, Ok, refl, sym, ap, subst, ◌∙◌, codes, arith}
+use Rattle.std.proofs.lemmas.List.{append-nil}
 use Rattle.std.specs.List.{flat_map}
-use Rattle.std.specs.Str.{bytes_eq}
-use Rattle.std.proofs.lemmas.Slice.Eq.{bytes_eq-Decides}
 use Rattle.roster_text.specs.declared.bundle.Listed.{Listed}
 use Rattle.roster_text.specs.declared.bundle.Number.{Number}
 use Rattle.roster_text.specs.declared.fault.Keyword.{Keyword}
 use Rattle.roster_text.specs.declared.fault.What.{What}
 use Rattle.roster_text.specs.declared.fault.What.TheVariants as what
-use Rattle.roster_text.specs.declared.parser.Refusal.{Refusal}
-use Rattle.roster_text.specs.declared.parser.Refusal.TheVariants.{Due, OutOfRange}
-use Rattle.roster_text.specs.declared.token.Token.{Token}
 use Rattle.roster_text.specs.Token.{Seen}
 use Rattle.roster_text.specs.Words.{keyword_text}
-use Rattle.roster_text.specs.Grammar.{Pattern, fixed, name, number, placed, Fits, Spelled, label, is_name, parts, key, equals, named, count, section, counted_names, lines_until, rest_of_section}
+use Rattle.roster_text.specs.Grammar.{Pattern, fixed, name, number, placed, Spelled, named, section, counted_names, rest_of_section}
 use Rattle.roster_text.specs.FirstFault.{wants_number}
-use Rattle.roster_text.specs.Reading.{Read, ◌>>=◌, word_at, key_at, name_at, number_at, value_at, times_at, listed_at, section_at, names_at, begins_section, until_with, until_at}
-use Rattle.roster_text.proofs.Spelling.{spelled_append, Parted, parted, InFirst, InSecond, cut}
-use Rattle.roster_text.proofs.Readers.{Reader, Stops, Found, Example, Takes, refusal, same_value, same_rest, done_reader, then}
+use Rattle.roster_text.specs.Reading.{Read, ◌>>=◌, word_at, name_at, number_at, value_at, times_at, listed_at, section_at, names_at}
+use Rattle.roster_text.proofs.Readers.{Reader, done_reader, then}
 use Rattle.roster_text.proofs.OneToken.{one_reader, word_one, name_one, placed_one, value_one}
 
 -- any value is valid
@@ -83,7 +76,6 @@ nil_of_length [] e = refl
 nil_of_length (x ∷ b) e = absurd (omega arith)
 
 module _ {A : Type 0} (pat : A → List Pattern) (read : List Seen → Read A) (item : Reader every pat read) where
-
   -- the others, and then all of them
   others : (n : ℕ) → Reader (AreMany n) (flat_map pat) (times_at read n) → (a : A)
       → Reader (λ b. (length b ≡ suc n) × (head_or item.some.value b ≡ a)) (λ b. flat_map pat (tail b) ++ []) (λ ts. times_at read n ts >>= λ x. Ok (a ∷ x.0, x.1))
@@ -128,8 +120,8 @@ module _ {A : Type 0} (pat : A → List Pattern) (read : List Seen → Read A) (
       (λ b. Unit {0} × (listed_count b ≡ n)) (λ b. b.items) (λ b v. ap (λ (m : Number). m.value) v.1)
       (λ _. []) (λ xs ts. Ok (record { count = n.token; items = xs }, ts))
       (λ xs v. done_reader (λ b. (Unit {0} × (listed_count b ≡ n)) × (b.items ≡ xs)) (record { count = n.token; items = xs })
-        ((tt, λ i. record { token = n.token; value = v i }), refl)
-        (λ b w. λ i. record { count = (ap (λ (m : Number). m.token) w.0.1) i; items = w.1 i }))
+      ((tt, λ i. record { token = n.token; value = v i }), refl)
+      (λ b w. λ i. record { count = (ap (λ (m : Number). m.token) w.0.1) i; items = w.1 i }))
 
   pub listed_reader : Reader every (rest_of_section pat) (listed_at read)
   unfolding listed_at
@@ -152,5 +144,5 @@ unfolding names_at
 names_reader =
     with_patterns every (λ b. number 99999 (length b) ∷ flat_map named b) counted_names names_at (λ b v. ap (λ (ps : List Pattern). number 99999 (length b) ∷ ps) (sym (append-nil (flat_map named b))))
     (then every (λ n. number 99999 n ∷ []) (value_at 99999) (one_reader (number 99999) (value_at 99999) (value_one 99999))
-      every length (λ b v. tt) (flat_map named) (λ n ts. times_at name_at n ts)
-      (λ n v. with_fact (AreMany n) (λ b. Unit {0} × (length b ≡ n)) (flat_map named) (times_at name_at n) (λ b e. (tt, e)) (λ b w. w.1) (times_reader named name_at name_reader n)))
+    every length (λ b v. tt) (flat_map named) (λ n ts. times_at name_at n ts)
+    (λ n v. with_fact (AreMany n) (λ b. Unit {0} × (length b ≡ n)) (flat_map named) (times_at name_at n) (λ b e. (tt, e)) (λ b w. w.1) (times_reader named name_at name_reader n)))

@@ -1,5 +1,5 @@
 -- Reading lines up to the keyword and `=` of the next section.
-use Rattle.std.proofs.Common.{◌≡◌, ◌≤◌, ◌<◌, ◌⊎◌, inl, inr, ℕ, zero, suc, ◌+◌, Bool, true, false, cond, List, [], ◌∷◌, ◌++◌, length, drop, Result, Ok, Err, refl, sym, ap, subst, ◌∙◌, append_assoc, codes, arith, ◌&&◌}
+use Rattle.std.proofs.Common.{◌≡◌, ◌<◌, ◌⊎◌, inl, inr, ℕ, zero, suc, ◌+◌, Bool, true, false, List, [], ◌∷◌, ◌++◌, length, drop, Ok, Err, refl, sym, ap, subst, ◌∙◌, append_assoc, codes, arith, ◌&&◌}
 use Rattle.std.proofs.lemmas.List.{append-nil, length-append}
 use Rattle.std.specs.List.{flat_map}
 use Rattle.std.specs.Str.{bytes_eq}
@@ -9,14 +9,14 @@ use Rattle.roster_text.specs.declared.fault.Keyword.TheVariants as keyword
 use Rattle.roster_text.specs.declared.fault.What.{What}
 use Rattle.roster_text.specs.declared.fault.What.TheVariants as what
 use Rattle.roster_text.specs.declared.parser.Refusal.{Refusal}
-use Rattle.roster_text.specs.declared.parser.Refusal.TheVariants.{Due, OutOfRange}
+use Rattle.roster_text.specs.declared.parser.Refusal.TheVariants.{Due}
 use Rattle.roster_text.specs.declared.token.Token.{Token}
 use Rattle.roster_text.specs.Token.{Seen, is_mark}
 use Rattle.roster_text.specs.Words.{keyword_text}
 use Rattle.roster_text.specs.Grammar.{Pattern, fixed, name, Fits, Spelled, label, is_name, lines_until}
 use Rattle.roster_text.specs.Reading.{Read, ◌>>=◌, begins_section, until_with, until_at}
-use Rattle.roster_text.proofs.Spelling.{spelled_append, Parted, parted, InFirst, InSecond, cut}
-use Rattle.roster_text.proofs.Readers.{Reader, Stops, Found, Example, Takes, refusal, same_value, same_rest}
+use Rattle.roster_text.proofs.Spelling.{spelled_append, parted, cut}
+use Rattle.roster_text.proofs.Readers.{Reader, Stops, Example, Takes, same_value, same_rest}
 use Rattle.roster_text.proofs.Several.{every}
 
 -- A line begins with a name, and behind it something is due that is no `=`.
@@ -113,7 +113,6 @@ abbrev err_of : {B : Type 0} → Refusal × List Seen → Read B
 err_of x = Err x
 
 module _ {A : Type 0} (pat : A → List Pattern) (read : List Seen → Read A) (item : Reader every pat read) (k : Keyword) (second : What) (lines : Lines pat second) where
-
   -- ---- a line's first two tokens
 
   -- what is spelled by a line begins no section, whatever follows
@@ -293,7 +292,13 @@ module _ {A : Type 0} (pat : A → List Pattern) (read : List Seen → Read A) (
   stops_in_line ts r left b s =
       let one : all (s.value ∷ []) ≡ (s.done ++ s.next ∷ s.due) ++ end = all_cons s.value [] ∙ ap (λ (ps : List Pattern). ps ++ end) s.patterns in
       record {
-        front = s.front; split = s.split; value = s.value ∷ []; valid = tt; done = s.done; next = s.next; due = s.due ++ end;
+        front = s.front;
+        split = s.split;
+        value = s.value ∷ [];
+        valid = tt;
+        done = s.done;
+        next = s.next;
+        due = s.due ++ end;
         patterns = one ∙ append_assoc s.done (s.next ∷ s.due) end;
         spelled = s.spelled;
         more = s.more ++ closing;
@@ -309,10 +314,16 @@ module _ {A : Type 0} (pat : A → List Pattern) (read : List Seen → Read A) (
   stops_behind_line ts mid a r left f s = record {
     front = f.front ++ s.front;
     split = f.split ∙ ap (λ (us : List Seen). f.front ++ us) s.split ∙ sym (append_assoc f.front s.front left);
-    value = a ∷ s.value; valid = tt; done = pat a ++ s.done; next = s.next; due = s.due;
+    value = a ∷ s.value;
+    valid = tt;
+    done = pat a ++ s.done;
+    next = s.next;
+    due = s.due;
     patterns = all_cons a s.value ∙ ap (λ (ps : List Pattern). pat a ++ ps) s.patterns ∙ sym (append_assoc (pat a) s.done (s.next ∷ s.due));
     spelled = spelled_append (pat a) s.done f.front s.front f.spelled s.spelled;
-    more = s.more; goes_on = s.goes_on; is = s.is;
+    more = s.more;
+    goes_on = s.goes_on;
+    is = s.is;
     again = λ t us other e.
         let whole_line = item.whole a f.front (s.front ++ t ∷ other) tt f.spelled in
         ap until (append_assoc f.front s.front (t ∷ other))

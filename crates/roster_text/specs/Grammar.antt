@@ -1,6 +1,6 @@
 -- The grammar of the four texts: what is due at each place of a text that spells a bundle, as a list of
 -- patterns computed from the bundle.
-use Rattle.std.specs.Prelude.{◌≡◌, ◌≤◌, ◌⊎◌, ℕ, Bool, true, false, ◌&&◌, List, [], ◌∷◌, ◌++◌, length, map, codes, not}
+use Rattle.std.specs.Prelude.{◌≡◌, ◌≤◌, ◌⊎◌, ℕ, Bool, true, false, ◌&&◌, List, [], ◌∷◌, length, codes, not}
 use Rattle.std.specs.List.{flat_map, list_all}
 use Rattle.std.specs.Char.{is_ascii_digit}
 use Rattle.std.specs.Str.Parse.{digits_value}
@@ -11,7 +11,6 @@ use Rattle.roster_text.specs.declared.bundle.Day.{Day}
 use Rattle.roster_text.specs.declared.bundle.Day.TheVariants as days
 use Rattle.roster_text.specs.declared.bundle.History.{History}
 use Rattle.roster_text.specs.declared.bundle.Listed.{Listed}
-use Rattle.roster_text.specs.declared.bundle.Number.{Number}
 use Rattle.roster_text.specs.declared.bundle.Nurse.{Nurse}
 use Rattle.roster_text.specs.declared.bundle.NurseHistory.{NurseHistory}
 use Rattle.roster_text.specs.declared.bundle.OffRequest.{OffRequest}
@@ -156,13 +155,13 @@ nurse n = parts (named n.name ∷ named n.contract ∷ counted_names n.skills �
 
 abbrev pub scenario : Scenario → List Pattern
 scenario s = parts (
-  key keyword.Scenario ∷ equals ∷ named s.name
-  ∷ key keyword.Weeks ∷ equals ∷ (placed s.weeks.token 99999 s.weeks.value ∷ [])
-  ∷ section keyword.Skills named s.skills
-  ∷ section keyword.ShiftTypes shift_type s.shifts
-  ∷ key keyword.Successions ∷ lines_until keyword.Contracts what.Number succession s.successions
-  ∷ rest_of_section contract s.contracts
-  ∷ section keyword.Nurses nurse s.nurses ∷ [])
+    key keyword.Scenario ∷ equals ∷ named s.name
+    ∷ key keyword.Weeks ∷ equals ∷ (placed s.weeks.token 99999 s.weeks.value ∷ [])
+    ∷ section keyword.Skills named s.skills
+    ∷ section keyword.ShiftTypes shift_type s.shifts
+    ∷ key keyword.Successions ∷ lines_until keyword.Contracts what.Number succession s.successions
+    ∷ rest_of_section contract s.contracts
+    ∷ section keyword.Nurses nurse s.nurses ∷ [])
 
 -- ---- the history
 
@@ -171,8 +170,8 @@ nurse_history h = parts (named h.nurse ∷ small h.assignments ∷ small h.weeke
 
 abbrev pub history : History → List Pattern
 history h = parts (
-  key keyword.History ∷ (placed h.week.token 999 h.week.value ∷ []) ∷ named h.scenario
-  ∷ key keyword.NurseHistory ∷ flat_map nurse_history h.nurses ∷ [])
+    key keyword.History ∷ (placed h.week.token 999 h.week.value ∷ []) ∷ named h.scenario
+    ∷ key keyword.NurseHistory ∷ flat_map nurse_history h.nurses ∷ [])
 
 -- ---- the weeks
 
@@ -187,9 +186,9 @@ off_request r = parts (named r.nurse ∷ named r.shift ∷ (day r.day ∷ []) �
 
 abbrev pub week_data : WeekData → List Pattern
 week_data w = parts (
-  key keyword.WeekData ∷ named w.scenario
-  ∷ key keyword.Requirements ∷ lines_until keyword.ShiftOffRequests what.Name requirement w.requirements
-  ∷ rest_of_section off_request w.off_requests ∷ [])
+    key keyword.WeekData ∷ named w.scenario
+    ∷ key keyword.Requirements ∷ lines_until keyword.ShiftOffRequests what.Name requirement w.requirements
+    ∷ rest_of_section off_request w.off_requests ∷ [])
 
 -- ---- the solutions
 
@@ -198,8 +197,8 @@ assignment a = parts (named a.nurse ∷ (day a.day ∷ []) ∷ named a.shift ∷
 
 abbrev pub solution : Solution → List Pattern
 solution s = parts (
-  key keyword.Solution ∷ (placed s.week.token 999 s.week.value ∷ []) ∷ named s.scenario
-  ∷ section keyword.Assignments assignment s.assignments ∷ [])
+    key keyword.Solution ∷ (placed s.week.token 999 s.week.value ∷ []) ∷ named s.scenario
+    ∷ section keyword.Assignments assignment s.assignments ∷ [])
 
 -- ---- the bundle
 

@@ -350,8 +350,6 @@ fn digit_value(byte: u8) -> u32
 fn day_of(text: &[u8]) -> Option<Day>
     ensures { result ≡ day_of text.now }
 {
-    Day::ALL
-        .iter()
-        .copied()
-        .find(|day| text == day.short().as_bytes() || text == day.long().as_bytes())
+    Day::ALL.iter().copied().find(|day| text == day.short().as_bytes()
+        || text == day.long().as_bytes())
 }

@@ -14,11 +14,7 @@ use std::alloc::Global;
 
 /// The bundle that the tokens of a source spell: a scenario, a history, the data of as many weeks as it says,
 /// as many solutions, and nothing behind them. Names stay tokens of the source.
-pub fn parse_bundle(
-    alloc: Global,
-    source: &[u8],
-    tokens: &[Token],
-) -> Result<Bundle, TextFault>
+pub fn parse_bundle(alloc: Global, source: &[u8], tokens: &[Token]) -> Result<Bundle, TextFault>
     requires { tokens.now ≡ tokens_of source.now }
 
     // What is read is spelled.
@@ -38,14 +34,12 @@ pub fn parse_bundle(
 /// A list of tokens spells one bundle at most.
 pub fn one_bundle()
     ensures { (ts : List Seen) (b c : Bundle) → Spells ts b → Spells ts c → b ≡ c }
-{
-}
+{}
 
 /// A list of tokens has one first fault at most: one place, and one word for what is due there.
 pub fn one_first_fault()
     ensures { (end : ℕ) (ts : List Seen) (f g : TextFault) → IsFirstFault end ts f → IsFirstFault end ts g → f ≡ g }
-{
-}
+{}
 
 /// Reads from left to right, and says where and why it stops.
 fn bundle_of(alloc: Global, source: &[u8], tokens: &[Token]) -> Result<Bundle, TextFault>

@@ -1,5 +1,5 @@
 use Rattle.std.proofs.Common.{All, length, sym, subst}
-use Rattle.roster_text.specs.Token.{IsWithin, tokens_of}
+use Rattle.roster_text.specs.Token.{IsWithin}
 use Rattle.roster_text.specs.declared.token.Token.{Token}
 use Rattle.std.proofs.Common.{List}
 use Rattle.roster_text.proofs.TokenFacts.{tokens_are}

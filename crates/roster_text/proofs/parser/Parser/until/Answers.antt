@@ -1,4 +1,4 @@
-use Rattle.std.proofs.Common.{◌≡◌, ◌<◌, ◌≤◌, Bool, true, false, length, drop, rules, arith, sym}
+use Rattle.std.proofs.Common.{◌≡◌, false, arith, sym}
 use Rattle.std.proofs.lemmas.Result.{err_from_is_err_and}
 use Rattle.roster_text.specs.Reading.{until_at, begins_section}
 use Rattle.roster_text.proofs.Loops.{until_init, until_goes_on, until_stops, until_done, two_skips, shorter_behind_section}

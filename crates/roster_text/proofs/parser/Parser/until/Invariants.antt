@@ -1,4 +1,4 @@
-use Rattle.std.proofs.Common.{◌≡◌, ◌≤◌, length}
+use Rattle.std.proofs.Common.{◌≤◌, length}
 use Rattle.roster_text.specs.Reading.{until_at}
 use Rattle.roster_text.proofs.Loops.{UntilSoFar}
 use Rattle.roster_text.proofs.parser.Parser.until.Given as goal
