@@ -18,6 +18,7 @@ pub record Assignment : Type 0 where
   pub shift : List ℕ
   pub skill : List ℕ
 
+-- an assignment by its parts
 abbrev pub assignment : List ℕ → ℕ → List ℕ → List ℕ → Assignment
 assignment nurse weekday shift skill = record { nurse = nurse; weekday = weekday; shift = shift; skill = skill }
 

@@ -5,8 +5,12 @@ mod bundle;
 mod fault;
 mod parser;
 mod parsing;
+#[cfg(test)]
+mod parsing_tests;
 mod parts;
 mod reading;
+#[cfg(test)]
+mod tests;
 mod token;
 mod view;
 mod watch;

@@ -1,0 +1,158 @@
+//! What no clause says: that calls succeed, and printed text, over readers and writers that fail.
+
+ghost use Rattle.std.specs.Prelude.{ℕ, Option, Some, None, codes, ◌==◌, ◌&&◌, if◌then◌else◌};
+
+use super::*;
+use roster_devices::{AtEnd, EndlessReader, FailingReader, OneByteReader, ShortWriter};
+use std::io::{BufWriter, ErrorKind, Read, Write};
+use std::test::Fail;
+
+#[test]
+fn reads_one_byte_at_a_time(rt: HostRuntime) -> Result<(), Fail> {
+    let mut input = Watch::new(OneByteReader { rest: b"one\ntwo" });
+    let bytes = read_all(rt.alloc(), &mut input)?;
+    assert_eq!(rt; bytes.as_slice(), b"one\ntwo".as_slice());
+    assert!(rt; !input.failed());
+    Ok(())
+}
+
+#[test]
+fn reads_no_further_than_a_failure(rt: HostRuntime) {
+    for kind in [ErrorKind::Other, ErrorKind::Interrupted] {
+        for (fails_in, fails) in [(1, true), (2, true), (3, false)] {
+            let rest = b"ab".as_slice();
+            let mut input = Watch::new(FailingReader {
+                rest,
+                fails_in,
+                kind,
+            });
+            let answer = read_all(rt.alloc(), &mut input);
+            assert_eq!(rt;
+                matches!(answer, Err(TextFault::ReadFailed)),
+                fails,
+                "at {fails_in}"
+            );
+            assert_eq!(rt; input.failed(), fails, "at {fails_in}");
+        }
+    }
+}
+
+#[test]
+fn reads_up_to_the_limit(rt: HostRuntime) -> Result<(), Fail> {
+    let mut endless = Watch::new(EndlessReader { byte: b' ' });
+    let answer = read_all(rt.alloc(), &mut endless);
+    assert!(rt; matches!(answer, Err(TextFault::TooLong)));
+    assert!(rt; !endless.failed());
+    let most = EndlessReader { byte: b' ' }.take(16_777_216);
+    let bytes = read_all(rt.alloc(), &mut Watch::new(most))?;
+    assert_eq!(rt; bytes.len(), 16_777_216);
+    let more = EndlessReader { byte: b' ' }.take(16_777_217);
+    let answer = read_all(rt.alloc(), &mut Watch::new(more));
+    assert!(rt; matches!(answer, Err(TextFault::TooLong)));
+    Ok(())
+}
+
+/// The solution of a small instance: empty, or with two assignments.
+#[derive(Drop)]
+struct Mini {
+    works: bool,
+}
+
+impl SolutionView for Mini {
+    ghost use Rattle.roster_text.specs.Canonical.{Shown};
+
+    ghost shown = { λ m. record {
+      week = 0;
+      name = codes "mini";
+      nurses = 2;
+      nurse = λ n. (if n == 0 then codes "Ann" else codes "Bob");
+      on = λ n weekday. (if m.works && (n == 0 && weekday == 0) then Some (codes "Early", codes "Nurse")
+          else (if m.works && (n == 1 && weekday == 6) then Some (codes "Night", codes "Nurse") else None));
+    } };
+
+    fn week(&self) -> u16 {
+        0
+    }
+
+    fn name(&self) -> &[u8] {
+        b"mini"
+    }
+
+    fn nurses(&self) -> usize {
+        2
+    }
+
+    fn nurse(&self, nurse: usize) -> &[u8] {
+        if nurse == 0 { b"Ann" } else { b"Bob" }
+    }
+
+    fn on(&self, nurse: usize, weekday: u16) -> Option<(&[u8], &[u8])> {
+        if self.works && nurse == 0 && weekday == 0 {
+            return Some((b"Early", b"Nurse"));
+        }
+        if self.works && nurse == 1 && weekday == 6 {
+            return Some((b"Night", b"Nurse"));
+        }
+        None
+    }
+}
+
+#[test]
+fn writes_solutions(rt: HostRuntime) -> Result<(), Fail> {
+    let empty = "SOLUTION\n0 mini\n\nASSIGNMENTS = 0\n";
+    let two = "SOLUTION\n0 mini\n\nASSIGNMENTS = 2\nAnn Mon Early Nurse\nBob Sun Night Nurse\n";
+    for (works, text) in [(false, empty), (true, two)] {
+        let mut out = Watch::new(Vec::new(rt.alloc()));
+        write_solution(&mut out, &Mini { works })?;
+        assert!(rt; !out.failed());
+        assert_eq!(rt; out.into_inner().as_slice(), text.as_bytes());
+    }
+    Ok(())
+}
+
+#[test]
+fn counts_what_a_failing_writer_took(rt: HostRuntime) {
+    for at_end in [AtEnd::Fail, AtEnd::TakeNothing] {
+        let mut room = [0; 7];
+        let mut out = Watch::new(ShortWriter::new(&mut room, at_end));
+        let answer = write_solution(&mut out, &Mini { works: false });
+        assert_eq!(rt; answer, Err(WriteFault::WriteFailed { sent: 7 }));
+        assert!(rt; out.failed());
+        assert_eq!(rt; out.into_inner().written(), b"SOLUTIO".as_slice());
+    }
+}
+
+#[test]
+fn passes_a_flush_on_and_does_not_count_it(rt: HostRuntime) -> Result<(), Fail> {
+    let mut room = [0; 7];
+    let short = ShortWriter::new(&mut room, AtEnd::Fail);
+    let mut out = Watch::new(BufWriter::new(rt.alloc(), short)?);
+    out.flush()?;
+    write_bytes(&mut out, b"SOLUTION")?;
+    assert!(rt; out.flush().is_err());
+    assert!(rt; !out.failed());
+    Ok(())
+}
+
+#[test]
+fn writes_bytes_and_numbers(rt: HostRuntime) -> Result<(), Fail> {
+    let mut out = Watch::new(Vec::new(rt.alloc()));
+    write_number(&mut out, 0)?;
+    write_bytes(&mut out, b" to ")?;
+    write_number(&mut out, u64::MAX)?;
+    assert_eq!(rt;
+        out.into_inner().as_slice(),
+        b"0 to 18446744073709551615".as_slice()
+    );
+    Ok(())
+}
+
+#[test]
+fn shows_a_write_fault(rt: HostRuntime) -> Result<(), Fail> {
+    let fault = WriteFault::WriteFailed { sent: 7 };
+    assert_eq!(rt;
+        fault.to_string(rt.alloc())?.as_str(),
+        "write failed after 7 bytes"
+    );
+    Ok(())
+}
