@@ -218,7 +218,7 @@ assignment_reader =
     step name_reader (λ b. b.skill) (λ skill.
     done (record { nurse = nurse; day = day; shift = shift; skill = skill }) ((((tt, refl), refl), refl), refl) (λ b v i. record { nurse = v.0.0.0.1 i; day = v.0.0.1 i; shift = v.0.1 i; skill = v.1 i })))))
 
-solution_reader : Reader every grammar.solution solution_at
+pub solution_reader : Reader every grammar.solution solution_at
 unfolding solution_at
 solution_reader =
     word (what.Keyword keyword.Solution) (keyword_text keyword.Solution) refl (step (placed_reader 999) (λ b. b.week) (λ week.

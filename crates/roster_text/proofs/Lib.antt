@@ -12,3 +12,6 @@ pub mod GrammarReaders
 pub mod FirstFaults
 pub mod Texts
 pub mod Lines
+pub mod Pieces
+pub mod ShownLines
+pub mod ReadBack

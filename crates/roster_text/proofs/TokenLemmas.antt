@@ -64,7 +64,7 @@ tokens_from-end text i outside =
     rw none_left refl
 
 -- over places where no token begins
-tokens_from-over : (text : List ℕ) (i n : ℕ) → i + n ≤ length text → ((k : ℕ) → i ≤ k → k < i + n → token_at text k ≡ None) → tokens_from text i ≡ tokens_from text (i + n)
+pub tokens_from-over : (text : List ℕ) (i n : ℕ) → i + n ≤ length text → ((k : ℕ) → i ≤ k → k < i + n → token_at text k ≡ None) → tokens_from text i ≡ tokens_from text (i + n)
 tokens_from-over text i zero inside none = ap (tokens_from text) (omega arith)
 tokens_from-over text i (suc n) inside none =
     let next : i + n + 1 ≡ i + suc n = omega arith in

@@ -5,3 +5,4 @@ pub mod FirstFault
 pub mod Reading
 pub mod Io
 pub mod Canonical
+pub mod ReadBack

@@ -3,6 +3,7 @@
 
 mod bundle;
 mod fault;
+mod laws;
 mod parser;
 mod parsing;
 #[cfg(test)]
@@ -21,6 +22,7 @@ pub use bundle::{
     OffRequest, Pair, Requirement, Scenario, ShiftType, Solution, Succession, WeekData, WeekPairs,
 };
 pub use fault::{Keyword, TextFault, What, WriteFault};
+pub use laws::written_is_read;
 pub use parsing::{one_bundle, one_first_fault, parse_bundle};
 pub use reading::{MAX_INPUT, read_all};
 pub use token::{Token, tokens};

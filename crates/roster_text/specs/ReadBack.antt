@@ -1,0 +1,51 @@
+-- A solution that is written and read: what it takes, and what is read then.
+use Rattle.std.specs.Prelude.{◌≡◌, ℕ, ◌≤◌, IsTrue, List, All, length, map}
+use Rattle.roster_text.specs.declared.bundle.Assignment.{Assignment}
+use Rattle.roster_text.specs.declared.bundle.Day.{Day}
+use Rattle.roster_text.specs.declared.bundle.Day.TheVariants as days
+use Rattle.roster_text.specs.declared.bundle.Solution.{Solution}
+use Rattle.roster_text.specs.Canonical.{Shown, assignment, assignments, canonical}
+use Rattle.roster_text.specs.Canonical.{Assignment as ShownAssignment}
+use Rattle.roster_text.specs.Grammar.{Spelled, solution}
+use Rattle.roster_text.specs.Token.{all_seen, is_word, text_of, tokens_of}
+
+-- each name of an assignment is a word
+pub record HasWords (a : ShownAssignment) : Type 0 where
+  pub nurse : IsTrue (is_word a.nurse)
+  pub shift : IsTrue (is_word a.shift)
+  pub skill : IsTrue (is_word a.skill)
+
+-- names that are words, and numbers that are in range
+pub record IsWritable (s : Shown) : Type 0 where
+  pub week : s.week ≤ 999
+  pub name : IsTrue (is_word s.name)
+  pub words : All HasWords (assignments s)
+  pub count : length (assignments s) ≤ 99999
+
+-- a day by its number; 0 is Monday
+abbrev pub weekday : Day → ℕ
+weekday days.Monday = 0
+weekday days.Tuesday = 1
+weekday days.Wednesday = 2
+weekday days.Thursday = 3
+weekday days.Friday = 4
+weekday days.Saturday = 5
+weekday days.Sunday = 6
+
+-- what an assignment says, by the texts of its names in the source
+abbrev pub said : List ℕ → Assignment → ShownAssignment
+said source a = assignment (text_of source a.nurse) (weekday a.day) (text_of source a.shift) (text_of source a.skill)
+
+-- the solution, its names being tokens of the source, says what is shown: the same week, the same scenario, and
+-- the same assignments in the same order
+pub record Says (source : List ℕ) (v : Solution) (s : Shown) : Type 0 where
+  pub week : v.week.value ≡ s.week
+  pub scenario : text_of source v.scenario ≡ s.name
+  pub lines : map (said source) v.assignments.items ≡ assignments s
+
+-- the tokens of its canonical text spell one solution, and this says what is shown
+pub record IsReadBack (s : Shown) : Type 0 where
+  pub value : Solution
+  pub spelled : Spelled (solution value) (all_seen (canonical s) (tokens_of (canonical s)))
+  pub only : (v : Solution) → Spelled (solution v) (all_seen (canonical s) (tokens_of (canonical s))) → v ≡ value
+  pub says : Says (canonical s) value s
