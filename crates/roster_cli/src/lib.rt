@@ -1,13 +1,16 @@
-// A library with one function.
+//! The program `roster` but for its `main`: what the words of a command line ask for, and the answer to it.
 #![tactic(auto)]
 
-ghost use Rattle.std.specs.Prelude.{◌≡◌};
-ghost use Rattle.roster_cli.specs.Echo.{echo_of};
+mod answer;
+mod fault;
+mod joined;
+mod resolve;
+mod weeks;
+mod words;
 
-// The `ensures` clause is the contract: what `echo` returns is `echo_of` of its argument, a definition
-// in `specs/Echo.antt`, which a caller's clause can cite too.
-pub fn echo(x: usize) -> usize
-    ensures { result ≡ echo_of x }
-{
-    x
-}
+pub use answer::{refuse, refuse_output, run};
+pub use joined::Joined;
+pub use words::{CliFault, Command, Request, request_of};
+
+#[cfg(test)]
+mod tests;

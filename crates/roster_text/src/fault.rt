@@ -85,6 +85,11 @@ impl What {
 }
 
 impl fmt::Display for What {
+    ghost use Rattle.std.specs.Prelude.{Some};
+    ghost use Rattle.roster_text.specs.Words.{what_text};
+
+    ghost output = { λ w. Some (what_text w) };
+
     fn fmt<W: fmt::Write>(&self, f: &mut fmt::Formatter<W>) -> fmt::Result {
         f.write_str(self.text())
     }
