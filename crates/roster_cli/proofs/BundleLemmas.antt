@@ -1,17 +1,16 @@
 -- The weeks of a bundle, by the names of its scenario.
-use Rattle.std.proofs.Common.{◌≡◌, ◌∙◌, ℕ, ◌<◌, ◌≤◌, List, [], ◌∷◌, ap, get_or, length, map, refl, subst, sym, Result, Ok, Err}
-use Rattle.std.specs.Prelude.{All, IfErr, IsErrAnd}
+use Rattle.std.proofs.Common.{◌≡◌, ◌∙◌, ℕ, ◌≤◌, List, [], ap, get_or, length, map, subst, sym, Result, Ok, Err}
+use Rattle.std.specs.Prelude.{IfErr, IsErrAnd}
 use Rattle.std.specs.List.{enumerate_from, join_with_byte}
 use Rattle.std.proofs.lemmas.List.{length-map}
-use Rattle.roster_text.specs.Canonical.{Shown, canonical}
+use Rattle.roster_text.specs.Canonical.{canonical}
 use Rattle.roster_text.specs.declared.bundle.Assignment.{Assignment}
 use Rattle.roster_text.specs.declared.bundle.Bundle.{Bundle}
 use Rattle.roster_text.specs.declared.bundle.Nurse.{Nurse}
-use Rattle.roster_text.specs.declared.bundle.Scenario.{Scenario}
 use Rattle.roster_text.specs.declared.bundle.Solution.{Solution}
 use Rattle.roster_text.specs.Token.{text_of}
-use Rattle.roster_cli.specs.Weeks.{Text, nurse_names, shown_week, week_texts, weeks_text, work_on}
-use Rattle.roster_cli.specs.Resolving.{AllResolve, AreNamesOf, BundleResolves, HasNamesIn, NameLists, Resolves, lists_of, names_of, shown_by_names, texts_by_names}
+use Rattle.roster_cli.specs.Weeks.{Text, shown_week, weeks_text, work_on}
+use Rattle.roster_cli.specs.Resolving.{AllResolve, AreNamesOf, BundleResolves, HasNamesIn, Resolves, lists_of, names_of, shown_by_names, texts_by_names}
 use Rattle.roster_cli.specs.declared.resolve.Names.{Names}
 
 module _ (source : Text) (b : Bundle) (names : Names) (are : AreNamesOf source b.scenario names) where

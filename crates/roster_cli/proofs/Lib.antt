@@ -5,3 +5,4 @@ pub mod TableLemmas
 pub mod WeekLemmas
 pub mod LineLemmas
 pub mod BundleLemmas
+pub mod AnswerLemmas

@@ -1,9 +1,9 @@
 -- A line that is written piece by piece.
 use Rattle.std.proofs.Common.{◌≡◌, List, ℕ, ◌++◌, Option, Result, Ok, Err, subst, sym}
-use Rattle.std.specs.Prelude.{IfErr, OnErr, OnOk}
+use Rattle.std.specs.Prelude.{IfErr, OnErr}
 use Rattle.roster_text.specs.Io.{Stops, StopsAt, Watched, Writes, sent_of}
 use Rattle.roster_text.specs.declared.fault.WriteFault.{WriteFault}
-use Rattle.roster_text.proofs.Texts.{Stops-after, Stops-append, Stops-from_at, Writes-append}
+use Rattle.roster_text.proofs.Texts.{Stops-after, Stops-from_at}
 
 module _ {W : Type 0} (contents : W → Option (List ℕ)) where
   -- the last piece

@@ -1,9 +1,9 @@
 -- The lines of a solution in the table of its week.
-use Rattle.std.proofs.Common.{◌≡◌, ◌≢◌, ◌∙◌, ◌+◌, ◌*◌, ◌<◌, ◌&&◌, ◌==◌, ◌⊎◌, ℕ, Bool, cond, true, false, zero, suc, refl, sym, ap, ap₂, subst, arith, rules, List, [], ◌∷◌, ◌++◌, get_or, length, take, Option, Some, None, inl, inr, ⊎_elim, is_some, true≢false}
+use Rattle.std.proofs.Common.{◌≡◌, ◌≢◌, ◌∙◌, ◌+◌, ◌*◌, ◌<◌, ◌&&◌, ◌==◌, ◌⊎◌, ℕ, Bool, cond, true, false, zero, suc, refl, sym, ap, ap₂, subst, arith, List, [], ◌∷◌, ◌++◌, get_or, length, take, Option, Some, None, inl, inr, ⊎_elim, is_some, true≢false}
 use Rattle.std.proofs.Math.ListN.{set}
-use Rattle.std.specs.Prelude.{All, AllPairs, IfSome, IsSome, find, nat_le, option_and_then, option_map}
+use Rattle.std.specs.Prelude.{IfSome, IsSome, find, nat_le, option_and_then, option_map}
 use Rattle.std.specs.Option.{option_map_or, option_or}
-use Rattle.std.proofs.lemmas.List.{get_or-set_other, get_or-set_same, get_or-take, length-take-le, take_more}
+use Rattle.std.proofs.lemmas.List.{get_or-set_other, get_or-set_same, get_or-take, length-take-le}
 use Rattle.std.proofs.lemmas.Bool.{cases_eq}
 use Rattle.std.proofs.lemmas.Bool.Decides.{eqb_tells}
 use Rattle.std.proofs.lemmas.List.Elements.{All-push}
@@ -13,7 +13,7 @@ use Rattle.roster_text.specs.Token.{text_of}
 use Rattle.roster_text.specs.declared.bundle.Assignment.{Assignment}
 use Rattle.roster_text.specs.declared.token.Token.{Token}
 use Rattle.roster_cli.specs.Weeks.{Text, is_line_of, number_of, weekday_of, work_of, work_on}
-use Rattle.roster_cli.specs.Resolving.{IsTableOf, NameLists, Placed, Resolves, found_in, placed_at, spot_of, text_in, work_texts}
+use Rattle.roster_cli.specs.Resolving.{IsTableOf, NameLists, Placed, Resolves, found_in, placed_at, spot_of, work_texts}
 use Rattle.roster_cli.specs.declared.resolve.Place.{Place}
 use Rattle.roster_cli.specs.declared.resolve.Work.{Work}
 

@@ -1,17 +1,17 @@
 -- Weeks as their tables show them, one behind the other.
-use Rattle.std.proofs.Common.{◌≡◌, ◌∙◌, ◌+◌, ◌<◌, ◌≤◌, ℕ, Bool, cond, true, false, zero, suc, refl, sym, ap, ap₂, subst, arith, List, [], ◌∷◌, ◌++◌, append-nil, append_assoc, codes, decimal, get_or, length, map, drop, take, nat_lt, Option, Some, None, Result, Ok, Err, lt-ltb}
+use Rattle.std.proofs.Common.{◌≡◌, ◌∙◌, ◌+◌, ◌<◌, ◌≤◌, ℕ, cond, true, zero, suc, refl, sym, ap, ap₂, subst, arith, List, [], ◌∷◌, ◌++◌, append-nil, append_assoc, codes, decimal, get_or, length, map, drop, take, nat_lt, Option, Result, Ok, Err, lt-ltb}
 use Rattle.std.specs.Prelude.{IfErr, OnErr, OnOk}
 use Rattle.std.specs.Prelude.{option_map}
 use Rattle.std.specs.List.{cons_option, enumerate_from, filter_map, flat_map, join_with_byte, range_with_len}
 use Rattle.std.proofs.lemmas.List.{length-map, length-take-le, map-append, map_more, take-append-drop}
 use Rattle.std.proofs.lemmas.List.FromFn.{get_or-enumerate_from, length-enumerate_from}
-use Rattle.roster_text.specs.Canonical.{Assignment, Shown, assignment, assignment_line, assignment_on, assignments, canonical, heading, nurse_assignments}
+use Rattle.roster_text.specs.Canonical.{Assignment, Shown, assignment, assignment_line, assignments, canonical, heading, nurse_assignments}
 use Rattle.roster_text.specs.declared.bundle.Solution.{Solution}
 use Rattle.roster_text.specs.Io.{Stops, StopsIn, Watched, Writes}
 use Rattle.roster_text.specs.declared.fault.WriteFault.{WriteFault}
-use Rattle.roster_text.proofs.Texts.{Stops-after, Stops-append, Stops-from_in, Writes-append}
+use Rattle.roster_text.proofs.Texts.{Stops-after, Stops-from_in, Writes-append}
 use Rattle.roster_cli.specs.Weeks.{Text}
-use Rattle.roster_cli.specs.Resolving.{IsTableOf, shown_by, shown_by_names, texts_by_names, week_piece, work_texts}
+use Rattle.roster_cli.specs.Resolving.{IsTableOf, shown_by, shown_by_names, texts_by_names, week_piece}
 use Rattle.roster_cli.specs.declared.resolve.Names.{Names}
 use Rattle.roster_cli.specs.declared.resolve.Work.{Work}
 

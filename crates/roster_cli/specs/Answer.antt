@@ -1,5 +1,5 @@
 -- What a run answers.
-use Rattle.std.specs.Prelude.{◌≡◌, ℕ, ◌<◌, ◌≤◌, ◌⊎◌, ◌||◌, ◌++◌, Bool, true, false, List, [], ◌∷◌, IfSome, Option, codes, decimal, length}
+use Rattle.std.specs.Prelude.{◌≡◌, ℕ, ◌<◌, ◌≤◌, ◌⊎◌, ◌++◌, true, List, IfSome, Option, codes, decimal, length}
 use Rattle.std.specs.Io.KnownBytes.{IsAtEnd}
 use Rattle.roster_text.specs.FirstFault.{IsFirstFault}
 use Rattle.roster_text.specs.Grammar.{Spells}

@@ -1,5 +1,5 @@
 -- How the lines of a solution are looked up in the scenario.
-use Rattle.std.specs.Prelude.{◌≡◌, ◌≢◌, ℕ, ◌+◌, ◌*◌, ◌≤◌, ◌<◌, ◌==◌, ◌&&◌, Bool, List, [], map, length, Option, Some, None, All, AllPairs, IsSome, option_and_then, option_map, nat_le, nat_lt, codes, ◌++◌, if◌then◌else◌, slice_index_or}
+use Rattle.std.specs.Prelude.{◌≡◌, ◌≢◌, ℕ, ◌+◌, ◌*◌, ◌≤◌, ◌<◌, ◌&&◌, List, [], map, length, Option, Some, None, All, AllPairs, IsSome, option_and_then, option_map, nat_le, nat_lt, codes, ◌++◌, if◌then◌else◌, slice_index_or}
 use Rattle.std.specs.List.{enumerate_from}
 use Rattle.roster_cli.specs.Weeks.{Text, nurse_names, number_of, shift_names, skill_names, weekday_of, work_on}
 use Rattle.roster_cli.specs.declared.fault.Fault.{Fault}

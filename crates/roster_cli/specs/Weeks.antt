@@ -1,5 +1,5 @@
 -- What the solutions of a bundle show, by the scenario's names: the first line of a name decides.
-use Rattle.std.specs.Prelude.{◌≡◌, ◌≢◌, ℕ, ◌+◌, ◌*◌, ◌≤◌, ◌==◌, ◌&&◌, Bool, false, true, List, [], ◌∷◌, map, length, Option, Some, None, All, AllPairs, IsSome, find, option_map, is_some, nat_le, slice_index_or}
+use Rattle.std.specs.Prelude.{ℕ, ◌==◌, ◌&&◌, Bool, false, List, [], map, length, Option, find, option_map, slice_index_or}
 use Rattle.std.specs.List.{enumerate_from, join_with_byte, position_from}
 use Rattle.std.specs.Option.{option_map_or}
 use Rattle.std.specs.Str.{bytes_eq}
@@ -11,7 +11,6 @@ use Rattle.roster_text.specs.declared.bundle.Day.{Day}
 use Rattle.roster_text.specs.declared.bundle.Day.TheVariants as day
 use Rattle.roster_text.specs.declared.bundle.Scenario.{Scenario}
 use Rattle.roster_text.specs.declared.bundle.Solution.{Solution}
-use Rattle.roster_text.specs.declared.token.Token.{Token}
 
 abbrev pub Text : Type 0
 Text = List ℕ

@@ -40,7 +40,11 @@ pub fn run<R: Read, Out: Write, Log: Write>(
         × Refuses R.remaining Out.contents input.old input.new output.old output.new fault
         × Logs Log.contents log.old log.new (fault_line fault) }
 
-    // Status 3 comes from a reader or a writer.
+    // A read or an output write that fails is told so, and status 3 comes from nothing else.
+    ensures read_failed { input.old.failed ≡ false → input.new.failed ≡ true → (result ≡ 3)
+        × (output.new ≡ output.old) × Logs Log.contents log.old log.new (codes "read failed\n") }
+    ensures write_failed { output.old.failed ≡ false → output.new.failed ≡ true → (result ≡ 3)
+        × Logs Log.contents log.old log.new (codes "write failed\n") }
     ensures device { result ≡ 3 → (input.new.failed || output.new.failed) ≡ true }
 {
     let answer = match request.command {

@@ -1,21 +1,18 @@
-use Rattle.std.proofs.Common.{◌≡◌, ℕ, ◌∷◌, [], lit<, refl, subst, sym}
+use Rattle.std.proofs.Common.{◌∷◌, [], ap, subst, sym, ◌∙◌}
 use Rattle.std.specs.Prelude.{Contains}
-use Rattle.roster_text.specs.declared.fault.TextFault.{TextFault}
-use Rattle.roster_text.specs.declared.fault.TextFault.TheVariants as text
-use Rattle.roster_cli.specs.Answer.{status_of}
-use Rattle.roster_cli.specs.declared.fault.Fault.{Fault}
-use Rattle.roster_cli.specs.declared.fault.Fault.TheVariants as fault
+use Rattle.roster_cli.specs.Answer.{Logs, fault_line, status_of}
+use Rattle.roster_cli.proofs.AnswerLemmas.{read_failed, status_listed, write_failed}
 use Rattle.roster_cli.proofs.answer.run.Goals as goal
 
-listed : (f : Fault) → Contains (0 ∷ 1 ∷ 3 ∷ 4 ∷ []) (status_of f)
-listed (fault.Text text.Memory) = (3, lit< tt, refl)
-listed (fault.Text text.ReadFailed) = (2, lit< tt, refl)
-listed (fault.Text text.TooLong) = (1, lit< tt, refl)
-listed (fault.Text (text.Expected line what)) = (1, lit< tt, refl)
-listed (fault.Text (text.NumberRange line)) = (1, lit< tt, refl)
-listed (fault.Text (text.AfterEnd line)) = (1, lit< tt, refl)
-listed (fault.Show s) = (1, lit< tt, refl)
-listed fault.Output = (2, lit< tt, refl)
-
 pub returns-in-Err-clause-status : goal.returns-in-Err-clause-status
-returns-in-Err-clause-status g c = subst (Contains (0 ∷ 1 ∷ 3 ∷ 4 ∷ [])) (sym c.tell.ensures.status) (listed c.in-Err.fault)
+returns-in-Err-clause-status g c = subst (Contains (0 ∷ 1 ∷ 3 ∷ 4 ∷ [])) (sym c.tell.ensures.status) (status_listed c.in-Err.fault)
+
+pub returns-in-Err-clause-read_failed : goal.returns-in-Err-clause-read_failed
+returns-in-Err-clause-read_failed g c = λ before now.
+    let found = read_failed g.R.Read.remaining g.Out.Write.contents c.args.input.now c.show-answer.new.input c.args.output.now c.show-answer.new.output c.in-Err.fault c.in-Err.ensures.err before now in
+    (c.tell.ensures.status ∙ ap status_of found.0, found.1, subst (λ f. Logs g.Log.Write.contents c.args.log.now c.tell.new.log (fault_line f)) found.0 c.tell.ensures.line)
+
+pub returns-in-Err-clause-write_failed : goal.returns-in-Err-clause-write_failed
+returns-in-Err-clause-write_failed g c = λ before now.
+    let found = write_failed g.R.Read.remaining g.Out.Write.contents c.args.input.now c.show-answer.new.input c.args.output.now c.show-answer.new.output c.in-Err.fault c.in-Err.ensures.err before now in
+    (c.tell.ensures.status ∙ ap status_of found, subst (λ f. Logs g.Log.Write.contents c.args.log.now c.tell.new.log (fault_line f)) found c.tell.ensures.line)

@@ -1,12 +1,9 @@
-use Rattle.std.proofs.Common.{◌≡◌, ◌∙◌, ◌≤◌, ap, arith, length, refl, subst, sym}
+use Rattle.std.proofs.Common.{◌∙◌, ◌≤◌, ap, arith, length, refl, subst, sym}
 use Rattle.std.specs.List.{join_with_byte}
 use Rattle.roster_text.specs.Io.{Stops, Writes}
-use Rattle.roster_cli.specs.Answer.{StopsShowing}
-use Rattle.roster_cli.specs.Resolving.{AllResolve, BundleResolves, texts_by_names}
-use Rattle.roster_cli.specs.Weeks.{weeks_text}
+use Rattle.roster_cli.specs.Resolving.{AllResolve, texts_by_names}
 use Rattle.roster_cli.specs.declared.fault.Fault.TheVariants as fault
 use Rattle.roster_cli.proofs.BundleLemmas.{IfErr-from, all_resolve, bundle_resolves, weeks-by_names}
-use Rattle.roster_cli.proofs.answer.show_bundle.Given as given
 use Rattle.roster_cli.proofs.answer.show_bundle.Goals as goal
 
 pub returns-clause-ok : goal.returns-clause-ok

@@ -1,4 +1,4 @@
-use Rattle.std.proofs.Common.{◌≡◌, ◌∙◌, ◌++◌, List, ℕ, ap, codes, decimal, refl, subst, sym}
+use Rattle.std.proofs.Common.{◌∙◌, ◌++◌, List, ℕ, ap, codes, decimal, subst, sym}
 use Rattle.std.specs.Prelude.{OnOk}
 use Rattle.roster_text.specs.Io.{Stops, Writes}
 use Rattle.roster_text.specs.Words.{what_text}

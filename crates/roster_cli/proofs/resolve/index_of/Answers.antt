@@ -3,7 +3,6 @@ use Rattle.std.specs.Prelude.{All, IsSome}
 use Rattle.std.proofs.lemmas.List.Elements.{All-push}
 use Rattle.std.proofs.lemmas.List.{map_more, map_push, take_all, take_more}
 use Rattle.roster_text.specs.Token.{text_of}
-use Rattle.roster_text.specs.declared.token.Token.{Token}
 use Rattle.roster_cli.specs.Weeks.{Text}
 use Rattle.roster_cli.specs.Resolving.{text_in}
 use Rattle.roster_cli.proofs.NameLemmas.{text_found, text_read}

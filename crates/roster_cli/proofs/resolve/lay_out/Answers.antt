@@ -1,8 +1,7 @@
-use Rattle.std.proofs.Common.{◌≡◌, ◌∙◌, ◌+◌, ◌*◌, ◌<◌, ap, subst, sym, arith, length, get_or, take, Option, Some, None, is_some, option_map, refl, rules, true, false}
+use Rattle.std.proofs.Common.{◌∙◌, ◌+◌, ◌*◌, ap, subst, sym, length, take, Some, option_map, refl}
 use Rattle.std.proofs.Math.ListN.{length-set, set}
 use Rattle.std.proofs.lemmas.List.{take_more}
-use Rattle.roster_text.specs.declared.bundle.Assignment.{Assignment}
-use Rattle.roster_cli.specs.Resolving.{IsTableOf, Resolves, lists_of, placed_at, placed_view}
+use Rattle.roster_cli.specs.Resolving.{IsTableOf, Resolves, lists_of, placed_view}
 use Rattle.roster_cli.proofs.TableLemmas.{Resolves-push, none_yet, place_within, placed_at-is, table-push, twice_refused}
 use Rattle.roster_cli.proofs.resolve.lay_out.Goals as goal
 

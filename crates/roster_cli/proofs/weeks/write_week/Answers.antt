@@ -1,8 +1,7 @@
-use Rattle.std.proofs.Common.{◌≡◌, ◌∙◌, [], codes, cond, nat_lt, sym, subst, ap, lt-ltb, le-ltb}
+use Rattle.std.proofs.Common.{◌≡◌, [], codes, cond, nat_lt, sym, subst, lt-ltb, le-ltb}
 use Rattle.roster_text.specs.Canonical.{canonical}
 use Rattle.roster_text.specs.Io.{Writes}
 use Rattle.roster_text.proofs.Texts.{Writes-nil}
-use Rattle.roster_cli.specs.Weeks.{Text}
 use Rattle.roster_cli.specs.Resolving.{IsTableOf, shown_by, shown_by_names}
 use Rattle.roster_cli.proofs.WeekLemmas.{OnErr-behind, OnOk-behind, OnOk-value, canonical-by_table}
 use Rattle.roster_cli.proofs.weeks.write_week.Given as given

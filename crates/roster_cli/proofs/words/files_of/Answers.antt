@@ -1,8 +1,8 @@
-use Rattle.std.proofs.Common.{◌≡◌, ◌∙◌, List, [], Option, Some, None, map, option_map, unwrap_or, refl, sym, ap, take, rules, arith, codes}
+use Rattle.std.proofs.Common.{◌≡◌, ◌∙◌, List, [], Option, Some, None, map, option_map, unwrap_or, refl, ap, take, rules, arith, codes}
 use Rattle.std.specs.Borrow.{Bor}
 use Rattle.std.proofs.lemmas.Grind.{common_steps}
 use Rattle.std.proofs.lemmas.List.{take_all}
-use Rattle.clap.specs.Words.{Text, all_of, found_of, raw_values, matched_of, rows_of}
+use Rattle.clap.specs.Words.{Text, found_of, raw_values, matched_of}
 use Rattle.clap.proofs.WalkLemmas.{raw_values-rows}
 use Rattle.roster_cli.proofs.words.files_of.Goals as goal
 

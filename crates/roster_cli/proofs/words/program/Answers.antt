@@ -1,10 +1,9 @@
-use Rattle.std.proofs.Common.{◌≡◌, ◌∙◌, Option, None, Some, ap, ap₂, refl, rules, true, codes}
+use Rattle.std.proofs.Common.{◌≡◌, ◌∙◌, Option, None, Some, ap, ap₂, rules, true}
 use Rattle.std.specs.Prelude.{IsSomeAnd}
 use Rattle.std.proofs.lemmas.Result.{IfOk-weaker}
 use Rattle.clap.specs.Simple.{app_of_fields}
-use Rattle.clap.specs.Words.{App, Rule, app_of, new_app, rule_of, with_rule, with_subcommand}
-use Rattle.clap.specs.declared.builder.range.ValueRange.{ValueRange}
-use Rattle.roster_cli.specs.CommandLine.{bare, files_rule, program, show}
+use Rattle.clap.specs.Words.{App, Rule, app_of, rule_of, with_rule, with_subcommand}
+use Rattle.roster_cli.specs.CommandLine.{bare, files_rule, show}
 use Rattle.roster_cli.proofs.words.program.Goals as goal
 
 is_some_of : {T : Type 0} (o : Option T) (x : T) → IsSomeAnd o (λ y. y ≡ x) → o ≡ Some x

@@ -1,12 +1,7 @@
 use Rattle.std.proofs.Common.{◌≡◌, ◌∙◌, ap, codes, map, refl, subst, sym, true, Result, Ok, Err}
 use Rattle.std.specs.Prelude.{IsSomeAnd, OnOk}
-use Rattle.clap.specs.Words.{App, HasKind, IsAmong, Kinds, Text, app_of, fault_of, is_simple, is_simple_and_free, kind_of, subcommand_of, subcommand_rows_of, takes}
-use Rattle.clap.specs.declared.error.Error.{Error}
-use Rattle.clap.specs.declared.error.kind.ErrorKind.{ErrorKind}
-use Rattle.clap.specs.declared.error.kind.ErrorKind.TheVariants as kind
-use Rattle.roster_cli.specs.CommandLine.{IsRefused, Refuses, TellsKind, is_help, program}
-use Rattle.roster_cli.specs.declared.words.CliFault.{CliFault}
-use Rattle.roster_cli.specs.declared.words.CliFault.TheVariants as fault
+use Rattle.clap.specs.Words.{App, HasKind, fault_of, is_simple, is_simple_and_free, kind_of, subcommand_of, takes}
+use Rattle.roster_cli.specs.CommandLine.{program}
 use Rattle.roster_cli.proofs.CommandLineLemmas.{meets_show, refuses}
 use Rattle.roster_cli.proofs.words.request_of.Goals as goal
 

@@ -1,7 +1,6 @@
-use Rattle.std.proofs.Common.{rules, ◌≡◌, ◌<◌, ℕ, drop, sym, subst, refl, arith, length, codes, List, [], take}
+use Rattle.std.proofs.Common.{rules, ◌≡◌, ◌<◌, subst, arith, length, codes, take}
 use Rattle.std.proofs.Math.ListN.{set}
 use Rattle.std.specs.Io.KnownBytes.{Consumes}
-use Rattle.roster_cli.specs.JoinedBytes.{joined_bytes}
 use Rattle.roster_cli.proofs.JoinedLemmas.{first_byte, reader_ends}
 use Rattle.roster_cli.proofs.joined.JoinedRead.read.Goals as goal
 

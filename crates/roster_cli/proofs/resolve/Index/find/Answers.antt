@@ -1,4 +1,4 @@
-use Rattle.std.proofs.Common.{◌≡◌, ◌∙◌, ap, arith, length, subst, sym}
+use Rattle.std.proofs.Common.{◌∙◌, ap, arith, sym}
 use Rattle.std.specs.Str.{bytes_eq}
 use Rattle.roster_cli.specs.Weeks.{number_of}
 use Rattle.roster_cli.proofs.NameLemmas.{position_from-below}

@@ -1,0 +1,63 @@
+-- The hard rules (INRC-II), and the list of their breaches in order: missing nurses by day, shift and skill; then
+-- forbidden successions by nurse and day, also from the history's last shift to day 0 (profile); then skills that a nurse
+-- lacks, by nurse and day. That a nurse works one shift a day holds of each roster by its form.
+use Rattle.std.specs.Prelude.{◌≡◌, ℕ, ◌-◌, Bool, true, false, not, ◌==◌, nat_lt, List, [], ◌++◌, if◌then◌else◌, Option, Some, None, slice_index_or}
+use Rattle.std.specs.List.{list_any}
+use Rattle.roster_case.specs.declared.choice.Choice.{Choice}
+use Rattle.roster_case.specs.declared.choice.Choice.TheVariants.{Off, Work}
+use Rattle.roster_case.specs.declared.choice.Shift.{Shift}
+use Rattle.roster_case.specs.declared.choice.Skill.{Skill}
+use Rattle.roster_case.specs.declared.fault.HardFault.{HardFault}
+use Rattle.roster_case.specs.declared.fault.HardFault.TheVariants.{H2, H3, H4}
+use Rattle.roster_case.specs.declared.rules.ShiftRules.{ShiftRules}
+use Rattle.roster_case.specs.Days.{Days, shift_on}
+use Rattle.roster_case.specs.Faults.{fault_if, below, is_none_of}
+use Rattle.roster_case.specs.Meaning.{Meaning, day_count, shift_count, skill_count, nurse_count, shift_at, skill_at, no_shift, nurse_at, need, last_shift}
+use Rattle.roster_case.specs.Rosters.{Rows, choice_on, row_of, days_of_nurse, cover}
+
+-- the first shift forbids the second on the next day
+abbrev pub forbids : List ShiftRules → Option Shift → Option Shift → Bool
+forbids shifts (Some s) (Some t) = slice_index_or (slice_index_or shifts s.0 no_shift).forbids t.0 false
+forbids shifts (Some s) None = false
+forbids shifts None next = false
+
+-- the shift before a day: on day 0 the history's last
+abbrev pub shift_before : Option Shift → Days → ℕ → Option Shift
+shift_before last days d = if d == 0 then last else shift_on days (d - 1)
+
+-- the nurse can work so
+abbrev pub is_able : List Skill → Choice → Bool
+is_able skills Off = true
+is_able skills (Work s k) = list_any (λ own. own.0 == k.0) skills
+
+abbrev pub staffing_fault : Meaning → Rows → ℕ → ℕ → ℕ → List HardFault
+staffing_fault c r d s k =
+    fault_if (nat_lt (cover r d s k) (need c d s k).least) (H2 d (shift_at s) (skill_at k) (cover r d s k) (need c d s k).least)
+
+abbrev pub staffing_faults : Meaning → Rows → List HardFault
+staffing_faults c r = below (day_count c) (λ d. below (shift_count c) (λ s. below (skill_count c) (λ k. staffing_fault c r d s k)))
+
+abbrev pub succession_fault : Meaning → Rows → ℕ → ℕ → List HardFault
+succession_fault c r n d =
+    let days = days_of_nurse r n in
+    fault_if (forbids c.shifts (shift_before (last_shift (nurse_at c n).border) days d) (shift_on days d)) (H3 n d)
+
+abbrev pub succession_faults : Meaning → Rows → List HardFault
+succession_faults c r = below (nurse_count c) (λ n. below (day_count c) (λ d. succession_fault c r n d))
+
+abbrev pub skill_fault : Meaning → Rows → ℕ → ℕ → List HardFault
+skill_fault c r n d = fault_if (not (is_able (nurse_at c n).skills (choice_on (row_of r n) d))) (H4 n d)
+
+abbrev pub skill_faults : Meaning → Rows → List HardFault
+skill_faults c r = below (nurse_count c) (λ n. below (day_count c) (λ d. skill_fault c r n d))
+
+-- all breaches in order
+unfoldable pub hard_faults : Meaning → Rows → List HardFault
+hard_faults c r = staffing_faults c r ++ succession_faults c r ++ skill_faults c r
+
+abbrev pub keeps_hard : Meaning → Rows → Bool
+keeps_hard c r = is_none_of (hard_faults c r)
+
+-- the roster keeps the hard rules
+abbrev pub KeepsHard : Meaning → Rows → Type 0
+KeepsHard c r = hard_faults c r ≡ []

@@ -1,0 +1,103 @@
+-- The small instance of the worked examples, as a meaning.
+use Rattle.std.specs.Prelude.{ℕ, ◌%◌, Bool, true, false, ◌==◌, List, [], ◌∷◌, codes, replicate, flat_map, map, if◌then◌else◌}
+use Rattle.std.specs.List.{list_any, range_with_len}
+use Rattle.roster_case.specs.declared.choice.Choice.{Choice}
+use Rattle.roster_case.specs.declared.choice.Choice.TheVariants.{Off, Work}
+use Rattle.roster_case.specs.declared.costs.Costs.{Costs}
+use Rattle.roster_case.specs.declared.rules.Border.TheVariants.{Free}
+use Rattle.roster_case.specs.declared.rules.ContractRules.{ContractRules}
+use Rattle.roster_case.specs.declared.rules.Limits.{Limits}
+use Rattle.roster_case.specs.declared.rules.ShiftRules.{ShiftRules}
+use Rattle.roster_case.specs.Meaning.{Meaning, NurseFacts, shift_at, skill_at}
+use Rattle.roster_case.specs.Rosters.{Row, Rows}
+
+abbrev pub limits : ℕ → ℕ → Limits
+limits least greatest = record { least = least; greatest = greatest }
+
+abbrev pub early : ShiftRules
+early = record { run = limits 1 5; forbids = replicate 8 false }
+
+-- Early may not follow Night
+abbrev pub night : ShiftRules
+night = record { run = limits 1 5; forbids = true ∷ replicate 7 false }
+
+abbrev pub full : ContractRules
+full = record { total = limits 2 5; working = limits 1 5; free = limits 1 5; weekends = 1; whole_weekends = true }
+
+-- a nurse with the skill Nurse who was off on the day before
+abbrev pub nurse_named : List ℕ → NurseFacts
+nurse_named name = record { name = name; contract = 0; skills = skill_at 0 ∷ []; border = Free 1; assignments = 0; weekends = 0 }
+
+-- each day wants one nurse on Early at best
+abbrev pub mini : Meaning
+mini = record {
+  name = codes "mini";
+  weeks = 1;
+  skill_names = codes "Nurse" ∷ [];
+  shift_names = codes "Early" ∷ codes "Night" ∷ [];
+  shifts = early ∷ night ∷ [];
+  contracts = full ∷ [];
+  nurses = nurse_named (codes "Ann") ∷ nurse_named (codes "Bob") ∷ [];
+  needs = flat_map (λ day. limits 0 1 ∷ limits 0 0 ∷ []) (range_with_len 0 7);
+  requests = [];
+}
+
+-- the same without Night
+abbrev pub mini_of_one_shift : Meaning
+mini_of_one_shift = record mini {
+  shift_names = codes "Early" ∷ [];
+  shifts = early ∷ [];
+  needs = replicate 7 (limits 0 1);
+}
+
+-- ---- rows of a week
+
+abbrev pub is_among : List ℕ → ℕ → Bool
+is_among numbers d = list_any (λ k. k == d) numbers
+
+abbrev pub early_shift : Choice
+early_shift = Work (shift_at 0) (skill_at 0)
+
+-- Early on these days, from 0 for Monday
+abbrev pub early_on : List ℕ → Row
+early_on numbers = map (λ d. if is_among numbers d then early_shift else Off) (range_with_len 0 7)
+
+-- Early on all days but one
+abbrev pub early_but : ℕ → Row
+early_but off = map (λ d. if d == off then Off else early_shift) (range_with_len 0 7)
+
+abbrev pub free_week : Row
+free_week = replicate 7 Off
+
+abbrev pub all_free : Rows
+all_free = free_week ∷ free_week ∷ []
+
+abbrev pub ann : ℕ
+ann = 0
+
+abbrev pub bob : ℕ
+bob = 1
+
+abbrev pub costs : ℕ → ℕ → ℕ → ℕ → ℕ → ℕ → ℕ → Costs
+costs a b c d e f g = record { s1 = a; s2 = b; s3 = c; s4 = d; s5 = e; s6 = f; s7 = g }
+
+-- ---- an instance of eight weeks: four shifts, four skills, thirty nurses with one skill each who were off for two days
+
+abbrev pub big_contract : ContractRules
+big_contract = record { total = limits 30 44; working = limits 3 5; free = limits 2 3; weekends = 4; whole_weekends = true }
+
+abbrev pub big_nurse : ℕ → NurseFacts
+big_nurse n = record { name = codes "N"; contract = 0; skills = skill_at (n % 4) ∷ []; border = Free 2; assignments = 0; weekends = 0 }
+
+abbrev pub big : Meaning
+big = record {
+  name = codes "big";
+  weeks = 8;
+  skill_names = codes "K0" ∷ codes "K1" ∷ codes "K2" ∷ codes "K3" ∷ [];
+  shift_names = codes "S0" ∷ codes "S1" ∷ codes "S2" ∷ codes "S3" ∷ [];
+  shifts = replicate 4 (record { run = limits 2 5; forbids = replicate 8 false });
+  contracts = big_contract ∷ [];
+  nurses = map big_nurse (range_with_len 0 30);
+  needs = replicate 896 (limits 0 1);
+  requests = [];
+}

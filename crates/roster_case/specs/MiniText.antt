@@ -1,0 +1,134 @@
+-- The text of the small instance, line by line, and what a text says.
+use Rattle.std.specs.Prelude.{take, drop, ℕ, ◌-◌, ◌++◌, List, [], ◌∷◌, codes, flat_map, map, slice_set, insert, Option, Some, None, option_map, Ok, Err}
+use Rattle.std.specs.List.{range_with_len}
+use Rattle.roster_text.specs.declared.bundle.Bundle.{Bundle}
+use Rattle.roster_text.specs.Reading.{Read, bundle_at}
+use Rattle.roster_text.specs.Token.{all_seen, tokens_of}
+use Rattle.roster_case.specs.declared.costs.Costs.{Costs}
+use Rattle.roster_case.specs.declared.fault.CaseFault.{CaseFault}
+use Rattle.roster_case.specs.declared.fault.HardFault.{HardFault}
+use Rattle.roster_case.specs.Bundles.{meaning_of, rows_of}
+use Rattle.roster_case.specs.Faults.{first_of}
+use Rattle.roster_case.specs.HardRules.{hard_faults}
+use Rattle.roster_case.specs.Meaning.{Meaning, nurse_count}
+use Rattle.roster_case.specs.Penalties.{costs_of, total_cost}
+use Rattle.roster_case.specs.Refusals.{case_faults, roster_faults}
+use Rattle.roster_case.specs.Rosters.{Rows}
+use Rattle.roster_case.specs.Sizes.{state_count, choice_count}
+
+abbrev pub Lines : Type 0
+Lines = List (List ℕ)
+
+abbrev pub mini_lines : Lines
+mini_lines =
+    codes "SCENARIO = mini" ∷
+    [] ∷
+    codes "WEEKS = 1" ∷
+    [] ∷
+    codes "SKILLS = 1" ∷
+    codes "Nurse" ∷
+    [] ∷
+    codes "SHIFT_TYPES = 2" ∷
+    codes "Early (1,5)" ∷
+    codes "Night (1,5)" ∷
+    [] ∷
+    codes "FORBIDDEN_SHIFT_TYPES_SUCCESSIONS" ∷
+    codes "Early 0" ∷
+    codes "Night 1 Early" ∷
+    [] ∷
+    codes "CONTRACTS = 1" ∷
+    codes "Full (2,5) (1,5) (1,5) 1 1" ∷
+    [] ∷
+    codes "NURSES = 2" ∷
+    codes "Ann Full 1 Nurse" ∷
+    codes "Bob Full 1 Nurse" ∷
+    [] ∷
+    codes "HISTORY" ∷
+    codes "0 mini" ∷
+    [] ∷
+    codes "NURSE_HISTORY" ∷
+    codes "Ann 0 0 None 0 0 1" ∷
+    codes "Bob 0 0 None 0 0 1" ∷
+    [] ∷
+    codes "WEEK_DATA" ∷
+    codes "mini" ∷
+    [] ∷
+    codes "REQUIREMENTS" ∷
+    codes "Early Nurse (0,1) (0,1) (0,1) (0,1) (0,1) (0,1) (0,1)" ∷
+    [] ∷
+    codes "SHIFT_OFF_REQUESTS = 0" ∷
+    [] ∷
+    codes "SOLUTION" ∷
+    codes "0 mini" ∷
+    [] ∷
+    codes "ASSIGNMENTS = 0" ∷
+    []
+
+-- another line in the place of the n-th, from 1; and one behind it
+abbrev pub line : ℕ → List ℕ → Lines → Lines
+line n text lines = slice_set lines (n - 1) text
+
+abbrev pub line_behind : ℕ → List ℕ → Lines → Lines
+line_behind n text lines = insert lines n text
+
+-- the lines with a solution of these assignments, and their number as it is written
+abbrev pub solved : List ℕ → Lines → Lines → Lines
+solved count assignments lines = line 41 (codes "ASSIGNMENTS = " ++ count) lines ++ assignments
+
+-- assignments of a nurse to Early with the skill Nurse
+abbrev pub early_lines : List ℕ → List (List ℕ) → Lines
+early_lines nurse days = map (λ day. nurse ++ codes " " ++ day ++ codes " Early Nurse") days
+
+-- two weeks of the instance, with this request in the second, and these assignments in the solutions of the first and the second
+abbrev pub two_weeks : List ℕ → List ℕ → List ℕ → Lines
+two_weeks request first second =
+    take 29 (line 3 (codes "WEEKS = 2") mini_lines)
+    ++ take 8 (drop 29 mini_lines)
+    ++ take 8 (drop 29 (line 36 (codes "SHIFT_OFF_REQUESTS = " ++ request) mini_lines))
+    ++ drop 37 (line 41 (codes "ASSIGNMENTS = " ++ first) mini_lines)
+    ++ drop 37 (line 41 (codes "ASSIGNMENTS = " ++ second) mini_lines)
+
+abbrev pub text_of_lines : Lines → List ℕ
+text_of_lines lines = flat_map (λ l. l ++ codes "\n") lines
+
+abbrev pub bundle_in : {A : Type 0} → (Bundle → A) → Read Bundle → Option A
+bundle_in f (Ok b) = Some (f b.0)
+bundle_in f (Err e) = None
+
+-- what is said of the bundle that a text spells, if it spells one
+abbrev pub said : {A : Type 0} → (List ℕ → Bundle → A) → List ℕ → Option A
+said f text = bundle_in (f text) (bundle_at (all_seen text (tokens_of text)))
+
+abbrev pub case_in : Lines → Option Meaning
+case_in lines = said meaning_of (text_of_lines lines)
+
+abbrev pub roster_in : Lines → Option Rows
+roster_in lines = said rows_of (text_of_lines lines)
+
+-- all refusals, all breaches of the hard rules, the penalties of the rules, and their sum
+abbrev pub refusals_in : Lines → Option (List CaseFault)
+refusals_in lines = said (λ source b. case_faults source b ++ roster_faults source b) (text_of_lines lines)
+
+-- the first refusal, if any
+abbrev pub first_in : {A : Type 0} → Option (List A) → Option A
+first_in None = None
+first_in (Some faults) = first_of faults
+
+abbrev pub refusal_in : Lines → Option CaseFault
+refusal_in lines = first_in (refusals_in lines)
+
+abbrev pub breaches_in : Lines → Option (List HardFault)
+breaches_in lines = said (λ source b. hard_faults (meaning_of source b) (rows_of source b)) (text_of_lines lines)
+
+abbrev pub costs_in : Lines → Option Costs
+costs_in lines = said (λ source b. costs_of (meaning_of source b) (rows_of source b)) (text_of_lines lines)
+
+abbrev pub total_in : Lines → Option ℕ
+total_in lines = option_map total_cost (costs_in lines)
+
+-- of each nurse the number of states and of choices
+abbrev pub sizes_of : Meaning → List (ℕ × ℕ)
+sizes_of c = map (λ n. (state_count c n, choice_count c n)) (range_with_len 0 (nurse_count c))
+
+abbrev pub sizes_in : Lines → Option (List (ℕ × ℕ))
+sizes_in lines = option_map sizes_of (case_in lines)

@@ -1,0 +1,125 @@
+-- The penalties of the soft rules with their weights, and the penalty of a roster (INRC-II; totals and weekends are counted
+-- once, at the end of the horizon, with the history's: our profile).
+use Rattle.std.specs.Prelude.{ℕ, ◌+◌, ◌-◌, ◌*◌, Bool, true, false, ◌&&◌, ◌==◌, if◌then◌else◌, length, Option, Some, None}
+use Rattle.std.specs.List.{list_any}
+use Rattle.roster_case.specs.declared.choice.Shift.{Shift}
+use Rattle.roster_case.specs.declared.costs.Costs.{Costs}
+use Rattle.roster_case.specs.declared.rules.Border.{Border}
+use Rattle.roster_case.specs.declared.rules.Border.TheVariants.{Free, Working}
+use Rattle.roster_case.specs.declared.rules.Request.{Request}
+use Rattle.roster_case.specs.Counting.{sum_below}
+use Rattle.roster_case.specs.Days.{Days, shift_on, works, is_off, has_shift, days_worked, worked_weekends, split_weekends}
+use Rattle.roster_case.specs.Meaning.{Meaning, day_count, shift_count, skill_count, nurse_count, shift_rules, nurse_at, contract_of, need}
+use Rattle.roster_case.specs.Rosters.{Rows, days_of_nurse, cover}
+use Rattle.roster_case.specs.Runs.{run_faults}
+
+-- ---- staffing: 30 for each nurse missing to the optimum of a day, shift and skill
+
+abbrev pub staffing_of_day : Meaning → Rows → ℕ → ℕ
+staffing_of_day c r d = sum_below (shift_count c) (λ s. sum_below (skill_count c) (λ k. 30 * ((need c d s k).greatest - cover r d s k)))
+
+abbrev pub staffing : Meaning → Rows → ℕ
+staffing c r = sum_below (day_count c) (staffing_of_day c r)
+
+-- ---- runs: how many days of a kind stand right before day 0
+
+abbrev pub free_before : Border → ℕ
+free_before (Free n) = n
+free_before (Working s own all) = 0
+
+abbrev pub worked_before : Border → ℕ
+worked_before (Free n) = 0
+worked_before (Working s own all) = all
+
+abbrev pub shift_run_before : ℕ → Border → ℕ
+shift_run_before s (Free n) = 0
+shift_run_before s (Working t own all) = if t.0 == s then own else 0
+
+-- 30 for each missing or extra day of a run of working days
+abbrev pub working_runs : Meaning → ℕ → Days → ℕ
+working_runs c n days = 30 * run_faults (contract_of c n).working (worked_before (nurse_at c n).border) (works days) (length days)
+
+-- 15 for each missing or extra day of a run of one shift
+abbrev pub runs_of_shift : Meaning → ℕ → Days → ℕ → ℕ
+runs_of_shift c n days s = 15 * run_faults (shift_rules c s).run (shift_run_before s (nurse_at c n).border) (has_shift s days) (length days)
+
+abbrev pub shift_runs : Meaning → ℕ → Days → ℕ
+shift_runs c n days = sum_below (shift_count c) (runs_of_shift c n days)
+
+-- 30 for each missing or extra day of a run of days off
+abbrev pub free_runs : Meaning → ℕ → Days → ℕ
+free_runs c n days = 30 * run_faults (contract_of c n).free (free_before (nurse_at c n).border) (is_off days) (length days)
+
+-- ---- wishes: 10 for each assignment to an undesired shift, once, however many requests name it
+
+-- the wish is to be free of this shift; one without a shift is to be free of each
+abbrev pub wants_off : Option Shift → Option Shift → Bool
+wants_off wish None = false
+wants_off None (Some t) = true
+wants_off (Some s) (Some t) = s.0 == t.0
+
+-- the request names this nurse, day and shift
+abbrev pub names : ℕ → ℕ → Option Shift → Request → Bool
+names n d shift q = (q.nurse == n) && (q.day == d) && wants_off q.shift shift
+
+abbrev pub is_undesired : Meaning → ℕ → ℕ → Option Shift → Bool
+is_undesired c n d shift = list_any (names n d shift) c.requests
+
+abbrev pub undesired : Meaning → ℕ → Days → ℕ
+undesired c n days = sum_below (length days) (λ d. if is_undesired c n d (shift_on days d) then 10 else 0)
+
+-- ---- weekends and totals
+
+-- 30 for each weekend of which exactly one day is worked, where the contract wants whole weekends
+abbrev pub split : Meaning → ℕ → Days → ℕ
+split c n days = if (contract_of c n).whole_weekends then 30 * split_weekends days else 0
+
+-- the assignments and the worked weekends, with the history's
+abbrev pub total_of : Meaning → ℕ → Days → ℕ
+total_of c n days = (nurse_at c n).assignments + days_worked days
+
+abbrev pub weekends_of : Meaning → ℕ → Days → ℕ
+weekends_of c n days = (nurse_at c n).weekends + worked_weekends days
+
+-- 20 for each assignment missing to the least total, and for each above the greatest
+abbrev pub missing : Meaning → ℕ → ℕ → ℕ
+missing c n total = 20 * ((contract_of c n).total.least - total)
+
+abbrev pub extra : Meaning → ℕ → ℕ → ℕ
+extra c n total = 20 * (total - (contract_of c n).total.greatest)
+
+abbrev pub totals : Meaning → ℕ → Days → ℕ
+totals c n days = missing c n (total_of c n days) + extra c n (total_of c n days)
+
+-- 30 for each worked weekend above the greatest number
+abbrev pub weekends_above : Meaning → ℕ → Days → ℕ
+weekends_above c n days = 30 * (weekends_of c n days - (contract_of c n).weekends)
+
+-- ---- the sums
+
+-- a nurse's own part: runs, split weekends, totals and worked weekends
+unfoldable pub own_cost : Meaning → ℕ → Days → ℕ
+own_cost c n days = working_runs c n days + shift_runs c n days + free_runs c n days + split c n days + totals c n days + weekends_above c n days
+
+-- one rule over all nurses
+abbrev pub over_nurses : Meaning → Rows → (ℕ → Days → ℕ) → ℕ
+over_nurses c r rule = sum_below (nurse_count c) (λ n. rule n (days_of_nurse r n))
+
+-- the penalty of each rule
+unfoldable pub costs_of : Meaning → Rows → Costs
+costs_of c r = record {
+  s1 = staffing c r;
+  s2 = over_nurses c r (λ n days. working_runs c n days + shift_runs c n days);
+  s3 = over_nurses c r (free_runs c);
+  s4 = over_nurses c r (undesired c);
+  s5 = over_nurses c r (split c);
+  s6 = over_nurses c r (totals c);
+  s7 = over_nurses c r (weekends_above c);
+}
+
+abbrev pub total_cost : Costs → ℕ
+total_cost k = k.s1 + k.s2 + k.s3 + k.s4 + k.s5 + k.s6 + k.s7
+
+-- the roster's penalty
+unfoldable pub penalty : Meaning → Rows → ℕ
+penalty c r = total_cost (costs_of c r)

@@ -1,0 +1,47 @@
+-- What the first days of a row owe, and the five numbers on which their further costs depend (our own, for the search).
+use Rattle.std.specs.Prelude.{ℕ, ◌+◌, length, min, max, Option, Some, None}
+use Rattle.roster_case.specs.declared.choice.Shift.{Shift}
+use Rattle.roster_case.specs.declared.rules.Limits.{Limits}
+use Rattle.roster_case.specs.Days.{Days, works, is_off, has_shift}
+use Rattle.roster_case.specs.HardRules.{shift_before}
+use Rattle.roster_case.specs.Meaning.{Meaning, shift_rules, nurse_at, contract_of, last_shift}
+use Rattle.roster_case.specs.Penalties.{free_before, worked_before, shift_run_before, working_runs, shift_runs, free_runs, split, total_of, weekends_of, extra, weekends_above}
+use Rattle.roster_case.specs.Runs.{open_run}
+
+-- a nurse's own cost so far, without the missing assignments: the last of these days is the horizon
+unfoldable pub due : Meaning → ℕ → Days → ℕ
+due c n days = working_runs c n days + shift_runs c n days + free_runs c n days + split c n days + extra c n (total_of c n days) + weekends_above c n days
+
+-- beyond its cap a run costs the same
+abbrev pub cap : Limits → ℕ
+cap l = max l.least l.greatest
+
+-- the last shift, the run of working or free days that ends these days, the run of that shift, the assignments and the
+-- worked weekends with the history's, each up to its cap
+pub record Summary : Type 0 where
+  pub last : Option Shift
+  pub run : ℕ
+  pub shift_run : ℕ
+  pub assignments : ℕ
+  pub weekends : ℕ
+
+-- the shift of the last day, the history's where there is no day
+abbrev pub last_of : Meaning → ℕ → Days → Option Shift
+last_of c n days = shift_before (last_shift (nurse_at c n).border) days (length days)
+
+abbrev pub run_of : Meaning → ℕ → Days → Option Shift → ℕ
+run_of c n days None = min (open_run (free_before (nurse_at c n).border) (is_off days) (length days)) (cap (contract_of c n).free)
+run_of c n days (Some s) = min (open_run (worked_before (nurse_at c n).border) (works days) (length days)) (cap (contract_of c n).working)
+
+abbrev pub shift_run_of : Meaning → ℕ → Days → Option Shift → ℕ
+shift_run_of c n days None = 0
+shift_run_of c n days (Some s) = min (open_run (shift_run_before s.0 (nurse_at c n).border) (has_shift s.0 days) (length days)) (cap (shift_rules c s.0).run)
+
+unfoldable pub summary_of : Meaning → ℕ → Days → Summary
+summary_of c n days = record {
+  last = last_of c n days;
+  run = run_of c n days (last_of c n days);
+  shift_run = shift_run_of c n days (last_of c n days);
+  assignments = min (total_of c n days) (cap (contract_of c n).total);
+  weekends = min (weekends_of c n days) (contract_of c n).weekends;
+}

@@ -1,0 +1,26 @@
+-- The sizes of the search for a nurse (our own).
+use Rattle.std.specs.Prelude.{ℕ, ◌+◌, ◌*◌, max, length, map, List, [], ◌∷◌}
+use Rattle.roster_case.specs.declared.rules.ShiftRules.{ShiftRules}
+use Rattle.roster_case.specs.Meaning.{Meaning, shift_count, nurse_at, contract_of}
+use Rattle.roster_case.specs.Prefix.{cap}
+
+abbrev pub greatest_of : List ℕ → ℕ
+greatest_of [] = 0
+greatest_of (n ∷ ns) = max n (greatest_of ns)
+
+-- how many states a nurse's search has: the product of the ranges of the five numbers of a summary
+unfoldable pub state_count : Meaning → ℕ → ℕ
+state_count c n =
+    (shift_count c + 1)
+    * (max (cap (contract_of c n).working) (cap (contract_of c n).free) + 1)
+    * (greatest_of (map (λ (s : ShiftRules). cap s.run) c.shifts) + 1)
+    * (cap (contract_of c n).total + 1)
+    * ((contract_of c n).weekends + 1)
+
+-- how many choices a nurse has on a day
+unfoldable pub choice_count : Meaning → ℕ → ℕ
+choice_count c n = 1 + shift_count c * length (nurse_at c n).skills
+
+-- the most states that the search takes
+abbrev pub max_states : ℕ
+max_states = 1048576

@@ -1,0 +1,135 @@
+//! Worked examples: what the definitions say of a small instance and of texts that differ from it in a few lines.
+#![tactic(auto, unfolding(roster_text::specs::Token::tokens_from, roster_text::specs::Token::token_at, roster_text::specs::Token::begins_at, roster_text::specs::Token::end_from, roster_text::specs::Token::is_separator, roster_text::specs::Token::is_mark, roster_text::specs::Token::is_word_byte, roster_text::specs::Token::follows_word_byte, roster_text::specs::Token::line_feeds, roster_text::specs::Reading::bundle_at, roster_text::specs::Reading::scenario_at, roster_text::specs::Reading::section_at, roster_text::specs::Reading::listed_at, roster_text::specs::Reading::times_at, roster_text::specs::Reading::shift_type_at, roster_text::specs::Reading::pair_at, roster_text::specs::Reading::until_with, roster_text::specs::Reading::succession_at, roster_text::specs::Reading::names_at, roster_text::specs::Reading::contract_at, roster_text::specs::Reading::nurse_at, roster_text::specs::Reading::history_at, roster_text::specs::Reading::nurse_history_at, roster_text::specs::Reading::week_data_at, roster_text::specs::Reading::requirement_at, roster_text::specs::Reading::week_pairs_at, roster_text::specs::Reading::solution_at, roster_text::specs::Reading::assignment_at, roster_text::specs::Reading::off_request_at, crate::specs::Bundles::meaning_of, crate::specs::Bundles::rows_of, crate::specs::Refusals::case_faults, crate::specs::Refusals::roster_faults, crate::specs::Sizes::state_count, crate::specs::Sizes::choice_count, crate::specs::HardRules::hard_faults, crate::specs::Penalties::costs_of, crate::specs::Penalties::penalty, crate::specs::Runs::run_faults, crate::specs::Runs::open_run, crate::specs::Choices::all_rows, crate::specs::Prefix::due, crate::specs::Prefix::summary_of, crate::specs::Penalties::own_cost, crate::specs::Improver::log_of))]
+
+ghost use Rattle.std.specs.Prelude.{◌≡◌, ℕ, ◌++◌, [], ◌∷◌, codes, flat_map, map, replicate, take, true, false};
+ghost use Rattle.roster_case.specs.declared.fault.CaseFault.{CaseFault};
+ghost use Rattle.roster_case.specs.declared.fault.HardFault.{HardFault};
+ghost use Rattle.roster_case.specs.Choices.{all_rows, days_of};
+ghost use Rattle.roster_case.specs.Improver.{log_of, line_of};
+ghost use Rattle.roster_case.specs.Mini.{mini, mini_of_one_shift, big, limits, is_among, early_on, early_but, free_week, all_free, ann, bob, costs};
+ghost use Rattle.roster_case.specs.MiniText.{mini_lines, two_weeks, line, line_behind, solved, early_lines, case_in, roster_in, refusals_in, refusal_in, breaches_in, costs_in, total_in, sizes_in};
+ghost use Rattle.roster_case.specs.Meaning.{shift_at, skill_at};
+ghost use Rattle.roster_case.specs.Penalties.{penalty, own_cost};
+ghost use Rattle.roster_case.specs.Prefix.{due, summary_of};
+ghost use Rattle.roster_case.specs.Rosters.{fits};
+ghost use Rattle.roster_case.specs.Rows.{best_row, first_least, penalty_with};
+ghost use Rattle.roster_case.specs.Runs.{run_faults, open_run};
+ghost use Rattle.roster_case.specs.Sizes.{state_count, choice_count};
+
+/// The text of the small instance means that instance, and nothing is refused in it.
+pub fn text_of_the_small_instance()
+    ensures case { case_in mini_lines ≡ Some mini }
+    ensures roster { roster_in mini_lines ≡ Some all_free }
+    ensures taken { refusals_in mini_lines ≡ Some [] }
+    ensures fitting { fits mini all_free ≡ true }
+{}
+
+/// Refusals, each after one change of the text.
+pub fn refusals_of_names_and_counts()
+    ensures repeated { refusal_in (line 21 (codes "Ann Full 1 Nurse") mini_lines) ≡ Some (CaseFault.Repeated 21) }
+    ensures unknown { refusal_in (line 20 (codes "Ann Part 1 Nurse") mini_lines) ≡ Some (CaseFault.Unknown 20) }
+    ensures reserved { refusal_in (line 9 (codes "Any (1,5)") mini_lines) ≡ Some (CaseFault.Reserved 9) }
+    ensures instance { refusal_in (line 31 (codes "maxi") mini_lines) ≡ Some (CaseFault.OtherInstance 31) }
+    ensures week { refusal_in (line 24 (codes "1 mini") mini_lines) ≡ Some (CaseFault.HistoryWeek 24) }
+    ensures history { refusal_in (line 28 (codes "Ann 0 0 None 0 0 1") mini_lines) ≡ Some (CaseFault.HistoryNurses 28) }
+    ensures requirement { refusal_in (line_behind 34 (codes "Early Nurse (0,1) (0,1) (0,1) (0,1) (0,1) (0,1) (0,1)") mini_lines) ≡ Some (CaseFault.RepeatedRequirement 35) }
+    ensures no_weeks { refusal_in (line 3 (codes "WEEKS = 0") (take 28 mini_lines)) ≡ Some (CaseFault.Limit 3) }
+    ensures two_shifts_a_day { refusal_in (solved (codes "2") (codes "Ann Mon Early Nurse" ∷ codes "Ann Mon Night Nurse" ∷ []) mini_lines) ≡ Some (CaseFault.H1 0 0) }
+    ensures most_states_taken { refusals_in (line 8 (codes "SHIFT_TYPES = 3") (line 11 (codes "Late (1,7)") (line 17 (codes "Full (2,511) (1,7) (1,5) 7 1") mini_lines))) ≡ Some [] }
+    ensures states { refusal_in (line 8 (codes "SHIFT_TYPES = 3") (line 11 (codes "Late (1,7)") (line 17 (codes "Full (2,512) (1,7) (1,5) 7 1") mini_lines))) ≡ Some (CaseFault.TooManyStates 0 (record { start = 209; end = 212; line = 20 })) }
+{}
+
+/// Breaches of the hard rules.
+pub fn breaches_of_the_hard_rules()
+    ensures staffing { breaches_in (line 34 (codes "Early Nurse (1,1) (0,1) (0,1) (0,1) (0,1) (0,1) (0,1)") mini_lines) ≡ Some (HardFault.H2 0 (shift_at 0) (skill_at 0) 0 1 ∷ []) }
+    ensures succession { breaches_in (solved (codes "2") (codes "Ann Tue Night Nurse" ∷ codes "Ann Wed Early Nurse" ∷ []) mini_lines) ≡ Some (HardFault.H3 ann 2 ∷ []) }
+    ensures succession_from_the_history { breaches_in (line 27 (codes "Ann 0 0 Night 1 1 0") (solved (codes "1") (codes "Ann Mon Early Nurse" ∷ []) mini_lines)) ≡ Some (HardFault.H3 ann 0 ∷ []) }
+    ensures skill { breaches_in (line 5 (codes "SKILLS = 2") (line 6 (codes "Nurse Head") (solved (codes "1") (codes "Bob Tue Early Head" ∷ []) mini_lines))) ≡ Some (HardFault.H4 bob 1 ∷ []) }
+{}
+
+/// Each nurse has eight days off in a row, one of them before the first Monday, and three too many.
+pub fn penalties_of_an_empty_roster()
+    ensures { costs_in mini_lines ≡ Some (costs 210 0 180 0 0 80 0) }
+{}
+
+/// The days before the first Monday count for the length of a run and for the place of its days, and have no costs of their own.
+pub fn penalties_with_runs_that_the_history_began()
+    ensures going_on { costs_in (line 27 (codes "Ann 0 0 Early 7 7 0") (solved (codes "1") (codes "Ann Mon Early Nurse" ∷ []) mini_lines)) ≡ Some (costs 180 45 120 0 0 60 0) }
+    ensures ended_before_monday { costs_in (line 9 (codes "Early (2,5)") (line 17 (codes "Full (2,5) (3,5) (1,5) 1 1") (line 27 (codes "Ann 0 0 Early 1 1 0") mini_lines))) ≡ Some (costs 210 75 150 0 0 80 0) }
+    ensures of_no_days { costs_in (line 27 (codes "Ann 0 0 Early 0 0 0") mini_lines) ≡ Some (costs 210 0 150 0 0 80 0) }
+    ensures counts_ignored { costs_in (line 27 (codes "Ann 0 0 None 4 4 1") mini_lines) ≡ Some (costs 210 0 180 0 0 80 0) }
+{}
+
+/// A least above its greatest, the totals of the history, and a shift that two requests name.
+pub fn penalties_of_contracts_and_requests()
+    ensures least_above_greatest { costs_in (line 17 (codes "Full (2,5) (4,3) (1,5) 1 1") (solved (codes "6") (early_lines (codes "Ann") (codes "Mon" ∷ codes "Tue" ∷ codes "Thu" ∷ codes "Fri" ∷ codes "Sat" ∷ codes "Sun" ∷ [])) mini_lines)) ≡ Some (costs 30 90 90 0 0 60 0) }
+    ensures totals_of_the_history { costs_in (line 27 (codes "Ann 9 3 None 0 0 1") (line 28 (codes "Bob 9 3 None 0 0 1") mini_lines)) ≡ Some (costs 210 0 180 0 0 160 120) }
+    ensures requests_and_a_split_weekend { costs_in (line 36 (codes "SHIFT_OFF_REQUESTS = 2 Ann Any Sat Ann Early Sat") (solved (codes "1") (codes "Ann Sat Early Nurse" ∷ []) mini_lines)) ≡ Some (costs 180 0 120 10 30 60 0) }
+{}
+
+/// Days, requests and assignments of a second week.
+pub fn two_weeks_of_the_small_instance()
+    ensures empty { costs_in (two_weeks (codes "0") (codes "0") (codes "0")) ≡ Some (costs 420 0 600 0 0 80 0) }
+    ensures second_saturday { costs_in (two_weeks (codes "1 Bob Any Sat") (codes "0") (codes "1 Bob Sat Early Nurse")) ≡ Some (costs 390 0 540 10 30 60 0) }
+    ensures one_line_a_day { refusals_in (two_weeks (codes "0") (codes "1 Bob Sat Night Nurse") (codes "1 Bob Sat Early Nurse")) ≡ Some [] }
+    ensures two_lines_a_day { refusals_in (two_weeks (codes "0") (codes "0") (codes "2 Bob Sat Early Nurse Bob Sat Early Nurse")) ≡ Some (CaseFault.H1 bob 12 ∷ []) }
+{}
+
+/// The totals along the improver's run on the small instance, and around it.
+pub fn totals_of_better_rosters()
+    ensures one_row { penalty mini (early_but 1 ∷ free_week ∷ []) ≡ 180 }
+    ensures two_rows { penalty mini (early_but 1 ∷ early_on (1 ∷ 5 ∷ 6 ∷ []) ∷ []) ≡ 20 }
+    ensures settled { penalty mini (early_on (0 ∷ 2 ∷ 3 ∷ 4 ∷ []) ∷ early_on (1 ∷ 5 ∷ 6 ∷ []) ∷ []) ≡ 0 }
+    ensures later_row { penalty mini (early_but 4 ∷ free_week ∷ []) ≡ 180 }
+    ensures later_rows { penalty mini (early_but 4 ∷ early_on (4 ∷ 5 ∷ 6 ∷ []) ∷ []) ≡ 20 }
+    ensures needed_night { total_in (line_behind 34 (codes "Night Nurse (0,0) (0,0) (0,0) (1,1) (0,0) (0,0) (0,0)") (solved (codes "1") (codes "Bob Thu Night Nurse" ∷ []) mini_lines)) ≡ Some 360 }
+    ensures around_a_needed_night { total_in (line_behind 34 (codes "Night Nurse (0,0) (0,0) (0,0) (1,1) (0,0) (0,0) (0,0)") (solved (codes "6") (codes "Bob Thu Night Nurse" ∷ early_lines (codes "Bob") (codes "Mon" ∷ codes "Tue" ∷ codes "Wed" ∷ codes "Sat" ∷ codes "Sun" ∷ [])) mini_lines)) ≡ Some 210 }
+    ensures two_skills { total_in (line 5 (codes "SKILLS = 2") (line 6 (codes "Nurse Head") (line 20 (codes "Ann Full 2 Head Nurse") (line_behind 34 (codes "Early Head (0,1) (0,1) (0,1) (0,1) (0,1) (0,1) (0,1)") mini_lines)))) ≡ Some 680 }
+{}
+
+/// What single runs owe.
+pub fn faults_of_runs()
+    ensures two_short_and_one_long { run_faults (limits 4 3) 0 (is_among (0 ∷ 1 ∷ 3 ∷ 4 ∷ 5 ∷ 6 ∷ [])) 7 ≡ 3 }
+    ensures open_at_the_end { run_faults (limits 4 5) 0 (is_among (6 ∷ [])) 7 ≡ 0 }
+    ensures ended_a_day_before { run_faults (limits 4 5) 0 (is_among (5 ∷ [])) 7 ≡ 3 }
+    ensures ended_before_monday { run_faults (limits 3 5) 1 (λ d. false) 7 ≡ 2 }
+    ensures only_the_day_of_the_horizon { run_faults (limits 1 5) 7 (is_among (0 ∷ [])) 7 ≡ 1 }
+    ensures sixteen_weeks { run_faults (limits 1 5) 1 (λ d. true) 112 ≡ 108 }
+    ensures open_run_with_its_border { open_run 1 (λ d. true) 7 ≡ 8 }
+    ensures none_without_days { run_faults (limits 4 5) 2 (λ d. false) 0 ≡ 0 }
+{}
+
+/// States and choices of each nurse.
+pub fn sizes_of_instances()
+    ensures small { sizes_in mini_lines ≡ Some ((1296, 3) ∷ (1296, 3) ∷ []) }
+    ensures many_assignments { sizes_in (line 17 (codes "Full (2,999) (1,5) (1,5) 1 1") mini_lines) ≡ Some ((216000, 3) ∷ (216000, 3) ∷ []) }
+    ensures most { sizes_in (line 8 (codes "SHIFT_TYPES = 3") (line 11 (codes "Late (1,7)") (line 17 (codes "Full (2,511) (1,7) (1,5) 7 1") mini_lines))) ≡ Some ((1048576, 4) ∷ (1048576, 4) ∷ []) }
+    ensures big_states { state_count big 0 ≡ 40500 }
+    ensures big_choices { choice_count big 0 ≡ 5 }
+{}
+
+/// Rows in their order, and the first of the least: one day off in the week costs the same from Tuesday to Friday.
+pub fn rows_in_order()
+    ensures order { all_rows {A = ℕ} (0 ∷ 1 ∷ []) 2 ≡ (0 ∷ 0 ∷ []) ∷ (0 ∷ 1 ∷ []) ∷ (1 ∷ 0 ∷ []) ∷ (1 ∷ 1 ∷ []) ∷ [] }
+    ensures first_of_equals { first_least (penalty_with mini all_free ann) (map early_but (0 ∷ 1 ∷ 2 ∷ 3 ∷ 4 ∷ 5 ∷ 6 ∷ [])) ≡ Some (early_but 1) }
+    ensures best { best_row mini_of_one_shift all_free ann ≡ Some (early_but 1) }
+{}
+
+/// What a prefix owes, and its summary.
+pub fn prefixes_of_rows()
+    ensures before_monday { summary_of mini ann [] ≡ record { last = None; run = 1; shift_run = 0; assignments = 0; weekends = 0 } }
+    ensures nothing_due { due mini ann [] ≡ 0 }
+    ensures monday_worked { summary_of mini ann (Some (shift_at 0) ∷ []) ≡ record { last = Some (shift_at 0); run = 1; shift_run = 1; assignments = 1; weekends = 0 } }
+    ensures a_week_off { summary_of mini ann (replicate 7 None) ≡ record { last = None; run = 5; shift_run = 0; assignments = 0; weekends = 0 } }
+    ensures a_week_off_due { due mini ann (replicate 7 None) ≡ 90 }
+    ensures a_week_off_in_all { own_cost mini ann (replicate 7 None) ≡ 130 }
+    ensures a_long_week { due mini ann (days_of (early_but 1)) ≡ 20 }
+{}
+
+/// The log of a run of no rounds, and the logs of single rounds: the last changes nothing, so that the run is settled.
+pub fn logs_of_runs()
+    ensures no_rounds { flat_map (line_of mini) (log_of mini 0 all_free) ≡ codes "start 470\nstopped 470\n" }
+    ensures one_round { flat_map (line_of mini_of_one_shift) (log_of mini_of_one_shift 1 all_free) ≡ codes "start 470\n1 Ann 180\n1 Bob 20\nround 1 20\nstopped 20\n" }
+    ensures second_round { flat_map (line_of mini_of_one_shift) (log_of mini_of_one_shift 1 (early_but 1 ∷ early_on (1 ∷ 5 ∷ 6 ∷ []) ∷ [])) ≡ codes "start 20\n1 Ann 0\nround 1 0\nstopped 0\n" }
+    ensures last_round { flat_map (line_of mini_of_one_shift) (log_of mini_of_one_shift 1 (early_on (0 ∷ 2 ∷ 3 ∷ 4 ∷ []) ∷ early_on (1 ∷ 5 ∷ 6 ∷ []) ∷ [])) ≡ codes "start 0\nround 1 0\nsettled 0\n" }
+{}

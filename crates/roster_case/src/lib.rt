@@ -1,0 +1,21 @@
+//! What an instance means: its case, its rosters, the hard rules, the penalties and the best row of a nurse.
+#![tactic(auto)]
+
+mod choice;
+mod costs;
+mod examples;
+mod fault;
+mod rows;
+mod rules;
+
+pub use choice::{Choice, Shift, Skill};
+pub use costs::Costs;
+pub use examples::{
+    breaches_of_the_hard_rules, faults_of_runs, logs_of_runs, penalties_of_an_empty_roster,
+    penalties_of_contracts_and_requests, penalties_with_runs_that_the_history_began,
+    prefixes_of_rows, refusals_of_names_and_counts, rows_in_order, sizes_of_instances,
+    text_of_the_small_instance, totals_of_better_rosters, two_weeks_of_the_small_instance,
+};
+pub use fault::{CaseFault, HardFault};
+pub use rows::one_first_least_row;
+pub use rules::{Border, ContractRules, Limits, Request, ShiftRules};
