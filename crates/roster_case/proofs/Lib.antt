@@ -1,1 +1,6 @@
 pub mod FirstLeast
+pub mod RunSums
+pub mod RunLaw
+pub mod DayMore
+pub mod RowLaw
+pub mod WeekendLaw

@@ -6,6 +6,8 @@ pub mod Choices
 pub mod Rosters
 pub mod HardRules
 pub mod Runs
+pub mod RunLaw
+pub mod DayLaw
 pub mod Penalties
 pub mod Prefix
 pub mod Rows

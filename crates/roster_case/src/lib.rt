@@ -5,6 +5,7 @@ mod choice;
 mod costs;
 mod examples;
 mod fault;
+mod laws;
 mod rows;
 mod rules;
 
@@ -17,5 +18,6 @@ pub use examples::{
     text_of_the_small_instance, totals_of_better_rosters, two_weeks_of_the_small_instance,
 };
 pub use fault::{CaseFault, HardFault};
+pub use laws::{runs_grow_by_a_day, runs_of_a_row_grow_by_a_day, weekends_grow_by_a_day};
 pub use rows::one_first_least_row;
 pub use rules::{Border, ContractRules, Limits, Request, ShiftRules};
