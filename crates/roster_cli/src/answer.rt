@@ -139,6 +139,8 @@ fn status_of(fault: Fault) -> u8
     }
 }
 
+// A fault of the three writers below counts the bytes of the piece that it stopped in; nobody asks for more.
+
 fn write_line<Log: Write>(fault: Fault, log: &mut Watch<Log>) -> Result<(), WriteFault>
     ensures ok { OnOk result (Writes Log.contents log.old log.new (fault_line fault)) }
     ensures err { OnErr result (Stops Log.contents log.old log.new (fault_line fault)) }

@@ -36,11 +36,19 @@ impl<R> Joined<R> {
 }
 
 impl<R: Read> Read for Joined<R> {
+    ghost use Rattle.std.specs.Prelude.{◌<◌, OnErr, length};
+    ghost use Rattle.std.specs.Io.KnownBytes.{ReadConsumes};
+    ghost use Rattle.std.specs.Io.{ReadsAtMost};
     ghost use Rattle.roster_cli.specs.JoinedBytes.{joined_bytes};
 
     ghost remaining = { joined_bytes R.remaining };
 
-    fn read(&mut self, buf: &mut [u8]) -> io::Result<usize> {
+    fn read(&mut self, buf: &mut [u8]) -> io::Result<usize>
+        ensures bound { ReadsAtMost result buf.new }
+        ensures bytes { ReadConsumes (joined_bytes R.remaining self.old) (joined_bytes R.remaining self.new) result buf.new }
+        // Only a reader's fault is one, and it passes over no reader.
+        ensures fault { OnErr result ((0 < length self.old) × (length self.new ≡ length self.old)) }
+    {
         if self.done == self.readers.len() || buf.is_empty() {
             return Ok(0);
         }
