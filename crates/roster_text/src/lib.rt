@@ -28,4 +28,4 @@ pub use reading::{MAX_INPUT, read_all};
 pub use token::{Token, tokens};
 pub use view::SolutionView;
 pub use watch::Watch;
-pub use writing::{write_bytes, write_number, write_solution};
+pub use writing::{weekday_text, write_bytes, write_number, write_solution};

@@ -6,6 +6,7 @@ ghost use Rattle.roster_text.specs.Token.{is_separator, is_mark, is_word_byte, e
 
 use crate::fault::TextFault;
 use std::alloc::Global;
+use std::cmp::min;
 
 /// A token of a text: the bytes from `start` up to `end`, on this line (from 1).
 #[derive(Clone, Copy, Debug, PartialEq, Eq)]
@@ -13,6 +14,19 @@ pub struct Token {
     pub start: usize,
     pub end: usize,
     pub line: usize,
+}
+
+impl Token {
+    ghost use Rattle.roster_text.specs.Token.{text_of};
+
+    /// The bytes of the token in its source. What of it lies behind the end of the source is left out.
+    pub fn text(self, source: &[u8]) -> &[u8]
+        ensures { result.now ≡ text_of source.now self }
+    {
+        let end = min(self.end, source.len());
+        let start = min(self.start, end);
+        &source[start..end]
+    }
 }
 
 #[tactic(auto, unfolding(crate::specs::Token::is_separator))]

@@ -157,8 +157,8 @@ fn send_bytes<W: Write>(
     }
 }
 
-/// A weekday in three letters; 0 is Monday.
-fn weekday_text(weekday: u16) -> [u8; 3]
+/// A weekday in three letters, as it is written; 0 is Monday.
+pub fn weekday_text(weekday: u16) -> [u8; 3]
     requires { weekday < 7 }
     ensures { result ≡ weekday_text weekday }
 {
