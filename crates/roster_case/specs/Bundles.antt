@@ -1,13 +1,10 @@
 -- The meaning of a bundle in which nothing is refused (INRC-II; how a history line is read, and (0,0) where no requirement
 -- line stands, are our profile).
-use Rattle.std.specs.Prelude.{ℕ, ◌+◌, ◌*◌, ◌/◌, ◌%◌, Bool, ◌&&◌, ◌==◌, if◌then◌else◌, List, [], ◌∷◌, length, map, flat_map, find, codes, Option, Some, None, option_and_then, slice_get, slice_index_or}
-use Rattle.std.specs.List.{enumerate_from, list_any, range_with_len}
-use Rattle.std.specs.Option.{option_map_or}
+use Rattle.std.specs.Prelude.{ℕ, ◌+◌, ◌*◌, ◌/◌, ◌%◌, Bool, ◌&&◌, ◌||◌, ◌==◌, if◌then◌else◌, List, [], ◌∷◌, length, map, codes, Option, None, option_and_then, option_map, slice_index_or, unwrap_or}
+use Rattle.std.specs.List.{list_any, range_with_len}
 use Rattle.roster_text.specs.declared.bundle.Assignment.{Assignment}
 use Rattle.roster_text.specs.declared.bundle.Bundle.{Bundle}
 use Rattle.roster_text.specs.declared.bundle.Contract.{Contract}
-use Rattle.roster_text.specs.declared.bundle.Day.{Day}
-use Rattle.roster_text.specs.declared.bundle.Day.TheVariants as days
 use Rattle.roster_text.specs.declared.bundle.Nurse.{Nurse}
 use Rattle.roster_text.specs.declared.bundle.NurseHistory.{NurseHistory}
 use Rattle.roster_text.specs.declared.bundle.OffRequest.{OffRequest}
@@ -19,6 +16,7 @@ use Rattle.roster_text.specs.declared.bundle.Succession.{Succession}
 use Rattle.roster_text.specs.declared.bundle.WeekData.{WeekData}
 use Rattle.roster_text.specs.declared.bundle.WeekPairs.{WeekPairs}
 use Rattle.roster_text.specs.declared.token.Token.{Token}
+use Rattle.roster_text.specs.ReadBack.{weekday}
 use Rattle.roster_text.specs.Token.{text_of}
 use Rattle.roster_case.specs.declared.choice.Choice.{Choice}
 use Rattle.roster_case.specs.declared.choice.Choice.TheVariants.{Off, Work}
@@ -28,52 +26,40 @@ use Rattle.roster_case.specs.declared.rules.Border.{Border}
 use Rattle.roster_case.specs.declared.rules.Border.TheVariants.{Free, Working}
 use Rattle.roster_case.specs.declared.rules.ContractRules.{ContractRules}
 use Rattle.roster_case.specs.declared.rules.Limits.{Limits}
-use Rattle.roster_case.specs.declared.rules.Request.{Request}
-use Rattle.roster_case.specs.declared.rules.ShiftRules.{ShiftRules}
-use Rattle.roster_case.specs.Faults.{below}
-use Rattle.roster_case.specs.Meaning.{Meaning, NurseFacts, shift_at, skill_at, no_limits}
-use Rattle.roster_case.specs.Names.{same_name, reads, skill_names, shift_names, contract_names, nurse_names, number_of}
+use Rattle.roster_case.specs.declared.rules.Past.{Past}
+use Rattle.roster_case.specs.Meaning.{Meaning, NurseFacts, WeekFacts, nurse_count, shift_at, skill_at}
+use Rattle.roster_case.specs.Names.{reads, skill_names, shift_names, contract_names, nurse_names, found, number_of, has_number}
 use Rattle.roster_case.specs.Rosters.{Row, Rows}
+use Rattle.roster_case.specs.Tables.{is_at, table_of}
+
+-- In what follows `shifts`, `skills`, `contracts` and `nurses` are the names of the scenario, in its order.
 
 -- ---- numbers
 
-abbrev pub weekday : Day → ℕ
-weekday days.Monday = 0
-weekday days.Tuesday = 1
-weekday days.Wednesday = 2
-weekday days.Thursday = 3
-weekday days.Friday = 4
-weekday days.Saturday = 5
-weekday days.Sunday = 6
+abbrev pub Names : Type 0
+Names = List (List ℕ)
 
 abbrev pub limits_of : Pair → Limits
 limits_of p = record { least = p.least; greatest = p.greatest }
 
-abbrev pub pair_on : WeekPairs → ℕ → Limits
-pair_on w day = slice_index_or (map limits_of (w.monday ∷ w.tuesday ∷ w.wednesday ∷ w.thursday ∷ w.friday ∷ w.saturday ∷ w.sunday ∷ [])) day no_limits
+abbrev pub limits_of_week : WeekPairs → List Limits
+limits_of_week w = map limits_of (w.monday ∷ w.tuesday ∷ w.wednesday ∷ w.thursday ∷ w.friday ∷ w.saturday ∷ w.sunday ∷ [])
 
-abbrev pub shift_named : List ℕ → Bundle → Token → Shift
-shift_named source b t = shift_at (number_of source (shift_names source b) t)
+abbrev pub shift_named : List ℕ → Names → Token → Shift
+shift_named source shifts t = shift_at (number_of source shifts t)
 
-abbrev pub skill_named : List ℕ → Bundle → Token → Skill
-skill_named source b t = skill_at (number_of source (skill_names source b) t)
-
--- the token is the name of the shift, or of the skill, with this number
-abbrev pub names_shift : List ℕ → Bundle → Token → ℕ → Bool
-names_shift source b t s = reads source (slice_index_or (shift_names source b) s []) t
-
-abbrev pub names_skill : List ℕ → Bundle → Token → ℕ → Bool
-names_skill source b t k = reads source (slice_index_or (skill_names source b) k []) t
+abbrev pub skill_named : List ℕ → Names → Token → Skill
+skill_named source skills t = skill_at (number_of source skills t)
 
 -- ---- shifts, contracts, nurses
 
--- a line of successions of the first shift names the second
-abbrev pub is_forbidden_by : List ℕ → Bundle → Token → ℕ → Bool
-is_forbidden_by source b shift next =
-    list_any (λ (l : Succession). same_name source l.shift shift && list_any (λ t. names_shift source b t next) l.forbidden) b.scenario.successions
+-- a flag for each number below 8: whether one of the tokens has the name with this number
+abbrev pub numbers_among : List ℕ → Names → List Token → List Bool
+numbers_among source names ts = map (λ n. list_any (has_number source names n) ts) (range_with_len 0 8)
 
-abbrev pub shift_meant : List ℕ → Bundle → ShiftType → ShiftRules
-shift_meant source b s = record { run = limits_of s.run; forbids = map (is_forbidden_by source b s.name) (range_with_len 0 8) }
+-- for each shift the shifts that its line of successions names
+abbrev pub successions_meant : List ℕ → Names → List Succession → List (Option (List Bool))
+successions_meant source shifts ls = table_of (λ (l : Succession). found source shifts l.shift) (λ (l : Succession). numbers_among source shifts l.forbidden) (length shifts) ls
 
 abbrev pub contract_meant : Contract → ContractRules
 contract_meant c = record {
@@ -84,75 +70,89 @@ contract_meant c = record {
   whole_weekends = c.complete_weekends == 1;
 }
 
+abbrev pub nurse_meant : List ℕ → Names → Names → Nurse → NurseFacts
+nurse_meant source contracts skills n = record { contract = number_of source contracts n.contract; skills = map (skill_named source skills) n.skills }
+
+-- ---- the history
+
 -- where the last shift is `None` only the days off count, else only the run of that shift and the working days
-abbrev pub border_meant : List ℕ → Bundle → NurseHistory → Border
-border_meant source b h =
+abbrev pub border_meant : List ℕ → Names → NurseHistory → Border
+border_meant source shifts h =
     if reads source (codes "None") h.last_shift
     then Free h.free_run
-    else Working (shift_named source b h.last_shift) h.shift_run h.working_run
+    else Working (shift_named source shifts h.last_shift) h.shift_run h.working_run
 
-abbrev pub history_of : List ℕ → Bundle → Token → Option NurseHistory
-history_of source b nurse = find (λ (h : NurseHistory). same_name source h.nurse nurse) b.history.nurses
+abbrev pub line_meant : List ℕ → Names → NurseHistory → Past
+line_meant source shifts h = record { border = border_meant source shifts h; assignments = h.assignments; weekends = h.weekends }
 
-abbrev pub nurse_meant : List ℕ → Bundle → Nurse → NurseFacts
-nurse_meant source b n =
-    let history = history_of source b n.name in
-    record {
-      name = text_of source n.name;
-      contract = number_of source (contract_names source b) n.contract;
-      skills = map (skill_named source b) n.skills;
-      border = option_map_or (border_meant source b) history (Free 0);
-      assignments = option_map_or (λ (h : NurseHistory). h.assignments) history 0;
-      weekends = option_map_or (λ (h : NurseHistory). h.weekends) history 0;
-    }
+-- for each nurse what its line says
+abbrev pub past_meant : List ℕ → Names → Names → List NurseHistory → List (Option Past)
+past_meant source nurses shifts hs = table_of (λ (h : NurseHistory). found source nurses h.nurse) (line_meant source shifts) (length nurses) hs
 
 -- ---- the weeks
 
--- the requirement line of a shift and skill in a week
-abbrev pub line_of_need : List ℕ → Bundle → ℕ → ℕ → WeekData → Option Requirement
-line_of_need source b s k w = find (λ (q : Requirement). names_shift source b q.shift s && names_skill source b q.skill k) w.requirements
+-- the place of a shift and skill
+abbrev pub place_of_need : List ℕ → Names → Names → Requirement → Option ℕ
+place_of_need source shifts skills q = option_and_then (λ s. option_map (λ k. 8 * s + k) (found source skills q.skill)) (found source shifts q.shift)
 
-abbrev pub need_meant : List ℕ → Bundle → ℕ → ℕ → ℕ → Limits
-need_meant source b d s k =
-    option_map_or (λ (q : Requirement). pair_on q.days (d % 7)) (option_and_then (line_of_need source b s k) (slice_get b.week_data (d / 7))) no_limits
+abbrev pub needs_meant : List ℕ → Names → Names → List Requirement → List (Option (List Limits))
+needs_meant source shifts skills qs = table_of (place_of_need source shifts skills) (λ (q : Requirement). limits_of_week q.days) 64 qs
 
--- a request of week i; `Any` names each shift
-abbrev pub request_meant : List ℕ → Bundle → ℕ → OffRequest → Request
-request_meant source b i q = record {
-  nurse = number_of source (nurse_names source b) q.nurse;
-  day = 7 * i + weekday q.day;
-  shift = if reads source (codes "Any") q.shift then None else Some (shift_named source b q.shift);
+-- the place of a nurse and weekday
+abbrev pub place_of_wish : List ℕ → Names → OffRequest → Option ℕ
+place_of_wish source nurses q = option_map (λ n. 7 * n + weekday q.day) (found source nurses q.nurse)
+
+-- the request names this shift; `Any` names each
+abbrev pub wishes_off : List ℕ → Names → ℕ → OffRequest → Bool
+wishes_off source shifts s q = reads source (codes "Any") q.shift || has_number source shifts s q.shift
+
+-- for each place, and each shift number, whether a request names that shift
+unfoldable pub wishes_meant : List ℕ → Names → Names → List OffRequest → List (List Bool)
+wishes_meant source nurses shifts qs =
+    map (λ p. map (λ s. list_any (λ q. is_at p (place_of_wish source nurses q) && wishes_off source shifts s q) qs) (range_with_len 0 8)) (range_with_len 0 (7 * length nurses))
+
+abbrev pub week_meant : List ℕ → Names → Names → Names → WeekData → WeekFacts
+week_meant source shifts skills nurses w = record {
+  needs = needs_meant source shifts skills w.requirements;
+  wishes = wishes_meant source nurses shifts w.off_requests.items;
 }
 
--- ---- the case and the roster
+-- ---- the case
 
 unfoldable pub meaning_of : List ℕ → Bundle → Meaning
 meaning_of source b = record {
   name = text_of source b.scenario.name;
-  weeks = b.scenario.weeks.value;
   skill_names = skill_names source b;
   shift_names = shift_names source b;
-  shifts = map (shift_meant source b) b.scenario.shifts.items;
+  runs = map (λ (s : ShiftType). limits_of s.run) b.scenario.shifts.items;
+  successions = successions_meant source (shift_names source b) b.scenario.successions;
+  contract_names = contract_names source b;
   contracts = map contract_meant b.scenario.contracts.items;
-  nurses = map (nurse_meant source b) b.scenario.nurses.items;
-  needs = below (7 * b.scenario.weeks.value) (λ d. below (length b.scenario.shifts.items) (λ s. below (length b.scenario.skills.items) (λ k. need_meant source b d s k ∷ [])));
-  requests = flat_map (λ (w : ℕ × WeekData). map (request_meant source b w.0) w.1.off_requests.items) (enumerate_from 0 b.week_data);
+  nurse_names = nurse_names source b;
+  nurses = map (nurse_meant source (contract_names source b) (skill_names source b)) b.scenario.nurses.items;
+  past = past_meant source (nurse_names source b) (shift_names source b) b.history.nurses;
+  weeks = map (week_meant source (shift_names source b) (skill_names source b) (nurse_names source b)) b.week_data;
 }
 
--- the line of a nurse and weekday in a solution
-abbrev pub line_of_day : List ℕ → Token → ℕ → Solution → Option Assignment
-line_of_day source nurse day s = find (λ (a : Assignment). same_name source a.nurse nurse && (weekday a.day == day)) s.assignments.items
+-- ---- the roster, by the names of a case
 
-abbrev pub work_meant : List ℕ → Bundle → Assignment → Choice
-work_meant source b a = Work (shift_named source b a.shift) (skill_named source b a.skill)
+-- the place of a nurse and weekday
+abbrev pub place_of_line : List ℕ → Names → Assignment → Option ℕ
+place_of_line source nurses a = option_map (λ n. 7 * n + weekday a.day) (found source nurses a.nurse)
 
--- what a nurse does on a day: solution i is week i, and without a line the nurse is off
-abbrev pub choice_meant : List ℕ → Bundle → Nurse → ℕ → Choice
-choice_meant source b n d =
-    option_map_or (work_meant source b) (option_and_then (line_of_day source n.name (d % 7)) (slice_get b.solutions (d / 7))) Off
+abbrev pub work_meant : List ℕ → Names → Names → Assignment → Choice
+work_meant source shifts skills a = Work (shift_named source shifts a.shift) (skill_named source skills a.skill)
 
-abbrev pub row_meant : List ℕ → Bundle → Nurse → Row
-row_meant source b n = map (choice_meant source b n) (range_with_len 0 (7 * b.scenario.weeks.value))
+-- for each nurse and weekday what a line of the solution says
+abbrev pub solution_meant : List ℕ → Names → Names → Names → Solution → List (Option Choice)
+solution_meant source nurses shifts skills s = table_of (place_of_line source nurses) (work_meant source shifts skills) (7 * length nurses) s.assignments.items
 
-unfoldable pub rows_of : List ℕ → Bundle → Rows
-rows_of source b = map (row_meant source b) b.scenario.nurses.items
+-- solution i is week i, and without a line the nurse is off
+abbrev pub choice_meant : List (List (Option Choice)) → ℕ → ℕ → Choice
+choice_meant weeks n d = unwrap_or (slice_index_or (slice_index_or weeks (d / 7) []) (7 * n + d % 7) None) Off
+
+abbrev pub row_meant : List (List (Option Choice)) → ℕ → Row
+row_meant weeks n = map (choice_meant weeks n) (range_with_len 0 (7 * length weeks))
+
+unfoldable pub rows_of : List ℕ → Meaning → Bundle → Rows
+rows_of source c b = map (row_meant (map (solution_meant source c.nurse_names c.shift_names c.skill_names) b.solutions)) (range_with_len 0 (nurse_count c))

@@ -3,23 +3,23 @@
 -- lacks, by nurse and day. That a nurse works one shift a day holds of each roster by its form.
 use Rattle.std.specs.Prelude.{◌≡◌, ℕ, ◌-◌, Bool, true, false, not, ◌==◌, nat_lt, List, [], ◌++◌, if◌then◌else◌, Option, Some, None, slice_index_or}
 use Rattle.std.specs.List.{list_any}
+use Rattle.std.specs.Option.{option_map_or}
 use Rattle.roster_case.specs.declared.choice.Choice.{Choice}
 use Rattle.roster_case.specs.declared.choice.Choice.TheVariants.{Off, Work}
 use Rattle.roster_case.specs.declared.choice.Shift.{Shift}
 use Rattle.roster_case.specs.declared.choice.Skill.{Skill}
 use Rattle.roster_case.specs.declared.fault.HardFault.{HardFault}
 use Rattle.roster_case.specs.declared.fault.HardFault.TheVariants.{H2, H3, H4}
-use Rattle.roster_case.specs.declared.rules.ShiftRules.{ShiftRules}
 use Rattle.roster_case.specs.Days.{Days, shift_on}
 use Rattle.roster_case.specs.Faults.{fault_if, below, is_none_of}
-use Rattle.roster_case.specs.Meaning.{Meaning, day_count, shift_count, skill_count, nurse_count, shift_at, skill_at, no_shift, nurse_at, need, last_shift}
+use Rattle.roster_case.specs.Meaning.{Meaning, day_count, shift_count, skill_count, nurse_count, shift_at, skill_at, nurse_at, past_of, need, last_shift}
 use Rattle.roster_case.specs.Rosters.{Rows, choice_on, row_of, days_of_nurse, cover}
 
--- the first shift forbids the second on the next day
-abbrev pub forbids : List ShiftRules → Option Shift → Option Shift → Bool
-forbids shifts (Some s) (Some t) = slice_index_or (slice_index_or shifts s.0 no_shift).forbids t.0 false
-forbids shifts (Some s) None = false
-forbids shifts None next = false
+-- the first shift forbids the second on the next day, by the lines of successions
+abbrev pub forbids : List (Option (List Bool)) → Option Shift → Option Shift → Bool
+forbids successions (Some s) (Some t) = option_map_or (λ line. slice_index_or line t.0 false) (slice_index_or successions s.0 None) false
+forbids successions (Some s) None = false
+forbids successions None next = false
 
 -- the shift before a day: on day 0 the history's last
 abbrev pub shift_before : Option Shift → Days → ℕ → Option Shift
@@ -40,7 +40,7 @@ staffing_faults c r = below (day_count c) (λ d. below (shift_count c) (λ s. be
 abbrev pub succession_fault : Meaning → Rows → ℕ → ℕ → List HardFault
 succession_fault c r n d =
     let days = days_of_nurse r n in
-    fault_if (forbids c.shifts (shift_before (last_shift (nurse_at c n).border) days d) (shift_on days d)) (H3 n d)
+    fault_if (forbids c.successions (shift_before (last_shift (past_of c n).border) days d) (shift_on days d)) (H3 n d)
 
 abbrev pub succession_faults : Meaning → Rows → List HardFault
 succession_faults c r = below (nurse_count c) (λ n. below (day_count c) (λ d. succession_fault c r n d))

@@ -2,7 +2,7 @@
 use Rattle.std.specs.Prelude.{ℕ, zero, suc, ◌+◌, Bool, true, false, ◌&&◌, nat_lt, if◌then◌else◌, List, [], ◌∷◌, ◌++◌, codes, decimal, Option, Some, None}
 use Rattle.std.specs.List.{fold, range_with_len}
 use Rattle.roster_case.specs.Choices.{same_choice}
-use Rattle.roster_case.specs.Meaning.{Meaning, nurse_count, nurse_at}
+use Rattle.roster_case.specs.Meaning.{Meaning, nurse_count, nurse_name}
 use Rattle.roster_case.specs.Penalties.{penalty}
 use Rattle.roster_case.specs.Rosters.{Row, Rows, with_row}
 use Rattle.roster_case.specs.Rows.{best_row}
@@ -88,7 +88,7 @@ log_of c rounds r = entry started r ∷ entries_from c 1 rounds r
 -- how an event is written
 abbrev pub event_text : Meaning → Event → List ℕ
 event_text c started = codes "start"
-event_text c (changed k n) = decimal k ++ codes " " ++ (nurse_at c n).name
+event_text c (changed k n) = decimal k ++ codes " " ++ nurse_name c n
 event_text c (round_done k) = codes "round " ++ decimal k
 event_text c settled = codes "settled"
 event_text c stopped = codes "stopped"

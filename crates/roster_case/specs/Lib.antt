@@ -13,8 +13,13 @@ pub mod Prefix
 pub mod Rows
 pub mod Sizes
 pub mod Improver
+pub mod Tables
+pub mod Checking
 pub mod Names
 pub mod Bundles
 pub mod Refusals
+pub mod Building
+pub mod CaseParts
+pub mod Shown
 pub mod Mini
 pub mod MiniText

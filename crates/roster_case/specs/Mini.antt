@@ -1,5 +1,5 @@
 -- The small instance of the worked examples, as a meaning.
-use Rattle.std.specs.Prelude.{ℕ, ◌%◌, Bool, true, false, ◌==◌, List, [], ◌∷◌, codes, replicate, flat_map, map, if◌then◌else◌}
+use Rattle.std.specs.Prelude.{ℕ, ◌*◌, ◌%◌, Bool, true, false, ◌==◌, List, [], ◌∷◌, ◌++◌, codes, replicate, flat_map, map, if◌then◌else◌, Option, Some, None}
 use Rattle.std.specs.List.{list_any, range_with_len}
 use Rattle.roster_case.specs.declared.choice.Choice.{Choice}
 use Rattle.roster_case.specs.declared.choice.Choice.TheVariants.{Off, Work}
@@ -7,47 +7,53 @@ use Rattle.roster_case.specs.declared.costs.Costs.{Costs}
 use Rattle.roster_case.specs.declared.rules.Border.TheVariants.{Free}
 use Rattle.roster_case.specs.declared.rules.ContractRules.{ContractRules}
 use Rattle.roster_case.specs.declared.rules.Limits.{Limits}
-use Rattle.roster_case.specs.declared.rules.ShiftRules.{ShiftRules}
-use Rattle.roster_case.specs.Meaning.{Meaning, NurseFacts, shift_at, skill_at}
+use Rattle.roster_case.specs.declared.rules.Past.{Past}
+use Rattle.roster_case.specs.Meaning.{Meaning, NurseFacts, WeekFacts, shift_at, skill_at}
 use Rattle.roster_case.specs.Rosters.{Row, Rows}
 
 abbrev pub limits : ℕ → ℕ → Limits
 limits least greatest = record { least = least; greatest = greatest }
 
-abbrev pub early : ShiftRules
-early = record { run = limits 1 5; forbids = replicate 8 false }
-
--- Early may not follow Night
-abbrev pub night : ShiftRules
-night = record { run = limits 1 5; forbids = true ∷ replicate 7 false }
-
 abbrev pub full : ContractRules
 full = record { total = limits 2 5; working = limits 1 5; free = limits 1 5; weekends = 1; whole_weekends = true }
 
--- a nurse with the skill Nurse who was off on the day before
-abbrev pub nurse_named : List ℕ → NurseFacts
-nurse_named name = record { name = name; contract = 0; skills = skill_at 0 ∷ []; border = Free 1; assignments = 0; weekends = 0 }
+-- a nurse with the skill Nurse
+abbrev pub a_nurse : NurseFacts
+a_nurse = record { contract = 0; skills = skill_at 0 ∷ [] }
 
--- each day wants one nurse on Early at best
+-- who was off for so many days
+abbrev pub off_for : ℕ → Option Past
+off_for days = Some (record { border = Free days; assignments = 0; weekends = 0 })
+
+-- a week that wants one nurse at best on each day, for each of these places, and in which nobody wishes to be off
+abbrev pub week_wanting : List Bool → ℕ → WeekFacts
+week_wanting places nurses = record {
+  needs = map (λ wanted. if wanted then Some (replicate 7 (limits 0 1)) else None) places;
+  wishes = replicate (7 * nurses) (replicate 8 false);
+}
+
+-- each day wants one nurse on Early at best, and Early may not follow Night
 abbrev pub mini : Meaning
 mini = record {
   name = codes "mini";
-  weeks = 1;
   skill_names = codes "Nurse" ∷ [];
   shift_names = codes "Early" ∷ codes "Night" ∷ [];
-  shifts = early ∷ night ∷ [];
+  runs = limits 1 5 ∷ limits 1 5 ∷ [];
+  successions = Some (replicate 8 false) ∷ Some (true ∷ replicate 7 false) ∷ [];
+  contract_names = codes "Full" ∷ [];
   contracts = full ∷ [];
-  nurses = nurse_named (codes "Ann") ∷ nurse_named (codes "Bob") ∷ [];
-  needs = flat_map (λ day. limits 0 1 ∷ limits 0 0 ∷ []) (range_with_len 0 7);
-  requests = [];
+  nurse_names = codes "Ann" ∷ codes "Bob" ∷ [];
+  nurses = a_nurse ∷ a_nurse ∷ [];
+  past = off_for 1 ∷ off_for 1 ∷ [];
+  weeks = week_wanting (true ∷ replicate 63 false) 2 ∷ [];
 }
 
 -- the same without Night
 abbrev pub mini_of_one_shift : Meaning
 mini_of_one_shift = record mini {
   shift_names = codes "Early" ∷ [];
-  shifts = early ∷ [];
-  needs = replicate 7 (limits 0 1);
+  runs = limits 1 5 ∷ [];
+  successions = Some (replicate 8 false) ∷ [];
 }
 
 -- ---- rows of a week
@@ -87,17 +93,19 @@ abbrev pub big_contract : ContractRules
 big_contract = record { total = limits 30 44; working = limits 3 5; free = limits 2 3; weekends = 4; whole_weekends = true }
 
 abbrev pub big_nurse : ℕ → NurseFacts
-big_nurse n = record { name = codes "N"; contract = 0; skills = skill_at (n % 4) ∷ []; border = Free 2; assignments = 0; weekends = 0 }
+big_nurse n = record { contract = 0; skills = skill_at (n % 4) ∷ [] }
 
 abbrev pub big : Meaning
 big = record {
   name = codes "big";
-  weeks = 8;
   skill_names = codes "K0" ∷ codes "K1" ∷ codes "K2" ∷ codes "K3" ∷ [];
   shift_names = codes "S0" ∷ codes "S1" ∷ codes "S2" ∷ codes "S3" ∷ [];
-  shifts = replicate 4 (record { run = limits 2 5; forbids = replicate 8 false });
+  runs = replicate 4 (limits 2 5);
+  successions = replicate 4 (Some (replicate 8 false));
+  contract_names = codes "Full" ∷ [];
   contracts = big_contract ∷ [];
+  nurse_names = replicate 30 (codes "N");
   nurses = map big_nurse (range_with_len 0 30);
-  needs = replicate 896 (limits 0 1);
-  requests = [];
+  past = replicate 30 (off_for 2);
+  weeks = replicate 8 (week_wanting (flat_map (λ shift. replicate 4 true ++ replicate 4 false) (range_with_len 0 4) ++ replicate 32 false) 30);
 }

@@ -12,7 +12,7 @@ use Rattle.roster_case.specs.Faults.{first_of}
 use Rattle.roster_case.specs.HardRules.{hard_faults}
 use Rattle.roster_case.specs.Meaning.{Meaning, nurse_count}
 use Rattle.roster_case.specs.Penalties.{costs_of, total_cost}
-use Rattle.roster_case.specs.Refusals.{case_faults, roster_faults}
+use Rattle.roster_case.specs.Refusals.{all_faults}
 use Rattle.roster_case.specs.Rosters.{Rows}
 use Rattle.roster_case.specs.Sizes.{state_count, choice_count}
 
@@ -103,11 +103,11 @@ abbrev pub case_in : Lines → Option Meaning
 case_in lines = said meaning_of (text_of_lines lines)
 
 abbrev pub roster_in : Lines → Option Rows
-roster_in lines = said rows_of (text_of_lines lines)
+roster_in lines = said (λ source b. rows_of source (meaning_of source b) b) (text_of_lines lines)
 
 -- all refusals, all breaches of the hard rules, the penalties of the rules, and their sum
 abbrev pub refusals_in : Lines → Option (List CaseFault)
-refusals_in lines = said (λ source b. case_faults source b ++ roster_faults source b) (text_of_lines lines)
+refusals_in lines = said all_faults (text_of_lines lines)
 
 -- the first refusal, if any
 abbrev pub first_in : {A : Type 0} → Option (List A) → Option A
@@ -118,10 +118,10 @@ abbrev pub refusal_in : Lines → Option CaseFault
 refusal_in lines = first_in (refusals_in lines)
 
 abbrev pub breaches_in : Lines → Option (List HardFault)
-breaches_in lines = said (λ source b. hard_faults (meaning_of source b) (rows_of source b)) (text_of_lines lines)
+breaches_in lines = said (λ source b. hard_faults (meaning_of source b) (rows_of source (meaning_of source b) b)) (text_of_lines lines)
 
 abbrev pub costs_in : Lines → Option Costs
-costs_in lines = said (λ source b. costs_of (meaning_of source b) (rows_of source b)) (text_of_lines lines)
+costs_in lines = said (λ source b. costs_of (meaning_of source b) (rows_of source (meaning_of source b) b)) (text_of_lines lines)
 
 abbrev pub total_in : Lines → Option ℕ
 total_in lines = option_map total_cost (costs_in lines)

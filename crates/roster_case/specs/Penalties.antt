@@ -1,15 +1,13 @@
 -- The penalties of the soft rules with their weights, and the penalty of a roster (INRC-II; totals and weekends are counted
 -- once, at the end of the horizon, with the history's: our profile).
-use Rattle.std.specs.Prelude.{ℕ, ◌+◌, ◌-◌, ◌*◌, Bool, true, false, ◌&&◌, ◌==◌, if◌then◌else◌, length, Option, Some, None}
-use Rattle.std.specs.List.{list_any}
+use Rattle.std.specs.Prelude.{ℕ, ◌+◌, ◌-◌, ◌*◌, Bool, false, ◌==◌, if◌then◌else◌, length, Option, Some, None}
 use Rattle.roster_case.specs.declared.choice.Shift.{Shift}
 use Rattle.roster_case.specs.declared.costs.Costs.{Costs}
 use Rattle.roster_case.specs.declared.rules.Border.{Border}
 use Rattle.roster_case.specs.declared.rules.Border.TheVariants.{Free, Working}
-use Rattle.roster_case.specs.declared.rules.Request.{Request}
 use Rattle.roster_case.specs.Counting.{sum_below}
 use Rattle.roster_case.specs.Days.{Days, shift_on, works, is_off, has_shift, days_worked, worked_weekends, split_weekends}
-use Rattle.roster_case.specs.Meaning.{Meaning, day_count, shift_count, skill_count, nurse_count, shift_rules, nurse_at, contract_of, need}
+use Rattle.roster_case.specs.Meaning.{Meaning, day_count, shift_count, skill_count, nurse_count, run_of_shift, past_of, contract_of, need, is_wished_off}
 use Rattle.roster_case.specs.Rosters.{Rows, days_of_nurse, cover}
 use Rattle.roster_case.specs.Runs.{run_faults}
 
@@ -37,33 +35,25 @@ shift_run_before s (Working t own all) = if t.0 == s then own else 0
 
 -- 30 for each missing or extra day of a run of working days
 abbrev pub working_runs : Meaning → ℕ → Days → ℕ
-working_runs c n days = 30 * run_faults (contract_of c n).working (worked_before (nurse_at c n).border) (works days) (length days)
+working_runs c n days = 30 * run_faults (contract_of c n).working (worked_before (past_of c n).border) (works days) (length days)
 
 -- 15 for each missing or extra day of a run of one shift
 abbrev pub runs_of_shift : Meaning → ℕ → Days → ℕ → ℕ
-runs_of_shift c n days s = 15 * run_faults (shift_rules c s).run (shift_run_before s (nurse_at c n).border) (has_shift s days) (length days)
+runs_of_shift c n days s = 15 * run_faults (run_of_shift c s) (shift_run_before s (past_of c n).border) (has_shift s days) (length days)
 
 abbrev pub shift_runs : Meaning → ℕ → Days → ℕ
 shift_runs c n days = sum_below (shift_count c) (runs_of_shift c n days)
 
 -- 30 for each missing or extra day of a run of days off
 abbrev pub free_runs : Meaning → ℕ → Days → ℕ
-free_runs c n days = 30 * run_faults (contract_of c n).free (free_before (nurse_at c n).border) (is_off days) (length days)
+free_runs c n days = 30 * run_faults (contract_of c n).free (free_before (past_of c n).border) (is_off days) (length days)
 
 -- ---- wishes: 10 for each assignment to an undesired shift, once, however many requests name it
 
--- the wish is to be free of this shift; one without a shift is to be free of each
-abbrev pub wants_off : Option Shift → Option Shift → Bool
-wants_off wish None = false
-wants_off None (Some t) = true
-wants_off (Some s) (Some t) = s.0 == t.0
-
--- the request names this nurse, day and shift
-abbrev pub names : ℕ → ℕ → Option Shift → Request → Bool
-names n d shift q = (q.nurse == n) && (q.day == d) && wants_off q.shift shift
-
+-- a request names the shift, if one is worked
 abbrev pub is_undesired : Meaning → ℕ → ℕ → Option Shift → Bool
-is_undesired c n d shift = list_any (names n d shift) c.requests
+is_undesired c n d None = false
+is_undesired c n d (Some s) = is_wished_off c n d s.0
 
 abbrev pub undesired : Meaning → ℕ → Days → ℕ
 undesired c n days = sum_below (length days) (λ d. if is_undesired c n d (shift_on days d) then 10 else 0)
@@ -76,10 +66,10 @@ split c n days = if (contract_of c n).whole_weekends then 30 * split_weekends da
 
 -- the assignments and the worked weekends, with the history's
 abbrev pub total_of : Meaning → ℕ → Days → ℕ
-total_of c n days = (nurse_at c n).assignments + days_worked days
+total_of c n days = (past_of c n).assignments + days_worked days
 
 abbrev pub weekends_of : Meaning → ℕ → Days → ℕ
-weekends_of c n days = (nurse_at c n).weekends + worked_weekends days
+weekends_of c n days = (past_of c n).weekends + worked_weekends days
 
 -- 20 for each assignment missing to the least total, and for each above the greatest
 abbrev pub missing : Meaning → ℕ → ℕ → ℕ

@@ -4,7 +4,7 @@ use Rattle.roster_case.specs.declared.choice.Shift.{Shift}
 use Rattle.roster_case.specs.declared.rules.Limits.{Limits}
 use Rattle.roster_case.specs.Days.{Days, works, is_off, has_shift}
 use Rattle.roster_case.specs.HardRules.{shift_before}
-use Rattle.roster_case.specs.Meaning.{Meaning, shift_rules, nurse_at, contract_of, last_shift}
+use Rattle.roster_case.specs.Meaning.{Meaning, run_of_shift, past_of, contract_of, last_shift}
 use Rattle.roster_case.specs.Penalties.{free_before, worked_before, shift_run_before, working_runs, shift_runs, free_runs, split, total_of, weekends_of, extra, weekends_above}
 use Rattle.roster_case.specs.Runs.{open_run}
 
@@ -27,15 +27,15 @@ pub record Summary : Type 0 where
 
 -- the shift of the last day, the history's where there is no day
 abbrev pub last_of : Meaning → ℕ → Days → Option Shift
-last_of c n days = shift_before (last_shift (nurse_at c n).border) days (length days)
+last_of c n days = shift_before (last_shift (past_of c n).border) days (length days)
 
 abbrev pub run_of : Meaning → ℕ → Days → Option Shift → ℕ
-run_of c n days None = min (open_run (free_before (nurse_at c n).border) (is_off days) (length days)) (cap (contract_of c n).free)
-run_of c n days (Some s) = min (open_run (worked_before (nurse_at c n).border) (works days) (length days)) (cap (contract_of c n).working)
+run_of c n days None = min (open_run (free_before (past_of c n).border) (is_off days) (length days)) (cap (contract_of c n).free)
+run_of c n days (Some s) = min (open_run (worked_before (past_of c n).border) (works days) (length days)) (cap (contract_of c n).working)
 
 abbrev pub shift_run_of : Meaning → ℕ → Days → Option Shift → ℕ
 shift_run_of c n days None = 0
-shift_run_of c n days (Some s) = min (open_run (shift_run_before s.0 (nurse_at c n).border) (has_shift s.0 days) (length days)) (cap (shift_rules c s.0).run)
+shift_run_of c n days (Some s) = min (open_run (shift_run_before s.0 (past_of c n).border) (has_shift s.0 days) (length days)) (cap (run_of_shift c s.0))
 
 unfoldable pub summary_of : Meaning → ℕ → Days → Summary
 summary_of c n days = record {

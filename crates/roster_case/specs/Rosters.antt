@@ -14,7 +14,7 @@ abbrev pub Rows : Type 0
 Rows = List Row
 
 abbrev pub choice_on : Row → ℕ → Choice
-choice_on row d = slice_index_or row d Off
+choice_on row day = slice_index_or row day Off
 
 abbrev pub row_of : Rows → ℕ → Row
 row_of r n = slice_index_or r n []
@@ -25,7 +25,7 @@ days_of_nurse r n = days_of (row_of r n)
 
 -- how many nurses work this shift with this skill on this day
 abbrev pub cover : Rows → ℕ → ℕ → ℕ → ℕ
-cover r d s k = count_by (λ row. same_choice (choice_on row d) (Work (shift_at s) (skill_at k))) r
+cover r day s k = count_by (λ row. same_choice (choice_on row day) (Work (shift_at s) (skill_at k))) r
 
 -- the roster with this row as that of nurse n
 abbrev pub with_row : Rows → ℕ → Row → Rows

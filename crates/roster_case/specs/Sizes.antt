@@ -1,6 +1,5 @@
 -- The sizes of the search for a nurse (our own).
 use Rattle.std.specs.Prelude.{ℕ, ◌+◌, ◌*◌, max, length, map, List, [], ◌∷◌}
-use Rattle.roster_case.specs.declared.rules.ShiftRules.{ShiftRules}
 use Rattle.roster_case.specs.Meaning.{Meaning, shift_count, nurse_at, contract_of}
 use Rattle.roster_case.specs.Prefix.{cap}
 
@@ -13,7 +12,7 @@ unfoldable pub state_count : Meaning → ℕ → ℕ
 state_count c n =
     (shift_count c + 1)
     * (max (cap (contract_of c n).working) (cap (contract_of c n).free) + 1)
-    * (greatest_of (map (λ (s : ShiftRules). cap s.run) c.shifts) + 1)
+    * (greatest_of (map cap c.runs) + 1)
     * (cap (contract_of c n).total + 1)
     * ((contract_of c n).weekends + 1)
 

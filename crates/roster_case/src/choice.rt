@@ -15,3 +15,18 @@ pub enum Choice {
     Off,
     Work(Shift, Skill),
 }
+
+impl Choice {
+    ghost use Rattle.std.specs.Prelude.{◌≡◌};
+    ghost use Rattle.roster_case.specs.Choices.{shift_of};
+
+    /// The shift that is worked, if any.
+    pub fn shift(self) -> Option<Shift>
+        ensures { result ≡ shift_of self }
+    {
+        match self {
+            Choice::Off => None,
+            Choice::Work(shift, _) => Some(shift),
+        }
+    }
+}

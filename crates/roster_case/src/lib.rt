@@ -1,14 +1,26 @@
 //! What an instance means: its case, its rosters, the hard rules, the penalties and the best row of a nurse.
 #![tactic(auto)]
 
+mod case;
 mod choice;
 mod costs;
 mod examples;
 mod fault;
+mod hard;
+mod history;
 mod laws;
+mod names;
+mod roster;
 mod rows;
 mod rules;
+mod scenario;
+mod section;
+mod sizes;
+mod table;
+mod view;
+mod week;
 
+pub use case::{Case, MAX_STATES};
 pub use choice::{Choice, Shift, Skill};
 pub use costs::Costs;
 pub use examples::{
@@ -18,6 +30,9 @@ pub use examples::{
     text_of_the_small_instance, totals_of_better_rosters, two_weeks_of_the_small_instance,
 };
 pub use fault::{CaseFault, HardFault};
+pub use hard::first_hard;
 pub use laws::{runs_grow_by_a_day, runs_of_a_row_grow_by_a_day, weekends_grow_by_a_day};
+pub use roster::Roster;
 pub use rows::one_first_least_row;
-pub use rules::{Border, ContractRules, Limits, Request, ShiftRules};
+pub use rules::{Border, ContractRules, Limits, Past};
+pub use view::WeekView;

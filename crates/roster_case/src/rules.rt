@@ -10,14 +10,6 @@ pub struct Limits {
     pub greatest: u16,
 }
 
-/// What holds for a shift: how many days in a row, and for each shift number whether that shift may not follow on the
-/// next day.
-#[derive(Clone, Copy, Debug, Default, PartialEq, Eq)]
-pub struct ShiftRules {
-    pub run: Limits,
-    pub forbids: [bool; 8],
-}
-
 /// What a contract asks for: assignments, working days in a row, days off in a row, the greatest number of worked
 /// weekends, and whether a weekend is to be worked whole or not at all.
 #[derive(Clone, Copy, Debug, Default, PartialEq, Eq)]
@@ -38,10 +30,10 @@ pub enum Border {
     Working(Shift, u16, u16),
 }
 
-/// A nurse's wish to be free of a shift on a day, or of each shift where none is named.
+/// What a nurse did before the first Monday: the run that stands there, the assignments and the worked weekends.
 #[derive(Clone, Copy, Debug, PartialEq, Eq)]
-pub struct Request {
-    pub nurse: usize,
-    pub day: u16,
-    pub shift: Option<Shift>,
+pub struct Past {
+    pub border: Border,
+    pub assignments: u16,
+    pub weekends: u16,
 }

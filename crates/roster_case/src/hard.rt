@@ -1,0 +1,193 @@
+//! The hard rules: the first breach of a roster.
+
+ghost use Rattle.std.specs.Prelude.{◌≡◌, ◌==◌, ◌<◌, true, Option};
+ghost use Rattle.std.specs.List.{list_any};
+ghost use Rattle.roster_case.specs.Faults.{below, first_of};
+ghost use Rattle.roster_case.specs.HardRules.{forbids, hard_faults, is_able, shift_before, skill_fault, skill_faults, staffing_fault, staffing_faults, succession_fault, succession_faults};
+ghost use Rattle.roster_case.specs.Meaning.{day_count, last_shift, nurse_at, nurse_count, past_of, shift_at, shift_count, skill_at, skill_count};
+ghost use Rattle.roster_case.specs.Rosters.{choice_on, cover, days_of_nurse, fits, row_of};
+
+use crate::case::Case;
+use crate::choice::{Choice, Shift, Skill};
+use crate::fault::HardFault;
+use crate::roster::Roster;
+use crate::rules::Border;
+
+/// The first breach of the hard rules: first too few nurses, by day, shift and skill; then forbidden successions, by nurse and
+/// day; then skills that a nurse lacks, by nurse and day. None where the roster keeps them all.
+#[tactic(auto, using(crate::proofs::HardLemmas::first_of_both), unfolding(crate::specs::HardRules::hard_faults))]
+pub fn first_hard(case: &Case, roster: &Roster) -> Option<HardFault>
+    requires { fits case.now roster.now ≡ true }
+    ensures { result ≡ first_of (hard_faults case.now roster.now) }
+{
+    match first_understaffed(case, roster) {
+        Some(fault) => Some(fault),
+        None => match first_succession(case, roster) {
+            Some(fault) => Some(fault),
+            None => first_unskilled(case, roster),
+        },
+    }
+}
+
+// ---- staffing
+
+#[tactic(auto, using(crate::proofs::HardLemmas::below_more))]
+fn first_understaffed(case: &Case, roster: &Roster) -> Option<HardFault>
+    requires { fits case.now roster.now ≡ true }
+    ensures { result ≡ first_of (staffing_faults case.now roster.now) }
+{
+    for day in 0..case.days() {
+        if let Some(fault) = understaffed_on(case, roster, day) {
+            return Some(fault);
+        }
+    }
+    None
+}
+
+#[tactic(auto, using(crate::proofs::HardLemmas::below_more))]
+fn understaffed_on(case: &Case, roster: &Roster, day: u16) -> Option<HardFault>
+    requires { fits case.now roster.now ≡ true }
+    ensures { result ≡ first_of (below (shift_count case.now) (λ s. below (skill_count case.now) (λ k. staffing_fault case.now roster.now day s k))) }
+{
+    for shift in 0..case.shifts() {
+        if let Some(fault) = understaffed_shift(case, roster, day, Shift(shift)) {
+            return Some(fault);
+        }
+    }
+    None
+}
+
+#[tactic(auto, using(crate::proofs::HardLemmas::below_more))]
+fn understaffed_shift(case: &Case, roster: &Roster, day: u16, shift: Shift) -> Option<HardFault>
+    requires { fits case.now roster.now ≡ true }
+    ensures { result ≡ first_of (below (skill_count case.now) (λ k. staffing_fault case.now roster.now day shift.0 k)) }
+{
+    for skill in 0..case.skills() {
+        if let Some(fault) = understaffed(case, roster, day, shift, Skill(skill)) {
+            return Some(fault);
+        }
+    }
+    None
+}
+
+fn understaffed(
+    case: &Case,
+    roster: &Roster,
+    day: u16,
+    shift: Shift,
+    skill: Skill,
+) -> Option<HardFault>
+    requires { fits case.now roster.now ≡ true }
+    ensures { result ≡ first_of (staffing_fault case.now roster.now day shift.0 skill.0) }
+{
+    let need = case.need(day, shift, skill).least;
+    let have = roster.cover(day, shift, skill);
+    if have >= need as usize {
+        return None;
+    }
+    Some(HardFault::H2 {
+        day,
+        shift,
+        skill,
+        have: have as u16,
+        need,
+    })
+}
+
+// ---- successions
+
+#[tactic(auto, using(crate::proofs::HardLemmas::below_more))]
+fn first_succession(case: &Case, roster: &Roster) -> Option<HardFault>
+    requires { fits case.now roster.now ≡ true }
+    ensures { result ≡ first_of (succession_faults case.now roster.now) }
+{
+    for nurse in 0..case.nurses() {
+        if let Some(fault) = succession_of(case, roster, nurse) {
+            return Some(fault);
+        }
+    }
+    None
+}
+
+/// The first forbidden succession of a nurse, the history's last shift included.
+fn succession_of(case: &Case, roster: &Roster, nurse: usize) -> Option<HardFault>
+    requires fitting { fits case.now roster.now ≡ true }
+    requires within { nurse < nurse_count case.now }
+    ensures { result ≡ first_of (below (day_count case.now) (λ d. succession_fault case.now roster.now nurse d)) }
+{
+    let row = roster.row(nurse);
+    let mut last = last_shift(case.past(nurse).border);
+    for day in 0..case.days() {
+        let shift = row[day as usize].shift();
+        if forbids(case, last, shift) {
+            return Some(HardFault::H3 { nurse, day });
+        }
+        last = shift;
+    }
+    None
+}
+
+fn last_shift(border: Border) -> Option<Shift>
+    ensures { result ≡ last_shift border }
+{
+    match border {
+        Border::Free(_) => None,
+        Border::Working(shift, _, _) => Some(shift),
+    }
+}
+
+fn forbids(case: &Case, last: Option<Shift>, next: Option<Shift>) -> bool
+    ensures { result ≡ forbids case.now.successions last next }
+{
+    match (last, next) {
+        (Some(last), Some(next)) => case.forbids(last, next),
+        _ => false,
+    }
+}
+
+// ---- skills
+
+#[tactic(auto, using(crate::proofs::HardLemmas::below_more))]
+fn first_unskilled(case: &Case, roster: &Roster) -> Option<HardFault>
+    requires { fits case.now roster.now ≡ true }
+    ensures { result ≡ first_of (skill_faults case.now roster.now) }
+{
+    for nurse in 0..case.nurses() {
+        if let Some(fault) = unskilled_of(case, roster, nurse) {
+            return Some(fault);
+        }
+    }
+    None
+}
+
+#[tactic(auto, using(crate::proofs::HardLemmas::below_more))]
+fn unskilled_of(case: &Case, roster: &Roster, nurse: usize) -> Option<HardFault>
+    requires fitting { fits case.now roster.now ≡ true }
+    requires within { nurse < nurse_count case.now }
+    ensures { result ≡ first_of (below (day_count case.now) (λ d. skill_fault case.now roster.now nurse d)) }
+{
+    let row = roster.row(nurse);
+    let skills = case.skills_of(nurse);
+    for day in 0..case.days() {
+        if !is_able(skills, row[day as usize]) {
+            return Some(HardFault::H4 { nurse, day });
+        }
+    }
+    None
+}
+
+/// Whether a nurse with these skills can work so.
+fn is_able(skills: &[Skill], choice: Choice) -> bool
+    ensures { result ≡ is_able skills.now choice }
+{
+    match choice {
+        Choice::Off => true,
+        Choice::Work(_, skill) => has_skill(skills, skill),
+    }
+}
+
+fn has_skill(skills: &[Skill], skill: Skill) -> bool
+    ensures { result ≡ list_any (λ own. own.0 == skill.0) skills.now }
+{
+    skills.iter().any(|own| own.0 == skill.0)
+}

@@ -1,0 +1,52 @@
+//! Tables with a cell for each place, which is filled once at most.
+
+ghost use Rattle.std.specs.Prelude.{◌≡◌, ◌<◌, IfOk, None, Some, is_some, length, replicate, option_map, slice_index_or, slice_set};
+
+use std::alloc::{AllocError, Global};
+use std::marker::Model;
+
+/// A cell for each place, from 0.
+#[derive(Drop)]
+pub(crate) struct Table<V> {
+    cells: Vec<Option<V>>,
+}
+
+impl<V> Model for Table<V> {
+    ghost use Rattle.std.specs.Prelude.{List, Option};
+
+    ghost Value = { List (Option V) };
+
+    ghost view = { λ t. t.cells.items };
+}
+
+impl<V: Copy> Table<V> {
+    /// So many empty cells.
+    pub(crate) fn new(alloc: Global, places: usize) -> Result<Table<V>, AllocError>
+        ensures { IfOk result (λ table. table ≡ replicate places None) }
+    {
+        let mut cells = Vec::with_capacity(alloc, places)?;
+        for _ in 0..places {
+            cells.push(None)?;
+        }
+        Ok(Table { cells })
+    }
+
+    /// What stands at a place; nothing does behind the last.
+    pub(crate) fn get(&self, place: usize) -> Option<V>
+        ensures { result ≡ slice_index_or self.now place None }
+    {
+        match self.cells.get(place) {
+            Some(cell) => *cell,
+            None => None,
+        }
+    }
+
+    /// Fills a place. Behind the last there is none to fill.
+    pub(crate) fn set(&mut self, place: usize, value: V)
+        ensures { self.new ≡ slice_set self.old place (Some value) }
+    {
+        if let Some(cell) = self.cells.get_mut(place) {
+            *cell = Some(value);
+        }
+    }
+}
