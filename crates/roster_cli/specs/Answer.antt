@@ -1,46 +1,22 @@
 -- What a run answers.
-use Rattle.std.specs.Prelude.{◌≡◌, ℕ, ◌<◌, ◌≤◌, ◌⊎◌, ◌++◌, true, List, IfSome, Option, codes, decimal, length}
+use Rattle.std.specs.Prelude.{◌≡◌, ◌≢◌, ℕ, ◌<◌, ◌≤◌, ◌⊎◌, true, List, [], IfSome, Option, Some, length}
 use Rattle.std.specs.Io.KnownBytes.{IsAtEnd}
 use Rattle.roster_text.specs.FirstFault.{IsFirstFault}
 use Rattle.roster_text.specs.Grammar.{Spells}
 use Rattle.roster_text.specs.Io.{Stops, Watched, Writes}
 use Rattle.roster_text.specs.Token.{all_seen, line_at_end, tokens_of}
-use Rattle.roster_text.specs.Words.{what_text}
 use Rattle.roster_text.specs.declared.bundle.Bundle.{Bundle}
 use Rattle.roster_text.specs.declared.fault.TextFault.{TextFault}
 use Rattle.roster_text.specs.declared.fault.TextFault.TheVariants as text
+use Rattle.roster_case.specs.Bundles.{meaning_of, rows_of}
+use Rattle.roster_case.specs.Faults.{first_of}
+use Rattle.roster_case.specs.Refusals.{all_faults}
+use Rattle.roster_case.specs.Shown.{weeks_text}
+use Rattle.roster_case.specs.declared.fault.CaseFault.{CaseFault}
+use Rattle.roster_case.specs.declared.fault.CaseFault.TheVariants.{Memory}
+use Rattle.roster_cli.specs.Lines.{Text, nurse_of}
 use Rattle.roster_cli.specs.declared.fault.Fault.{Fault}
 use Rattle.roster_cli.specs.declared.fault.Fault.TheVariants as fault
-use Rattle.roster_cli.specs.Resolving.{BundleResolves}
-use Rattle.roster_cli.specs.Weeks.{Text, weeks_text}
-
--- ---- faults
-
--- the line of a fault of the text
-abbrev pub text_line : TextFault → Text
-text_line text.Memory = codes "no memory\n"
-text_line text.ReadFailed = codes "read failed\n"
-text_line text.TooLong = codes "input longer than 16777216 bytes\n"
-text_line (text.Expected line what) = codes "line " ++ decimal line ++ codes ": expected " ++ what_text what ++ codes "\n"
-text_line (text.NumberRange line) = codes "line " ++ decimal line ++ codes ": number out of range\n"
-text_line (text.AfterEnd line) = codes "line " ++ decimal line ++ codes ": text after the end\n"
-
--- the line of a fault
-abbrev pub fault_line : Fault → Text
-fault_line (fault.Text f) = text_line f
-fault_line (fault.Show s) = codes "input refused\n"
-fault_line fault.Output = codes "write failed\n"
-
--- 4 is want of memory, 3 a reader or a writer, 1 the input
-abbrev pub text_status : TextFault → ℕ
-text_status text.Memory = 4
-text_status text.ReadFailed = 3
-text_status _ = 1
-
-abbrev pub status_of : Fault → ℕ
-status_of (fault.Text f) = text_status f
-status_of (fault.Show s) = 1
-status_of fault.Output = 3
 
 -- the log has the line, or a write failed inside it
 abbrev pub Logs : {W : Type 0} → (W → Option (List ℕ)) → Watched W → Watched W → Text → Type 0
@@ -59,27 +35,38 @@ pub record ReadsAll {R : Type 0} (remaining : R → Option (List ℕ)) (old new 
 abbrev pub SpellsBundle : Text → Bundle → Type 0
 SpellsBundle bytes b = Spells (all_seen bytes (tokens_of bytes)) b
 
+-- ---- a bundle: what its case and its solutions are shown as, and why it is refused
+
+-- the canonical text of the roster that its solutions say
+abbrev pub shown_text : Text → Bundle → Text
+shown_text bytes b = weeks_text (meaning_of bytes b) (rows_of bytes (meaning_of bytes b) b)
+
+-- the first fault of its case and its solutions, want of memory aside, with the name of the nurse of which it speaks
+pub record IsRefusedFor (bytes : Text) (b : Bundle) (f : CaseFault) (nurse : Text) : Type 0 where
+  pub first : f ≢ Memory → first_of (all_faults bytes b) ≡ Some f
+  pub nurse_is : nurse ≡ nurse_of bytes b f
+
 -- ---- the command `show`, from the bytes
 
--- the bytes spell a bundle whose solutions are those of its scenario, and these are written
+-- the bytes spell a bundle in which nothing is refused, and its solutions are written
 pub record Shows {W : Type 0} (contents : W → Option (List ℕ)) (bytes : Text) (old new : Watched W) : Type 0 where
   pub bundle : Bundle
   pub spelled : SpellsBundle bytes bundle
-  pub resolves : BundleResolves bytes bundle
-  pub written : Writes contents old new (weeks_text bytes bundle)
+  pub taken : all_faults bytes bundle ≡ []
+  pub written : Writes contents old new (shown_text bytes bundle)
 
 -- the same, but a write failed inside what was to be written
 pub record ShowsPart {W : Type 0} (contents : W → Option (List ℕ)) (bytes : Text) (old new : Watched W) : Type 0 where
   pub bundle : Bundle
   pub spelled : SpellsBundle bytes bundle
-  pub resolves : BundleResolves bytes bundle
-  pub stopped : Stops contents old new (weeks_text bytes bundle)
+  pub taken : all_faults bytes bundle ≡ []
+  pub stopped : Stops contents old new (shown_text bytes bundle)
 
--- the bytes spell a bundle whose solutions are not those of its scenario
-pub record HasOtherNames (bytes : Text) : Type 0 where
+-- the bytes spell a bundle whose case or solutions have this fault first
+pub record HasCaseFault (bytes : Text) (f : CaseFault) (nurse : Text) : Type 0 where
   pub bundle : Bundle
   pub spelled : SpellsBundle bytes bundle
-  pub refused : BundleResolves bytes bundle → ⊥
+  pub refused : IsRefusedFor bytes bundle f nurse
 
 -- the bytes have this fault
 abbrev pub HasFault : Text → TextFault → Type 0
@@ -91,7 +78,7 @@ HasFault bytes f = IsFirstFault (line_at_end bytes) (all_seen bytes (tokens_of b
 -- why the bytes are not all shown, and what is written then
 abbrev pub RefusesBytes : {W : Type 0} → (W → Option (List ℕ)) → Text → Watched W → Watched W → Fault → Type 0
 RefusesBytes contents bytes old new (fault.Text f) = HasFault bytes f × (new ≡ old)
-RefusesBytes contents bytes old new (fault.Show s) = HasOtherNames bytes × (new ≡ old)
+RefusesBytes contents bytes old new (fault.Case f nurse) = HasCaseFault bytes f nurse.now × (new ≡ old)
 RefusesBytes contents bytes old new fault.Output = ShowsPart contents bytes old new
 
 -- ---- from the reader
@@ -122,6 +109,6 @@ Refuses remaining contents input input_after output output_after f =
 
 -- why the solutions of a bundle were not all written, and what was written
 abbrev pub StopsShowing : {W : Type 0} → (W → Option (List ℕ)) → Text → Bundle → Watched W → Watched W → Fault → Type 0
-StopsShowing contents source b old new (fault.Text f) = (f ≡ text.Memory) × (new ≡ old)
-StopsShowing contents source b old new (fault.Show s) = (BundleResolves source b → ⊥) × (new ≡ old)
-StopsShowing contents source b old new fault.Output = BundleResolves source b × Stops contents old new (weeks_text source b)
+StopsShowing contents bytes b old new (fault.Text f) = ⊥
+StopsShowing contents bytes b old new (fault.Case f nurse) = IsRefusedFor bytes b f nurse.now × (new ≡ old)
+StopsShowing contents bytes b old new fault.Output = (all_faults bytes b ≡ []) × Stops contents old new (shown_text bytes b)

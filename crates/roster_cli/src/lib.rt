@@ -4,7 +4,7 @@
 mod answer;
 mod fault;
 mod joined;
-mod resolve;
+mod pieces;
 mod weeks;
 mod words;
 

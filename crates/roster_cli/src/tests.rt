@@ -1,8 +1,10 @@
 //! Worked runs over devices: what goes in, what comes out, and where a reader or a writer fails.
 
 use super::*;
+use crate::answer::roster_of;
+use roster_case::{HardFault, Shift, Skill, first_hard};
 use roster_devices::{AtEnd, EndlessReader, FailingReader, OneByteReader, ShortWriter};
-use roster_text::{TextFault, Watch};
+use roster_text::{TextFault, Watch, parse_bundle, tokens};
 use std::alloc::{AllocError, Global};
 use std::io;
 use std::io::{ErrorKind, Read};
@@ -71,6 +73,31 @@ fn joined_text(alloc: Global, pieces: &[&str]) -> Result<String, AllocError> {
     Ok(text)
 }
 
+/// The instance mini.
+fn mini(alloc: Global) -> Result<String, AllocError> {
+    joined_text(alloc, &[SCENARIO, HISTORY, WEEK, PAIRS, EMPTY_ROSTER])
+}
+
+/// The instance mini with these texts in the place of lines, which are numbered from 1.
+fn mini_with(alloc: Global, changes: &[(usize, &str)]) -> Result<String, AllocError> {
+    let whole = mini(alloc)?;
+    let mut text = String::new(alloc);
+    for (index, line) in whole.as_str().lines().enumerate() {
+        let mut changed = false;
+        for (number, other) in changes {
+            if *number > 0 && *number - 1 == index {
+                text.push_str(other)?;
+                changed = true;
+            }
+        }
+        if !changed {
+            text.push_str(line)?;
+        }
+        text.push_str("\n")?;
+    }
+    Ok(text)
+}
+
 fn with_carriage_returns(alloc: Global, text: &str) -> Result<Vec<u8>, AllocError> {
     let mut bytes = Vec::new(alloc);
     for byte in text.as_bytes() {
@@ -122,13 +149,13 @@ fn shown_with_room(
 }
 
 fn shown(alloc: Global, input: impl Read + Drop) -> Result<Ran, Fail> {
-    shown_with_room(alloc, input, &mut [0; 400], &mut [0; 100], AtEnd::Fail)
+    shown_with_room(alloc, input, &mut [0; 1000], &mut [0; 100], AtEnd::Fail)
 }
 
 #[test]
 fn the_empty_roster(rt: HostRuntime) -> Result<(), Fail> {
     let alloc = rt.alloc();
-    let text = joined_text(alloc, &[SCENARIO, HISTORY, WEEK, PAIRS, EMPTY_ROSTER])?;
+    let text = mini(alloc)?;
     assert!(rt; shown(alloc, text.as_bytes())?.is(0, EMPTY_OUTPUT, ""));
     let slow = OneByteReader {
         rest: text.as_bytes(),
@@ -140,9 +167,8 @@ fn the_empty_roster(rt: HostRuntime) -> Result<(), Fail> {
 #[test]
 fn long_days_and_carriage_returns(rt: HostRuntime) -> Result<(), Fail> {
     let alloc = rt.alloc();
-    let roster =
-        "\nSOLUTION\n0 mini\n\nASSIGNMENTS = 2\nBob Sunday Night Nurse\nAnn Monday Early Nurse\n";
-    let text = joined_text(alloc, &[SCENARIO, HISTORY, WEEK, PAIRS, roster])?;
+    let lines = "ASSIGNMENTS = 2\nBob Sunday Night Nurse\nAnn Monday Early Nurse";
+    let text = mini_with(alloc, &[(41, lines)])?;
     let bytes = with_carriage_returns(alloc, text.as_str())?;
     let written = "SOLUTION\n0 mini\n\nASSIGNMENTS = 2\nAnn Mon Early Nurse\nBob Sun Night Nurse\n";
     assert!(rt; shown(alloc, bytes.as_slice())?.is(0, written, ""));
@@ -152,15 +178,20 @@ fn long_days_and_carriage_returns(rt: HostRuntime) -> Result<(), Fail> {
 #[test]
 fn two_weeks(rt: HostRuntime) -> Result<(), Fail> {
     let alloc = rt.alloc();
-    let scenario = "SCENARIO = mini WEEKS = 2 SKILLS = 1 Nurse SHIFT_TYPES = 1 Early (1,5) \
-        FORBIDDEN_SHIFT_TYPES_SUCCESSIONS CONTRACTS = 1 Full (2,5) (1,5) (1,5) 1 1 \
-        NURSES = 2 Ann Full 1 Nurse Ann Full 1 Nurse ";
-    let week = "WEEK_DATA mini REQUIREMENTS SHIFT_OFF_REQUESTS = 0 ";
-    let rosters =
-        "SOLUTION 7 mini ASSIGNMENTS = 0 SOLUTION 7 mini ASSIGNMENTS = 1 Ann Tue Early Nurse";
-    let history = "HISTORY 0 mini NURSE_HISTORY Ann 0 0 None 0 0 1 Ann 0 0 None 0 0 1 ";
-    let text = joined_text(alloc, &[scenario, history, week, week, rosters])?;
-    // The weeks count from 0, and the first line of a name decides.
+    let text = mini_with(
+        alloc,
+        &[
+            (3, "WEEKS = 2"),
+            (
+                30,
+                "WEEK_DATA mini REQUIREMENTS SHIFT_OFF_REQUESTS = 0 WEEK_DATA",
+            ),
+            (38, "SOLUTION 7 mini ASSIGNMENTS = 0 SOLUTION"),
+            (39, "7 mini"),
+            (41, "ASSIGNMENTS = 1\nAnn Tue Early Nurse"),
+        ],
+    )?;
+    // The weeks count from 0.
     let written =
         "SOLUTION\n0 mini\n\nASSIGNMENTS = 0\n\nSOLUTION\n1 mini\n\nASSIGNMENTS = 1\nAnn Tue Early Nurse\n";
     assert!(rt; shown(alloc, text.as_bytes())?.is(0, written, ""));
@@ -170,7 +201,7 @@ fn two_weeks(rt: HostRuntime) -> Result<(), Fail> {
 #[test]
 fn refused_texts(rt: HostRuntime) -> Result<(), Fail> {
     let alloc = rt.alloc();
-    let refused: [(&[&str], &str); 9] = [
+    let refused: [(&[&str], &str); 5] = [
         (&[], "line 1: expected SCENARIO\n"),
         (&[SCENARIO, HISTORY, WEEK], "line 34: expected number\n"),
         (
@@ -185,46 +216,6 @@ fn refused_texts(rt: HostRuntime) -> Result<(), Fail> {
             &[SCENARIO, HISTORY, WEEK, "1000"],
             "line 34: number out of range\n",
         ),
-        (
-            &[
-                SCENARIO,
-                HISTORY,
-                WEEK,
-                PAIRS,
-                "\nSOLUTION 0 mini ASSIGNMENTS = 1 Eve Mon Early Nurse",
-            ],
-            "input refused\n",
-        ),
-        (
-            &[
-                SCENARIO,
-                HISTORY,
-                WEEK,
-                PAIRS,
-                "\nSOLUTION 0 mini ASSIGNMENTS = 1 Ann Mon Late Nurse",
-            ],
-            "input refused\n",
-        ),
-        (
-            &[
-                SCENARIO,
-                HISTORY,
-                WEEK,
-                PAIRS,
-                "\nSOLUTION 0 mini ASSIGNMENTS = 1 Ann Mon Early Head",
-            ],
-            "input refused\n",
-        ),
-        (
-            &[
-                SCENARIO,
-                HISTORY,
-                WEEK,
-                PAIRS,
-                "\nSOLUTION 0 mini ASSIGNMENTS = 2 Ann Mon Early Nurse Ann Monday Night Nurse",
-            ],
-            "input refused\n",
-        ),
     ];
     for (pieces, line) in refused {
         let text = joined_text(alloc, pieces)?;
@@ -234,73 +225,195 @@ fn refused_texts(rt: HostRuntime) -> Result<(), Fail> {
     Ok(())
 }
 
+/// Shows the instance mini with other lines, and sees it refused.
+fn is_refused(alloc: Global, changes: &[(usize, &str)], line: &str) -> Result<bool, Fail> {
+    let text = mini_with(alloc, changes)?;
+    Ok(shown(alloc, text.as_bytes())?.is(1, "", line))
+}
+
 #[test]
-fn no_weeks(rt: HostRuntime) -> Result<(), Fail> {
+fn refused_names(rt: HostRuntime) -> Result<(), Fail> {
     let alloc = rt.alloc();
-    let scenario = "SCENARIO = mini
-
-WEEKS = 0
-
-SKILLS = 1
-Nurse
-
-SHIFT_TYPES = 2
-Early (1,5)
-Night (1,5)
-
-FORBIDDEN_SHIFT_TYPES_SUCCESSIONS
-Early 0
-Night 1 Early
-
-CONTRACTS = 1
-Full (2,5) (1,5) (1,5) 1 1
-
-NURSES = 2
-Ann Full 1 Nurse
-Bob Full 1 Nurse
-
-";
-    let text = joined_text(alloc, &[scenario, HISTORY, WEEK, PAIRS, EMPTY_ROSTER])?;
-    assert!(rt; shown(alloc, text.as_bytes())?.is(1, "", "line 30: text after the end\n"));
+    let twice = "Early Nurse (0,1) (0,1) (0,1) (0,1) (0,1) (0,1) (0,1)\n\
+        Early Nurse (0,1) (0,1) (0,1) (0,1) (0,1) (0,1) (0,1)";
+    let refused: [(usize, &str, &str); 15] = [
+        (9, "Any (1,5)", "line 9: reserved name\n"),
+        (9, "None (1,5)", "line 9: reserved name\n"),
+        (10, "Early (1,5)", "line 10: repeated name\n"),
+        (13, "Night 0", "line 14: repeated name\n"),
+        (14, "Night 1 Late", "line 14: unknown name\n"),
+        (20, "Ann Part 1 Nurse", "line 20: unknown name\n"),
+        (20, "Ann Full 1 Head", "line 20: unknown name\n"),
+        (20, "Ann Full 2 Nurse Nurse", "line 20: repeated name\n"),
+        (21, "Ann Full 1 Nurse", "line 21: repeated name\n"),
+        (24, "1 mini", "line 24: history week is not 0\n"),
+        (24, "0 maxi", "line 24: other instance\n"),
+        (27, "Ann 0 0 Late 0 0 1", "line 27: unknown name\n"),
+        (
+            28,
+            "Ann 0 0 None 0 0 1",
+            "line 28: repeated nurse in history\n",
+        ),
+        (31, "maxi", "line 31: other instance\n"),
+        (34, twice, "line 35: repeated requirement\n"),
+    ];
+    for (number, text, line) in refused {
+        assert!(rt; is_refused(alloc, &[(number, text)], line)?, "{line}");
+    }
+    // Behind the requests and in the solutions.
+    let wish = "SHIFT_OFF_REQUESTS = 1\nAnn Late Mon";
+    assert!(rt; is_refused(alloc, &[(36, wish)], "line 37: unknown name\n")?);
+    assert!(rt; is_refused(alloc, &[(39, "0 maxi")], "line 39: other instance\n")?);
     Ok(())
 }
 
-/// A bundle of so many weeks with empty rosters.
+#[test]
+fn refused_lines_of_solutions(rt: HostRuntime) -> Result<(), Fail> {
+    let alloc = rt.alloc();
+    let refused = [
+        (
+            "ASSIGNMENTS = 1\nEve Mon Early Nurse",
+            "line 42: unknown name\n",
+        ),
+        (
+            "ASSIGNMENTS = 1\nAnn Mon Late Nurse",
+            "line 42: unknown name\n",
+        ),
+        (
+            "ASSIGNMENTS = 1\nAnn Mon Early Head",
+            "line 42: unknown name\n",
+        ),
+        (
+            "ASSIGNMENTS = 2\nAnn Mon Early Nurse\nAnn Mon Night Nurse",
+            "H1 week 0 Mon Ann\n",
+        ),
+    ];
+    for (text, line) in refused {
+        assert!(rt; is_refused(alloc, &[(41, text)], line)?, "{line}");
+    }
+    Ok(())
+}
+
+#[test]
+fn limits(rt: HostRuntime) -> Result<(), Fail> {
+    let alloc = rt.alloc();
+    let too_large = [(17, "Full (2,1000) (1,5) (1,5) 1 1")];
+    assert!(rt; is_refused(alloc, &too_large, "line 17: number out of range\n")?);
+    let three_shifts = (8, "SHIFT_TYPES = 3");
+    let late = (11, "Late (1,7)");
+    let most = [three_shifts, late, (17, "Full (2,511) (1,7) (1,5) 7 1")];
+    let text = mini_with(alloc, &most)?;
+    assert!(rt; shown(alloc, text.as_bytes())?.is(0, EMPTY_OUTPUT, ""));
+    let too_many = [three_shifts, late, (17, "Full (2,512) (1,7) (1,5) 7 1")];
+    assert!(rt; is_refused(alloc, &too_many, "too many states for Ann\n")?);
+    let skills = [(5, "SKILLS = 9"), (6, "a b c d e f g h i")];
+    assert!(rt; is_refused(alloc, &skills, "line 5: count out of limits\n")?);
+    let no_skills = [(5, "SKILLS = 0"), (6, "")];
+    assert!(rt; is_refused(alloc, &no_skills, "line 5: count out of limits\n")?);
+    Ok(())
+}
+
+#[test]
+fn numbers_of_weeks(rt: HostRuntime) -> Result<(), Fail> {
+    let alloc = rt.alloc();
+    let behind = "line 30: text after the end\n";
+    assert!(rt; is_refused(alloc, &[(3, "WEEKS = 0")], behind)?);
+    let mut text = String::new(alloc);
+    for line in mini_with(alloc, &[(3, "WEEKS = 0")])?
+        .as_str()
+        .lines()
+        .take(28)
+    {
+        text.push_str(line)?;
+        text.push_str("\n")?;
+    }
+    let out_of_limits = "line 3: count out of limits\n";
+    assert!(rt; shown(alloc, text.as_bytes())?.is(1, "", out_of_limits));
+    for weeks in [16, 17] {
+        let text = empty_weeks(alloc, weeks)?;
+        let left = shown(alloc, text.as_bytes())?;
+        if weeks == 16 {
+            assert_eq!(rt; left.status, 0);
+            assert!(rt;
+                left.output
+                    .as_str()
+                    .ends_with("\n\nSOLUTION\n15 mini\n\nASSIGNMENTS = 0\n")
+            );
+        } else {
+            assert!(rt; left.is(1, "", out_of_limits));
+        }
+    }
+    Ok(())
+}
+
+/// The instance mini with so many weeks, each as empty as another.
 fn empty_weeks(alloc: Global, weeks: u32) -> Result<String, AllocError> {
-    let mut text = format!(in alloc;
-        "SCENARIO = long WEEKS = {weeks} SKILLS = 0 SHIFT_TYPES = 0 \
-        FORBIDDEN_SHIFT_TYPES_SUCCESSIONS CONTRACTS = 0 NURSES = 0 HISTORY 0 long NURSE_HISTORY "
-    )?;
-    for _ in 0..weeks {
-        text.push_str("WEEK_DATA long REQUIREMENTS SHIFT_OFF_REQUESTS = 0 ")?;
+    let count = format!(in alloc; "WEEKS = {weeks}")?;
+    let whole = mini_with(alloc, &[(3, count.as_str())])?;
+    let mut text = String::new(alloc);
+    for line in whole.as_str().lines().take(29) {
+        text.push_str(line)?;
+        text.push_str("\n")?;
     }
     for _ in 0..weeks {
-        text.push_str("SOLUTION 0 long ASSIGNMENTS = 0 ")?;
+        text.push_str("WEEK_DATA mini REQUIREMENTS SHIFT_OFF_REQUESTS = 0\n")?;
+    }
+    for _ in 0..weeks {
+        text.push_str("SOLUTION 0 mini ASSIGNMENTS = 0\n")?;
     }
     Ok(text)
 }
 
+/// The first breach of the hard rules in the instance mini with other lines.
+fn first_breach(alloc: Global, changes: &[(usize, &str)]) -> Result<Option<HardFault>, Fail> {
+    let text = mini_with(alloc, changes)?;
+    let tokens = tokens(alloc, text.as_bytes())?;
+    let bundle = parse_bundle(alloc, text.as_bytes(), &tokens)?;
+    let (case, roster) = roster_of(alloc, text.as_bytes(), &bundle)?;
+    Ok(first_hard(&case, &roster))
+}
+
 #[test]
-fn weeks_that_can_be_numbered(rt: HostRuntime) -> Result<(), Fail> {
+fn hard_rules(rt: HostRuntime) -> Result<(), Fail> {
     let alloc = rt.alloc();
-    let text = empty_weeks(alloc, 1000)?;
-    assert!(rt; shown(alloc, text.as_bytes())?.is(1, "", "input refused\n"));
-    let text = empty_weeks(alloc, 999)?;
-    let mut room = Vec::from_elem(alloc, 0u8, 50_000)?;
-    let left = shown_with_room(alloc, text.as_bytes(), &mut room, &mut [0; 10], AtEnd::Fail)?;
-    assert_eq!(rt; left.status, 0);
-    assert!(rt;
-        left.output
-            .as_str()
-            .ends_with("\n\nSOLUTION\n998 long\n\nASSIGNMENTS = 0\n")
-    );
+    assert_eq!(rt; first_breach(alloc, &[])?, None);
+    let need = (34, "Early Nurse (1,1) (0,1) (0,1) (0,1) (0,1) (0,1) (0,1)");
+    let missing = HardFault::H2 {
+        day: 0,
+        shift: Shift(0),
+        skill: Skill(0),
+        have: 0,
+        need: 1,
+    };
+    assert_eq!(rt; first_breach(alloc, &[need])?, Some(missing));
+    // `show` doesn't ask for the hard rules.
+    let text = mini_with(alloc, &[need])?;
+    assert!(rt; shown(alloc, text.as_bytes())?.is(0, EMPTY_OUTPUT, ""));
+
+    let within = "ASSIGNMENTS = 2\nAnn Tue Night Nurse\nAnn Wed Early Nurse";
+    let forbidden = Some(HardFault::H3 { nurse: 0, day: 2 });
+    assert_eq!(rt; first_breach(alloc, &[(41, within)])?, forbidden);
+    let from_history = [
+        (27, "Ann 0 0 Night 1 1 0"),
+        (41, "ASSIGNMENTS = 1\nAnn Mon Early Nurse"),
+    ];
+    let forbidden = Some(HardFault::H3 { nurse: 0, day: 0 });
+    assert_eq!(rt; first_breach(alloc, &from_history)?, forbidden);
+
+    let head = [
+        (5, "SKILLS = 2"),
+        (6, "Nurse Head"),
+        (41, "ASSIGNMENTS = 1\nBob Tue Early Head"),
+    ];
+    let unskilled = Some(HardFault::H4 { nurse: 1, day: 1 });
+    assert_eq!(rt; first_breach(alloc, &head)?, unskilled);
     Ok(())
 }
 
 #[test]
 fn readers_that_fail_or_give_too_much(rt: HostRuntime) -> Result<(), Fail> {
     let alloc = rt.alloc();
-    let text = joined_text(alloc, &[SCENARIO, HISTORY, WEEK, PAIRS, EMPTY_ROSTER])?;
+    let text = mini(alloc)?;
     for fails_in in 1..3 {
         let failing = FailingReader {
             rest: text.as_bytes(),
@@ -321,7 +434,7 @@ fn readers_that_fail_or_give_too_much(rt: HostRuntime) -> Result<(), Fail> {
 #[test]
 fn writers_that_fail(rt: HostRuntime) -> Result<(), Fail> {
     let alloc = rt.alloc();
-    let text = joined_text(alloc, &[SCENARIO, HISTORY, WEEK, PAIRS, EMPTY_ROSTER])?;
+    let text = mini(alloc)?;
     for at_end in [AtEnd::Fail, AtEnd::TakeNothing] {
         let left = shown_with_room(alloc, text.as_bytes(), &mut [0; 7], &mut [0; 40], at_end)?;
         assert!(rt; left.is(3, "SOLUTIO", "write failed\n"), "{left:?}");

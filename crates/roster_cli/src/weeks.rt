@@ -1,73 +1,46 @@
-//! The solutions of a bundle, resolved and written week by week.
+//! The weeks of a roster, written one behind the other.
 
-ghost use Rattle.std.specs.Prelude.{◌≡◌, ◌*◌, ◌≤◌, ◌<◌, OnOk, OnErr, length};
-ghost use Rattle.std.specs.List.{join_with_byte};
+ghost use Rattle.std.specs.Prelude.{◌≡◌, ◌<◌, ◌++◌, [], OnOk, OnErr, true, codes, if◌then◌else◌, nat_lt};
+ghost use Rattle.roster_text.specs.Canonical.{canonical};
 ghost use Rattle.roster_text.specs.Io.{Stops, Writes};
-ghost use Rattle.roster_cli.specs.Resolving.{AllResolve, Resolves, lists_of, texts_by_names, week_piece};
+ghost use Rattle.roster_case.specs.Meaning.{week_count};
+ghost use Rattle.roster_case.specs.Rosters.{fits};
+ghost use Rattle.roster_case.specs.Shown.{shown_week, weeks_text};
 
-use crate::fault::ShowFault;
-use crate::resolve::{Names, Week, Work, lay_out};
-use roster_text::{Solution, Watch, WriteFault, write_bytes, write_solution};
+use roster_case::{Case, Roster, WeekView};
+use roster_text::{Watch, WriteFault, write_bytes, write_solution};
 use std::io::Write;
 
-/// Looks up the lines of all solutions.
-pub(crate) fn check_weeks<'a>(
-    names: &Names<'a>,
-    solutions: &[Solution],
-    table: &mut [Option<Work<'a>>],
-) -> Result<(), ShowFault>
-    requires { length table.old ≡ 7 * length names.now.nurses }
-    ensures ok { OnOk result (AllResolve names.now solutions.now) }
-    ensures err { OnErr result (¬ AllResolve names.now solutions.now) }
-{
-    for solution in solutions {
-        lay_out(names, solution.assignments.items.as_slice(), table)?;
-    }
-    Ok(())
-}
-
 /// Writes all weeks, with an empty line between two.
-pub(crate) fn write_weeks<'a, W: Write>(
+pub(crate) fn write_weeks<W: Write>(
     output: &mut Watch<W>,
-    names: &Names<'a>,
-    solutions: &[Solution],
-    table: &mut [Option<Work<'a>>],
+    case: &Case,
+    roster: &Roster,
 ) -> Result<(), WriteFault>
-    requires covered { length table.old ≡ 7 * length names.now.nurses }
-    requires few { length solutions.now ≤ 999 }
-    requires resolve { AllResolve names.now solutions.now }
-    ensures ok { OnOk result (Writes W.contents output.old output.new
-        (join_with_byte 10 (texts_by_names names.now solutions.now))) }
-    ensures err { OnErr result (Stops W.contents output.old output.new
-        (join_with_byte 10 (texts_by_names names.now solutions.now))) }
+    requires { fits case.now roster.now ≡ true }
+    ensures ok { OnOk result (Writes W.contents output.old output.new (weeks_text case.now roster.now)) }
+    ensures err { OnErr result (Stops W.contents output.old output.new (weeks_text case.now roster.now)) }
 {
-    for (number, solution) in solutions.iter().enumerate() {
-        write_week(output, names, number as u16, solution, table)?;
+    for week in 0..case.weeks() {
+        write_week(output, case, roster, week)?;
     }
     Ok(())
 }
 
 /// Writes a week, behind an empty line where it is not the first.
-fn write_week<'a, W: Write>(
+fn write_week<W: Write>(
     output: &mut Watch<W>,
-    names: &Names<'a>,
-    number: u16,
-    solution: &Solution,
-    table: &mut [Option<Work<'a>>],
+    case: &Case,
+    roster: &Roster,
+    week: u16,
 ) -> Result<(), WriteFault>
-    requires covered { length table.old ≡ 7 * length names.now.nurses }
-    requires resolves { Resolves names.now.source.now (lists_of names.now) solution.now.assignments.items }
-    ensures ok { OnOk result (Writes W.contents output.old output.new (week_piece names.now number solution.now)) }
-    ensures err { OnErr result (Stops W.contents output.old output.new (week_piece names.now number solution.now)) }
+    requires fitting { fits case.now roster.now ≡ true }
+    requires within { week < week_count case.now }
+    ensures ok { OnOk result (Writes W.contents output.old output.new ((if nat_lt 0 week then codes "\n" else []) ++ canonical (shown_week case.now roster.now week))) }
+    ensures err { OnErr result (Stops W.contents output.old output.new ((if nat_lt 0 week then codes "\n" else []) ++ canonical (shown_week case.now roster.now week))) }
 {
-    if number > 0 {
+    if week > 0 {
         write_bytes(output, b"\n")?;
     }
-    lay_out(names, solution.assignments.items.as_slice(), table).unwrap();
-    let week = Week {
-        number,
-        names,
-        table,
-    };
-    write_solution(output, &week)
+    write_solution(output, &WeekView::of(case, roster, week))
 }
