@@ -10,6 +10,7 @@ pub mod Several
 pub mod UntilSection
 pub mod GrammarReaders
 pub mod FirstFaults
+pub mod SmallNumbers
 pub mod Texts
 pub mod Lines
 pub mod Pieces

@@ -1,6 +1,7 @@
 pub mod Words
 pub mod Token
 pub mod Grammar
+pub mod SmallNumbers
 pub mod FirstFault
 pub mod Reading
 pub mod Io

@@ -23,7 +23,7 @@ pub use bundle::{
 };
 pub use fault::{Keyword, TextFault, What, WriteFault};
 pub use laws::written_is_read;
-pub use parsing::{one_bundle, one_first_fault, parse_bundle};
+pub use parsing::{numbers_are_small, one_bundle, one_first_fault, parse_bundle};
 pub use reading::{MAX_INPUT, read_all};
 pub use token::{Token, tokens};
 pub use view::SolutionView;

@@ -4,6 +4,7 @@ ghost use Rattle.std.specs.Prelude.{◌≡◌, ◌≢◌, ℕ, List, IfOk, IfErr
 ghost use Rattle.roster_text.specs.FirstFault.{IsFirstFault};
 ghost use Rattle.roster_text.specs.Grammar.{Spells};
 ghost use Rattle.roster_text.specs.Reading.{GivesUnlessMemory, bundle_at, whole_of, fault_of};
+ghost use Rattle.roster_text.specs.SmallNumbers.{SaysSmallNumbers};
 ghost use Rattle.roster_text.specs.Token.{Seen, all_seen, line_at_end, tokens_of};
 
 use crate::bundle::Bundle;
@@ -34,6 +35,11 @@ pub fn parse_bundle(alloc: Global, source: &[u8], tokens: &[Token]) -> Result<Bu
 /// A list of tokens spells one bundle at most.
 pub fn one_bundle()
     ensures { (ts : List Seen) (b c : Bundle) → Spells ts b → Spells ts c → b ≡ c }
+{}
+
+/// The numbers of a bundle that is spelled are from 0 to 999: those of the pairs, the contracts and the history lines.
+pub fn numbers_are_small()
+    ensures { (ts : List Seen) (b : Bundle) → Spells ts b → SaysSmallNumbers b }
 {}
 
 /// A list of tokens has one first fault at most: one place, and one word for what is due there.
