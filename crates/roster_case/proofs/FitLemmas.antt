@@ -23,12 +23,12 @@ all_of_map : {X Y : Type 0} (p : Y → Bool) (f : X → Y) (xs : List X) → ((x
 all_of_map p f [] each = refl
 all_of_map p f (x ∷ xs) each = ap₂ (λ a b. a && b) (each x) (all_of_map p f xs each)
 
-get_or_of_map : {X Y : Type 0} (P : Y → Type 0) (f : X → Y) (d : Y) (xs : List X) (i : ℕ) → P d → ((x : X) → P (f x)) → P (get_or (map f xs) i d)
+pub get_or_of_map : {X Y : Type 0} (P : Y → Type 0) (f : X → Y) (d : Y) (xs : List X) (i : ℕ) → P d → ((x : X) → P (f x)) → P (get_or (map f xs) i d)
 get_or_of_map P f d [] i none each = none
 get_or_of_map P f d (x ∷ xs) zero none each = each x
 get_or_of_map P f d (x ∷ xs) (suc i) none each = get_or_of_map P f d xs i none each
 
-number_of-within : (source : List ℕ) (names : List (List ℕ)) (t : Token) → 0 < length names → number_of source names t < length names
+pub number_of-within : (source : List ℕ) (names : List (List ℕ)) (t : Token) → 0 < length names → number_of source names t < length names
 number_of-within source names t some = go (found source names t) refl
   where
     go : (o : Option ℕ) → found source names t ≡ o → unwrap_or o 0 < length names

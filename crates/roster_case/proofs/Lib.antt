@@ -4,11 +4,16 @@ pub mod RunLaw
 pub mod DayMore
 pub mod RowLaw
 pub mod WeekendLaw
+pub mod CountLemmas
+pub mod RosterFacts
+pub mod RunBounds
+pub mod Bounds
 pub mod Sections
 pub mod TableLemmas
 pub mod NameLemmas
 mod LineLemmas
 mod SizeLemmas
+mod CoverLemmas
 pub mod HardLemmas
 pub mod TableSteps
 pub mod WeekTableLemmas
@@ -18,3 +23,5 @@ pub mod FlagLemmas
 pub mod ScenarioLemmas
 mod CaseLemmas
 mod FitLemmas
+mod SmallLemmas
+mod PastLemmas

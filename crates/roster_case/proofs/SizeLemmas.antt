@@ -1,18 +1,28 @@
 -- The sizes of the search.
-use Rattle.std.proofs.Common.{◌≡◌, ◌∙◌, ◌+◌, ◌*◌, ◌≤◌, ◌<◌, ◌⊎◌, ℕ, Bool, Some, max, ap, arith, false, inl, inr, le-ltb, lt-ltb, nat_lt, subst, sym, true, List, [], ◌∷◌, ◌++◌, map}
+use Rattle.std.proofs.Common.{◌≡◌, ◌∙◌, ◌+◌, ◌*◌, ◌≤◌, ◌<◌, ◌⊎◌, ℕ, suc, Bool, Some, max, ap, arith, false, inl, inr, le-ltb, lt-ltb, get_or, nat_lt, subst, sym, true, List, [], ◌∷◌, ◌++◌, map}
 use Rattle.std.proofs.lemmas.Bool.{cases_eq}
 use Rattle.std.proofs.lemmas.Nat.{mul-le}
 use Rattle.roster_text.specs.declared.bundle.Nurse.{Nurse}
 use Rattle.roster_case.specs.declared.fault.CaseFault.TheVariants.{TooManyStates}
+use Rattle.roster_case.specs.declared.rules.Limits.{Limits}
 use Rattle.roster_case.specs.Faults.{fault_if, first_of}
-use Rattle.roster_case.specs.Meaning.{Meaning, contract_of, shift_count}
+use Rattle.roster_case.specs.Meaning.{Meaning, contract_of, no_limits, shift_count}
 use Rattle.roster_case.specs.Prefix.{cap}
 use Rattle.roster_case.specs.Refusals.{state_fault}
 use Rattle.roster_case.specs.Sizes.{greatest_of, max_states, state_count}
+use Rattle.roster_case.specs.Small.{AreSmall}
 
 pub greatest_of-push : (ns : List ℕ) (n : ℕ) → greatest_of (ns ++ n ∷ []) ≡ max (greatest_of ns) n
 greatest_of-push [] n = omega arith
 greatest_of-push (m ∷ ms) n = ap (max m) (greatest_of-push ms n) ∙ omega arith
+
+-- of small numbers the greatest cap is small
+pub greatest_cap-small : (runs : List Limits) → ((s : ℕ) → AreSmall (get_or runs s no_limits)) → greatest_of (map cap runs) ≤ 999
+greatest_cap-small [] small = omega arith
+greatest_cap-small (run ∷ runs) small =
+    let own = small 0 in
+    let others = greatest_cap-small runs (λ s. small (suc s)) in
+    omega (arith, own, others)
 
 -- a product of ranges of 16 bits, the first of which is small
 pub product-within : (a b c d e : ℕ) → a ≤ 9 → b ≤ 65536 → c ≤ 65536 → d ≤ 65536 → e ≤ 65536 → a * b * c * d * e ≤ 9 * 65536 * 65536 * 65536 * 65536

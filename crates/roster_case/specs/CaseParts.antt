@@ -1,14 +1,15 @@
 -- The parts of which a case is built.
-use Rattle.std.specs.Prelude.{◌≡◌, ℕ, ◌<◌, ◌≤◌, List, map, Option}
+use Rattle.std.specs.Prelude.{◌≡◌, ℕ, ◌<◌, ◌≤◌, List, length, map, Option, IfSome}
 use Rattle.roster_text.specs.declared.bundle.Bundle.{Bundle}
 use Rattle.roster_text.specs.declared.bundle.ShiftType.{ShiftType}
 use Rattle.roster_text.specs.Token.{text_of}
 use Rattle.roster_case.specs.declared.rules.Past.{Past}
 use Rattle.roster_case.specs.declared.scenario.Scenario.{Scenario}
 use Rattle.roster_case.specs.Bundles.{contract_meant, limits_of, nurse_meant, successions_meant}
-use Rattle.roster_case.specs.Meaning.{Meaning, WeekFacts, nurse_count}
+use Rattle.roster_case.specs.Meaning.{Meaning, WeekFacts, last_shift, nurse_count, past_of, shift_count}
 use Rattle.roster_case.specs.Names.{contract_names, nurse_names, shift_names, skill_names}
 use Rattle.roster_case.specs.Sizes.{max_states, state_count}
+use Rattle.roster_case.specs.Small.{HasSmallNumbers}
 
 -- what a scenario is built of
 pub record IsScenarioOf (source : List ℕ) (b : Bundle) (s : Scenario) : Type 0 where
@@ -41,3 +42,15 @@ case_of s past weeks = record {
 -- no nurse's search takes too many states
 abbrev pub HasFewStates : Meaning → Type 0
 HasFewStates c = (n : ℕ) → n < nurse_count c → state_count c n ≤ max_states
+
+-- the last shift of each nurse's history, if there is one, is a shift of the case
+abbrev pub HasKnownPast : Meaning → Type 0
+HasKnownPast c = (n : ℕ) → IfSome (last_shift (past_of c n).border) (λ s. s.0 < shift_count c)
+
+-- what holds of the parts of each case: a week for each that the scenario counts, few states, small numbers, and a known
+-- past
+pub record AreCaseParts (s : Scenario) (past : List (Option Past)) (weeks : List WeekFacts) : Type 0 where
+  pub all_weeks : length weeks ≡ s.weeks
+  pub few_states : HasFewStates (case_of s past weeks)
+  pub small : HasSmallNumbers (case_of s past weeks)
+  pub known_past : HasKnownPast (case_of s past weeks)

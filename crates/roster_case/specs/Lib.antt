@@ -4,14 +4,17 @@ pub mod Days
 pub mod Meaning
 pub mod Choices
 pub mod Rosters
+pub mod Covers
 pub mod HardRules
 pub mod Runs
+pub mod Kinds
 pub mod RunLaw
 pub mod DayLaw
 pub mod Penalties
 pub mod Prefix
 pub mod Rows
 pub mod Sizes
+pub mod Small
 pub mod Improver
 pub mod Tables
 pub mod Checking

@@ -3,7 +3,7 @@ use Rattle.std.specs.Prelude.{ℕ, ◌*◌, ◌%◌, Bool, true, false, ◌==◌
 use Rattle.std.specs.List.{list_any, range_with_len}
 use Rattle.roster_case.specs.declared.choice.Choice.{Choice}
 use Rattle.roster_case.specs.declared.choice.Choice.TheVariants.{Off, Work}
-use Rattle.roster_case.specs.declared.costs.Costs.{Costs}
+use Rattle.roster_case.specs.declared.penalties.Costs.{Costs}
 use Rattle.roster_case.specs.declared.rules.Border.TheVariants.{Free}
 use Rattle.roster_case.specs.declared.rules.ContractRules.{ContractRules}
 use Rattle.roster_case.specs.declared.rules.Limits.{Limits}

@@ -4,7 +4,7 @@ use Rattle.std.specs.List.{range_with_len}
 use Rattle.roster_text.specs.declared.bundle.Bundle.{Bundle}
 use Rattle.roster_text.specs.Reading.{Read, bundle_at}
 use Rattle.roster_text.specs.Token.{all_seen, tokens_of}
-use Rattle.roster_case.specs.declared.costs.Costs.{Costs}
+use Rattle.roster_case.specs.declared.penalties.Costs.{Costs}
 use Rattle.roster_case.specs.declared.fault.CaseFault.{CaseFault}
 use Rattle.roster_case.specs.declared.fault.HardFault.{HardFault}
 use Rattle.roster_case.specs.Bundles.{meaning_of, rows_of}

@@ -2,7 +2,7 @@
 -- once, at the end of the horizon, with the history's: our profile).
 use Rattle.std.specs.Prelude.{ℕ, ◌+◌, ◌-◌, ◌*◌, Bool, false, ◌==◌, if◌then◌else◌, length, Option, Some, None}
 use Rattle.roster_case.specs.declared.choice.Shift.{Shift}
-use Rattle.roster_case.specs.declared.costs.Costs.{Costs}
+use Rattle.roster_case.specs.declared.penalties.Costs.{Costs}
 use Rattle.roster_case.specs.declared.rules.Border.{Border}
 use Rattle.roster_case.specs.declared.rules.Border.TheVariants.{Free, Working}
 use Rattle.roster_case.specs.Counting.{sum_below}
@@ -13,8 +13,11 @@ use Rattle.roster_case.specs.Runs.{run_faults}
 
 -- ---- staffing: 30 for each nurse missing to the optimum of a day, shift and skill
 
+abbrev pub staffing_of_place : Meaning → Rows → ℕ → ℕ → ℕ → ℕ
+staffing_of_place c r d s k = 30 * ((need c d s k).greatest - cover r d s k)
+
 abbrev pub staffing_of_day : Meaning → Rows → ℕ → ℕ
-staffing_of_day c r d = sum_below (shift_count c) (λ s. sum_below (skill_count c) (λ k. 30 * ((need c d s k).greatest - cover r d s k)))
+staffing_of_day c r d = sum_below (shift_count c) (λ s. sum_below (skill_count c) (staffing_of_place c r d s))
 
 abbrev pub staffing : Meaning → Rows → ℕ
 staffing c r = sum_below (day_count c) (staffing_of_day c r)

@@ -1,24 +1,27 @@
 //! The case: what an instance says, apart from the roster.
 
-ghost use Rattle.std.specs.Prelude.{◌≡◌, ◌≢◌, ◌*◌, ◌<◌, ◌≤◌, ℕ, List, [], Some, IfOk, IfErr, IfSome, OnOk, flat_map, length, slice_index_or};
+ghost use Rattle.std.specs.Prelude.{◌≡◌, ◌≢◌, ◌*◌, ◌<◌, ◌≤◌, ℕ, List, [], Some, IfOk, IfErr, IfSome, OnOk, flat_map, length, map, slice_index_or};
 ghost use Rattle.std.specs.List.{enumerate_from};
+ghost use Rattle.roster_text.specs.SmallNumbers.{SaysSmallNumbers};
 ghost use Rattle.roster_text.specs.declared.bundle.Nurse.{Nurse};
 ghost use Rattle.roster_case.specs.CaseParts.{case_of, HasFewStates};
 ghost use Rattle.roster_case.specs.Bundles.{meaning_of};
 ghost use Rattle.roster_case.specs.Checking.{IsFirst};
 ghost use Rattle.roster_case.specs.Faults.{first_of};
 ghost use Rattle.roster_case.specs.HardRules.{forbids};
-ghost use Rattle.roster_case.specs.Meaning.{contract_of, day_count, is_wished_off, need, nurse_at, nurse_count, nurse_name, past_of, run_of_shift, shift_count, skill_count, week_count};
+ghost use Rattle.roster_case.specs.Meaning.{contract_of, day_count, is_wished_off, last_shift, need, nurse_at, nurse_count, nurse_name, past_of, run_of_shift, shift_count, skill_count, week_count};
 ghost use Rattle.roster_case.specs.Names.{find_name};
+ghost use Rattle.roster_case.specs.Prefix.{cap};
 ghost use Rattle.roster_case.specs.Refusals.{case_faults, state_fault};
-ghost use Rattle.roster_case.specs.Sizes.{choice_count, state_count};
+ghost use Rattle.roster_case.specs.Sizes.{choice_count, greatest_of, state_count};
+ghost use Rattle.roster_case.specs.Small.{AreSmall, HasSmallNumbers, HasSmallRules, IsSmallPast};
 
 use crate::choice::{Shift, Skill};
 use crate::fault::CaseFault;
 use crate::history::past_of;
 use crate::rules::{Border, ContractRules, Limits, Past};
 use crate::scenario::Scenario;
-use crate::sizes::state_count;
+use crate::sizes::{greatest_cap, state_count};
 use crate::table::Table;
 use crate::week::{Week, weeks_of};
 use roster_text::{Bundle, Nurse};
@@ -38,20 +41,20 @@ pub struct Case {
 }
 
 impl Model for Case {
-    ghost use Rattle.std.specs.Prelude.{◌≡◌, length};
-    ghost use Rattle.roster_case.specs.CaseParts.{case_of, HasFewStates};
+    ghost use Rattle.roster_case.specs.CaseParts.{AreCaseParts, case_of};
     ghost use Rattle.roster_case.specs.Meaning.{Meaning};
 
     ghost Value = { Meaning };
 
     ghost view = { λ c. case_of c.scenario c.past c.weeks.items };
 
-    ghost invariant = { λ c. (length c.weeks.items ≡ c.scenario.weeks) × HasFewStates (case_of c.scenario c.past c.weeks.items) };
+    ghost invariant = { λ c. AreCaseParts c.scenario c.past c.weeks.items };
 }
 
 impl Case {
     /// The meaning of the four texts, where nothing in them but the solutions is refused. The bundle is the one that these
-    /// bytes spell; then it has as many weeks as its scenario says. The case keeps copies of all names.
+    /// bytes spell; then it has as many weeks as its scenario says, and its numbers are from 0 to 999. The case keeps copies
+    /// of all names.
     ///
     /// # Errors
     ///
@@ -59,7 +62,8 @@ impl Case {
     /// a count out of limits, a history that doesn't fit, a repeated requirement. Behind them a nurse with too many states.
     /// `Memory` where a growth was refused.
     pub fn from_bundle(alloc: Global, bundle: &Bundle, source: &[u8]) -> Result<Case, CaseFault>
-        requires { length bundle.now.week_data ≡ bundle.now.scenario.weeks.value }
+        requires weeks { length bundle.now.week_data ≡ bundle.now.scenario.weeks.value }
+        requires small { SaysSmallNumbers bundle.now }
 
         // What is taken has no fault, and means what the texts say.
         ensures meant { IfOk result (λ case. case ≡ meaning_of source.now bundle.now) }
@@ -86,8 +90,24 @@ impl Case {
         ensures shifts { result.now.shifts ≡ self.now.shift_names }
         ensures skills { result.now.skills ≡ self.now.skill_names }
         ensures weeks { result.now.weeks ≡ week_count self.now }
+        ensures small { HasSmallNumbers self.now }
     {
         &self.scenario
+    }
+
+    /// A law: the limits that every case keeps, on which the bounds of sums over it rest.
+    pub fn keeps_limits(&self)
+        ensures small { HasSmallNumbers self.now }
+        ensures weeks { week_count self.now ≤ 16 }
+        ensures shifts { shift_count self.now ≤ 8 }
+        ensures skills { skill_count self.now ≤ 8 }
+        ensures nurses { nurse_count self.now ≤ 200 }
+    {
+        self.scenario();
+        self.weeks();
+        self.shifts();
+        self.skills();
+        self.nurses();
     }
 
     // ---- how many there are
@@ -184,9 +204,11 @@ impl Case {
 
     // ---- what is asked for
 
-    /// Minimum and optimum of a day, and of a shift and skill of the case; (0,0) where no line of the week has them.
+    /// Minimum and optimum of a day, and of a shift and skill of the case, each at most 999; (0,0) where no line of the week
+    /// has them.
     pub fn need(&self, day: u16, shift: Shift, skill: Skill) -> Limits
-        ensures { result ≡ need self.now day shift.0 skill.0 }
+        ensures limits { result ≡ need self.now day shift.0 skill.0 }
+        ensures small { AreSmall result }
     {
         let place = 8 * shift.0 as usize + skill.0 as usize;
         match self.weeks.get(day as usize / 7) {
@@ -195,9 +217,10 @@ impl Case {
         }
     }
 
-    /// How many days in a row a shift is to be worked.
+    /// How many days in a row a shift is to be worked, at most 999.
     pub fn run_of_shift(&self, shift: Shift) -> Limits
-        ensures { result ≡ run_of_shift self.now shift.0 }
+        ensures limits { result ≡ run_of_shift self.now shift.0 }
+        ensures small { AreSmall result }
     {
         match self.scenario.runs.get(shift.0 as usize) {
             Some(run) => *run,
@@ -215,6 +238,16 @@ impl Case {
                 None => false,
             },
             None => false,
+        }
+    }
+
+    /// Whether the shift of one day, if there is one, forbids that of the next day, if there is one.
+    pub fn forbids_next(&self, last: Option<Shift>, next: Option<Shift>) -> bool
+        ensures { result ≡ forbids self.now.successions last next }
+    {
+        match (last, next) {
+            (Some(last), Some(next)) => self.forbids(last, next),
+            _ => false,
         }
     }
 
@@ -241,9 +274,10 @@ impl Case {
         }
     }
 
-    /// What a nurse's contract asks for.
+    /// What a nurse's contract asks for, in numbers of at most 999.
     pub fn contract_rules(&self, nurse: usize) -> ContractRules
-        ensures { result ≡ contract_of self.now nurse }
+        ensures rules { result ≡ contract_of self.now nurse }
+        ensures small { HasSmallRules result }
     {
         match self.scenario.contract_rules.get(self.contract(nurse)) {
             Some(rules) => *rules,
@@ -262,9 +296,11 @@ impl Case {
         }
     }
 
-    /// What a nurse did before the first Monday.
+    /// What a nurse did before the first Monday, in numbers of at most 999. A last shift is one of the case's.
     pub fn past(&self, nurse: usize) -> Past
-        ensures { result ≡ past_of self.now nurse }
+        ensures past { result ≡ past_of self.now nurse }
+        ensures small { IsSmallPast result }
+        ensures known { IfSome (last_shift result.border) (λ s. s.0 < shift_count self.now) }
     {
         match self.past.get(nurse) {
             Some(past) => past,
@@ -277,6 +313,14 @@ impl Case {
     }
 
     // ---- sizes of the search
+
+    /// The greatest cap of the runs of the shifts, at most 999.
+    pub fn greatest_cap(&self) -> u16
+        ensures cap { result ≡ greatest_of (map cap self.now.runs) }
+        ensures small { result ≤ 999 }
+    {
+        greatest_cap(&self.scenario.runs)
+    }
 
     /// How many states the search for a nurse has, at most 1,048,576.
     pub fn states(&self, nurse: usize) -> u32

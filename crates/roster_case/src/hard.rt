@@ -119,7 +119,7 @@ fn succession_of(case: &Case, roster: &Roster, nurse: usize) -> Option<HardFault
     let mut last = last_shift(case.past(nurse).border);
     for day in 0..case.days() {
         let shift = row[day as usize].shift();
-        if forbids(case, last, shift) {
+        if case.forbids_next(last, shift) {
             return Some(HardFault::H3 { nurse, day });
         }
         last = shift;
@@ -133,15 +133,6 @@ fn last_shift(border: Border) -> Option<Shift>
     match border {
         Border::Free(_) => None,
         Border::Working(shift, _, _) => Some(shift),
-    }
-}
-
-fn forbids(case: &Case, last: Option<Shift>, next: Option<Shift>) -> bool
-    ensures { result ≡ forbids case.now.successions last next }
-{
-    match (last, next) {
-        (Some(last), Some(next)) => case.forbids(last, next),
-        _ => false,
     }
 }
 

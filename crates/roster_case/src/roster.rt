@@ -107,7 +107,7 @@ impl Roster {
 }
 
 /// The choice of a row on a day; past the end a day is off.
-fn choice_on(row: &[Choice], day: u16) -> Choice
+pub(crate) fn choice_on(row: &[Choice], day: u16) -> Choice
     ensures { result ≡ choice_on row.now day }
 {
     match row.get(day as usize) {

@@ -1,6 +1,11 @@
 //! The numbers of an instance.
 
+ghost use Rattle.std.specs.Prelude.{◌≡◌, ◌≤◌};
+ghost use Rattle.roster_case.specs.Prefix.{cap};
+ghost use Rattle.roster_case.specs.RunLaw.{day_faults};
+
 use crate::choice::Shift;
+use std::cmp::max;
 
 /// A least and a greatest number, used as written: the least may be above the greatest.
 /// For the nurses of a shift and skill on a day, the minimum and the optimum.
@@ -8,6 +13,30 @@ use crate::choice::Shift;
 pub struct Limits {
     pub least: u16,
     pub greatest: u16,
+}
+
+impl Limits {
+    /// Beyond its cap a run, or a total, costs the same.
+    pub fn cap(self) -> u16
+        ensures { result ≡ cap self }
+    {
+        max(self.least, self.greatest)
+    }
+
+    /// What a day adds to the missing and the extra days of the runs of a kind, behind a run of so many days: one extra day
+    /// where it is of the kind and the run is full, and what the run misses where it ends.
+    pub fn day_faults(self, run: u32, of_kind: bool) -> u32
+        ensures faults { result ≡ day_faults self run of_kind }
+        ensures within { result ≤ 65536 }
+    {
+        if of_kind {
+            return (self.greatest as u32 <= run) as u32;
+        }
+        if run == 0 {
+            return 0;
+        }
+        (self.least as u32).saturating_sub(run)
+    }
 }
 
 /// What a contract asks for: assignments, working days in a row, days off in a row, the greatest number of worked

@@ -17,9 +17,9 @@ pub(crate) fn state_count(scenario: &Scenario, nurse: usize) -> u128
 {
     let rules = contract_of(scenario, nurse);
     let shifts = scenario.shifts.len() as u128 + 1;
-    let run = greater(cap(rules.working), cap(rules.free)) as u128 + 1;
+    let run = greater(rules.working.cap(), rules.free.cap()) as u128 + 1;
     let shift_run = greatest_cap(&scenario.runs) as u128 + 1;
-    let assignments = cap(rules.total) as u128 + 1;
+    let assignments = rules.total.cap() as u128 + 1;
     let weekends = rules.weekends as u128 + 1;
     shifts * run * shift_run * assignments * weekends
 }
@@ -37,13 +37,6 @@ fn contract_of(scenario: &Scenario, nurse: usize) -> ContractRules
     }
 }
 
-/// Beyond its cap a run costs the same.
-fn cap(limits: Limits) -> u16
-    ensures { result ≡ cap limits }
-{
-    greater(limits.least, limits.greatest)
-}
-
 fn greater(a: u16, b: u16) -> u16
     ensures { result ≡ max a b }
 {
@@ -51,12 +44,12 @@ fn greater(a: u16, b: u16) -> u16
 }
 
 /// The greatest cap, 0 where there is none.
-fn greatest_cap(runs: &[Limits]) -> u16
+pub(crate) fn greatest_cap(runs: &[Limits]) -> u16
     ensures { result ≡ greatest_of (map cap runs.now) }
 {
     let mut greatest = 0;
     for run in runs {
-        greatest = greater(greatest, cap(*run));
+        greatest = greater(greatest, run.cap());
     }
     greatest
 }

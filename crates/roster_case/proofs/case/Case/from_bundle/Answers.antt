@@ -7,8 +7,11 @@ use Rattle.roster_case.specs.Bundles.{week_meant}
 use Rattle.roster_case.specs.CaseParts.{case_of}
 use Rattle.roster_case.specs.Checking.{IsFirst}
 use Rattle.roster_case.specs.Refusals.{state_fault, week_faults}
+use Rattle.roster_case.specs.Small.{HasSmallNumbers}
 use Rattle.roster_case.proofs.Sections.{IsFirst-through}
 use Rattle.roster_case.proofs.CaseLemmas.{case_is, few_states, first_of_past, first_of_scenario, first_of_states, first_of_weeks, none_at_all}
+use Rattle.roster_case.proofs.PastLemmas.{past_known}
+use Rattle.roster_case.proofs.SmallLemmas.{meaning_small}
 use Rattle.roster_case.proofs.case.Case.from_bundle.Goals as goal
 
 pub returns-in_err-scenario-clause-refused : goal.returns-in_err-scenario-clause-refused
@@ -43,11 +46,15 @@ returns-in_err-check_states-clause-refused c =
 
 pub invariant_of-result : goal.invariant_of-result
 invariant_of-result c =
-    let s = c.in_ok-scenario.scenario in (
-      ap length (c.in_ok-weeks.ensures.meant ∙ ap (map (week_meant c.args.source.now s.shifts s.skills s.nurses)) c.as_slice.ensures)
-          ∙ length-map c.args.bundle.now.week_data (week_meant c.args.source.now s.shifts s.skills s.nurses) ∙ c.requires ∙ sym c.in_ok-scenario.ensures.weeks,
-      few_states s c.in_ok-past.past c.in_ok-weeks.weeks.items c.in_ok-check_states.ensures.few,
-    )
+    let s = c.in_ok-scenario.scenario in
+    let weeks = c.in_ok-weeks.ensures.meant ∙ ap (map (week_meant c.args.source.now s.shifts s.skills s.nurses)) c.as_slice.ensures in
+    record {
+      all_weeks = ap length weeks ∙ length-map c.args.bundle.now.week_data (week_meant c.args.source.now s.shifts s.skills s.nurses) ∙ c.requires.weeks ∙ sym c.in_ok-scenario.ensures.weeks;
+      few_states = few_states s c.in_ok-past.past c.in_ok-weeks.weeks.items c.in_ok-check_states.ensures.few;
+      small = subst HasSmallNumbers (sym (case_is c.args.source.now c.args.bundle.now s c.in_ok-scenario.ensures.meant c.in_ok-past.past c.in_ok-weeks.weeks.items c.in_ok-past.ensures.meant weeks))
+          (meaning_small c.args.source.now c.args.bundle.now c.requires.small);
+      known_past = past_known c.args.source.now s c.args.bundle.now.history.nurses c.in_ok-past.past c.in_ok-weeks.weeks.items s.counts.some_shifts c.in_ok-past.ensures.meant;
+    }
 
 pub returns-clause-meant : goal.returns-clause-meant
 returns-clause-meant c =

@@ -8,7 +8,7 @@ few : (c : goal.After-state_count) → c.state_count.result ≤ 1048576
 few c =
     let i = c.self.inside in
     let within : c.args.nurse < length i.scenario.nurses = subst (λ (m : Meaning). c.args.nurse < length m.nurse_names) (sym c.self.view_is) c.requires in
-    subst (λ n. n ≤ 1048576) (states_alike i.scenario i.past i.weeks.items c.args.nurse ∙ sym c.state_count.ensures) (c.self.invariant.1 c.args.nurse within)
+    subst (λ n. n ≤ 1048576) (states_alike i.scenario i.past i.weeks.items c.args.nurse ∙ sym c.state_count.ensures) (c.self.invariant.few_states c.args.nurse within)
 
 pub overflow_cast-result : goal.overflow_cast-result
 overflow_cast-result c = let within = few c in omega (arith, within)

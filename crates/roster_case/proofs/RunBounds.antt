@@ -1,0 +1,119 @@
+-- How many faults the runs of a row can have, where the numbers of an instance are small: about 1000 for each day of the
+-- kind. So the runs of all shifts together have no more than those of one, since a day has one shift at most.
+use Rattle.std.proofs.Common.{◌≡◌, refl, arith, ℕ, zero, suc, ◌+◌, ◌-◌, ◌*◌, ◌<◌, ◌≤◌, Bool, true, false, nat_lt, ◌==◌, mul-add, length, if◌then◌else◌, Option, Some, None}
+use Rattle.std.proofs.lemmas.Bool.{eqb-true, ne_eqb}
+use Rattle.roster_case.specs.declared.choice.Shift.{Shift}
+use Rattle.roster_case.specs.declared.rules.Border.{Border}
+use Rattle.roster_case.specs.declared.rules.Border.TheVariants.{Free, Working}
+use Rattle.roster_case.specs.declared.rules.Limits.{Limits}
+use Rattle.roster_case.specs.Counting.{sum_below, one_if, count_below}
+use Rattle.roster_case.specs.Days.{Days, shift_on, is_shift, has_shift}
+use Rattle.roster_case.specs.Penalties.{shift_run_before}
+use Rattle.roster_case.specs.RunLaw.{day_faults}
+use Rattle.roster_case.specs.Runs.{run_faults, open_run}
+use Rattle.roster_case.specs.Small.{AreSmall}
+use Rattle.roster_case.proofs.RunLaw.{no_faults, border, faults, grown}
+use Rattle.roster_case.proofs.RunSums.{sum_zero}
+
+-- ---- sums
+
+pub where_within : (q : Bool) (x m : ℕ) → x ≤ m → (if q then x else 0) ≤ m
+where_within true x m h = h
+where_within false x m h = omega arith
+
+pub sum_within : (n m : ℕ) (f : ℕ → ℕ) → ((k : ℕ) → k < n → f k ≤ m) → sum_below n f ≤ n * m
+sum_within zero m f h = omega arith
+sum_within (suc n) m f h =
+    let rest : sum_below n f ≤ n * m = sum_within n m f (λ k l. h k (omega arith)) in
+    let last : f n ≤ m = h n (omega arith) in
+    omega arith
+
+pub count_within : (n : ℕ) (p : ℕ → Bool) → count_below n p ≤ n
+count_within n p = omega (arith, sum_within n 1 (λ k. one_if (p k)) (λ k h. where_within (p k) 1 1 (omega arith)))
+
+pub sum_both : (n : ℕ) (f g : ℕ → ℕ) → sum_below n (λ k. f k + g k) ≡ sum_below n f + sum_below n g
+sum_both zero f g = refl
+sum_both (suc n) f g = omega (arith, sum_both n f g)
+
+sum_times : (n a : ℕ) (f : ℕ → ℕ) → sum_below n (λ k. a * f k) ≡ a * sum_below n f
+sum_times zero a f = omega arith
+sum_times (suc n) a f = omega (arith, sum_times n a f, mul-add a (sum_below n f) (f n))
+
+-- of two sums with n numbers each, one is at most the other if each of its numbers is
+pub sum_compared : (n : ℕ) (f g : ℕ → ℕ) → ((k : ℕ) → f k ≤ g k) → sum_below n f ≤ sum_below n g
+sum_compared zero f g h = omega arith
+sum_compared (suc n) f g h = omega (arith, sum_compared n f g h, h n)
+
+-- one number at most counts
+one_more : (n t m : ℕ) (q : Bool) → (t == n) ≡ q → sum_below n (λ s. if t == s then m else 0) ≤ m → sum_below n (λ s. if t == s then m else 0) + (if q then m else 0) ≤ m
+one_more n t m true e h =
+    let at : t ≡ n = eqb-true t n e in
+    let before : sum_below n (λ s. if t == s then m else 0) ≡ 0 = sum_zero n (λ s. if t == s then m else 0) (λ s l. rw (ne_eqb t s (λ f. omega arith))) in
+    omega arith
+one_more n t m false e h = omega arith
+
+pub sum_of_one : (n t m : ℕ) → sum_below n (λ s. if t == s then m else 0) ≤ m
+sum_of_one zero t m = omega arith
+sum_of_one (suc n) t m = one_more n t m (t == n) refl (sum_of_one n t m)
+
+-- ---- runs
+
+-- what a run of this length may still owe when it ends
+abbrev debt : ℕ → ℕ
+debt run = if nat_lt 0 run then 999 else 0
+
+-- a day of the kind is one extra day at most, and may begin a debt; another day pays no more than the debt
+day_within : (l : Limits) (run : ℕ) (q : Bool) → AreSmall l → day_faults l run q + debt (if q then run + 1 else 0) ≤ debt run + 1000 * one_if q
+day_within l run true small =
+    let one : one_if (nat_lt l.greatest (run + 1)) ≤ 1 = where_within (nat_lt l.greatest (run + 1)) 1 1 (omega arith) in
+    let new : debt (run + 1) ≤ 999 = where_within (nat_lt 0 (run + 1)) 999 999 (omega arith) in
+    omega arith
+day_within l run false small = by (nat_lt 0 run)
+  where
+    by : (t : Bool) → (if t then l.least - run else 0) + 0 ≤ (if t then 999 else 0) + 0
+    by true = omega (arith, small.least)
+    by false = omega arith
+
+runs_and_debt : (l : Limits) (b : ℕ) (p : ℕ → Bool) (d : ℕ) → AreSmall l → run_faults l b p d + debt (open_run b p d) ≤ debt b + 1000 * count_below d p
+runs_and_debt l b p zero small = rw (border b p) (omega (arith, no_faults l b p))
+runs_and_debt l b p (suc d) small =
+    let before = runs_and_debt l b p d small in
+    let day = day_within l (open_run b p d) (p d) small in
+    rw (grown b p d) (omega (arith, faults l b p d, before, day))
+
+runs_within : (l : Limits) (b : ℕ) (p : ℕ → Bool) (d : ℕ) → AreSmall l → run_faults l b p d ≤ debt b + 1000 * count_below d p
+runs_within l b p d small = omega (arith, runs_and_debt l b p d small)
+
+pub all_runs_within : (l : Limits) (b : ℕ) (p : ℕ → Bool) (d : ℕ) → AreSmall l → run_faults l b p d ≤ 999 + 1000 * d
+all_runs_within l b p d small =
+    let before : debt b ≤ 999 = where_within (nat_lt 0 b) 999 999 (omega arith) in
+    omega (arith, runs_within l b p d small, count_within d p)
+
+-- ---- the shifts together: each day has one at most, and so have the days before day 0
+
+shift_of_day : (n : ℕ) (o : Option Shift) → sum_below n (λ s. one_if (is_shift s o)) ≤ 1
+shift_of_day n None = omega (arith, sum_zero n (λ s. 0) (λ s h. refl))
+shift_of_day n (Some t) = sum_of_one n t.0 1
+
+shift_days_within : (n : ℕ) (days : Days) (d : ℕ) → sum_below n (λ s. count_below d (has_shift s days)) ≤ d
+shift_days_within n days zero = omega (arith, sum_zero n (λ s. 0) (λ s h. refl))
+shift_days_within n days (suc d) =
+    omega (arith, sum_both n (λ s. count_below d (has_shift s days)) (λ s. one_if (has_shift s days d)), shift_days_within n days d, shift_of_day n (shift_on days d))
+
+debt_of_one : (q : Bool) (run : ℕ) → debt (if q then run else 0) ≤ (if q then 999 else 0)
+debt_of_one true run = where_within (nat_lt 0 run) 999 999 (omega arith)
+debt_of_one false run = omega arith
+
+debts_within : (n : ℕ) (before : Border) → sum_below n (λ s. debt (shift_run_before s before)) ≤ 999
+debts_within n (Free k) = omega (arith, sum_zero n (λ s. debt 0) (λ s h. refl))
+debts_within n (Working t own all) =
+    omega (arith, sum_compared n (λ s. debt (if t.0 == s then own else 0)) (λ s. if t.0 == s then 999 else 0) (λ s. debt_of_one (t.0 == s) own), sum_of_one n t.0 999)
+
+pub all_shifts_within : (n : ℕ) (limits : ℕ → Limits) (before : Border) (days : Days) → ((s : ℕ) → AreSmall (limits s)) → sum_below n (λ s. 15 * run_faults (limits s) (shift_run_before s before) (has_shift s days) (length days)) ≤ 15 * (999 + 1000 * length days)
+all_shifts_within n limits before days small =
+    let owes : ℕ → ℕ = λ s. debt (shift_run_before s before) in
+    let has : ℕ → ℕ = λ s. count_below (length days) (has_shift s days) in
+    let faults_of : ℕ → ℕ = λ s. run_faults (limits s) (shift_run_before s before) (has_shift s days) (length days) in
+    let each : sum_below n faults_of ≤ sum_below n (λ s. owes s + 1000 * has s) =
+    sum_compared n faults_of (λ s. owes s + 1000 * has s) (λ s. runs_within (limits s) (shift_run_before s before) (has_shift s days) (length days) (small s)) in
+    omega (arith, sum_times n 15 faults_of, each, sum_both n owes (λ s. 1000 * has s), sum_times n 1000 has, debts_within n before, shift_days_within n days (length days))

@@ -1,0 +1,49 @@
+//! What a roster costs.
+
+ghost use Rattle.std.specs.Prelude.{◌≡◌, ◌<◌, ◌≤◌, true};
+ghost use Rattle.roster_case.specs.Penalties.{costs_of, total_cost};
+ghost use Rattle.roster_case.specs.Rosters.{fits};
+
+use crate::case::Case;
+use crate::penalties::Costs;
+use crate::roster::Roster;
+use crate::runs::{free_runs, shift_runs, working_runs};
+use crate::staffing::staffing;
+use crate::weekends::{split, totals, undesired, weekends_above};
+
+/// What a roster costs by each soft rule. The hard rules are not asked for. Each row, and the nurses of each day, are gone
+/// through once for each count, whatever runs there are.
+pub fn costs(case: &Case, roster: &Roster) -> Costs
+    requires { fits case.now roster.now ≡ true }
+    ensures costs { result ≡ costs_of case.now roster.now }
+
+    // No sum comes near the end of its numbers: the penalty is below 2^31, and the part of staffing at most 30 points for each
+    // of 999 nurses for 8 shifts with 8 skills on 112 days.
+    ensures within { total_cost result < 2147483648 }
+    ensures staffing { result.s1 ≤ 214824960 }
+{
+    case.keeps_limits();
+    by_rule(case, roster)
+}
+
+#[tactic(auto, using(crate::proofs::CountLemmas::sum_more), unfolding(crate::specs::Penalties::costs_of))]
+fn by_rule(case: &Case, roster: &Roster) -> Costs
+    requires { fits case.now roster.now ≡ true }
+    ensures { result ≡ costs_of case.now roster.now }
+{
+    let weeks = case.weeks();
+    let mut costs = Costs {
+        s1: staffing(case, roster),
+        ..Costs::default()
+    };
+    for nurse in 0..case.nurses() {
+        let row = roster.row(nurse);
+        costs.s2 += working_runs(case, nurse, row) + shift_runs(case, nurse, row);
+        costs.s3 += free_runs(case, nurse, row);
+        costs.s4 += undesired(case, nurse, row);
+        costs.s5 += split(case, nurse, row, weeks);
+        costs.s6 += totals(case, nurse, row);
+        costs.s7 += weekends_above(case, nurse, row, weeks);
+    }
+    costs
+}

@@ -1,0 +1,134 @@
+//! The worked days and the weekends of a row, and the requests against it.
+
+ghost use Rattle.std.specs.Prelude.{◌≡◌, ◌*◌, ◌<◌, ◌≤◌, length};
+ghost use Rattle.roster_case.specs.Choices.{days_of};
+ghost use Rattle.roster_case.specs.Days.{days_worked, one_alone, split_weekends, worked_weekends, works};
+ghost use Rattle.roster_case.specs.Meaning.{nurse_count};
+ghost use Rattle.roster_case.specs.Penalties.{extra, is_undesired, missing, split, totals, undesired, weekends_above};
+
+use crate::case::Case;
+use crate::choice::{Choice, Shift};
+
+/// 10 points for each day with a shift that a request names.
+pub(crate) fn undesired(case: &Case, nurse: usize, row: &[Choice]) -> u64
+    requires nurse { nurse < nurse_count case.now }
+    requires days { length row.now ≤ 112 }
+    ensures cost { result ≡ undesired case.now nurse (days_of row.now) }
+    ensures within { result ≤ 4294967296 }
+{
+    let mut cost = 0;
+    for (day, choice) in row.iter().enumerate() {
+        if is_undesired(case, nurse, day as u16, choice.shift()) {
+            cost += 10;
+        }
+    }
+    cost
+}
+
+fn is_undesired(case: &Case, nurse: usize, day: u16, shift: Option<Shift>) -> bool
+    requires { nurse < nurse_count case.now }
+    ensures { result ≡ is_undesired case.now nurse day shift }
+{
+    match shift {
+        Some(shift) => case.is_wished_off(nurse, day, shift),
+        None => false,
+    }
+}
+
+/// 30 points for each weekend of which exactly one day is worked, where the contract wants whole weekends.
+pub(crate) fn split(case: &Case, nurse: usize, row: &[Choice], weeks: u16) -> u64
+    requires days { length row.now ≡ 7 * weeks }
+    requires weeks { weeks ≤ 16 }
+    ensures cost { result ≡ split case.now nurse (days_of row.now) }
+    ensures within { result ≤ 4294967296 }
+{
+    if !case.contract_rules(nurse).whole_weekends {
+        return 0;
+    }
+    30 * split_weekends(row, weeks)
+}
+
+/// 20 points for each assignment below the least or above the greatest total, the history's counted in.
+pub(crate) fn totals(case: &Case, nurse: usize, row: &[Choice]) -> u64
+    requires { length row.now ≤ 112 }
+    ensures cost { result ≡ totals case.now nurse (days_of row.now) }
+    ensures within { result ≤ 4294967296 }
+{
+    let total = case.past(nurse).assignments as u64 + days_worked(row);
+    let limits = case.contract_rules(nurse).total;
+    let missing = (limits.least as u64).saturating_sub(total);
+    let extra = total.saturating_sub(limits.greatest as u64);
+    20 * missing + 20 * extra
+}
+
+/// 30 points for each worked weekend above the greatest number, the history's counted in.
+pub(crate) fn weekends_above(case: &Case, nurse: usize, row: &[Choice], weeks: u16) -> u64
+    requires days { length row.now ≡ 7 * weeks }
+    requires weeks { weeks ≤ 16 }
+    ensures cost { result ≡ weekends_above case.now nurse (days_of row.now) }
+    ensures within { result ≤ 4294967296 }
+{
+    let weekends = case.past(nurse).weekends as u64 + worked_weekends(row, weeks);
+    30 * weekends.saturating_sub(case.contract_rules(nurse).weekends as u64)
+}
+
+// ---- counts
+
+/// How many days are worked.
+fn days_worked(row: &[Choice]) -> u64
+    requires { length row.now ≤ 112 }
+    ensures days { result ≡ days_worked (days_of row.now) }
+    ensures within { result ≤ 112 }
+{
+    let mut days = 0;
+    for choice in row {
+        if choice.shift().is_some() {
+            days += 1;
+        }
+    }
+    days
+}
+
+/// How many weekends have a worked day.
+fn worked_weekends(row: &[Choice], weeks: u16) -> u64
+    requires days { length row.now ≡ 7 * weeks }
+    requires weeks { weeks ≤ 16 }
+    ensures weekends { result ≡ worked_weekends (days_of row.now) }
+    ensures within { result ≤ 16 }
+{
+    let mut count = 0;
+    for week in 0..weeks {
+        let saturday = 7 * week as usize + 5;
+        if works(row, saturday) || works(row, saturday + 1) {
+            count += 1;
+        }
+    }
+    count
+}
+
+/// How many weekends have exactly one.
+fn split_weekends(row: &[Choice], weeks: u16) -> u64
+    requires days { length row.now ≡ 7 * weeks }
+    requires weeks { weeks ≤ 16 }
+    ensures weekends { result ≡ split_weekends (days_of row.now) }
+    ensures within { result ≤ 16 }
+{
+    let mut count = 0;
+    for week in 0..weeks {
+        let saturday = 7 * week as usize + 5;
+        if works(row, saturday) != works(row, saturday + 1) {
+            count += 1;
+        }
+    }
+    count
+}
+
+/// Whether a day is worked; past the end it is not.
+fn works(row: &[Choice], day: usize) -> bool
+    ensures { result ≡ works (days_of row.now) day }
+{
+    match row.get(day) {
+        Some(choice) => choice.shift().is_some(),
+        None => false,
+    }
+}
