@@ -1,0 +1,8 @@
+pub mod RangeLemmas
+pub mod ShiftLaw
+pub mod RowLemmas
+pub mod OpenRuns
+pub mod SumLaw
+pub mod StartLaw
+pub mod StepBounds
+mod CodeLemmas

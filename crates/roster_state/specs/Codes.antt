@@ -1,0 +1,74 @@
+-- The numbers of the states of a nurse's search: a state is a digit of each of its five numbers, with the assignments last.
+-- So states that differ in their assignments alone stand beside one another (our own).
+use Rattle.std.specs.Prelude.{ℕ, ◌+◌, ◌-◌, ◌*◌, ◌/◌, ◌%◌, Bool, ◌&&◌, ◌<◌, ◌≤◌, max, nat_lt, if◌then◌else◌, map, Option, Some, None}
+use Rattle.roster_case.specs.declared.choice.Shift.{Shift}
+use Rattle.roster_case.specs.Meaning.{Meaning, contract_of, shift_at, shift_count}
+use Rattle.roster_case.specs.Prefix.{Summary, cap}
+use Rattle.roster_case.specs.Sizes.{greatest_of, max_states}
+
+-- how many values each of the five numbers has
+pub record Sizes : Type 0 where
+  pub last : ℕ
+  pub run : ℕ
+  pub shift_run : ℕ
+  pub assignments : ℕ
+  pub weekends : ℕ
+
+-- those of a nurse: the shifts and none, and from 0 up to the cap of each other number
+abbrev pub sizes_of : Meaning → ℕ → Sizes
+sizes_of c n = record {
+  last = shift_count c + 1;
+  run = max (cap (contract_of c n).working) (cap (contract_of c n).free) + 1;
+  shift_run = greatest_of (map cap c.runs) + 1;
+  assignments = cap (contract_of c n).total + 1;
+  weekends = (contract_of c n).weekends + 1;
+}
+
+-- how many states there are
+abbrev pub product : Sizes → ℕ
+product z = z.last * z.run * z.shift_run * z.assignments * z.weekends
+
+-- the last shift as a number: 0 where there is none
+abbrev pub number_of : Option Shift → ℕ
+number_of None = 0
+number_of (Some s) = s.0 + 1
+
+abbrev pub shift_numbered : ℕ → Option Shift
+shift_numbered n = if nat_lt 0 n then Some (shift_at (n - 1)) else None
+
+-- each number of the state is one of its values
+abbrev pub fits : Sizes → Summary → Bool
+fits z s = nat_lt (number_of s.last) z.last && nat_lt s.run z.run && nat_lt s.shift_run z.shift_run && nat_lt s.assignments z.assignments && nat_lt s.weekends z.weekends
+
+-- the number of a state
+unfoldable pub code_of : Sizes → Summary → ℕ
+code_of z s = (((number_of s.last * z.run + s.run) * z.shift_run + s.shift_run) * z.weekends + s.weekends) * z.assignments + s.assignments
+
+-- the state whose numbers are the digits of a number
+unfoldable pub state_numbered : Sizes → ℕ → Summary
+state_numbered z code = record {
+  last = shift_numbered (code / z.assignments / z.weekends / z.shift_run / z.run);
+  run = code / z.assignments / z.weekends / z.shift_run % z.run;
+  shift_run = code / z.assignments / z.weekends % z.shift_run;
+  assignments = code % z.assignments;
+  weekends = code / z.assignments % z.weekends;
+}
+
+-- the state of a number, none from the product on
+unfoldable pub state_at : Sizes → ℕ → Option Summary
+state_at z code = if nat_lt code (product z) then Some (state_numbered z code) else None
+
+-- one value at least, and so many at most
+pub record IsWithin (most size : ℕ) : Type 0 where
+  pub some : 0 < size
+  pub few : size ≤ most
+
+-- what the sizes of every nurse keep, since the numbers of a case are at most 999: nine values at most for the last shift and
+-- 1,000 for each other number, and together not more states than the search takes
+pub record KeepLimits (z : Sizes) : Type 0 where
+  pub last : IsWithin 9 z.last
+  pub run : IsWithin 1000 z.run
+  pub shift_run : IsWithin 1000 z.shift_run
+  pub assignments : IsWithin 1000 z.assignments
+  pub weekends : IsWithin 1000 z.weekends
+  pub states : product z ≤ max_states

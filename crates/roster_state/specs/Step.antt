@@ -1,0 +1,95 @@
+-- One day more, seen from the summary of the days before it (our own, for the search). Of each run that may be open there
+-- is one number: the summary's where its kind is that of the last day, else 0.
+use Rattle.std.specs.Prelude.{◌≡◌, ℕ, ◌+◌, ◌*◌, ◌<◌, not, true, false, length, min, nat_le, if◌then◌else◌, Option, Some, None, is_some}
+use Rattle.roster_case.specs.declared.choice.Shift.{Shift}
+use Rattle.roster_case.specs.declared.rules.Limits.{Limits}
+use Rattle.roster_case.specs.Counting.{one_if, sum_below}
+use Rattle.roster_case.specs.DayLaw.{splits_more, weekends_more}
+use Rattle.roster_case.specs.Days.{Days, is_shift, shift_on}
+use Rattle.roster_case.specs.HardRules.{forbids, shift_before}
+use Rattle.roster_case.specs.Meaning.{Meaning, contract_of, last_shift, past_of, run_of_shift, shift_count}
+use Rattle.roster_case.specs.Penalties.{missing}
+use Rattle.roster_case.specs.Prefix.{Summary, cap}
+use Rattle.roster_case.specs.RunLaw.{day_faults}
+
+-- ---- the runs that are open
+
+abbrev pub working_run : Summary → ℕ
+working_run s = if is_some s.last then s.run else 0
+
+abbrev pub free_run : Summary → ℕ
+free_run s = if is_some s.last then 0 else s.run
+
+abbrev pub run_of : Summary → ℕ → ℕ
+run_of s t = if is_shift t s.last then s.shift_run else 0
+
+-- ---- what one day more costs
+
+-- 30 for each missing or extra day of the runs of working days and of days off
+abbrev pub working_more : Meaning → ℕ → Summary → Option Shift → ℕ
+working_more c n s shift = 30 * day_faults (contract_of c n).working (working_run s) (is_some shift)
+
+abbrev pub free_more : Meaning → ℕ → Summary → Option Shift → ℕ
+free_more c n s shift = 30 * day_faults (contract_of c n).free (free_run s) (not (is_some shift))
+
+-- 15 for each missing or extra day of the runs of the shifts
+abbrev pub shift_more : Meaning → Summary → Option Shift → ℕ → ℕ
+shift_more c s shift t = 15 * day_faults (run_of_shift c t) (run_of s t) (is_shift t shift)
+
+abbrev pub shifts_more : Meaning → Summary → Option Shift → ℕ
+shifts_more c s shift = sum_below (shift_count c) (shift_more c s shift)
+
+-- of all shifts two at most count there: the last one, whose run ends, and the worked one, which may be an extra day
+abbrev pub ended : (ℕ → Limits) → Option Shift → ℕ → Option Shift → ℕ
+ended runs None run shift = 0
+ended runs (Some t) run shift = if is_shift t.0 shift then 0 else day_faults (runs t.0) run false
+
+abbrev pub worked : (ℕ → Limits) → Option Shift → ℕ → Option Shift → ℕ
+worked runs last run None = 0
+worked runs last run (Some u) = day_faults (runs u.0) (if is_shift u.0 last then run else 0) true
+
+-- 30 for a weekend that this day splits, where the contract wants whole weekends
+abbrev pub split_more : Meaning → ℕ → ℕ → Summary → Option Shift → ℕ
+split_more c n day s shift = if (contract_of c n).whole_weekends then 30 * splits_more day (is_some s.last) (is_some shift) else 0
+
+-- 20 for an assignment above the greatest total
+abbrev pub total_more : Meaning → ℕ → Summary → Option Shift → ℕ
+total_more c n s shift = if nat_le (contract_of c n).total.greatest s.assignments then 20 * one_if (is_some shift) else 0
+
+-- 30 for a worked weekend above the greatest number
+abbrev pub weekend_more : Meaning → ℕ → ℕ → Summary → Option Shift → ℕ
+weekend_more c n day s shift = if nat_le (contract_of c n).weekends s.weekends then 30 * weekends_more day (is_some s.last) (is_some shift) else 0
+
+unfoldable pub step_cost : Meaning → ℕ → ℕ → Summary → Option Shift → ℕ
+step_cost c n day s shift = working_more c n s shift + free_more c n s shift + shifts_more c s shift + split_more c n day s shift + total_more c n s shift + weekend_more c n day s shift
+
+-- ---- the summary with that day
+
+abbrev pub run_with : Meaning → ℕ → Summary → Option Shift → ℕ
+run_with c n s None = min (free_run s + 1) (cap (contract_of c n).free)
+run_with c n s (Some t) = min (working_run s + 1) (cap (contract_of c n).working)
+
+abbrev pub shift_run_with : Meaning → Summary → Option Shift → ℕ
+shift_run_with c s None = 0
+shift_run_with c s (Some t) = min (run_of s t.0 + 1) (cap (run_of_shift c t.0))
+
+unfoldable pub next_of : Meaning → ℕ → ℕ → Summary → Option Shift → Summary
+next_of c n day s shift = record {
+  last = shift;
+  run = run_with c n s shift;
+  shift_run = shift_run_with c s shift;
+  assignments = min (s.assignments + one_if (is_some shift)) (cap (contract_of c n).total);
+  weekends = min (s.weekends + weekends_more day (is_some s.last) (is_some shift)) (contract_of c n).weekends;
+}
+
+-- the summary and the cost of one day more, none where the last shift forbids it
+abbrev pub step_of : Meaning → ℕ → ℕ → Summary → Option Shift → Option (Summary × ℕ)
+step_of c n day s shift = if forbids c.successions s.last shift then None else Some (next_of c n day s shift, step_cost c n day s shift)
+
+-- 20 for each assignment missing to the least total, at the end
+abbrev pub end_cost_of : Meaning → ℕ → Summary → ℕ
+end_cost_of c n s = missing c n s.assignments
+
+-- no shift of these days is forbidden by the one before it, the history's last included
+abbrev pub KeepsSuccessions : Meaning → ℕ → Days → Type 0
+KeepsSuccessions c n days = (d : ℕ) → d < length days → forbids c.successions (shift_before (last_shift (past_of c n).border) days d) (shift_on days d) ≡ false

@@ -1,0 +1,14 @@
+//! The state of one nurse, from day to day: what the search for a row keeps of the days before.
+#![tactic(auto)]
+
+mod meter;
+mod ranges;
+mod row;
+mod state;
+mod step;
+
+pub use meter::Meter;
+pub use ranges::Ranges;
+pub use row::row_cost;
+pub use state::State;
+pub use step::{after, end_cost, extend, start};

@@ -1,0 +1,54 @@
+//! How many extensions a search has made.
+
+ghost use Rattle.std.specs.Prelude.{◌≡◌, ◌+◌, ◌<◌};
+
+use roster_case::Case;
+use std::marker::Model;
+
+/// Counts extensions: one state taken over one choice. Whoever has a case for itself alone can make one; who is lent a
+/// case can't, so what is counted on a lent meter is all that was counted.
+#[derive(Drop)]
+pub struct Meter {
+    count: u64,
+}
+
+impl Model for Meter {
+    ghost use Rattle.std.specs.Prelude.{ℕ};
+
+    ghost Value = { ℕ };
+
+    ghost view = { λ m. m.count };
+}
+
+impl Meter {
+    /// A meter that has counted nothing. The case stays as it is.
+    pub fn new(case: &mut Case) -> Meter
+        ensures none { result ≡ 0 }
+        ensures same { case.new ≡ case.old }
+    {
+        let _ = case;
+        Meter { count: 0 }
+    }
+
+    /// How many extensions were counted.
+    pub fn count(&self) -> u64
+        ensures { result ≡ self.now }
+    {
+        self.count
+    }
+
+    /// How many can still be counted.
+    pub fn room(&self) -> u64
+        ensures { result + self.now ≡ 18446744073709551615 }
+    {
+        u64::MAX - self.count
+    }
+
+    /// Counts one extension.
+    pub(crate) fn add_one(&mut self)
+        requires { self.old < 18446744073709551615 }
+        ensures { self.new ≡ self.old + 1 }
+    {
+        self.count += 1;
+    }
+}

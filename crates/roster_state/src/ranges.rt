@@ -1,0 +1,63 @@
+//! The ranges of the five numbers of a state.
+
+ghost use Rattle.std.specs.Prelude.{◌≡◌, ◌<◌, ◌≤◌};
+ghost use Rattle.roster_case.specs.Meaning.{nurse_count};
+ghost use Rattle.roster_case.specs.Sizes.{state_count};
+ghost use Rattle.roster_state.specs.Codes.{product, sizes_of};
+
+use roster_case::{Case, MAX_STATES};
+use std::cmp::max;
+use std::marker::Model;
+
+/// How many values each of the five numbers of a nurse's state has: the last shift or none, the run of working days or
+/// days off, the run of the shift, the assignments and the worked weekends, each from 0 up to its cap.
+#[derive(Clone, Copy, Debug, PartialEq, Eq)]
+pub struct Ranges {
+    pub(crate) last: u32,
+    pub(crate) run: u32,
+    pub(crate) shift_run: u32,
+    pub(crate) assignments: u32,
+    pub(crate) weekends: u32,
+}
+
+impl Model for Ranges {
+    ghost use Rattle.roster_state.specs.Codes.{KeepLimits, Sizes};
+
+    ghost Value = { Sizes };
+
+    ghost view = { λ r. record { last = r.last; run = r.run; shift_run = r.shift_run; assignments = r.assignments; weekends = r.weekends } };
+
+    ghost inverse = { λ z. record { last = z.last; run = z.run; shift_run = z.shift_run; assignments = z.assignments; weekends = z.weekends } };
+
+    ghost invariant = { λ r. KeepLimits (record { last = r.last; run = r.run; shift_run = r.shift_run; assignments = r.assignments; weekends = r.weekends }) };
+}
+
+impl Ranges {
+    /// The ranges of a nurse.
+    pub fn of(case: &Case, nurse: usize) -> Ranges
+        requires { nurse < nurse_count case.now }
+        ensures sizes { result ≡ sizes_of case.now nurse }
+        ensures states { product result ≡ state_count case.now nurse }
+    {
+        // The product of these ranges is the number of states, which a case keeps within the limit.
+        let states = case.states(nurse);
+        prove!(states <= MAX_STATES);
+        let rules = case.contract_rules(nurse);
+        Ranges {
+            last: case.shifts() as u32 + 1,
+            run: max(rules.working.cap(), rules.free.cap()) as u32 + 1,
+            shift_run: case.greatest_cap() as u32 + 1,
+            assignments: rules.total.cap() as u32 + 1,
+            weekends: rules.weekends as u32 + 1,
+        }
+    }
+
+    /// How many states there are, from 1 to 1,048,576.
+    pub fn product(&self) -> u32
+        ensures product { result ≡ product self.now }
+        ensures some { 0 < result }
+        ensures within { result ≤ 1048576 }
+    {
+        self.last * self.run * self.shift_run * self.assignments * self.weekends
+    }
+}

@@ -1,0 +1,34 @@
+//! A row from day to day: the start, a step for each day and the end add up to what it costs.
+
+ghost use Rattle.std.specs.Prelude.{◌≡◌, ◌+◌, ◌<◌, ◌≤◌, IfSome, IsNone, true, length};
+ghost use Rattle.roster_case.specs.Choices.{days_of};
+ghost use Rattle.roster_case.specs.Meaning.{day_count, nurse_count};
+ghost use Rattle.roster_case.specs.Penalties.{own_cost};
+ghost use Rattle.roster_case.specs.Rosters.{is_row_of};
+ghost use Rattle.roster_state.specs.Step.{KeepsSuccessions};
+
+use crate::meter::Meter;
+use crate::step::{end_cost, extend, start};
+use roster_case::{Case, Choice};
+
+/// What a row costs its nurse in runs, split weekends, totals and worked weekends, in penalty points: the cost of the start,
+/// of a step for each day and of the end. None exactly where a shift forbids the next. The meter counts one for each day that
+/// was taken.
+pub fn row_cost(case: &Case, nurse: usize, row: &[Choice], meter: &mut Meter) -> Option<u64>
+    requires nurse { nurse < nurse_count case.now }
+    requires row { is_row_of case.now row.now ≡ true }
+    requires room { meter.old + day_count case.now ≤ 18446744073709551615 }
+    ensures cost { IfSome result (λ cost. cost ≡ own_cost case.now nurse (days_of row.now)) }
+    ensures kept { IfSome result (λ cost. KeepsSuccessions case.now nurse (days_of row.now)) }
+    ensures forbidden { IsNone result → KeepsSuccessions case.now nurse (days_of row.now) → ⊥ }
+    ensures counted { meter.new ≤ meter.old + day_count case.now }
+{
+    let (mut state, before) = start(case, nurse);
+    let mut cost = before as u64;
+    for day in 0..case.days() {
+        let (next, more) = extend(case, nurse, day, state, row[day as usize].shift(), meter)?;
+        state = next;
+        cost += more as u64;
+    }
+    Some(cost + end_cost(case, nurse, state) as u64)
+}

@@ -1,0 +1,331 @@
+//! One day more: what it costs, and the state behind it.
+
+ghost use Rattle.std.specs.Prelude.{◌≡◌, ◌↔◌, ◌+◌, ◌<◌, ◌≤◌, ◌++◌, ◌∷◌, [], true, false, length, IfSome, IsNone, None, Some, if◌then◌else◌, is_some, min};
+ghost use Rattle.roster_case.specs.Days.{Days};
+ghost use Rattle.roster_case.specs.HardRules.{forbids};
+ghost use Rattle.roster_case.specs.Meaning.{contract_of, day_count, nurse_count, past_of, run_of_shift, shift_count};
+ghost use Rattle.roster_case.specs.Penalties.{own_cost};
+ghost use Rattle.roster_case.specs.DayLaw.{splits_more, weekends_more};
+ghost use Rattle.roster_case.specs.Small.{IsSmallPast};
+ghost use Rattle.roster_case.specs.Prefix.{cap, due, summary_of};
+ghost use Rattle.roster_state.specs.Codes.{fits, sizes_of};
+ghost use Rattle.roster_state.specs.Step.{end_cost_of, ended, free_more, free_run, next_of, run_of, shifts_more, split_more, step_cost, step_of, total_more, weekend_more, worked, working_more, working_run};
+
+use crate::meter::Meter;
+use crate::state::State;
+use roster_case::{Border, Case, Limits, Past, Shift};
+use std::cmp::min;
+
+/// The state before day 0, and what the history's totals cost already: 20 for each assignment and 30 for each worked
+/// weekend above the greatest number.
+pub fn start(case: &Case, nurse: usize) -> (State, u32)
+    requires { nurse < nurse_count case.now }
+    ensures state { result.0 ≡ summary_of case.now nurse [] }
+    ensures cost { result.1 ≡ due case.now nurse [] }
+    ensures fits { fits (sizes_of case.now nurse) result.0 ≡ true }
+    ensures within { result.1 ≤ 49950 }
+{
+    let past = case.past(nurse);
+    (
+        start_state(case, nurse, past),
+        start_cost(case, nurse, past),
+    )
+}
+
+/// The state with one day more, on which the nurse works this shift or is off, and what the day costs. None exactly where the
+/// last shift forbids the next. Either way the meter counts one.
+pub fn extend(
+    case: &Case,
+    nurse: usize,
+    day: u16,
+    state: State,
+    shift: Option<Shift>,
+    meter: &mut Meter,
+) -> Option<(State, u32)>
+    requires nurse { nurse < nurse_count case.now }
+    requires day { day < day_count case.now }
+    requires shift { IfSome shift (λ s. s.0 < shift_count case.now) }
+    requires fits { fits (sizes_of case.now nurse) state ≡ true }
+    requires room { meter.old < 18446744073709551615 }
+    ensures counted { meter.new ≡ meter.old + 1 }
+    ensures step { result ≡ step_of case.now nurse day state shift }
+    ensures forbidden { IsNone result ↔ forbids case.now.successions state.last shift ≡ true }
+
+    // From the summary of some days it leads to that of those days and this one, at the cost by which what is owed rises.
+    ensures summary { IfSome result (λ step. (days : Days) → length days ≡ day → state ≡ summary_of case.now nurse days → step.0 ≡ summary_of case.now nurse (days ++ shift ∷ [])) }
+    ensures owed { IfSome result (λ step. (days : Days) → length days ≡ day → state ≡ summary_of case.now nurse days → due case.now nurse (days ++ shift ∷ []) ≡ due case.now nurse days + step.1) }
+
+    // From any state that fits the next one fits, and the step costs little.
+    ensures next_fits { IfSome result (λ step. fits (sizes_of case.now nurse) step.0 ≡ true) }
+    ensures within { IfSome result (λ step. step.1 ≤ 45200) }
+{
+    meter.add_one();
+    case.keeps_limits();
+    let next = after(case, nurse, day, state, shift)?;
+    Some((next, step_cost(case, nurse, day, state, shift)))
+}
+
+/// The state that `extend` gives, without its cost. It counts nothing.
+pub fn after(
+    case: &Case,
+    nurse: usize,
+    day: u16,
+    state: State,
+    shift: Option<Shift>,
+) -> Option<State>
+    requires nurse { nurse < nurse_count case.now }
+    requires day { day < day_count case.now }
+    requires shift { IfSome shift (λ s. s.0 < shift_count case.now) }
+    requires fits { fits (sizes_of case.now nurse) state ≡ true }
+    ensures state { result ≡ (if forbids case.now.successions state.last shift then None else Some (next_of case.now nurse day state shift)) }
+    ensures summary { IfSome result (λ next. (days : Days) → length days ≡ day → state ≡ summary_of case.now nurse days → next ≡ summary_of case.now nurse (days ++ shift ∷ [])) }
+    ensures next_fits { IfSome result (λ next. fits (sizes_of case.now nurse) next ≡ true) }
+{
+    if case.forbids_next(state.last, shift) {
+        return None;
+    }
+    Some(next_of(case, nurse, day, state, shift))
+}
+
+/// What the days cost in the end, beside the steps: 20 for each assignment missing to the least total.
+pub fn end_cost(case: &Case, nurse: usize, state: State) -> u32
+    requires nurse { nurse < nurse_count case.now }
+    requires fits { fits (sizes_of case.now nurse) state ≡ true }
+    ensures cost { result ≡ end_cost_of case.now nurse state }
+
+    // From the summary of all days it closes what is owed to the nurse's own cost.
+    ensures closes { (days : Days) → state ≡ summary_of case.now nurse days → own_cost case.now nurse days ≡ due case.now nurse days + result }
+    ensures within { result ≤ 19980 }
+{
+    missing(case, nurse, state)
+}
+
+// ---- the start and the end
+
+#[tactic(auto, unfolding(roster_case::specs::Prefix::summary_of, roster_case::specs::Runs::open_run))]
+fn start_state(case: &Case, nurse: usize, past: Past) -> State
+    requires { past ≡ past_of case.now nurse }
+    ensures { result ≡ summary_of case.now nurse [] }
+{
+    let rules = case.contract_rules(nurse);
+    let (last, run, shift_run) = match past.border {
+        Border::Free(run) => (None, min(run, rules.free.cap()), 0),
+        Border::Working(shift, shift_run, run) => (
+            Some(shift),
+            min(run, rules.working.cap()),
+            min(shift_run, case.run_of_shift(shift).cap()),
+        ),
+    };
+    State {
+        last,
+        run,
+        shift_run,
+        assignments: min(past.assignments, rules.total.cap()),
+        weekends: min(past.weekends, rules.weekends),
+    }
+}
+
+fn start_cost(case: &Case, nurse: usize, past: Past) -> u32
+    requires past { past ≡ past_of case.now nurse }
+    requires small { IsSmallPast past }
+    ensures cost { result ≡ due case.now nurse [] }
+    ensures within { result ≤ 49950 }
+{
+    let rules = case.contract_rules(nurse);
+    let assignments = past.assignments.saturating_sub(rules.total.greatest) as u32;
+    let weekends = past.weekends.saturating_sub(rules.weekends) as u32;
+    20 * assignments + 30 * weekends
+}
+
+/// 20 points for each assignment missing to the least total.
+fn missing(case: &Case, nurse: usize, state: State) -> u32
+    ensures cost { result ≡ end_cost_of case.now nurse state }
+    ensures within { result ≤ 19980 }
+{
+    let total = case.contract_rules(nurse).total;
+    20 * total.least.saturating_sub(state.assignments) as u32
+}
+
+// ---- a step
+
+#[tactic(auto, unfolding(crate::specs::Step::next_of))]
+fn next_of(case: &Case, nurse: usize, day: u16, state: State, shift: Option<Shift>) -> State
+    ensures { result ≡ next_of case.now nurse day state shift }
+{
+    let rules = case.contract_rules(nurse);
+    let (run, shift_run) = match shift {
+        Some(shift) => (
+            longer(working_run(state), rules.working),
+            longer(run_of(state, shift), case.run_of_shift(shift)),
+        ),
+        None => (longer(free_run(state), rules.free), 0),
+    };
+    let assignments = state.assignments as u32 + shift.is_some() as u32;
+    let weekends = state.weekends as u32 + weekends_more(day, state.last, shift);
+    State {
+        last: shift,
+        run,
+        shift_run,
+        assignments: min(assignments, rules.total.cap() as u32) as u16,
+        weekends: min(weekends, rules.weekends as u32) as u16,
+    }
+}
+
+#[tactic(auto, unfolding(crate::specs::Step::step_cost))]
+fn step_cost(case: &Case, nurse: usize, day: u16, state: State, shift: Option<Shift>) -> u32
+    requires last { IfSome state.last (λ s. s.0 < shift_count case.now) }
+    requires shift { IfSome shift (λ s. s.0 < shift_count case.now) }
+    ensures { result ≡ step_cost case.now nurse day state shift }
+{
+    runs_more(case, nurse, state, shift)
+        + shifts_more(case, state, shift)
+        + split_more(case, nurse, day, state, shift)
+        + total_more(case, nurse, state, shift)
+        + weekend_more(case, nurse, day, state, shift)
+}
+
+/// 30 points for each missing or extra day of the runs of working days and of days off.
+fn runs_more(case: &Case, nurse: usize, state: State, shift: Option<Shift>) -> u32
+    ensures cost { result ≡ working_more case.now nurse state shift + free_more case.now nurse state shift }
+    ensures within { result ≤ 3932160 }
+{
+    let rules = case.contract_rules(nurse);
+    let works = shift.is_some();
+    let working = rules.working.day_faults(working_run(state), works);
+    let free = rules.free.day_faults(free_run(state), !works);
+    30 * working + 30 * free
+}
+
+/// 30 points for a weekend that the day splits, where the contract wants whole weekends.
+fn split_more(case: &Case, nurse: usize, day: u16, state: State, shift: Option<Shift>) -> u32
+    ensures cost { result ≡ split_more case.now nurse day state shift }
+    ensures within { result ≤ 30 }
+{
+    if !case.contract_rules(nurse).whole_weekends {
+        return 0;
+    }
+    30 * splits_more(day, state.last, shift)
+}
+
+/// 20 points for an assignment above the greatest total.
+fn total_more(case: &Case, nurse: usize, state: State, shift: Option<Shift>) -> u32
+    ensures cost { result ≡ total_more case.now nurse state shift }
+    ensures within { result ≤ 20 }
+{
+    if state.assignments < case.contract_rules(nurse).total.greatest {
+        return 0;
+    }
+    20 * shift.is_some() as u32
+}
+
+/// 30 points for a worked weekend above the greatest number.
+fn weekend_more(case: &Case, nurse: usize, day: u16, state: State, shift: Option<Shift>) -> u32
+    ensures cost { result ≡ weekend_more case.now nurse day state shift }
+    ensures within { result ≤ 30 }
+{
+    if state.weekends < case.contract_rules(nurse).weekends {
+        return 0;
+    }
+    30 * weekends_more(day, state.last, shift)
+}
+
+/// 15 points for each missing or extra day of the runs of the shifts: that of the last shift may end, that of this one goes on or
+/// begins, and no other is open.
+#[tactic(auto, using(crate::proofs::ShiftLaw::shifts_by_two))]
+fn shifts_more(case: &Case, state: State, shift: Option<Shift>) -> u32
+    requires last { IfSome state.last (λ s. s.0 < shift_count case.now) }
+    requires shift { IfSome shift (λ s. s.0 < shift_count case.now) }
+    ensures cost { result ≡ shifts_more case.now state shift }
+    ensures within { result ≤ 1966080 }
+{
+    15 * ended(case, state, shift) + 15 * worked(case, state, shift)
+}
+
+/// What the run of the last shift misses, where it ends.
+fn ended(case: &Case, state: State, shift: Option<Shift>) -> u32
+    ensures faults { result ≡ ended (run_of_shift case.now) state.last state.shift_run shift }
+    ensures within { result ≤ 65536 }
+{
+    match state.last {
+        Some(last) if shift != Some(last) => {
+            case.run_of_shift(last)
+                .day_faults(state.shift_run as u32, false)
+        }
+        _ => 0,
+    }
+}
+
+/// 1 where the worked shift is an extra day of its run.
+fn worked(case: &Case, state: State, shift: Option<Shift>) -> u32
+    ensures faults { result ≡ worked (run_of_shift case.now) state.last state.shift_run shift }
+    ensures within { result ≤ 65536 }
+{
+    match shift {
+        Some(shift) => case
+            .run_of_shift(shift)
+            .day_faults(run_of(state, shift), true),
+        None => 0,
+    }
+}
+
+// ---- the runs that are open
+
+fn working_run(state: State) -> u32
+    ensures run { result ≡ working_run state }
+    ensures within { result ≤ 65535 }
+{
+    match state.last {
+        Some(_) => state.run as u32,
+        None => 0,
+    }
+}
+
+fn free_run(state: State) -> u32
+    ensures run { result ≡ free_run state }
+    ensures within { result ≤ 65535 }
+{
+    match state.last {
+        Some(_) => 0,
+        None => state.run as u32,
+    }
+}
+
+fn run_of(state: State, shift: Shift) -> u32
+    ensures run { result ≡ run_of state shift.0 }
+    ensures within { result ≤ 65535 }
+{
+    match state.last {
+        Some(last) if last.0 == shift.0 => state.shift_run as u32,
+        _ => 0,
+    }
+}
+
+/// A run with one day more, up to its cap.
+fn longer(run: u32, limits: Limits) -> u16
+    requires { run ≤ 65535 }
+    ensures { result ≡ min (run + 1) (cap limits) }
+{
+    min(run + 1, limits.cap() as u32) as u16
+}
+
+// ---- weekends
+
+/// A worked Saturday is a worked weekend more, and a worked Sunday where the Saturday is free.
+fn weekends_more(day: u16, before: Option<Shift>, now: Option<Shift>) -> u32
+    ensures more { result ≡ weekends_more day (is_some before) (is_some now) }
+    ensures within { result ≤ 1 }
+{
+    match day % 7 {
+        5 => now.is_some() as u32,
+        6 => (before.is_none() && now.is_some()) as u32,
+        _ => 0,
+    }
+}
+
+/// A Sunday ends a weekend, of which one day may be worked alone.
+fn splits_more(day: u16, before: Option<Shift>, now: Option<Shift>) -> u32
+    ensures more { result ≡ splits_more day (is_some before) (is_some now) }
+    ensures within { result ≤ 1 }
+{
+    (day % 7 == 6 && before.is_some() != now.is_some()) as u32
+}
