@@ -1,14 +1,15 @@
 -- Which fault a failing reader or writer gives, and what a bundle means.
-use Rattle.std.proofs.Common.{◌≡◌, ◌∙◌, ◌∷◌, [], ◌<◌, ◌||◌, ℕ, Bool, Err, List, Option, ap, arith, false, get_or, inl, inr, length, lit<, map, refl, subst, sym, true, true≢false, zero, suc}
+use Rattle.std.proofs.Common.{◌≡◌, ◌∙◌, ◌∷◌, [], ◌<◌, ◌||◌, ℕ, Bool, Err, List, Option, ap, arith, false, get_or, inl, inr, length, lit<, map, nat_lt, refl, subst, sym, true, true≢false, zero, suc}
 use Rattle.std.specs.Prelude.{Contains, IfSome, IsErrOf}
+use Rattle.std.proofs.lemmas.Bool.{ltb-true}
 use Rattle.std.proofs.lemmas.List.{length-map}
 use Rattle.roster_text.specs.Grammar.{Spells}
 use Rattle.roster_text.specs.Io.{IsReadFault, Watched, is_read_failure}
 use Rattle.roster_text.specs.Token.{all_seen, text_of, tokens_of}
 use Rattle.roster_text.specs.declared.bundle.Bundle.{Bundle}
-use Rattle.roster_text.specs.declared.bundle.Nurse.{Nurse}
 use Rattle.roster_text.specs.declared.fault.TextFault.{TextFault}
 use Rattle.roster_text.specs.declared.fault.TextFault.TheVariants as text
+use Rattle.roster_text.specs.declared.token.Token.{Token}
 use Rattle.roster_case.specs.Bundles.{meaning_of, week_meant}
 use Rattle.roster_case.specs.Checking.{IsFirst}
 use Rattle.roster_case.specs.Meaning.{Meaning, week_count}
@@ -21,6 +22,7 @@ use Rattle.roster_cli.specs.Answer.{IsUnread, Refuses}
 use Rattle.roster_cli.specs.Lines.{Text, status_of}
 use Rattle.roster_cli.specs.declared.fault.Fault.{Fault}
 use Rattle.roster_cli.specs.declared.fault.Fault.TheVariants as fault
+use Rattle.roster_cli.specs.declared.words.Command.{Command}
 
 -- ---- a bundle
 
@@ -36,12 +38,18 @@ pub first_of_roster : (source : Text) (b : Bundle) (c : Meaning) (f : CaseFault)
 first_of_roster source b c f is none first =
     IsFirst-behind (case_faults source b) (roster_faults source (meaning_of source b) b) f none (subst (λ m. IsFirst (roster_faults source m b) f) is first)
 
--- the name of a nurse of the scenario
-pub nurse_name-at : (source : Text) (nurses : List Nurse) (n : ℕ) (nurse : Nurse) → nurse ≡ get_or nurses n nurse → n < length nurses
-    → text_of source nurse.name ≡ get_or (map (text_of source) (map (λ (x : Nurse). x.name) nurses)) n []
-nurse_name-at source [] n nurse is within = absurd (omega (arith, within))
-nurse_name-at source (x ∷ xs) zero nurse is within = ap (λ (y : Nurse). text_of source y.name) is
-nurse_name-at source (x ∷ xs) (suc n) nurse is within = nurse_name-at source xs n nurse is (omega (arith, within))
+-- the name of an item of the scenario, by its number
+name_at : {A : Type 0} (source : Text) (name : A → Token) (items : List A) (n : ℕ) (item : A) → item ≡ get_or items n item → n < length items
+    → text_of source (name item) ≡ get_or (map (text_of source) (map name items)) n []
+name_at source name [] n item is within = absurd (omega (arith, within))
+name_at source name (x ∷ xs) zero item is within = ap (λ y. text_of source (name y)) is
+name_at source name (x ∷ xs) (suc n) item is within = name_at source name xs n item is (omega (arith, within))
+
+pub name_found : {A : Type 0} (source : Text) (name : A → Token) (items shown : List A) (n : ℕ) (item : A) → shown ≡ items
+    → true ≡ nat_lt n (length shown) → item ≡ get_or shown n item → text_of source (name item) ≡ get_or (map (text_of source) (map name items)) n []
+name_found source name items shown n item shows found is =
+    name_at source name items n item (is ∙ ap (λ xs. get_or xs n item) shows)
+    (ltb-true n (length items) (sym (found ∙ ap (λ xs. nat_lt n (length xs)) shows)))
 
 -- ---- statuses
 
@@ -63,12 +71,13 @@ status_listed (fault.Case (case.RepeatedRequirement line) nurse) = (1, lit< tt, 
 status_listed (fault.Case (case.Limit line) nurse) = (1, lit< tt, refl)
 status_listed (fault.Case (case.TooManyStates number name) nurse) = (1, lit< tt, refl)
 status_listed (fault.Case (case.H1 number day) nurse) = (1, lit< tt, refl)
+status_listed (fault.Hard f names) = (1, lit< tt, refl)
 status_listed fault.Output = (2, lit< tt, refl)
 
 -- ---- devices
 
-module _ {R Out : Type 0} (remaining : R → Option (List ℕ)) (contents : Out → Option (List ℕ)) (input after : Watched R) (output written : Watched Out) where
-  pub read_failed : (f : Fault) → Refuses remaining contents input after output written f → input.failed ≡ false → after.failed ≡ true → (f ≡ fault.Text text.ReadFailed) × (written ≡ output)
+module _ {R Out : Type 0} (remaining : R → Option (List ℕ)) (contents : Out → Option (List ℕ)) (command : Command) (input after : Watched R) (output written : Watched Out) where
+  pub read_failed : (f : Fault) → Refuses remaining contents command input after output written f → input.failed ≡ false → after.failed ≡ true → (f ≡ fault.Text text.ReadFailed) × (written ≡ output)
   read_failed f (inr h) before now = absurd (true≢false (sym now ∙ h.read.failed ∙ before))
   read_failed (fault.Text text.Memory) (inl h) before now = absurd (true≢false (sym now ∙ h.0 ∙ before))
   read_failed (fault.Text text.ReadFailed) (inl h) before now = (refl, h.1)
@@ -77,15 +86,17 @@ module _ {R Out : Type 0} (remaining : R → Option (List ℕ)) (contents : Out 
   read_failed (fault.Text (text.NumberRange line)) (inl h) before now = absurd h.0
   read_failed (fault.Text (text.AfterEnd line)) (inl h) before now = absurd h.0
   read_failed (fault.Case f nurse) (inl h) before now = absurd h.0
+  read_failed (fault.Hard f names) (inl h) before now = absurd h.0
   read_failed fault.Output (inl h) before now = absurd h.0
 
   same_output : written ≡ output → output.failed ≡ false → written.failed ≡ true → ⊥
   same_output same before now = true≢false (sym now ∙ ap (λ (w : Watched Out). w.failed) same ∙ before)
 
-  pub write_failed : (f : Fault) → Refuses remaining contents input after output written f → output.failed ≡ false → written.failed ≡ true → f ≡ fault.Output
+  pub write_failed : (f : Fault) → Refuses remaining contents command input after output written f → output.failed ≡ false → written.failed ≡ true → f ≡ fault.Output
   write_failed f (inl h) before now = absurd (same_output h.1 before now)
   write_failed (fault.Text f) (inr h) before now = absurd (same_output h.refuses.1 before now)
   write_failed (fault.Case f nurse) (inr h) before now = absurd (same_output h.refuses.1 before now)
+  write_failed (fault.Hard f names) (inr h) before now = absurd (same_output h.refuses.1 before now)
   write_failed fault.Output (inr h) before now = refl
 
 -- ---- an input that was not read to its end

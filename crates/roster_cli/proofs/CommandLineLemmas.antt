@@ -15,7 +15,7 @@ use Rattle.clap.specs.Words.{subcommand_of, takes}
 use Rattle.clap.specs.declared.error.kind.ErrorKind.{ErrorKind}
 use Rattle.clap.specs.declared.error.kind.ErrorKind.TheVariants as kind
 use Rattle.clap.proofs.WalkLemmas.{walk_stopped}
-use Rattle.roster_cli.specs.CommandLine.{IsRefused, Refuses, TellsKind, is_help, program}
+use Rattle.roster_cli.specs.CommandLine.{IsName, IsRefused, Refuses, TellsKind, is_help, program}
 use Rattle.roster_cli.specs.declared.words.CliFault.{CliFault}
 use Rattle.roster_cli.specs.declared.words.CliFault.TheVariants as fault
 
@@ -118,29 +118,35 @@ module _ (s : Shape) (names : Names) (offers : s.disable_help_subcommand ≡ fal
       (λ v open_yet. subst (λ o. NoHelp s names (record v { stopped = o }) rest) (sym open_yet) (no_help_open rest v)) refl
       w.is_trailing (subcommand_met names w.waiting word) none p e
 
--- ---- `show` is met
+-- ---- a command is met
 
--- the command that is entered, by whether its name is `show` or `help`
-abbrev by_names : Bool → Bool → List Text → Option (Text × List Row)
-by_names shows helps rest = option_map (λ s. rows_at s rest) (cond (shows || false) (slice_get (built program).subs 0) (cond (helps || false) (slice_get (built program).subs 1) None))
+-- the command that is entered, by whether its name is `show`, `cost`, `sizes` or `help`
+abbrev by_names : Bool → Bool → Bool → Bool → List Text → Option (Text × List Row)
+by_names shows costs sizes helps rest =
+    option_map (λ s. rows_at s rest)
+    (cond (shows || false) (slice_get (built program).subs 0)
+    (cond (costs || false) (slice_get (built program).subs 1) (cond (sizes || false) (slice_get (built program).subs 2) (cond (helps || false) (slice_get (built program).subs 3) None))))
 
--- where a command was met that is not `help`, it is `show`
-met_show : (stop : Option (Text × List Text)) → ((p : Text × List Text) → stop ≡ Some p → bytes_eq p.0 (codes "help") ≡ false)
-    → is_some (entered (built program) stop) ≡ true → IsSomeAnd (entered (built program) stop) (λ met. met.0 ≡ codes "show")
-met_show None other e = absurd (true≢false (sym e))
-met_show (Some p) other e = go (bytes_eq (codes "show") p.0) (bytes_eq (codes "help") p.0) refl e
+-- where a command was met that is not `help`, it is one of the program's
+met_command : (stop : Option (Text × List Text)) → ((p : Text × List Text) → stop ≡ Some p → bytes_eq p.0 (codes "help") ≡ false)
+    → is_some (entered (built program) stop) ≡ true → IsSomeAnd (entered (built program) stop) (λ met. IsName met.0)
+met_command None other e = absurd (true≢false (sym e))
+met_command (Some p) other e = go (bytes_eq (codes "show") p.0) (bytes_eq (codes "cost") p.0) (bytes_eq (codes "sizes") p.0) (bytes_eq (codes "help") p.0) refl e
   where
     names_help : bytes_eq (codes "help") p.0 ≡ true → ⊥
     names_help h = true≢false (ap (λ n. bytes_eq n (codes "help")) ((bytes_eq-Decides (codes "help") p.0).0 h) ∙ other p refl)
 
-    go : (shows helps : Bool) → bytes_eq (codes "help") p.0 ≡ helps → is_some (by_names shows helps p.1) ≡ true → IsSomeAnd (by_names shows helps p.1) (λ met. met.0 ≡ codes "show")
-    go true helps is e = refl
-    go false true is e = absurd (names_help is)
-    go false false is e = absurd (true≢false (sym e))
+    go : (shows costs sizes helps : Bool) → bytes_eq (codes "help") p.0 ≡ helps → is_some (by_names shows costs sizes helps p.1) ≡ true
+        → IsSomeAnd (by_names shows costs sizes helps p.1) (λ met. IsName met.0)
+    go true costs sizes helps is e = inl refl
+    go false true sizes helps is e = inr (inl refl)
+    go false false true helps is e = inr (inr refl)
+    go false false false true is e = absurd (names_help is)
+    go false false false false is e = absurd (true≢false (sym e))
 
--- words without a fault name the command `show`
-pub meets_show : (words : List Text) → fault_of program words ≡ [] → IsSomeAnd (subcommand_of program words) (λ met. met.0 ≡ codes "show")
-meets_show words none =
+-- words without a fault name a command
+pub meets_command : (words : List Text) → fault_of program words ≡ [] → IsSomeAnd (subcommand_of program words) (λ met. IsName met.0)
+meets_command words none =
     let top = (built program).top in
     let names = names_of (built program) in
     let given = argument_words program words in
@@ -150,7 +156,7 @@ meets_show words none =
     let has = is_some (entered (built program) stop) in
     let parts = ends_empty (walk_fault top names (walk_from nothing_held) given) (entered_fault (built program) stop) (settle_fault top.rules top.args_override_self end)
     (defaults_fault (settled top.rules end).rows top.rules) (check_fault top rows has) none in
-    met_show stop (no_help_open top names refl given (walk_from nothing_held) parts.0)
+    met_command stop (no_help_open top names refl given (walk_from nothing_held) parts.0)
     (wanted has (not has && (top.arg_required_else_help && not (list_any (λ (r : Row). explicit_source r.source) rows)))
     (not (top.subcommand_negates_reqs && has) && list_any (λ (a : Rule). a.required && not (is_given a.id rows)) top.rules) parts.1)
 

@@ -1,5 +1,5 @@
 -- What the words of a command line ask for, by clap's reading of them.
-use Rattle.std.specs.Prelude.{◌≡◌, ◌≢◌, Bool, true, false, not, List, [], map, Option, Some, unwrap_or, option_map, codes, string_bytes}
+use Rattle.std.specs.Prelude.{◌≡◌, ◌≢◌, ◌⊎◌, Bool, true, false, not, List, [], map, Option, Some, unwrap_or, option_map, codes, string_bytes}
 use Rattle.std.specs.List.{list_any}
 use Rattle.clap.specs.Lexer.{usize_max}
 use Rattle.clap.specs.Words.{App, Row, Rule, Text, all_of, fault_of, new_app, new_rule, subcommand_of, takes, with_rule, with_subcommand}
@@ -19,9 +19,9 @@ files_rule = record (new_rule (codes "FILE")) {
   range = Some (record { start_inclusive = 0; end_inclusive = usize_max });
 }
 
--- the command `show`
-abbrev pub show : App
-show = with_rule (new_app (codes "show")) files_rule
+-- a command that reads files
+abbrev pub command_of : Text → App
+command_of name = with_rule (new_app name) files_rule
 
 -- the program before its commands: it has a version, and one of its commands is wanted
 abbrev pub bare : App
@@ -32,11 +32,17 @@ bare = record {
 
 -- the program's definition for clap
 abbrev pub program : App
-program = with_subcommand bare show.top
+program = with_subcommand (with_subcommand (with_subcommand bare (command_of (codes "show")).top) (command_of (codes "cost")).top) (command_of (codes "sizes")).top
 
 -- a command's name
 abbrev pub name_of : Command → Text
 name_of command.Show = codes "show"
+name_of command.Cost = codes "cost"
+name_of command.Sizes = codes "sizes"
+
+-- it is the name of a command
+abbrev pub IsName : Text → Type 0
+IsName name = (name ≡ name_of command.Show) ⊎ (name ≡ name_of command.Cost) ⊎ (name ≡ name_of command.Sizes)
 
 -- the files among the matches of a command
 abbrev pub files_in : List Row → List Text

@@ -2,15 +2,24 @@
 #![tactic(auto)]
 
 mod answer;
+mod cost;
 mod fault;
 mod joined;
+mod lines;
+mod names;
 mod pieces;
+mod sizes;
 mod weeks;
 mod words;
 
-pub use answer::{refuse, refuse_output, run};
+pub use answer::run;
 pub use joined::Joined;
+pub use lines::{refuse, refuse_output};
 pub use words::{CliFault, Command, Request, request_of};
 
+#[cfg(test)]
+mod cost_tests;
+#[cfg(test)]
+mod state_tests;
 #[cfg(test)]
 mod tests;

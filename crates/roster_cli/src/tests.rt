@@ -1,10 +1,8 @@
 //! Worked runs over devices: what goes in, what comes out, and where a reader or a writer fails.
 
 use super::*;
-use crate::answer::roster_of;
-use roster_case::{HardFault, Shift, Skill, first_hard};
 use roster_devices::{AtEnd, EndlessReader, FailingReader, OneByteReader, ShortWriter};
-use roster_text::{TextFault, Watch, parse_bundle, tokens};
+use roster_text::{TextFault, Watch};
 use std::alloc::{AllocError, Global};
 use std::io;
 use std::io::{ErrorKind, Read};
@@ -63,7 +61,7 @@ SOLUTION
 ASSIGNMENTS = 0
 ";
 
-const EMPTY_OUTPUT: &str = "SOLUTION\n0 mini\n\nASSIGNMENTS = 0\n";
+pub(crate) const EMPTY_OUTPUT: &str = "SOLUTION\n0 mini\n\nASSIGNMENTS = 0\n";
 
 fn joined_text(alloc: Global, pieces: &[&str]) -> Result<String, AllocError> {
     let mut text = String::new(alloc);
@@ -79,7 +77,7 @@ fn mini(alloc: Global) -> Result<String, AllocError> {
 }
 
 /// The instance mini with these texts in the place of lines, which are numbered from 1.
-fn mini_with(alloc: Global, changes: &[(usize, &str)]) -> Result<String, AllocError> {
+pub(crate) fn mini_with(alloc: Global, changes: &[(usize, &str)]) -> Result<String, AllocError> {
     let whole = mini(alloc)?;
     let mut text = String::new(alloc);
     for (index, line) in whole.as_str().lines().enumerate() {
@@ -111,28 +109,29 @@ fn with_carriage_returns(alloc: Global, text: &str) -> Result<Vec<u8>, AllocErro
 
 /// What a run left behind.
 #[derive(Debug, Drop)]
-struct Ran {
-    status: u8,
-    output: String,
+pub(crate) struct Ran {
+    pub(crate) status: u8,
+    pub(crate) output: String,
     log: String,
 }
 
 impl Ran {
-    fn is(&self, status: u8, output: &str, log: &str) -> bool {
+    pub(crate) fn is(&self, status: u8, output: &str, log: &str) -> bool {
         self.status == status && self.output.as_str() == output && self.log.as_str() == log
     }
 }
 
-/// Runs `show`, with writers that fail behind so many bytes.
-fn shown_with_room(
+/// Runs a command, with writers that fail behind so many bytes.
+fn run_with_room(
     alloc: Global,
+    command: Command,
     input: impl Read + Drop,
     output_room: &mut [u8],
     log_room: &mut [u8],
     at_end: AtEnd,
 ) -> Result<Ran, Fail> {
     let request = Request {
-        command: Command::Show,
+        command,
         files: Vec::new(alloc),
     };
     let mut input = Watch::new(input);
@@ -148,8 +147,23 @@ fn shown_with_room(
     })
 }
 
-fn shown(alloc: Global, input: impl Read + Drop) -> Result<Ran, Fail> {
-    shown_with_room(alloc, input, &mut [0; 1000], &mut [0; 100], AtEnd::Fail)
+pub(crate) fn run_over(
+    alloc: Global,
+    command: Command,
+    input: impl Read + Drop,
+) -> Result<Ran, Fail> {
+    run_with_room(
+        alloc,
+        command,
+        input,
+        &mut [0; 1000],
+        &mut [0; 100],
+        AtEnd::Fail,
+    )
+}
+
+pub(crate) fn shown(alloc: Global, input: impl Read + Drop) -> Result<Ran, Fail> {
+    run_over(alloc, Command::Show, input)
 }
 
 #[test]
@@ -346,8 +360,8 @@ fn numbers_of_weeks(rt: HostRuntime) -> Result<(), Fail> {
     Ok(())
 }
 
-/// The instance mini with so many weeks, each as empty as another.
-fn empty_weeks(alloc: Global, weeks: u32) -> Result<String, AllocError> {
+/// The instance mini with so many weeks, each as its own.
+pub(crate) fn empty_weeks(alloc: Global, weeks: u32) -> Result<String, AllocError> {
     let count = format!(in alloc; "WEEKS = {weeks}")?;
     let whole = mini_with(alloc, &[(3, count.as_str())])?;
     let mut text = String::new(alloc);
@@ -356,58 +370,13 @@ fn empty_weeks(alloc: Global, weeks: u32) -> Result<String, AllocError> {
         text.push_str("\n")?;
     }
     for _ in 0..weeks {
-        text.push_str("WEEK_DATA mini REQUIREMENTS SHIFT_OFF_REQUESTS = 0\n")?;
+        text.push_str(WEEK)?;
+        text.push_str(PAIRS)?;
     }
     for _ in 0..weeks {
-        text.push_str("SOLUTION 0 mini ASSIGNMENTS = 0\n")?;
+        text.push_str(EMPTY_ROSTER)?;
     }
     Ok(text)
-}
-
-/// The first breach of the hard rules in the instance mini with other lines.
-fn first_breach(alloc: Global, changes: &[(usize, &str)]) -> Result<Option<HardFault>, Fail> {
-    let text = mini_with(alloc, changes)?;
-    let tokens = tokens(alloc, text.as_bytes())?;
-    let bundle = parse_bundle(alloc, text.as_bytes(), &tokens)?;
-    let (case, roster) = roster_of(alloc, text.as_bytes(), &bundle)?;
-    Ok(first_hard(&case, &roster))
-}
-
-#[test]
-fn hard_rules(rt: HostRuntime) -> Result<(), Fail> {
-    let alloc = rt.alloc();
-    assert_eq!(rt; first_breach(alloc, &[])?, None);
-    let need = (34, "Early Nurse (1,1) (0,1) (0,1) (0,1) (0,1) (0,1) (0,1)");
-    let missing = HardFault::H2 {
-        day: 0,
-        shift: Shift(0),
-        skill: Skill(0),
-        have: 0,
-        need: 1,
-    };
-    assert_eq!(rt; first_breach(alloc, &[need])?, Some(missing));
-    // `show` doesn't ask for the hard rules.
-    let text = mini_with(alloc, &[need])?;
-    assert!(rt; shown(alloc, text.as_bytes())?.is(0, EMPTY_OUTPUT, ""));
-
-    let within = "ASSIGNMENTS = 2\nAnn Tue Night Nurse\nAnn Wed Early Nurse";
-    let forbidden = Some(HardFault::H3 { nurse: 0, day: 2 });
-    assert_eq!(rt; first_breach(alloc, &[(41, within)])?, forbidden);
-    let from_history = [
-        (27, "Ann 0 0 Night 1 1 0"),
-        (41, "ASSIGNMENTS = 1\nAnn Mon Early Nurse"),
-    ];
-    let forbidden = Some(HardFault::H3 { nurse: 0, day: 0 });
-    assert_eq!(rt; first_breach(alloc, &from_history)?, forbidden);
-
-    let head = [
-        (5, "SKILLS = 2"),
-        (6, "Nurse Head"),
-        (41, "ASSIGNMENTS = 1\nBob Tue Early Head"),
-    ];
-    let unskilled = Some(HardFault::H4 { nurse: 1, day: 1 });
-    assert_eq!(rt; first_breach(alloc, &head)?, unskilled);
-    Ok(())
 }
 
 #[test]
@@ -436,12 +405,42 @@ fn writers_that_fail(rt: HostRuntime) -> Result<(), Fail> {
     let alloc = rt.alloc();
     let text = mini(alloc)?;
     for at_end in [AtEnd::Fail, AtEnd::TakeNothing] {
-        let left = shown_with_room(alloc, text.as_bytes(), &mut [0; 7], &mut [0; 40], at_end)?;
+        let left = run_with_room(
+            alloc,
+            Command::Show,
+            text.as_bytes(),
+            &mut [0; 7],
+            &mut [0; 40],
+            at_end,
+        )?;
         assert!(rt; left.is(3, "SOLUTIO", "write failed\n"), "{left:?}");
         // A fault line that can't be written leaves the status.
-        let left = shown_with_room(alloc, text.as_bytes(), &mut [0; 7], &mut [0; 5], at_end)?;
+        let left = run_with_room(
+            alloc,
+            Command::Show,
+            text.as_bytes(),
+            &mut [0; 7],
+            &mut [0; 5],
+            at_end,
+        )?;
         assert!(rt; left.is(3, "SOLUTIO", "write"), "{left:?}");
-        let left = shown_with_room(alloc, b"".as_slice(), &mut [0; 7], &mut [0; 7], at_end)?;
+        let left = run_with_room(
+            alloc,
+            Command::Cost,
+            text.as_bytes(),
+            &mut [0; 7],
+            &mut [0; 40],
+            at_end,
+        )?;
+        assert!(rt; left.is(3, "S1 210\n", "write failed\n"), "{left:?}");
+        let left = run_with_room(
+            alloc,
+            Command::Show,
+            b"".as_slice(),
+            &mut [0; 7],
+            &mut [0; 7],
+            at_end,
+        )?;
         assert!(rt; left.is(1, "", "line 1:"), "{left:?}");
     }
     Ok(())
@@ -488,36 +487,46 @@ fn joined_readers(rt: HostRuntime) -> Result<(), Fail> {
     Ok(())
 }
 
-/// The files of a request for `show`.
-fn files_asked(alloc: Global, words: &[&str]) -> Result<Vec<String>, Fail> {
+/// Whether the words ask for this command with these files.
+fn asks(alloc: Global, words: &[&str], command: Command, files: &[&str]) -> bool {
     match request_of(alloc, words) {
-        Ok(
-            Request {
-                command: Command::Show,
-                files,
-            },
-        ) => Ok(files),
-        Err(_) => Err(Fail::from("no request")),
+        Ok(request) => {
+            request.command == command
+                && request.files.len() == files.len()
+                && request
+                    .files
+                    .iter()
+                    .zip(files)
+                    .all(|(one, other)| one.as_str() == *other)
+        }
+        Err(_) => false,
     }
 }
 
 #[test]
-fn words_that_ask(rt: HostRuntime) -> Result<(), Fail> {
+fn words_that_ask(rt: HostRuntime) {
     let alloc = rt.alloc();
-    assert_eq!(rt; files_asked(alloc, &["roster", "show"])?.len(), 0);
-    let asked: [(&[&str], &[&str]); 3] = [
-        (&["roster", "show", "a.txt"], &["a.txt"]),
-        (&["roster", "show", "-", "a.txt"], &["-", "a.txt"]),
-        (&["roster", "show", "--", "--x"], &["--x"]),
+    let asked: [(&[&str], Command, &[&str]); 8] = [
+        (&["roster", "show"], Command::Show, &[]),
+        (&["roster", "show", "a.txt"], Command::Show, &["a.txt"]),
+        (
+            &["roster", "show", "-", "a.txt"],
+            Command::Show,
+            &["-", "a.txt"],
+        ),
+        (&["roster", "show", "--", "--x"], Command::Show, &["--x"]),
+        (&["roster", "cost"], Command::Cost, &[]),
+        (
+            &["roster", "cost", "show", "a.txt"],
+            Command::Cost,
+            &["show", "a.txt"],
+        ),
+        (&["roster", "sizes"], Command::Sizes, &[]),
+        (&["roster", "sizes", "-"], Command::Sizes, &["-"]),
     ];
-    for (words, files) in asked {
-        let found = files_asked(alloc, words)?;
-        assert_eq!(rt; found.len(), files.len());
-        for (one, other) in found.iter().zip(files) {
-            assert_eq!(rt; one.as_str(), *other);
-        }
+    for (words, command, files) in asked {
+        assert!(rt; asks(alloc, words, command, files), "{words:?}");
     }
-    Ok(())
 }
 
 #[test]
@@ -527,8 +536,8 @@ fn words_that_do_not_ask(rt: HostRuntime) {
         &["roster"],
         &["roster", "--x"],
         &["roster", "show", "--x"],
-        &["roster", "cost"],
-        &["roster", "frobnicate"],
+        &["roster", "size"],
+        &["roster", "cost", "--show"],
     ];
     for words in usage {
         assert!(rt;
@@ -540,7 +549,7 @@ fn words_that_do_not_ask(rt: HostRuntime) {
         &["roster", "--help"],
         &["roster", "help"],
         &["roster", "show", "--help"],
-        &["roster", "help", "show"],
+        &["roster", "help", "cost"],
         &["roster", "--version"],
     ];
     for words in help {

@@ -1,6 +1,11 @@
 use Rattle.std.proofs.lemmas.Result.{err_from_is_err_and}
+use Rattle.roster_text.specs.Token.{all_seen, tokens_of}
+use Rattle.roster_text.proofs.SmallNumbers.{small_numbers}
 use Rattle.roster_cli.proofs.AnswerLemmas.{as_many_solutions, first_of_roster}
 use Rattle.roster_cli.proofs.answer.roster_of.Goals as goal
+
+pub from_bundle-requires-clause-small : goal.from_bundle-requires-clause-small
+from_bundle-requires-clause-small c = small_numbers (all_seen c.args.source.now (tokens_of c.args.source.now)) c.args.bundle.now c.requires
 
 pub from_bundle-requires-2 : goal.from_bundle-requires-2
 from_bundle-requires-2 c = as_many_solutions c.args.source.now c.args.bundle.now c.in_ok-case.case c.requires c.in_ok-case.ensures.meant

@@ -5,8 +5,8 @@ use Rattle.roster_cli.proofs.AnswerLemmas.{status_listed}
 use Rattle.roster_cli.proofs.answer.run.Goals as goal
 
 pub returns-clause-status : goal.returns-clause-status
-returns-clause-status g c = go (cases_eq c.show.result 0)
+returns-clause-status g c = go (cases_eq c.answer.result 0)
   where
-    go : (c.show.result ≡ 0) ⊎ (c.show.result ≡ 0 → ⊥) → Contains (0 ∷ 1 ∷ 3 ∷ 4 ∷ []) c.show.result
+    go : (c.answer.result ≡ 0) ⊎ (c.answer.result ≡ 0 → ⊥) → Contains (0 ∷ 1 ∷ 3 ∷ 4 ∷ []) c.answer.result
     go (inl done) = subst (Contains (0 ∷ 1 ∷ 3 ∷ 4 ∷ [])) (sym done) (0, lit< tt, refl)
-    go (inr other) = let told = c.show.ensures.refused other in subst (Contains (0 ∷ 1 ∷ 3 ∷ 4 ∷ [])) (sym told.1) (status_listed told.0)
+    go (inr other) = let told = c.answer.ensures.refused other in subst (Contains (0 ∷ 1 ∷ 3 ∷ 4 ∷ [])) (sym told.1) (status_listed told.0)

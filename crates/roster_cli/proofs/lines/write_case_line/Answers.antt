@@ -2,7 +2,7 @@ use Rattle.std.proofs.Common.{ap, subst, sym}
 use Rattle.std.specs.Prelude.{OnErr, OnOk}
 use Rattle.roster_text.specs.Io.{Stops, Writes}
 use Rattle.roster_cli.specs.Lines.{case_line}
-use Rattle.roster_cli.proofs.answer.write_case_line.Goals as goal
+use Rattle.roster_cli.proofs.lines.write_case_line.Goals as goal
 
 pub returns-in-OtherInstance-clause-err : goal.returns-in-OtherInstance-clause-err
 returns-in-OtherInstance-clause-err g c =

@@ -1,7 +1,7 @@
 use Rattle.std.proofs.Common.{inl, refl}
 use Rattle.roster_cli.specs.declared.fault.Fault.TheVariants as fault
 use Rattle.roster_cli.proofs.AnswerLemmas.{unread}
-use Rattle.roster_cli.proofs.answer.show.Goals as goal
+use Rattle.roster_cli.proofs.answer.answer.Goals as goal
 
 pub returns-in-Err-clause-refused : goal.returns-in-Err-clause-refused
 returns-in-Err-clause-refused g c = λ other. (

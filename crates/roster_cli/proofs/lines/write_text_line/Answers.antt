@@ -3,7 +3,7 @@ use Rattle.std.specs.Prelude.{OnErr}
 use Rattle.roster_text.specs.Io.{Stops}
 use Rattle.roster_cli.specs.Lines.{text_line}
 use Rattle.roster_cli.proofs.PieceLemmas.{expected-line}
-use Rattle.roster_cli.proofs.answer.write_text_line.Goals as goal
+use Rattle.roster_cli.proofs.lines.write_text_line.Goals as goal
 
 pub returns-in-TooLong-clause-err : goal.returns-in-TooLong-clause-err
 returns-in-TooLong-clause-err g c =
