@@ -24,5 +24,3 @@ pub mod Refusals
 pub mod Building
 pub mod CaseParts
 pub mod Shown
-pub mod Mini
-pub mod MiniText

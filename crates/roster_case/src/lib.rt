@@ -4,7 +4,6 @@
 mod case;
 mod choice;
 mod costing;
-mod examples;
 mod fault;
 mod hard;
 mod history;
@@ -27,12 +26,6 @@ mod weekends;
 pub use case::{Case, MAX_STATES};
 pub use choice::{Choice, Shift, Skill};
 pub use costing::costs;
-pub use examples::{
-    breaches_of_the_hard_rules, faults_of_runs, logs_of_runs, penalties_of_an_empty_roster,
-    penalties_of_contracts_and_requests, penalties_with_runs_that_the_history_began,
-    prefixes_of_rows, refusals_of_names_and_counts, rows_in_order, sizes_of_instances,
-    text_of_the_small_instance, totals_of_better_rosters, two_weeks_of_the_small_instance,
-};
 pub use fault::{CaseFault, HardFault};
 pub use hard::first_hard;
 pub use laws::{runs_grow_by_a_day, runs_of_a_row_grow_by_a_day, weekends_grow_by_a_day};

@@ -1,12 +1,12 @@
 -- The text of the small instance, line by line, and what a text says.
 use Rattle.std.specs.Prelude.{take, drop, ℕ, ◌-◌, ◌++◌, List, [], ◌∷◌, codes, flat_map, map, slice_set, insert, Option, Some, None, option_map, Ok, Err}
 use Rattle.std.specs.List.{range_with_len}
-use Rattle.roster_text.specs.declared.bundle.Bundle.{Bundle}
+use Rattle.roster_text.specs.declared.Bundle.{Bundle}
 use Rattle.roster_text.specs.Reading.{Read, bundle_at}
 use Rattle.roster_text.specs.Token.{all_seen, tokens_of}
-use Rattle.roster_case.specs.declared.penalties.Costs.{Costs}
-use Rattle.roster_case.specs.declared.fault.CaseFault.{CaseFault}
-use Rattle.roster_case.specs.declared.fault.HardFault.{HardFault}
+use Rattle.roster_case.specs.declared.Costs.{Costs}
+use Rattle.roster_case.specs.declared.CaseFault.{CaseFault}
+use Rattle.roster_case.specs.declared.HardFault.{HardFault}
 use Rattle.roster_case.specs.Bundles.{meaning_of, rows_of}
 use Rattle.roster_case.specs.Faults.{first_of}
 use Rattle.roster_case.specs.HardRules.{hard_faults}

@@ -5,7 +5,7 @@ use Rattle.roster_case.specs.HardRules.{hard_faults}
 use Rattle.roster_case.specs.Improver.{log_of, round, step}
 use Rattle.roster_case.specs.Penalties.{costs_of, penalty}
 use Rattle.roster_case.specs.Runs.{run_faults}
-use Rattle.roster_case.proofs.examples.logs_of_runs.Goals as goal
+use Rattle.roster_examples.proofs.worked.logs_of_runs.Goals as goal
 
 pub returns-clause-no_rounds : goal.returns-clause-no_rounds
 unfolding log_of penalty costs_of run_faults digits

@@ -1,0 +1,11 @@
+//! Worked examples of the definitions of a case: what they say of a small instance.
+#![tactic(auto)]
+
+mod worked;
+
+pub use worked::{
+    breaches_of_the_hard_rules, faults_of_runs, logs_of_runs, penalties_of_an_empty_roster,
+    penalties_of_contracts_and_requests, penalties_with_runs_that_the_history_began,
+    prefixes_of_rows, refusals_of_names_and_counts, rows_in_order, sizes_of_instances,
+    text_of_the_small_instance, totals_of_better_rosters, two_weeks_of_the_small_instance,
+};
