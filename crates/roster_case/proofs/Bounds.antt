@@ -1,13 +1,13 @@
 -- Bounds of the penalties of a roster, where the numbers of an instance are small: all sums stay below 2^31. The bounds are
 -- for the largest case: 200 nurses, 16 weeks, 8 shifts and 8 skills.
 use Rattle.std.proofs.Common.{◌≡◌, arith, ℕ, ◌+◌, ◌-◌, ◌*◌, ◌<◌, ◌≤◌, true, ◌||◌, length, if◌then◌else◌}
-use Rattle.roster_case.specs.Counting.{sum_below}
-use Rattle.roster_case.specs.Days.{Days, shift_on, works, is_off, days_worked, saturday, worked_weekends, weekends_begun, weekends_ended, split_weekends, one_alone}
-use Rattle.roster_case.specs.Meaning.{Meaning, week_count, day_count, shift_count, skill_count, nurse_count, run_of_shift, past_of, contract_of, need}
+use Rattle.roster_instance.specs.Counting.{sum_below}
+use Rattle.roster_instance.specs.Days.{Days, shift_on, works, is_off, days_worked, saturday, worked_weekends, weekends_begun, weekends_ended, split_weekends, one_alone}
+use Rattle.roster_instance.specs.Meaning.{Meaning, week_count, day_count, shift_count, skill_count, nurse_count, run_of_shift, past_of, contract_of, need}
 use Rattle.roster_case.specs.Penalties.{staffing, staffing_of_day, free_before, worked_before, working_runs, shift_runs, free_runs, is_undesired, undesired, split, totals, weekends_above, over_nurses, costs_of, total_cost}
-use Rattle.roster_case.specs.Rosters.{Rows, days_of_nurse, cover, fits}
-use Rattle.roster_case.specs.Small.{HasSmallNumbers}
-use Rattle.roster_case.proofs.RosterFacts.{days_of_nurse-length}
+use Rattle.roster_instance.specs.Rosters.{Rows, days_of_nurse, cover, fits}
+use Rattle.roster_instance.specs.Small.{HasSmallNumbers}
+use Rattle.roster_instance.proofs.RosterFacts.{days_of_nurse-length}
 use Rattle.roster_case.proofs.RunBounds.{where_within, sum_within, count_within, all_runs_within, all_shifts_within}
 
 -- ---- staffing: 30 for each of 999 nurses at most, on 112 days, for 8 shifts with 8 skills

@@ -1,15 +1,15 @@
 -- How the counts over a row grow from day to day.
 use Rattle.std.proofs.Common.{◌≡◌, ◌∙◌, ◌+◌, Bool, ℕ, suc, ap, arith, if◌then◌else◌, sym, Option}
 use Rattle.std.proofs.Math.ListN.{get_or-map}
-use Rattle.roster_case.specs.Choices.{days_of, shift_of}
-use Rattle.roster_case.specs.Counting.{sum_below}
-use Rattle.roster_case.specs.Days.{shift_on}
-use Rattle.roster_case.specs.RunLaw.{day_faults}
+use Rattle.roster_instance.specs.Choices.{days_of, shift_of}
+use Rattle.roster_instance.specs.Counting.{sum_below}
+use Rattle.roster_instance.specs.Days.{shift_on}
+use Rattle.roster_instance.specs.RunLaw.{day_faults}
 use Rattle.roster_case.specs.Runs.{open_run, run_faults}
-use Rattle.roster_case.specs.Rosters.{Row, choice_on}
-use Rattle.roster_case.specs.declared.choice.Choice.TheVariants.{Off}
-use Rattle.roster_case.specs.declared.choice.Shift.{Shift}
-use Rattle.roster_case.specs.declared.rules.Limits.{Limits}
+use Rattle.roster_instance.specs.Rosters.{Row, choice_on}
+use Rattle.roster_instance.specs.declared.Choice.TheVariants.{Off}
+use Rattle.roster_instance.specs.declared.Shift.{Shift}
+use Rattle.roster_instance.specs.declared.Limits.{Limits}
 use Rattle.roster_case.proofs.RunLaw as law
 
 -- a sum with one number more

@@ -4,14 +4,14 @@ use Rattle.std.proofs.Common.{eq-eqb}
 use Rattle.std.proofs.lemmas.Bool.{cases_eq, ne_eqb}
 use Rattle.std.proofs.lemmas.List.{get_or-replicate, get_or-set_other, get_or-set_same}
 use Rattle.std.proofs.lemmas.List.Sums.{count_by_more_no, count_by_more_yes}
-use Rattle.roster_case.specs.Choices.{same_choice}
+use Rattle.roster_instance.specs.Choices.{same_choice}
 use Rattle.roster_case.specs.Covers.{AreCovers}
-use Rattle.roster_case.specs.Meaning.{shift_at, skill_at}
-use Rattle.roster_case.specs.Rosters.{Row, Rows, choice_on, cover, row_of}
-use Rattle.roster_case.specs.declared.choice.Choice.{Choice}
-use Rattle.roster_case.specs.declared.choice.Choice.TheVariants.{Off, Work}
-use Rattle.roster_case.specs.declared.choice.Shift.{Shift}
-use Rattle.roster_case.specs.declared.choice.Skill.{Skill}
+use Rattle.roster_instance.specs.Meaning.{shift_at, skill_at}
+use Rattle.roster_instance.specs.Rosters.{Row, Rows, choice_on, cover, row_of}
+use Rattle.roster_instance.specs.declared.Choice.{Choice}
+use Rattle.roster_instance.specs.declared.Choice.TheVariants.{Off, Work}
+use Rattle.roster_instance.specs.declared.Shift.{Shift}
+use Rattle.roster_instance.specs.declared.Skill.{Skill}
 
 -- nothing is counted at first
 pub none_counted : (i : ℕ) → i < 64 → slice_index_or (replicate {A = ℕ} 64 0) i 0 ≡ 0

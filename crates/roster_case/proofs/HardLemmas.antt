@@ -5,14 +5,14 @@ use Rattle.std.specs.Option.{option_or}
 use Rattle.std.proofs.lemmas.Grind.{flat_map-append}
 use Rattle.std.proofs.Math.ListN.{get_or-map}
 use Rattle.roster_text.proofs.Texts.{flat_map-range_more, range_with_len-add}
-use Rattle.roster_case.specs.Choices.{shift_of}
-use Rattle.roster_case.specs.Days.{Days, shift_on}
-use Rattle.roster_case.specs.Faults.{below, fault_if, first_of}
+use Rattle.roster_instance.specs.Choices.{shift_of}
+use Rattle.roster_instance.specs.Days.{Days, shift_on}
+use Rattle.roster_instance.specs.Faults.{below, fault_if, first_of}
 use Rattle.roster_case.specs.HardRules.{shift_before}
-use Rattle.roster_case.specs.Rosters.{Row, Rows, choice_on, days_of_nurse, row_of}
-use Rattle.roster_case.specs.declared.choice.Choice.TheVariants.{Off}
-use Rattle.roster_case.specs.declared.choice.Shift.{Shift}
-use Rattle.roster_case.proofs.Sections.{both_none, first-behind, first-front}
+use Rattle.roster_instance.specs.Rosters.{Row, Rows, choice_on, days_of_nurse, row_of}
+use Rattle.roster_instance.specs.declared.Choice.TheVariants.{Off}
+use Rattle.roster_instance.specs.declared.Shift.{Shift}
+use Rattle.roster_instance.proofs.Sections.{both_none, first-behind, first-front}
 
 none_of-none : {F : Type 0} (faults : List F) → first_of faults ≡ None → faults ≡ []
 none_of-none [] none = refl

@@ -1,3 +1,5 @@
+pub use Rattle.roster_instance.proofs.RosterFacts
+pub use Rattle.roster_instance.proofs.Sections
 pub mod FirstLeast
 pub mod RunSums
 pub mod RunLaw
@@ -5,23 +7,7 @@ pub mod DayMore
 pub mod RowLaw
 pub mod WeekendLaw
 pub mod CountLemmas
-pub mod RosterFacts
 pub mod RunBounds
 pub mod Bounds
-pub mod Sections
-pub mod TableLemmas
-pub mod NameLemmas
-mod LineLemmas
-mod SizeLemmas
 mod CoverLemmas
 pub mod HardLemmas
-pub mod TableSteps
-pub mod WeekTableLemmas
-pub mod HistoryLemmas
-pub mod WishLemmas
-pub mod FlagLemmas
-pub mod ScenarioLemmas
-mod CaseLemmas
-mod FitLemmas
-mod SmallLemmas
-mod PastLemmas

@@ -1,9 +1,9 @@
 -- The faults of runs of a row with one day more: those of its first days don't depend on the days behind them.
 use Rattle.std.proofs.Common.{◌≡◌, ap, sym, ◌∙◌, arith, ℕ, zero, suc, ◌+◌, ◌<◌, Bool, [], ◌∷◌, ◌++◌, length, if◌then◌else◌, Option}
-use Rattle.roster_case.specs.declared.choice.Shift.{Shift}
-use Rattle.roster_case.specs.declared.rules.Limits.{Limits}
-use Rattle.roster_case.specs.Days.{Days, shift_on}
-use Rattle.roster_case.specs.RunLaw.{day_faults}
+use Rattle.roster_instance.specs.declared.Shift.{Shift}
+use Rattle.roster_instance.specs.declared.Limits.{Limits}
+use Rattle.roster_instance.specs.Days.{Days, shift_on}
+use Rattle.roster_instance.specs.RunLaw.{day_faults}
 use Rattle.roster_case.specs.Runs.{run_faults, open_run}
 use Rattle.roster_case.proofs.DayMore.{length_more, shift_before_it, shift_of_it}
 use Rattle.roster_case.proofs.RunLaw.{no_faults, border, faults, grown}

@@ -2,16 +2,16 @@
 -- kind. So the runs of all shifts together have no more than those of one, since a day has one shift at most.
 use Rattle.std.proofs.Common.{◌≡◌, refl, arith, ℕ, zero, suc, ◌+◌, ◌-◌, ◌*◌, ◌<◌, ◌≤◌, Bool, true, false, nat_lt, ◌==◌, mul-add, length, if◌then◌else◌, Option, Some, None}
 use Rattle.std.proofs.lemmas.Bool.{eqb-true, ne_eqb}
-use Rattle.roster_case.specs.declared.choice.Shift.{Shift}
-use Rattle.roster_case.specs.declared.rules.Border.{Border}
-use Rattle.roster_case.specs.declared.rules.Border.TheVariants.{Free, Working}
-use Rattle.roster_case.specs.declared.rules.Limits.{Limits}
-use Rattle.roster_case.specs.Counting.{sum_below, one_if, count_below}
-use Rattle.roster_case.specs.Days.{Days, shift_on, is_shift, has_shift}
+use Rattle.roster_instance.specs.declared.Shift.{Shift}
+use Rattle.roster_instance.specs.declared.Border.{Border}
+use Rattle.roster_instance.specs.declared.Border.TheVariants.{Free, Working}
+use Rattle.roster_instance.specs.declared.Limits.{Limits}
+use Rattle.roster_instance.specs.Counting.{sum_below, one_if, count_below}
+use Rattle.roster_instance.specs.Days.{Days, shift_on, is_shift, has_shift}
 use Rattle.roster_case.specs.Penalties.{shift_run_before}
-use Rattle.roster_case.specs.RunLaw.{day_faults}
+use Rattle.roster_instance.specs.RunLaw.{day_faults}
 use Rattle.roster_case.specs.Runs.{run_faults, open_run}
-use Rattle.roster_case.specs.Small.{AreSmall}
+use Rattle.roster_instance.specs.Small.{AreSmall}
 use Rattle.roster_case.proofs.RunLaw.{no_faults, border, faults, grown}
 use Rattle.roster_case.proofs.RunSums.{sum_zero}
 

@@ -1,7 +1,7 @@
 -- A sum over runs is a sum over their last days: at most one run reaches a day.
 use Rattle.std.proofs.Common.{◌≡◌, refl, ap, ◌∙◌, arith, ℕ, zero, suc, ◌+◌, ◌-◌, ◌<◌, ◌≤◌, Bool, true, false, not, ◌&&◌, ◌||◌, nat_lt, if◌then◌else◌}
 use Rattle.std.proofs.lemmas.Bool.{lt-ltb, le-ltb}
-use Rattle.roster_case.specs.Counting.{sum_below, all_below}
+use Rattle.roster_instance.specs.Counting.{sum_below, all_below}
 use Rattle.roster_case.specs.Runs.{all_between, is_run, sum_over_runs}
 
 -- ---- sums

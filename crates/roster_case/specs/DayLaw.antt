@@ -1,8 +1,8 @@
 -- How the worked and the split weekends grow by one day: they change on a Saturday and on a Sunday only. `before` says
 -- whether the day before is worked, `now` whether the new one is, and d is the number of the new one.
 use Rattle.std.specs.Prelude.{ℕ, ◌%◌, Bool, not, ◌&&◌, ◌==◌, if◌then◌else◌}
-use Rattle.roster_case.specs.Counting.{one_if}
-use Rattle.roster_case.specs.Days.{one_alone}
+use Rattle.roster_instance.specs.Counting.{one_if}
+use Rattle.roster_instance.specs.Days.{one_alone}
 
 abbrev pub is_saturday : ℕ → Bool
 is_saturday d = d % 7 == 5

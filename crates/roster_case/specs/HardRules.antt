@@ -4,22 +4,16 @@
 use Rattle.std.specs.Prelude.{◌≡◌, ℕ, ◌-◌, Bool, true, false, not, ◌==◌, nat_lt, List, [], ◌++◌, if◌then◌else◌, Option, Some, None, slice_index_or}
 use Rattle.std.specs.List.{list_any}
 use Rattle.std.specs.Option.{option_map_or}
-use Rattle.roster_case.specs.declared.choice.Choice.{Choice}
-use Rattle.roster_case.specs.declared.choice.Choice.TheVariants.{Off, Work}
-use Rattle.roster_case.specs.declared.choice.Shift.{Shift}
-use Rattle.roster_case.specs.declared.choice.Skill.{Skill}
+use Rattle.roster_instance.specs.declared.Choice.{Choice}
+use Rattle.roster_instance.specs.declared.Choice.TheVariants.{Off, Work}
+use Rattle.roster_instance.specs.declared.Shift.{Shift}
+use Rattle.roster_instance.specs.declared.Skill.{Skill}
 use Rattle.roster_case.specs.declared.fault.HardFault.{HardFault}
 use Rattle.roster_case.specs.declared.fault.HardFault.TheVariants.{H2, H3, H4}
-use Rattle.roster_case.specs.Days.{Days, shift_on}
-use Rattle.roster_case.specs.Faults.{fault_if, below, is_none_of}
-use Rattle.roster_case.specs.Meaning.{Meaning, day_count, shift_count, skill_count, nurse_count, shift_at, skill_at, nurse_at, past_of, need, last_shift}
-use Rattle.roster_case.specs.Rosters.{Rows, choice_on, row_of, days_of_nurse, cover}
-
--- the first shift forbids the second on the next day, by the lines of successions
-abbrev pub forbids : List (Option (List Bool)) → Option Shift → Option Shift → Bool
-forbids successions (Some s) (Some t) = option_map_or (λ line. slice_index_or line t.0 false) (slice_index_or successions s.0 None) false
-forbids successions (Some s) None = false
-forbids successions None next = false
+use Rattle.roster_instance.specs.Days.{Days, shift_on}
+use Rattle.roster_instance.specs.Faults.{fault_if, below, is_none_of}
+use Rattle.roster_instance.specs.Meaning.{Meaning, day_count, forbids, shift_count, skill_count, nurse_count, shift_at, skill_at, nurse_at, past_of, need, last_shift}
+use Rattle.roster_instance.specs.Rosters.{Rows, choice_on, row_of, days_of_nurse, cover}
 
 -- the shift before a day: on day 0 the history's last
 abbrev pub shift_before : Option Shift → Days → ℕ → Option Shift

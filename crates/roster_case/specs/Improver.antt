@@ -1,10 +1,10 @@
 -- The improver: steps, rounds, runs, and the log of a run (our own).
 use Rattle.std.specs.Prelude.{ℕ, zero, suc, ◌+◌, Bool, true, false, ◌&&◌, nat_lt, if◌then◌else◌, List, [], ◌∷◌, ◌++◌, codes, decimal, Option, Some, None}
 use Rattle.std.specs.List.{fold, range_with_len}
-use Rattle.roster_case.specs.Choices.{same_choice}
-use Rattle.roster_case.specs.Meaning.{Meaning, nurse_count, nurse_name}
+use Rattle.roster_instance.specs.Choices.{same_choice}
+use Rattle.roster_instance.specs.Meaning.{Meaning, nurse_count, nurse_name}
 use Rattle.roster_case.specs.Penalties.{penalty}
-use Rattle.roster_case.specs.Rosters.{Row, Rows, with_row}
+use Rattle.roster_instance.specs.Rosters.{Row, Rows, with_row}
 use Rattle.roster_case.specs.Rows.{best_row}
 
 abbrev pub same_row : Row → Row → Bool

@@ -1,14 +1,14 @@
 -- The penalties of the soft rules with their weights, and the penalty of a roster (INRC-II; totals and weekends are counted
 -- once, at the end of the horizon, with the history's: our profile).
 use Rattle.std.specs.Prelude.{ℕ, ◌+◌, ◌-◌, ◌*◌, Bool, false, ◌==◌, if◌then◌else◌, length, Option, Some, None}
-use Rattle.roster_case.specs.declared.choice.Shift.{Shift}
+use Rattle.roster_instance.specs.declared.Shift.{Shift}
 use Rattle.roster_case.specs.declared.penalties.Costs.{Costs}
-use Rattle.roster_case.specs.declared.rules.Border.{Border}
-use Rattle.roster_case.specs.declared.rules.Border.TheVariants.{Free, Working}
-use Rattle.roster_case.specs.Counting.{sum_below}
-use Rattle.roster_case.specs.Days.{Days, shift_on, works, is_off, has_shift, days_worked, worked_weekends, split_weekends}
-use Rattle.roster_case.specs.Meaning.{Meaning, day_count, shift_count, skill_count, nurse_count, run_of_shift, past_of, contract_of, need, is_wished_off}
-use Rattle.roster_case.specs.Rosters.{Rows, days_of_nurse, cover}
+use Rattle.roster_instance.specs.declared.Border.{Border}
+use Rattle.roster_instance.specs.declared.Border.TheVariants.{Free, Working}
+use Rattle.roster_instance.specs.Counting.{sum_below}
+use Rattle.roster_instance.specs.Days.{Days, shift_on, works, is_off, has_shift, days_worked, worked_weekends, split_weekends}
+use Rattle.roster_instance.specs.Meaning.{Meaning, day_count, shift_count, skill_count, nurse_count, run_of_shift, past_of, contract_of, need, is_wished_off}
+use Rattle.roster_instance.specs.Rosters.{Rows, days_of_nurse, cover}
 use Rattle.roster_case.specs.Runs.{run_faults}
 
 -- ---- staffing: 30 for each nurse missing to the optimum of a day, shift and skill

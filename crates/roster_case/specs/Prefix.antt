@@ -1,20 +1,17 @@
 -- What the first days of a row owe, and the five numbers on which their further costs depend (our own, for the search).
 use Rattle.std.specs.Prelude.{ℕ, ◌+◌, length, min, max, Option, Some, None}
-use Rattle.roster_case.specs.declared.choice.Shift.{Shift}
-use Rattle.roster_case.specs.declared.rules.Limits.{Limits}
-use Rattle.roster_case.specs.Days.{Days, works, is_off, has_shift}
+use Rattle.roster_instance.specs.declared.Shift.{Shift}
+use Rattle.roster_instance.specs.declared.Limits.{Limits}
+use Rattle.roster_instance.specs.Days.{Days, works, is_off, has_shift}
 use Rattle.roster_case.specs.HardRules.{shift_before}
-use Rattle.roster_case.specs.Meaning.{Meaning, run_of_shift, past_of, contract_of, last_shift}
+use Rattle.roster_instance.specs.Meaning.{Meaning, run_of_shift, past_of, contract_of, last_shift}
+use Rattle.roster_instance.specs.Sizes.{cap}
 use Rattle.roster_case.specs.Penalties.{free_before, worked_before, shift_run_before, working_runs, shift_runs, free_runs, split, total_of, weekends_of, extra, weekends_above}
 use Rattle.roster_case.specs.Runs.{open_run}
 
 -- a nurse's own cost so far, without the missing assignments: the last of these days is the horizon
 unfoldable pub due : Meaning → ℕ → Days → ℕ
 due c n days = working_runs c n days + shift_runs c n days + free_runs c n days + split c n days + extra c n (total_of c n days) + weekends_above c n days
-
--- beyond its cap a run costs the same
-abbrev pub cap : Limits → ℕ
-cap l = max l.least l.greatest
 
 -- the last shift, the run of working or free days that ends these days, the run of that shift, the assignments and the
 -- worked weekends with the history's, each up to its cap

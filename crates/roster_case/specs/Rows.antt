@@ -1,10 +1,10 @@
 -- A nurse's allowed rows, and the best of them (our own: the first of least penalty, the other rows fixed).
 use Rattle.std.specs.Prelude.{◌≡◌, ℕ, Bool, ◌&&◌, ◌<◌, ◌≤◌, nat_lt, if◌then◌else◌, List, [], ◌∷◌, ◌++◌, All, filter, Option, Some, None}
-use Rattle.roster_case.specs.Choices.{all_choices, all_rows}
+use Rattle.roster_instance.specs.Choices.{all_choices, all_rows}
 use Rattle.roster_case.specs.HardRules.{keeps_hard}
-use Rattle.roster_case.specs.Meaning.{Meaning, day_count}
+use Rattle.roster_instance.specs.Meaning.{Meaning, day_count}
 use Rattle.roster_case.specs.Penalties.{penalty}
-use Rattle.roster_case.specs.Rosters.{Row, Rows, with_row, is_row_of}
+use Rattle.roster_instance.specs.Rosters.{Row, Rows, with_row, is_row_of}
 
 -- all rows, in order, with which the roster keeps the hard rules
 abbrev pub allowed_rows : Meaning → Rows → ℕ → List Row

@@ -2,14 +2,13 @@
 
 ghost use Rattle.std.specs.Prelude.{◌≡◌, ◌<◌, ◌≤◌, true};
 ghost use Rattle.roster_case.specs.Penalties.{costs_of, total_cost};
-ghost use Rattle.roster_case.specs.Rosters.{fits};
+ghost use Rattle.roster_instance.specs.Rosters.{fits};
 
-use crate::case::Case;
 use crate::penalties::Costs;
-use crate::roster::Roster;
 use crate::runs::{free_runs, shift_runs, working_runs};
 use crate::staffing::staffing;
 use crate::weekends::{split, totals, undesired, weekends_above};
+use roster_instance::{Case, Roster};
 
 /// What a roster costs by each soft rule. The hard rules are not asked for. Each row, and the nurses of each day, are gone
 /// through once for each count, whatever runs there are.

@@ -2,16 +2,13 @@
 
 ghost use Rattle.std.specs.Prelude.{◌≡◌, ◌==◌, ◌<◌, true, Option};
 ghost use Rattle.std.specs.List.{list_any};
-ghost use Rattle.roster_case.specs.Faults.{below, first_of};
-ghost use Rattle.roster_case.specs.HardRules.{forbids, hard_faults, is_able, shift_before, skill_fault, skill_faults, staffing_fault, staffing_faults, succession_fault, succession_faults};
-ghost use Rattle.roster_case.specs.Meaning.{day_count, last_shift, nurse_at, nurse_count, past_of, shift_at, shift_count, skill_at, skill_count};
-ghost use Rattle.roster_case.specs.Rosters.{choice_on, cover, days_of_nurse, fits, row_of};
+ghost use Rattle.roster_instance.specs.Faults.{below, first_of};
+ghost use Rattle.roster_case.specs.HardRules.{hard_faults, is_able, shift_before, skill_fault, skill_faults, staffing_fault, staffing_faults, succession_fault, succession_faults};
+ghost use Rattle.roster_instance.specs.Meaning.{day_count, last_shift, nurse_at, nurse_count, past_of, shift_at, shift_count, skill_at, skill_count, forbids};
+ghost use Rattle.roster_instance.specs.Rosters.{choice_on, cover, days_of_nurse, fits, row_of};
 
-use crate::case::Case;
-use crate::choice::{Choice, Shift, Skill};
 use crate::fault::HardFault;
-use crate::roster::Roster;
-use crate::rules::Border;
+use roster_instance::{Border, Case, Choice, Roster, Shift, Skill};
 
 /// The first breach of the hard rules: first too few nurses, by day, shift and skill; then forbidden successions, by nurse and
 /// day; then skills that a nurse lacks, by nurse and day. None where the roster keeps them all.

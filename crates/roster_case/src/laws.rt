@@ -1,13 +1,13 @@
 //! Laws of the definitions, for the crates that go through a row day by day.
 
 ghost use Rattle.std.specs.Prelude.{◌≡◌, ℕ, suc, ◌+◌, ◌-◌, Bool, [], ◌∷◌, ◌++◌, length, Option, is_some, if◌then◌else◌};
-ghost use Rattle.roster_case.specs.Counting.{one_if};
+ghost use Rattle.roster_instance.specs.Counting.{one_if};
 ghost use Rattle.roster_case.specs.DayLaw.{splits_more, weekends_more};
-ghost use Rattle.roster_case.specs.Days.{Days, days_worked, shift_on, split_weekends, worked_weekends, works};
-ghost use Rattle.roster_case.specs.RunLaw.{day_faults};
+ghost use Rattle.roster_instance.specs.Days.{Days, days_worked, shift_on, split_weekends, worked_weekends, works};
+ghost use Rattle.roster_instance.specs.RunLaw.{day_faults};
 ghost use Rattle.roster_case.specs.Runs.{open_run, run_faults};
-ghost use Rattle.roster_case.specs.declared.choice.Shift.{Shift};
-ghost use Rattle.roster_case.specs.declared.rules.Limits.{Limits};
+ghost use Rattle.roster_instance.specs.declared.Shift.{Shift};
+ghost use Rattle.roster_instance.specs.declared.Limits.{Limits};
 
 /// The faults of the runs of a kind of days, and the run that is open, after one day more. They begin with no fault and
 /// with the run of the border.

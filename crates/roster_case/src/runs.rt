@@ -1,15 +1,13 @@
 //! The runs of a row: how far they miss what a contract or a shift asks for.
 
 ghost use Rattle.std.specs.Prelude.{◌≡◌, ◌+◌, ◌*◌, ◌<◌, ◌≤◌, if◌then◌else◌, length};
-ghost use Rattle.roster_case.specs.Choices.{days_of, shift_of};
-ghost use Rattle.roster_case.specs.Days.{shift_on};
+ghost use Rattle.roster_instance.specs.Choices.{days_of, shift_of};
+ghost use Rattle.roster_instance.specs.Days.{shift_on};
 ghost use Rattle.roster_case.specs.Kinds.{is_of};
 ghost use Rattle.roster_case.specs.Penalties.{free_before, free_runs, shift_run_before, shift_runs, runs_of_shift, worked_before, working_runs};
 ghost use Rattle.roster_case.specs.Runs.{run_faults};
 
-use crate::case::Case;
-use crate::choice::{Choice, Shift};
-use crate::rules::{Border, Limits};
+use roster_instance::{Border, Case, Choice, Limits, Shift};
 
 /// A kind of days that runs are made of.
 #[derive(Clone, Copy)]

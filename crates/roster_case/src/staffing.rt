@@ -2,13 +2,11 @@
 
 ghost use Rattle.std.specs.Prelude.{◌≡◌, ◌+◌, ◌*◌, ◌<◌, ◌≤◌, true, length, slice_index_or, slice_set};
 ghost use Rattle.roster_case.specs.Covers.{AreCovers};
-ghost use Rattle.roster_case.specs.Meaning.{shift_count, skill_count};
+ghost use Rattle.roster_instance.specs.Meaning.{shift_count, skill_count};
 ghost use Rattle.roster_case.specs.Penalties.{staffing, staffing_of_day};
-ghost use Rattle.roster_case.specs.Rosters.{fits};
+ghost use Rattle.roster_instance.specs.Rosters.{fits};
 
-use crate::case::Case;
-use crate::choice::{Choice, Shift, Skill};
-use crate::roster::{Roster, choice_on};
+use roster_instance::{Case, Choice, Roster, Shift, Skill, choice_on};
 
 /// 30 points for each nurse missing to the optimum of a day, shift and skill.
 #[tactic(auto, using(crate::proofs::CountLemmas::sum_more))]

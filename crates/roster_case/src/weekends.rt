@@ -1,13 +1,12 @@
 //! The worked days and the weekends of a row, and the requests against it.
 
 ghost use Rattle.std.specs.Prelude.{◌≡◌, ◌*◌, ◌<◌, ◌≤◌, length};
-ghost use Rattle.roster_case.specs.Choices.{days_of};
-ghost use Rattle.roster_case.specs.Days.{days_worked, one_alone, split_weekends, worked_weekends, works};
-ghost use Rattle.roster_case.specs.Meaning.{nurse_count};
+ghost use Rattle.roster_instance.specs.Choices.{days_of};
+ghost use Rattle.roster_instance.specs.Days.{days_worked, one_alone, split_weekends, worked_weekends, works};
+ghost use Rattle.roster_instance.specs.Meaning.{nurse_count};
 ghost use Rattle.roster_case.specs.Penalties.{extra, is_undesired, missing, split, totals, undesired, weekends_above};
 
-use crate::case::Case;
-use crate::choice::{Choice, Shift};
+use roster_instance::{Case, Choice, Shift};
 
 /// 10 points for each day with a shift that a request names.
 pub(crate) fn undesired(case: &Case, nurse: usize, row: &[Choice]) -> u64

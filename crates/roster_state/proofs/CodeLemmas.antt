@@ -2,7 +2,7 @@
 use Rattle.std.proofs.Common.{◌≡◌, ◌∙◌, ◌+◌, ◌-◌, ◌*◌, ◌/◌, ◌%◌, ◌<◌, ◌≤◌, ℕ, zero, suc, Option, Some, None, ap, ap₂, arith, cond, le-ltb, lt-ltb, mul-pos, mul_comm, mul_right_comm, refl, subst, sym, true}
 use Rattle.std.proofs.lemmas.Bool.{and_from, and_parts, ltb-true}
 use Rattle.std.proofs.lemmas.Nat.{div-add-mod', div-mul-add, div_below, mod-mul-add, mod_below, mul-add-lt}
-use Rattle.roster_case.specs.declared.choice.Shift.{Shift}
+use Rattle.roster_case.specs.declared.Shift.{Shift}
 use Rattle.roster_case.specs.Meaning.{Meaning, shift_at}
 use Rattle.roster_case.specs.Prefix.{Summary}
 use Rattle.roster_case.specs.Sizes.{max_states, state_count}

@@ -2,8 +2,8 @@
 -- one that is worked.
 use Rattle.std.proofs.Common.{◌≡◌, ◌≢◌, ◌⊎◌, refl, sym, ap, arith, ℕ, zero, suc, ◌+◌, ◌*◌, ◌<◌, true, false, if◌then◌else◌, Option, Some, None, IfSome, inl, inr}
 use Rattle.std.proofs.lemmas.Bool.{cases_eq, eq-eqb, ne_eqb}
-use Rattle.roster_case.specs.declared.choice.Shift.{Shift}
-use Rattle.roster_case.specs.declared.rules.Limits.{Limits}
+use Rattle.roster_case.specs.declared.Shift.{Shift}
+use Rattle.roster_case.specs.declared.Limits.{Limits}
 use Rattle.roster_case.specs.Counting.{sum_below}
 use Rattle.roster_case.specs.Days.{is_shift}
 use Rattle.roster_case.specs.Meaning.{Meaning, run_of_shift, shift_count}

@@ -1,7 +1,7 @@
 -- The start of the sum law: what is owed on no days.
 use Rattle.std.proofs.Common.{◌≡◌, refl, arith, ℕ, ◌+◌, ◌-◌, ◌*◌, Bool, true, false, [], if◌then◌else◌}
-use Rattle.roster_case.specs.declared.rules.Border.{Border}
-use Rattle.roster_case.specs.declared.rules.ContractRules.{ContractRules}
+use Rattle.roster_case.specs.declared.Border.{Border}
+use Rattle.roster_case.specs.declared.ContractRules.{ContractRules}
 use Rattle.roster_case.specs.Days.{works, is_off, has_shift, split_weekends}
 use Rattle.roster_case.specs.Meaning.{Meaning, contract_of, past_of, run_of_shift, shift_count}
 use Rattle.roster_case.specs.Penalties.{free_before, runs_of_shift, shift_run_before, split, worked_before}

@@ -1,8 +1,8 @@
 -- A step costs little, where the numbers of an instance are small: one run of working days or of days off ends and the other
 -- begins, the run of one shift ends and that of another goes on, and the rest counts once at most.
 use Rattle.std.proofs.Common.{refl, arith, ℕ, ◌+◌, ◌-◌, ◌*◌, ◌≤◌, Bool, true, false, not, nat_le, nat_lt, if◌then◌else◌, Option, Some, None, is_some}
-use Rattle.roster_case.specs.declared.choice.Shift.{Shift}
-use Rattle.roster_case.specs.declared.rules.Limits.{Limits}
+use Rattle.roster_case.specs.declared.Shift.{Shift}
+use Rattle.roster_case.specs.declared.Limits.{Limits}
 use Rattle.roster_case.specs.Counting.{one_if, sum_below}
 use Rattle.roster_case.specs.DayLaw.{is_saturday, is_sunday, splits_more, weekends_more}
 use Rattle.roster_case.specs.Days.{is_shift, one_alone}

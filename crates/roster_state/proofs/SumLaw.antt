@@ -2,15 +2,16 @@
 -- owed more then; the end adds the missing assignments.
 use Rattle.std.proofs.Common.{◌≡◌, ◌⊎◌, refl, sym, ap, ◌∙◌, arith, ℕ, zero, suc, ◌+◌, ◌-◌, ◌*◌, ◌<◌, ◌≤◌, Bool, true, false, not, min, ◌&&◌, nat_le, mul-add, [], ◌∷◌, ◌++◌, length, if◌then◌else◌, Option, Some, None, is_some, inl, inr}
 use Rattle.std.proofs.lemmas.Bool.{cases_lt, eq-eqb, le-leb, lt-leb, ne_eqb}
-use Rattle.roster_case.specs.declared.choice.Shift.{Shift}
-use Rattle.roster_case.specs.declared.rules.Limits.{Limits}
+use Rattle.roster_case.specs.declared.Shift.{Shift}
+use Rattle.roster_case.specs.declared.Limits.{Limits}
 use Rattle.roster_case.specs.Counting.{one_if}
 use Rattle.roster_case.specs.DayLaw.{is_saturday, is_sunday, splits_more, weekends_more}
 use Rattle.roster_case.specs.Days.{Days, shift_on, is_shift, works, worked_weekends, split_weekends}
 use Rattle.roster_case.specs.HardRules.{shift_before}
 use Rattle.roster_case.specs.Meaning.{Meaning, contract_of, last_shift, past_of, run_of_shift, shift_count}
 use Rattle.roster_case.specs.Penalties.{extra, free_before, free_runs, missing, own_cost, runs_of_shift, shift_run_before, shift_runs, split, total_of, weekends_above, weekends_of, worked_before, working_runs}
-use Rattle.roster_case.specs.Prefix.{Summary, cap, due, last_of, run_of, shift_run_of, summary_of}
+use Rattle.roster_case.specs.Prefix.{Summary, due, last_of, run_of, shift_run_of, summary_of}
+use Rattle.roster_case.specs.Sizes.{cap}
 use Rattle.roster_case.specs.RunLaw.{day_faults}
 use Rattle.roster_case.proofs.DayMore.{length_more, shift_of_it}
 use Rattle.roster_case.proofs.RowLaw.{row_faults, row_grown}

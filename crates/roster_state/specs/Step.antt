@@ -1,15 +1,16 @@
 -- One day more, seen from the summary of the days before it (our own, for the search). Of each run that may be open there
 -- is one number: the summary's where its kind is that of the last day, else 0.
 use Rattle.std.specs.Prelude.{◌≡◌, ℕ, ◌+◌, ◌*◌, ◌<◌, not, true, false, length, min, nat_le, if◌then◌else◌, Option, Some, None, is_some}
-use Rattle.roster_case.specs.declared.choice.Shift.{Shift}
-use Rattle.roster_case.specs.declared.rules.Limits.{Limits}
+use Rattle.roster_case.specs.declared.Shift.{Shift}
+use Rattle.roster_case.specs.declared.Limits.{Limits}
 use Rattle.roster_case.specs.Counting.{one_if, sum_below}
 use Rattle.roster_case.specs.DayLaw.{splits_more, weekends_more}
 use Rattle.roster_case.specs.Days.{Days, is_shift, shift_on}
-use Rattle.roster_case.specs.HardRules.{forbids, shift_before}
-use Rattle.roster_case.specs.Meaning.{Meaning, contract_of, last_shift, past_of, run_of_shift, shift_count}
+use Rattle.roster_case.specs.HardRules.{shift_before}
+use Rattle.roster_case.specs.Meaning.{Meaning, contract_of, last_shift, past_of, run_of_shift, shift_count, forbids}
 use Rattle.roster_case.specs.Penalties.{missing}
-use Rattle.roster_case.specs.Prefix.{Summary, cap}
+use Rattle.roster_case.specs.Prefix.{Summary}
+use Rattle.roster_case.specs.Sizes.{cap}
 use Rattle.roster_case.specs.RunLaw.{day_faults}
 
 -- ---- the runs that are open

@@ -2,12 +2,12 @@
 
 ghost use Rattle.std.specs.Prelude.{◌≡◌, ◌↔◌, ◌+◌, ◌<◌, ◌≤◌, ◌++◌, ◌∷◌, [], true, false, length, IfSome, IsNone, None, Some, if◌then◌else◌, is_some, min};
 ghost use Rattle.roster_case.specs.Days.{Days};
-ghost use Rattle.roster_case.specs.HardRules.{forbids};
-ghost use Rattle.roster_case.specs.Meaning.{contract_of, day_count, nurse_count, past_of, run_of_shift, shift_count};
+ghost use Rattle.roster_case.specs.Meaning.{contract_of, day_count, nurse_count, past_of, run_of_shift, shift_count, forbids};
 ghost use Rattle.roster_case.specs.Penalties.{own_cost};
 ghost use Rattle.roster_case.specs.DayLaw.{splits_more, weekends_more};
 ghost use Rattle.roster_case.specs.Small.{IsSmallPast};
-ghost use Rattle.roster_case.specs.Prefix.{cap, due, summary_of};
+ghost use Rattle.roster_case.specs.Prefix.{due, summary_of};
+ghost use Rattle.roster_case.specs.Sizes.{cap};
 ghost use Rattle.roster_state.specs.Codes.{fits, sizes_of};
 ghost use Rattle.roster_state.specs.Step.{end_cost_of, ended, free_more, free_run, next_of, run_of, shifts_more, split_more, step_cost, step_of, total_more, weekend_more, worked, working_more, working_run};
 

@@ -1,7 +1,7 @@
 use Rattle.std.proofs.Common.{◌≡◌, ◌*◌, ◌+◌, ◌≤◌}
-use Rattle.roster_case.specs.Counting.{sum_below}
+use Rattle.roster_instance.specs.Counting.{sum_below}
 use Rattle.roster_case.specs.Penalties.{free_runs, shift_runs, split, staffing, totals, undesired, weekends_above, working_runs}
-use Rattle.roster_case.specs.Rosters.{days_of_nurse}
+use Rattle.roster_instance.specs.Rosters.{days_of_nurse}
 use Rattle.roster_case.proofs.costing.by_rule.Given as goal
 
 abbrev pub invariant-loop-nurse : goal.invariant-loop-nurse

@@ -1,7 +1,7 @@
 use Rattle.std.proofs.Common.{◌≡◌, []}
-use Rattle.roster_case.specs.Faults.{below}
+use Rattle.roster_instance.specs.Faults.{below}
 use Rattle.roster_case.specs.HardRules.{staffing_fault}
-use Rattle.roster_case.specs.Meaning.{shift_count, skill_count}
+use Rattle.roster_instance.specs.Meaning.{shift_count, skill_count}
 use Rattle.roster_case.proofs.hard.first_understaffed.Given as goal
 
 abbrev pub invariant-loop-day : goal.invariant-loop-day

@@ -1,7 +1,7 @@
 use Rattle.std.proofs.Common.{◌≡◌, []}
-use Rattle.roster_case.specs.Faults.{below}
+use Rattle.roster_instance.specs.Faults.{below}
 use Rattle.roster_case.specs.HardRules.{skill_fault}
-use Rattle.roster_case.specs.Meaning.{day_count}
+use Rattle.roster_instance.specs.Meaning.{day_count}
 use Rattle.roster_case.proofs.hard.first_unskilled.Given as goal
 
 abbrev pub invariant-loop-nurse : goal.invariant-loop-nurse

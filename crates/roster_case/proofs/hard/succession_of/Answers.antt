@@ -1,7 +1,6 @@
 use Rattle.std.proofs.Common.{◌∙◌, ap₂, arith, sym}
-use Rattle.roster_case.specs.HardRules.{forbids}
-use Rattle.roster_case.specs.Meaning.{last_shift, past_of}
-use Rattle.roster_case.specs.Rosters.{days_of_nurse}
+use Rattle.roster_instance.specs.Meaning.{last_shift, past_of, forbids}
+use Rattle.roster_instance.specs.Rosters.{days_of_nurse}
 use Rattle.roster_case.specs.declared.fault.HardFault.TheVariants.{H3}
 use Rattle.roster_case.proofs.HardLemmas.{below_first, below_more, first_where, none_where, shift_before_more, shift_on_row}
 use Rattle.roster_case.proofs.hard.succession_of.Goals as goal

@@ -1,8 +1,8 @@
 use Rattle.std.proofs.Common.{◌≡◌, []}
-use Rattle.roster_case.specs.Faults.{below}
+use Rattle.roster_instance.specs.Faults.{below}
 use Rattle.roster_case.specs.HardRules.{shift_before, succession_fault}
-use Rattle.roster_case.specs.Meaning.{last_shift, past_of}
-use Rattle.roster_case.specs.Rosters.{days_of_nurse}
+use Rattle.roster_instance.specs.Meaning.{last_shift, past_of}
+use Rattle.roster_instance.specs.Rosters.{days_of_nurse}
 use Rattle.roster_case.proofs.hard.succession_of.Given as goal
 
 abbrev pub invariant-loop-day : goal.invariant-loop-day

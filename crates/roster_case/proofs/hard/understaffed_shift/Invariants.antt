@@ -1,5 +1,5 @@
 use Rattle.std.proofs.Common.{◌≡◌, []}
-use Rattle.roster_case.specs.Faults.{below}
+use Rattle.roster_instance.specs.Faults.{below}
 use Rattle.roster_case.specs.HardRules.{staffing_fault}
 use Rattle.roster_case.proofs.hard.understaffed_shift.Given as goal
 

@@ -1,7 +1,7 @@
 use Rattle.std.proofs.Common.{◌≡◌, ◌∙◌, ap, ap₂, arith, not, sym, true}
 use Rattle.roster_case.specs.HardRules.{is_able}
-use Rattle.roster_case.specs.Meaning.{nurse_at}
-use Rattle.roster_case.specs.Rosters.{choice_on, row_of}
+use Rattle.roster_instance.specs.Meaning.{nurse_at}
+use Rattle.roster_instance.specs.Rosters.{choice_on, row_of}
 use Rattle.roster_case.specs.declared.fault.HardFault.TheVariants.{H4}
 use Rattle.roster_case.proofs.HardLemmas.{below_first, first_where}
 use Rattle.roster_case.proofs.hard.unskilled_of.Goals as goal

@@ -1,5 +1,5 @@
 use Rattle.std.proofs.Common.{◌≡◌, []}
-use Rattle.roster_case.specs.Faults.{below}
+use Rattle.roster_instance.specs.Faults.{below}
 use Rattle.roster_case.specs.HardRules.{skill_fault}
 use Rattle.roster_case.proofs.hard.unskilled_of.Given as goal
 

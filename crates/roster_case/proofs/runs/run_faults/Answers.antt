@@ -1,6 +1,6 @@
 use Rattle.std.proofs.Common.{◌≡◌, ◌∙◌, ℕ, Bool, ap, arith, sym}
-use Rattle.roster_case.specs.Choices.{days_of}
-use Rattle.roster_case.specs.Days.{shift_on}
+use Rattle.roster_instance.specs.Choices.{days_of}
+use Rattle.roster_instance.specs.Days.{shift_on}
 use Rattle.roster_case.specs.Kinds.{is_of}
 use Rattle.roster_case.proofs.CountLemmas.{faults_more, run_more, shift_of_day}
 use Rattle.roster_case.proofs.RunLaw.{border, no_faults}

@@ -1,6 +1,6 @@
 use Rattle.std.proofs.Common.{◌≡◌, ◌+◌, ◌*◌, ◌≤◌}
-use Rattle.roster_case.specs.Choices.{days_of}
-use Rattle.roster_case.specs.Days.{shift_on}
+use Rattle.roster_instance.specs.Choices.{days_of}
+use Rattle.roster_instance.specs.Days.{shift_on}
 use Rattle.roster_case.specs.Kinds.{is_of}
 use Rattle.roster_case.specs.Runs.{open_run, run_faults}
 use Rattle.roster_case.proofs.runs.run_faults.Given as goal

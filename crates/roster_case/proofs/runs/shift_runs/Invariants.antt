@@ -1,6 +1,6 @@
 use Rattle.std.proofs.Common.{◌≡◌, ◌*◌, ◌≤◌}
-use Rattle.roster_case.specs.Choices.{days_of}
-use Rattle.roster_case.specs.Counting.{sum_below}
+use Rattle.roster_instance.specs.Choices.{days_of}
+use Rattle.roster_instance.specs.Counting.{sum_below}
 use Rattle.roster_case.specs.Penalties.{runs_of_shift}
 use Rattle.roster_case.proofs.runs.shift_runs.Given as goal
 

@@ -1,10 +1,10 @@
 use Rattle.std.proofs.Common.{◌≡◌, ◌+◌, ◌*◌, ◌<◌, ◌≤◌, ◌∙◌, ℕ, List, ap, arith, length, refl, slice_index_or, subst, sym, take}
 use Rattle.std.proofs.lemmas.List.{length-set}
 use Rattle.roster_case.specs.Covers.{AreCovers}
-use Rattle.roster_case.specs.Meaning.{nurse_count}
-use Rattle.roster_case.specs.Rosters.{choice_on, row_of}
+use Rattle.roster_instance.specs.Meaning.{nurse_count}
+use Rattle.roster_instance.specs.Rosters.{choice_on, row_of}
 use Rattle.roster_case.proofs.CoverLemmas.{counted_off, counted_work, few_more, none_counted}
-use Rattle.roster_case.proofs.RosterFacts.{has_row, works-of_case}
+use Rattle.roster_instance.proofs.RosterFacts.{has_row, works-of_case}
 use Rattle.roster_case.proofs.staffing.covers.Goals as goal
 use Rattle.roster_case.proofs.staffing.covers.Goals.{in-Work, in_default}
 

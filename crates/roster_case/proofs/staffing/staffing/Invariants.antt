@@ -1,5 +1,5 @@
 use Rattle.std.proofs.Common.{◌≡◌, ◌*◌, ◌≤◌}
-use Rattle.roster_case.specs.Counting.{sum_below}
+use Rattle.roster_instance.specs.Counting.{sum_below}
 use Rattle.roster_case.specs.Penalties.{staffing_of_day}
 use Rattle.roster_case.proofs.staffing.staffing.Given as goal
 

@@ -1,6 +1,6 @@
 use Rattle.std.proofs.Common.{◌≡◌, ◌*◌, ◌+◌, ◌≤◌}
-use Rattle.roster_case.specs.Counting.{sum_below}
-use Rattle.roster_case.specs.Meaning.{skill_count}
+use Rattle.roster_instance.specs.Counting.{sum_below}
+use Rattle.roster_instance.specs.Meaning.{skill_count}
 use Rattle.roster_case.specs.Penalties.{staffing_of_place}
 use Rattle.roster_case.proofs.staffing.staffing_of_day.Given as goal
 

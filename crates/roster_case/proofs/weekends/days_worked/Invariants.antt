@@ -1,7 +1,7 @@
 use Rattle.std.proofs.Common.{◌≡◌, ◌≤◌}
-use Rattle.roster_case.specs.Choices.{days_of}
-use Rattle.roster_case.specs.Counting.{count_below}
-use Rattle.roster_case.specs.Days.{works}
+use Rattle.roster_instance.specs.Choices.{days_of}
+use Rattle.roster_instance.specs.Counting.{count_below}
+use Rattle.roster_instance.specs.Days.{works}
 use Rattle.roster_case.proofs.weekends.days_worked.Given as goal
 
 abbrev pub invariant-loop-choice : goal.invariant-loop-choice

@@ -1,7 +1,7 @@
 use Rattle.std.proofs.Common.{◌≡◌, ◌≤◌, ◌+◌}
-use Rattle.roster_case.specs.Choices.{days_of}
-use Rattle.roster_case.specs.Counting.{count_below}
-use Rattle.roster_case.specs.Days.{one_alone, saturday, works}
+use Rattle.roster_instance.specs.Choices.{days_of}
+use Rattle.roster_instance.specs.Counting.{count_below}
+use Rattle.roster_instance.specs.Days.{one_alone, saturday, works}
 use Rattle.roster_case.proofs.weekends.split_weekends.Given as goal
 
 abbrev pub invariant-loop-week : goal.invariant-loop-week

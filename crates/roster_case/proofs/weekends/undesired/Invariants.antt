@@ -1,7 +1,7 @@
 use Rattle.std.proofs.Common.{◌≡◌, ◌*◌, ◌≤◌, if◌then◌else◌}
-use Rattle.roster_case.specs.Choices.{days_of}
-use Rattle.roster_case.specs.Counting.{sum_below}
-use Rattle.roster_case.specs.Days.{shift_on}
+use Rattle.roster_instance.specs.Choices.{days_of}
+use Rattle.roster_instance.specs.Counting.{sum_below}
+use Rattle.roster_instance.specs.Days.{shift_on}
 use Rattle.roster_case.specs.Penalties.{is_undesired}
 use Rattle.roster_case.proofs.weekends.undesired.Given as goal
 

@@ -4,8 +4,8 @@ use Rattle.std.proofs.lemmas.List.{length-map}
 use Rattle.std.specs.List.{list_all}
 use Rattle.roster_case.specs.Choices.{days_of, shift_of}
 use Rattle.roster_case.specs.Days.{shift_on}
-use Rattle.roster_case.specs.HardRules.{forbids, shift_before}
-use Rattle.roster_case.specs.Meaning.{Meaning, day_count, last_shift, past_of}
+use Rattle.roster_case.specs.HardRules.{shift_before}
+use Rattle.roster_case.specs.Meaning.{Meaning, day_count, last_shift, past_of, forbids}
 use Rattle.roster_case.specs.Prefix.{due, summary_of}
 use Rattle.roster_case.specs.Rosters.{Row, is_choice_of, is_row_of}
 use Rattle.roster_state.proofs.RowLemmas.{forbidden_by, front, front_more, kept_more, length_front, not_both}

@@ -1,8 +1,8 @@
 use Rattle.std.proofs.Common.{◌≡◌, ◌+◌, ◌*◌, ◌<◌, ◌≤◌, false, true, ℕ, take}
 use Rattle.roster_case.specs.Choices.{days_of}
 use Rattle.roster_case.specs.Days.{shift_on}
-use Rattle.roster_case.specs.HardRules.{forbids, shift_before}
-use Rattle.roster_case.specs.Meaning.{last_shift, past_of}
+use Rattle.roster_case.specs.HardRules.{shift_before}
+use Rattle.roster_case.specs.Meaning.{last_shift, past_of, forbids}
 use Rattle.roster_case.specs.Prefix.{due, summary_of}
 use Rattle.roster_state.specs.Codes.{fits, sizes_of}
 use Rattle.roster_state.proofs.row.row_cost.Given as goal

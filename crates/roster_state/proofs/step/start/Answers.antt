@@ -1,6 +1,6 @@
 use Rattle.std.proofs.Common.{◌≡◌, ◌<◌, [], IfSome, subst, sym, true}
-use Rattle.roster_case.specs.declared.choice.Shift.{Shift}
-use Rattle.roster_case.specs.declared.rules.Past.{Past}
+use Rattle.roster_case.specs.declared.Shift.{Shift}
+use Rattle.roster_case.specs.declared.Past.{Past}
 use Rattle.roster_case.specs.Meaning.{last_shift, shift_count}
 use Rattle.roster_case.specs.Prefix.{Summary}
 use Rattle.roster_state.specs.Codes.{fits, sizes_of}

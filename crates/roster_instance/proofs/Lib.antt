@@ -1,0 +1,16 @@
+pub mod RosterFacts
+pub mod Sections
+pub mod TableLemmas
+pub mod NameLemmas
+mod LineLemmas
+mod SizeLemmas
+pub mod TableSteps
+pub mod WeekTableLemmas
+pub mod HistoryLemmas
+pub mod WishLemmas
+pub mod FlagLemmas
+pub mod ScenarioLemmas
+mod CaseLemmas
+mod FitLemmas
+mod SmallLemmas
+mod PastLemmas

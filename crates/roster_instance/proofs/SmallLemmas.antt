@@ -1,0 +1,125 @@
+-- A case whose bundle has small numbers has small numbers.
+use Rattle.std.proofs.Common.{ℕ, zero, suc, Bool, true, false, List, [], ◌∷◌, All, IfSome, Option, Some, None, arith, codes, cond, get_or, map}
+use Rattle.std.specs.Prelude.{find, option_map, unwrap_or}
+use Rattle.std.specs.Option.{option_map_or}
+use Rattle.std.specs.List.{range_with_len}
+use Rattle.std.proofs.lemmas.List.Elements.{All-head, All-tail}
+use Rattle.roster_text.specs.SmallNumbers.{AreSmallNeeds, AreSmallPairs, IsSmallContract, IsSmallLine, IsSmallPair, SaysSmallNumbers}
+use Rattle.roster_text.specs.declared.bundle.Bundle.{Bundle}
+use Rattle.roster_text.specs.declared.bundle.Contract.{Contract}
+use Rattle.roster_text.specs.declared.bundle.NurseHistory.{NurseHistory}
+use Rattle.roster_text.specs.declared.bundle.Pair.{Pair}
+use Rattle.roster_text.specs.declared.bundle.Requirement.{Requirement}
+use Rattle.roster_text.specs.declared.bundle.ShiftType.{ShiftType}
+use Rattle.roster_text.specs.declared.bundle.WeekData.{WeekData}
+use Rattle.roster_text.specs.declared.bundle.WeekPairs.{WeekPairs}
+use Rattle.roster_instance.specs.declared.rules.Border.TheVariants.{Free, Working}
+use Rattle.roster_instance.specs.declared.rules.Limits.{Limits}
+use Rattle.roster_instance.specs.declared.rules.Past.{Past}
+use Rattle.roster_instance.specs.Bundles.{Names, border_meant, contract_meant, limits_of, limits_of_week, line_meant, meaning_of, place_of_need, shift_named, week_meant}
+use Rattle.roster_instance.specs.Meaning.{WeekFacts, no_contract, no_limits, no_past, no_week}
+use Rattle.roster_instance.specs.Names.{found, nurse_names, reads, shift_names, skill_names}
+use Rattle.roster_instance.specs.Small.{AreSmall, HasSmallNumbers, HasSmallRules, IsSmallBorder, IsSmallPast}
+use Rattle.roster_instance.specs.Tables.{item_at, table_of}
+use Rattle.roster_instance.proofs.FitLemmas.{get_or_of_map}
+
+-- ---- lists and tables
+
+-- an element of a list that is made item by item
+get_or_of_items : {X Y : Type 0} (Q : X → Type 0) (P : Y → Type 0) (f : X → Y) (d : Y) → P d → ((x : X) → Q x → P (f x)) → (xs : List X) → All Q xs → (i : ℕ) → P (get_or (map f xs) i d)
+get_or_of_items Q P f d none each [] all i = none
+get_or_of_items Q P f d none each (x ∷ xs) all zero = each x (All-head Q x xs all)
+get_or_of_items Q P f d none each (x ∷ xs) all (suc i) = get_or_of_items Q P f d none each xs (All-tail Q x xs all) i
+
+find_of_items : {X : Type 0} (Q : X → Type 0) (test : X → Bool) (xs : List X) → All Q xs → IfSome (find test xs) Q
+find_of_items Q test [] all = tt
+find_of_items Q test (x ∷ xs) all = go (test x) (find_of_items Q test xs (All-tail Q x xs all))
+  where
+    go : (b : Bool) → IfSome (find test xs) Q → IfSome (cond b (Some x) (find test xs)) Q
+    go true later = All-head Q x xs all
+    go false later = later
+
+said_of : {X Y : Type 0} (Q : X → Type 0) (P : Y → Type 0) (says : X → Y) → ((x : X) → Q x → P (says x)) → (o : Option X) → IfSome o Q → IfSome (option_map says o) P
+said_of Q P says each None has = tt
+said_of Q P says each (Some x) has = each x has
+
+-- a cell of a table
+cell_of_items : {X Y : Type 0} (Q : X → Type 0) (P : Y → Type 0) (place : X → Option ℕ) (says : X → Y) (n : ℕ) → ((x : X) → Q x → P (says x)) → (xs : List X) → All Q xs → (k : ℕ) → IfSome (get_or (table_of place says n xs) k None) P
+unfolding table_of
+cell_of_items Q P place says n each xs all k =
+    get_or_of_map (λ cell. IfSome cell P) (λ p. option_map says (item_at place p xs)) None (range_with_len 0 n) k tt
+    (λ p. said_of Q P says each (item_at place p xs) (find_of_items Q _ xs all))
+
+-- ---- the numbers of each part
+
+limits_small : (p : Pair) → IsSmallPair p → AreSmall (limits_of p)
+limits_small p small = record { least = small.least; greatest = small.greatest }
+
+-- no limits are (0,0)
+none_small : AreSmall no_limits
+none_small = record { least = omega arith; greatest = omega arith }
+
+contract_small : (c : Contract) → IsSmallContract c → HasSmallRules (contract_meant c)
+contract_small c small = record {
+  total = limits_small c.total small.total;
+  working = limits_small c.working small.working;
+  free = limits_small c.free small.free;
+  weekends = small.weekends;
+}
+
+no_contract_small : HasSmallRules no_contract
+no_contract_small = record { total = none_small; working = none_small; free = none_small; weekends = omega arith }
+
+border_small : (source : List ℕ) (shifts : Names) (h : NurseHistory) → IsSmallLine h → IsSmallBorder (border_meant source shifts h)
+border_small source shifts h small = go (reads source (codes "None") h.last_shift)
+  where
+    go : (b : Bool) → IsSmallBorder (cond b (Free h.free_run) (Working (shift_named source shifts h.last_shift) h.shift_run h.working_run))
+    go true = small.free_run
+    go false = (small.shift_run, small.working_run)
+
+line_small : (source : List ℕ) (shifts : Names) (h : NurseHistory) → IsSmallLine h → IsSmallPast (line_meant source shifts h)
+line_small source shifts h small = record { border = border_small source shifts h small; assignments = small.assignments; weekends = small.weekends }
+
+-- what a cell says, or that a nurse did nothing
+past_small : (cell : Option Past) → IfSome cell IsSmallPast → IsSmallPast (unwrap_or cell no_past)
+past_small None small = record { border = omega arith; assignments = omega arith; weekends = omega arith }
+past_small (Some past) small = small
+
+-- the seven days of a week, by number
+abbrev AreSmallDays : List Limits → Type 0
+AreSmallDays days = (w : ℕ) → AreSmall (get_or days w no_limits)
+
+week_small : (d : WeekPairs) → AreSmallPairs d → AreSmallDays (limits_of_week d)
+week_small d small zero = limits_small d.monday small.monday
+week_small d small (suc zero) = limits_small d.tuesday small.tuesday
+week_small d small (suc (suc zero)) = limits_small d.wednesday small.wednesday
+week_small d small (suc (suc (suc zero))) = limits_small d.thursday small.thursday
+week_small d small (suc (suc (suc (suc zero)))) = limits_small d.friday small.friday
+week_small d small (suc (suc (suc (suc (suc zero))))) = limits_small d.saturday small.saturday
+week_small d small (suc (suc (suc (suc (suc (suc zero)))))) = limits_small d.sunday small.sunday
+week_small d small (suc (suc (suc (suc (suc (suc (suc w))))))) = none_small
+
+-- the requirements of a week, by place and weekday
+abbrev NeedsSmall : WeekFacts → Type 0
+NeedsSmall week = (place w : ℕ) → AreSmall (option_map_or (λ days. get_or days w no_limits) (get_or week.needs place None) no_limits)
+
+cell_small : (cell : Option (List Limits)) → IfSome cell AreSmallDays → (w : ℕ) → AreSmall (option_map_or (λ days. get_or days w no_limits) cell no_limits)
+cell_small None small w = none_small
+cell_small (Some days) small w = small w
+
+needs_small : (source : List ℕ) (shifts skills nurses : Names) (week : WeekData) → AreSmallNeeds week → NeedsSmall (week_meant source shifts skills nurses week)
+needs_small source shifts skills nurses week small place w =
+    cell_small _ (cell_of_items (λ (q : Requirement). AreSmallPairs q.days) AreSmallDays (place_of_need source shifts skills) (λ (q : Requirement). limits_of_week q.days) 64
+    (λ (q : Requirement). week_small q.days) week.requirements small place) w
+
+-- ---- the case
+
+pub meaning_small : (source : List ℕ) (b : Bundle) → SaysSmallNumbers b → HasSmallNumbers (meaning_of source b)
+unfolding meaning_of
+meaning_small source b small = record {
+  runs = get_or_of_items (λ (s : ShiftType). IsSmallPair s.run) AreSmall (λ (s : ShiftType). limits_of s.run) no_limits none_small (λ (s : ShiftType). limits_small s.run) b.scenario.shifts.items small.runs;
+  contracts = λ n. get_or_of_items IsSmallContract HasSmallRules contract_meant no_contract no_contract_small contract_small b.scenario.contracts.items small.contracts _;
+  past = λ n. past_small _ (cell_of_items IsSmallLine IsSmallPast (λ (h : NurseHistory). found source (nurse_names source b) h.nurse) (line_meant source (shift_names source b)) _ (line_small source (shift_names source b)) b.history.nurses small.history n);
+  needs = λ d s k. get_or_of_items AreSmallNeeds NeedsSmall (week_meant source (shift_names source b) (skill_names source b) (nurse_names source b)) no_week (λ place w. none_small)
+      (needs_small source (shift_names source b) (skill_names source b) (nurse_names source b)) b.week_data small.needs _ _ _;
+}

@@ -1,0 +1,9 @@
+use Rattle.std.proofs.Common.{◌∙◌, sym, ap}
+use Rattle.roster_instance.specs.Names.{find_name}
+use Rattle.roster_instance.proofs.NameLemmas.{find_name-keys}
+use Rattle.roster_instance.proofs.names.Names.find.Goals as goal
+
+pub returns-clause-number : goal.returns-clause-number
+returns-clause-number c =
+    let name = c.args.name.now in
+    c.get_index_of.ensures.index ∙ sym (find_name-keys (λ k. k.items) c.self.inside.names.keys name) ∙ ap (λ names. find_name names name) c.self.view_is

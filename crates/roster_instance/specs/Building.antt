@@ -1,0 +1,21 @@
+-- What holds of the parts of a scenario while it is read.
+use Rattle.std.specs.Prelude.{◌≡◌, ℕ, ◌<◌, ◌≤◌, Bool, List, map}
+use Rattle.roster_text.specs.declared.token.Token.{Token}
+use Rattle.roster_instance.specs.declared.choice.Skill.{Skill}
+use Rattle.roster_instance.specs.Bundles.{Names, numbers_among, skill_named}
+
+-- how many weeks, skills, shifts and nurses there may be (our profile)
+pub record HasCounts (weeks skills shifts nurses : ℕ) : Type 0 where
+  pub some_weeks : 0 < weeks
+  pub few_weeks : weeks ≤ 16
+  pub some_skills : 0 < skills
+  pub few_skills : skills ≤ 8
+  pub some_shifts : 0 < shifts
+  pub few_shifts : shifts ≤ 8
+  pub some_nurses : 0 < nurses
+  pub few_nurses : nurses ≤ 200
+
+-- a nurse's skills, as far as the tokens say them: a flag for each skill number, and the skills in their order
+pub record HasSkills (source : List ℕ) (skills : Names) (ts : List Token) (taken : List Bool) (own : List Skill) : Type 0 where
+  pub flags : taken ≡ numbers_among source skills ts
+  pub own_are : own ≡ map (skill_named source skills) ts

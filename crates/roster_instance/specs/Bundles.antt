@@ -1,0 +1,158 @@
+-- The meaning of a bundle in which nothing is refused (INRC-II; how a history line is read, and (0,0) where no requirement
+-- line stands, are our profile).
+use Rattle.std.specs.Prelude.{ℕ, ◌+◌, ◌*◌, ◌/◌, ◌%◌, Bool, ◌&&◌, ◌||◌, ◌==◌, if◌then◌else◌, List, [], ◌∷◌, length, map, codes, Option, None, option_and_then, option_map, slice_index_or, unwrap_or}
+use Rattle.std.specs.List.{list_any, range_with_len}
+use Rattle.roster_text.specs.declared.bundle.Assignment.{Assignment}
+use Rattle.roster_text.specs.declared.bundle.Bundle.{Bundle}
+use Rattle.roster_text.specs.declared.bundle.Contract.{Contract}
+use Rattle.roster_text.specs.declared.bundle.Nurse.{Nurse}
+use Rattle.roster_text.specs.declared.bundle.NurseHistory.{NurseHistory}
+use Rattle.roster_text.specs.declared.bundle.OffRequest.{OffRequest}
+use Rattle.roster_text.specs.declared.bundle.Pair.{Pair}
+use Rattle.roster_text.specs.declared.bundle.Requirement.{Requirement}
+use Rattle.roster_text.specs.declared.bundle.ShiftType.{ShiftType}
+use Rattle.roster_text.specs.declared.bundle.Solution.{Solution}
+use Rattle.roster_text.specs.declared.bundle.Succession.{Succession}
+use Rattle.roster_text.specs.declared.bundle.WeekData.{WeekData}
+use Rattle.roster_text.specs.declared.bundle.WeekPairs.{WeekPairs}
+use Rattle.roster_text.specs.declared.token.Token.{Token}
+use Rattle.roster_text.specs.ReadBack.{weekday}
+use Rattle.roster_text.specs.Token.{text_of}
+use Rattle.roster_instance.specs.declared.choice.Choice.{Choice}
+use Rattle.roster_instance.specs.declared.choice.Choice.TheVariants.{Off, Work}
+use Rattle.roster_instance.specs.declared.choice.Shift.{Shift}
+use Rattle.roster_instance.specs.declared.choice.Skill.{Skill}
+use Rattle.roster_instance.specs.declared.rules.Border.{Border}
+use Rattle.roster_instance.specs.declared.rules.Border.TheVariants.{Free, Working}
+use Rattle.roster_instance.specs.declared.rules.ContractRules.{ContractRules}
+use Rattle.roster_instance.specs.declared.rules.Limits.{Limits}
+use Rattle.roster_instance.specs.declared.rules.Past.{Past}
+use Rattle.roster_instance.specs.Meaning.{Meaning, NurseFacts, WeekFacts, nurse_count, shift_at, skill_at}
+use Rattle.roster_instance.specs.Names.{reads, skill_names, shift_names, contract_names, nurse_names, found, number_of, has_number}
+use Rattle.roster_instance.specs.Rosters.{Row, Rows}
+use Rattle.roster_instance.specs.Tables.{is_at, table_of}
+
+-- In what follows `shifts`, `skills`, `contracts` and `nurses` are the names of the scenario, in its order.
+
+-- ---- numbers
+
+abbrev pub Names : Type 0
+Names = List (List ℕ)
+
+abbrev pub limits_of : Pair → Limits
+limits_of p = record { least = p.least; greatest = p.greatest }
+
+abbrev pub limits_of_week : WeekPairs → List Limits
+limits_of_week w = map limits_of (w.monday ∷ w.tuesday ∷ w.wednesday ∷ w.thursday ∷ w.friday ∷ w.saturday ∷ w.sunday ∷ [])
+
+abbrev pub shift_named : List ℕ → Names → Token → Shift
+shift_named source shifts t = shift_at (number_of source shifts t)
+
+abbrev pub skill_named : List ℕ → Names → Token → Skill
+skill_named source skills t = skill_at (number_of source skills t)
+
+-- ---- shifts, contracts, nurses
+
+-- a flag for each number below 8: whether one of the tokens has the name with this number
+abbrev pub numbers_among : List ℕ → Names → List Token → List Bool
+numbers_among source names ts = map (λ n. list_any (has_number source names n) ts) (range_with_len 0 8)
+
+-- for each shift the shifts that its line of successions names
+abbrev pub successions_meant : List ℕ → Names → List Succession → List (Option (List Bool))
+successions_meant source shifts ls = table_of (λ (l : Succession). found source shifts l.shift) (λ (l : Succession). numbers_among source shifts l.forbidden) (length shifts) ls
+
+abbrev pub contract_meant : Contract → ContractRules
+contract_meant c = record {
+  total = limits_of c.total;
+  working = limits_of c.working;
+  free = limits_of c.free;
+  weekends = c.weekends;
+  whole_weekends = c.complete_weekends == 1;
+}
+
+abbrev pub nurse_meant : List ℕ → Names → Names → Nurse → NurseFacts
+nurse_meant source contracts skills n = record { contract = number_of source contracts n.contract; skills = map (skill_named source skills) n.skills }
+
+-- ---- the history
+
+-- where the last shift is `None` only the days off count, else only the run of that shift and the working days
+abbrev pub border_meant : List ℕ → Names → NurseHistory → Border
+border_meant source shifts h =
+    if reads source (codes "None") h.last_shift
+    then Free h.free_run
+    else Working (shift_named source shifts h.last_shift) h.shift_run h.working_run
+
+abbrev pub line_meant : List ℕ → Names → NurseHistory → Past
+line_meant source shifts h = record { border = border_meant source shifts h; assignments = h.assignments; weekends = h.weekends }
+
+-- for each nurse what its line says
+abbrev pub past_meant : List ℕ → Names → Names → List NurseHistory → List (Option Past)
+past_meant source nurses shifts hs = table_of (λ (h : NurseHistory). found source nurses h.nurse) (line_meant source shifts) (length nurses) hs
+
+-- ---- the weeks
+
+-- the place of a shift and skill
+abbrev pub place_of_need : List ℕ → Names → Names → Requirement → Option ℕ
+place_of_need source shifts skills q = option_and_then (λ s. option_map (λ k. 8 * s + k) (found source skills q.skill)) (found source shifts q.shift)
+
+abbrev pub needs_meant : List ℕ → Names → Names → List Requirement → List (Option (List Limits))
+needs_meant source shifts skills qs = table_of (place_of_need source shifts skills) (λ (q : Requirement). limits_of_week q.days) 64 qs
+
+-- the place of a nurse and weekday
+abbrev pub place_of_wish : List ℕ → Names → OffRequest → Option ℕ
+place_of_wish source nurses q = option_map (λ n. 7 * n + weekday q.day) (found source nurses q.nurse)
+
+-- the request names this shift; `Any` names each
+abbrev pub wishes_off : List ℕ → Names → ℕ → OffRequest → Bool
+wishes_off source shifts s q = reads source (codes "Any") q.shift || has_number source shifts s q.shift
+
+-- for each place, and each shift number, whether a request names that shift
+unfoldable pub wishes_meant : List ℕ → Names → Names → List OffRequest → List (List Bool)
+wishes_meant source nurses shifts qs =
+    map (λ p. map (λ s. list_any (λ q. is_at p (place_of_wish source nurses q) && wishes_off source shifts s q) qs) (range_with_len 0 8)) (range_with_len 0 (7 * length nurses))
+
+abbrev pub week_meant : List ℕ → Names → Names → Names → WeekData → WeekFacts
+week_meant source shifts skills nurses w = record {
+  needs = needs_meant source shifts skills w.requirements;
+  wishes = wishes_meant source nurses shifts w.off_requests.items;
+}
+
+-- ---- the case
+
+unfoldable pub meaning_of : List ℕ → Bundle → Meaning
+meaning_of source b = record {
+  name = text_of source b.scenario.name;
+  skill_names = skill_names source b;
+  shift_names = shift_names source b;
+  runs = map (λ (s : ShiftType). limits_of s.run) b.scenario.shifts.items;
+  successions = successions_meant source (shift_names source b) b.scenario.successions;
+  contract_names = contract_names source b;
+  contracts = map contract_meant b.scenario.contracts.items;
+  nurse_names = nurse_names source b;
+  nurses = map (nurse_meant source (contract_names source b) (skill_names source b)) b.scenario.nurses.items;
+  past = past_meant source (nurse_names source b) (shift_names source b) b.history.nurses;
+  weeks = map (week_meant source (shift_names source b) (skill_names source b) (nurse_names source b)) b.week_data;
+}
+
+-- ---- the roster, by the names of a case
+
+-- the place of a nurse and weekday
+abbrev pub place_of_line : List ℕ → Names → Assignment → Option ℕ
+place_of_line source nurses a = option_map (λ n. 7 * n + weekday a.day) (found source nurses a.nurse)
+
+abbrev pub work_meant : List ℕ → Names → Names → Assignment → Choice
+work_meant source shifts skills a = Work (shift_named source shifts a.shift) (skill_named source skills a.skill)
+
+-- for each nurse and weekday what a line of the solution says
+abbrev pub solution_meant : List ℕ → Names → Names → Names → Solution → List (Option Choice)
+solution_meant source nurses shifts skills s = table_of (place_of_line source nurses) (work_meant source shifts skills) (7 * length nurses) s.assignments.items
+
+-- solution i is week i, and without a line the nurse is off
+abbrev pub choice_meant : List (List (Option Choice)) → ℕ → ℕ → Choice
+choice_meant weeks n d = unwrap_or (slice_index_or (slice_index_or weeks (d / 7) []) (7 * n + d % 7) None) Off
+
+abbrev pub row_meant : List (List (Option Choice)) → ℕ → Row
+row_meant weeks n = map (choice_meant weeks n) (range_with_len 0 (7 * length weeks))
+
+unfoldable pub rows_of : List ℕ → Meaning → Bundle → Rows
+rows_of source c b = map (row_meant (map (solution_meant source c.nurse_names c.shift_names c.skill_names) b.solutions)) (range_with_len 0 (nurse_count c))

@@ -1,0 +1,56 @@
+-- The parts of which a case is built.
+use Rattle.std.specs.Prelude.{◌≡◌, ℕ, ◌<◌, ◌≤◌, List, length, map, Option, IfSome}
+use Rattle.roster_text.specs.declared.bundle.Bundle.{Bundle}
+use Rattle.roster_text.specs.declared.bundle.ShiftType.{ShiftType}
+use Rattle.roster_text.specs.Token.{text_of}
+use Rattle.roster_instance.specs.declared.rules.Past.{Past}
+use Rattle.roster_instance.specs.declared.scenario.Scenario.{Scenario}
+use Rattle.roster_instance.specs.Bundles.{contract_meant, limits_of, nurse_meant, successions_meant}
+use Rattle.roster_instance.specs.Meaning.{Meaning, WeekFacts, last_shift, nurse_count, past_of, shift_count}
+use Rattle.roster_instance.specs.Names.{contract_names, nurse_names, shift_names, skill_names}
+use Rattle.roster_instance.specs.Sizes.{max_states, state_count}
+use Rattle.roster_instance.specs.Small.{HasSmallNumbers}
+
+-- what a scenario is built of
+pub record IsScenarioOf (source : List ℕ) (b : Bundle) (s : Scenario) : Type 0 where
+  pub name_is : s.name.items ≡ text_of source b.scenario.name
+  pub skills_are : s.skills ≡ skill_names source b
+  pub shifts_are : s.shifts ≡ shift_names source b
+  pub runs_are : s.runs.items ≡ map (λ (t : ShiftType). limits_of t.run) b.scenario.shifts.items
+  pub successions_are : s.successions ≡ successions_meant source (shift_names source b) b.scenario.successions
+  pub contracts_are : s.contracts ≡ contract_names source b
+  pub rules_are : s.contract_rules.items ≡ map contract_meant b.scenario.contracts.items
+  pub nurses_are : s.nurses ≡ nurse_names source b
+  pub facts_are : s.nurse_rules.items ≡ map (nurse_meant source (contract_names source b) (skill_names source b)) b.scenario.nurses.items
+
+-- a case by its parts
+abbrev pub case_of : Scenario → List (Option Past) → List WeekFacts → Meaning
+case_of s past weeks = record {
+  name = s.name.items;
+  skill_names = s.skills;
+  shift_names = s.shifts;
+  runs = s.runs.items;
+  successions = s.successions;
+  contract_names = s.contracts;
+  contracts = s.contract_rules.items;
+  nurse_names = s.nurses;
+  nurses = s.nurse_rules.items;
+  past = past;
+  weeks = weeks;
+}
+
+-- no nurse's search takes too many states
+abbrev pub HasFewStates : Meaning → Type 0
+HasFewStates c = (n : ℕ) → n < nurse_count c → state_count c n ≤ max_states
+
+-- the last shift of each nurse's history, if there is one, is a shift of the case
+abbrev pub HasKnownPast : Meaning → Type 0
+HasKnownPast c = (n : ℕ) → IfSome (last_shift (past_of c n).border) (λ s. s.0 < shift_count c)
+
+-- what holds of the parts of each case: a week for each that the scenario counts, few states, small numbers, and a known
+-- past
+pub record AreCaseParts (s : Scenario) (past : List (Option Past)) (weeks : List WeekFacts) : Type 0 where
+  pub all_weeks : length weeks ≡ s.weeks
+  pub few_states : HasFewStates (case_of s past weeks)
+  pub small : HasSmallNumbers (case_of s past weeks)
+  pub known_past : HasKnownPast (case_of s past weeks)

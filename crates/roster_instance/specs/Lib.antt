@@ -1,0 +1,17 @@
+pub mod Counting
+pub mod Faults
+pub mod Days
+pub mod Meaning
+pub mod Choices
+pub mod Rosters
+pub mod RunLaw
+pub mod Sizes
+pub mod Small
+pub mod Tables
+pub mod Checking
+pub mod Names
+pub mod Bundles
+pub mod Refusals
+pub mod Building
+pub mod CaseParts
+pub mod Shown

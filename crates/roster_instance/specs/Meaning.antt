@@ -1,0 +1,121 @@
+-- What the four texts of an instance mean, apart from the roster. Shifts, skills, contracts and nurses are numbered
+-- from 0 in the order of the scenario.
+use Rattle.std.specs.Prelude.{ℕ, ◌+◌, ◌*◌, ◌/◌, ◌%◌, Bool, false, List, [], length, Option, Some, None, slice_index_or, unwrap_or}
+use Rattle.std.specs.Option.{option_map_or}
+use Rattle.roster_instance.specs.declared.choice.Shift.{Shift}
+use Rattle.roster_instance.specs.declared.choice.Skill.{Skill}
+use Rattle.roster_instance.specs.declared.rules.Border.{Border}
+use Rattle.roster_instance.specs.declared.rules.Border.TheVariants.{Free, Working}
+use Rattle.roster_instance.specs.declared.rules.ContractRules.{ContractRules}
+use Rattle.roster_instance.specs.declared.rules.Limits.{Limits}
+use Rattle.roster_instance.specs.declared.rules.Past.{Past}
+
+-- a nurse: number of the contract, and skills in the order of the line
+pub record NurseFacts : Type 0 where
+  pub contract : ℕ
+  pub skills : List Skill
+
+-- a week: at place 8 s + k the requirements of shift s and skill k from Monday to Sunday, where a line has them; at place
+-- 7 n + w, for each shift, whether a request names it for nurse n on weekday w
+pub record WeekFacts : Type 0 where
+  pub needs : List (Option (List Limits))
+  pub wishes : List (List Bool)
+
+-- `runs` has the days in a row of each shift; `successions`, for each shift that has such a line, which shifts may not
+-- follow; `past` what stands in the history of each nurse
+pub record Meaning : Type 0 where
+  pub name : List ℕ
+  pub skill_names : List (List ℕ)
+  pub shift_names : List (List ℕ)
+  pub runs : List Limits
+  pub successions : List (Option (List Bool))
+  pub contract_names : List (List ℕ)
+  pub contracts : List ContractRules
+  pub nurse_names : List (List ℕ)
+  pub nurses : List NurseFacts
+  pub past : List (Option Past)
+  pub weeks : List WeekFacts
+
+-- ---- how many there are
+
+abbrev pub week_count : Meaning → ℕ
+week_count c = length c.weeks
+
+abbrev pub day_count : Meaning → ℕ
+day_count c = 7 * week_count c
+
+abbrev pub shift_count : Meaning → ℕ
+shift_count c = length c.shift_names
+
+abbrev pub skill_count : Meaning → ℕ
+skill_count c = length c.skill_names
+
+abbrev pub nurse_count : Meaning → ℕ
+nurse_count c = length c.nurse_names
+
+-- ---- by number
+
+abbrev pub shift_at : ℕ → Shift
+shift_at s = record { 0 = s }
+
+abbrev pub skill_at : ℕ → Skill
+skill_at k = record { 0 = k }
+
+abbrev pub no_limits : Limits
+no_limits = record { least = 0; greatest = 0 }
+
+abbrev pub no_contract : ContractRules
+no_contract = record { total = no_limits; working = no_limits; free = no_limits; weekends = 0; whole_weekends = false }
+
+abbrev pub nobody : NurseFacts
+nobody = record { contract = 0; skills = [] }
+
+abbrev pub no_past : Past
+no_past = record { border = Free 0; assignments = 0; weekends = 0 }
+
+abbrev pub no_week : WeekFacts
+no_week = record { needs = []; wishes = [] }
+
+-- how many days in a row a shift is to be worked
+abbrev pub run_of_shift : Meaning → ℕ → Limits
+run_of_shift c s = slice_index_or c.runs s no_limits
+
+abbrev pub nurse_at : Meaning → ℕ → NurseFacts
+nurse_at c n = slice_index_or c.nurses n nobody
+
+-- the name of a nurse
+abbrev pub nurse_name : Meaning → ℕ → List ℕ
+nurse_name c n = slice_index_or c.nurse_names n []
+
+-- the contract of a nurse
+abbrev pub contract_of : Meaning → ℕ → ContractRules
+contract_of c n = slice_index_or c.contracts (nurse_at c n).contract no_contract
+
+-- what a nurse did before day 0
+abbrev pub past_of : Meaning → ℕ → Past
+past_of c n = unwrap_or (slice_index_or c.past n None) no_past
+
+abbrev pub week_of : Meaning → ℕ → WeekFacts
+week_of c d = slice_index_or c.weeks (d / 7) no_week
+
+-- minimum and optimum of a day, and of a shift and skill of the case; (0,0) where no line has them
+abbrev pub need : Meaning → ℕ → ℕ → ℕ → Limits
+need c d s k = option_map_or (λ week. slice_index_or week (d % 7) no_limits) (slice_index_or (week_of c d).needs (8 * s + k) None) no_limits
+
+-- a request names this nurse, day and shift
+abbrev pub is_wished_off : Meaning → ℕ → ℕ → ℕ → Bool
+is_wished_off c n d s = slice_index_or (slice_index_or (week_of c d).wishes (7 * n + d % 7) []) s false
+
+-- ---- the history (profile: of a line whose last shift is `None` only the days off count, else only the two other runs)
+
+abbrev pub last_shift : Border → Option Shift
+last_shift (Free n) = None
+last_shift (Working s own all) = Some s
+
+-- ---- successions
+
+-- the first shift forbids the second on the next day, by the lines of successions
+abbrev pub forbids : List (Option (List Bool)) → Option Shift → Option Shift → Bool
+forbids successions (Some s) (Some t) = option_map_or (λ line. slice_index_or line t.0 false) (slice_index_or successions s.0 None) false
+forbids successions (Some s) None = false
+forbids successions None next = false

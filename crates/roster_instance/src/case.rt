@@ -1,0 +1,359 @@
+//! The case: what an instance says, apart from the roster.
+
+ghost use Rattle.std.specs.Prelude.{◌≡◌, ◌≢◌, ◌*◌, ◌<◌, ◌≤◌, ℕ, List, [], Some, IfOk, IfErr, IfSome, OnOk, flat_map, length, map, slice_index_or};
+ghost use Rattle.std.specs.List.{enumerate_from};
+ghost use Rattle.roster_text.specs.SmallNumbers.{SaysSmallNumbers};
+ghost use Rattle.roster_text.specs.declared.bundle.Nurse.{Nurse};
+ghost use Rattle.roster_instance.specs.CaseParts.{case_of, HasFewStates};
+ghost use Rattle.roster_instance.specs.Bundles.{meaning_of};
+ghost use Rattle.roster_instance.specs.Checking.{IsFirst};
+ghost use Rattle.roster_instance.specs.Faults.{first_of};
+ghost use Rattle.roster_instance.specs.Meaning.{contract_of, day_count, is_wished_off, last_shift, need, nurse_at, nurse_count, nurse_name, past_of, run_of_shift, shift_count, skill_count, week_count, forbids};
+ghost use Rattle.roster_instance.specs.Names.{find_name};
+ghost use Rattle.roster_instance.specs.Refusals.{case_faults, state_fault};
+ghost use Rattle.roster_instance.specs.Sizes.{choice_count, greatest_of, state_count, cap};
+ghost use Rattle.roster_instance.specs.Small.{AreSmall, HasSmallNumbers, HasSmallRules, IsSmallPast};
+
+use crate::choice::{Shift, Skill};
+use crate::fault::CaseFault;
+use crate::history::past_of;
+use crate::rules::{Border, ContractRules, Limits, Past};
+use crate::scenario::Scenario;
+use crate::sizes::{greatest_cap, state_count};
+use crate::table::Table;
+use crate::week::{Week, weeks_of};
+use roster_text::{Bundle, Nurse};
+use std::alloc::Global;
+use std::marker::Model;
+
+/// The most states that the search for a nurse takes.
+pub const MAX_STATES: u32 = 1_048_576;
+
+/// What the four texts of an instance say, apart from the roster. Shifts, skills, contracts and nurses are numbered from
+/// 0 in the order of the scenario, and days from 0, the first Monday.
+#[derive(Drop)]
+pub struct Case {
+    scenario: Scenario,
+    past: Table<Past>,
+    weeks: Vec<Week>,
+}
+
+impl Model for Case {
+    ghost use Rattle.roster_instance.specs.CaseParts.{AreCaseParts, case_of};
+    ghost use Rattle.roster_instance.specs.Meaning.{Meaning};
+
+    ghost Value = { Meaning };
+
+    ghost view = { λ c. case_of c.scenario c.past c.weeks.items };
+
+    ghost invariant = { λ c. AreCaseParts c.scenario c.past c.weeks.items };
+}
+
+impl Case {
+    /// The meaning of the four texts, where nothing in them but the solutions is refused. The bundle is the one that these
+    /// bytes spell; then it has as many weeks as its scenario says, and its numbers are from 0 to 999. The case keeps copies
+    /// of all names.
+    ///
+    /// # Errors
+    ///
+    /// The first fault in the order of the text: a name that is repeated, unknown or reserved, a part of another instance,
+    /// a count out of limits, a history that doesn't fit, a repeated requirement. Behind them a nurse with too many states.
+    /// `Memory` where a growth was refused.
+    pub fn from_bundle(alloc: Global, bundle: &Bundle, source: &[u8]) -> Result<Case, CaseFault>
+        requires weeks { length bundle.now.week_data ≡ bundle.now.scenario.weeks.value }
+        requires small { SaysSmallNumbers bundle.now }
+
+        // What is taken has no fault, and means what the texts say.
+        ensures meant { IfOk result (λ case. case ≡ meaning_of source.now bundle.now) }
+        ensures taken { OnOk result (case_faults source.now bundle.now ≡ []) }
+
+        // Else the answer is the first fault, memory apart.
+        ensures refused { IfErr result (λ f. f ≢ CaseFault.Memory → first_of (case_faults source.now bundle.now) ≡ Some f) }
+    {
+        let scenario = Scenario::from_bundle(alloc, bundle, source)?;
+        let past = past_of(alloc, source, &scenario, &bundle.history)?;
+        let weeks = weeks_of(alloc, source, &scenario, bundle.week_data.as_slice())?;
+        check_states(&scenario, bundle.scenario.nurses.items.as_slice())?;
+        Ok(Case {
+            scenario,
+            past,
+            weeks,
+        })
+    }
+
+    /// The parts that names are looked up in.
+    pub(crate) fn scenario(&self) -> &Scenario
+        ensures name { result.now.name.items ≡ self.now.name }
+        ensures nurses { result.now.nurses ≡ self.now.nurse_names }
+        ensures shifts { result.now.shifts ≡ self.now.shift_names }
+        ensures skills { result.now.skills ≡ self.now.skill_names }
+        ensures weeks { result.now.weeks ≡ week_count self.now }
+        ensures small { HasSmallNumbers self.now }
+    {
+        &self.scenario
+    }
+
+    /// A law: the limits that every case keeps, on which the bounds of sums over it rest.
+    pub fn keeps_limits(&self)
+        ensures small { HasSmallNumbers self.now }
+        ensures weeks { week_count self.now ≤ 16 }
+        ensures shifts { shift_count self.now ≤ 8 }
+        ensures skills { skill_count self.now ≤ 8 }
+        ensures nurses { nurse_count self.now ≤ 200 }
+    {
+        self.scenario();
+        self.weeks();
+        self.shifts();
+        self.skills();
+        self.nurses();
+    }
+
+    // ---- how many there are
+
+    /// How many weeks, from 1 to 16.
+    pub fn weeks(&self) -> u16
+        ensures count { result ≡ week_count self.now }
+        ensures some { 0 < result }
+        ensures within { result ≤ 16 }
+    {
+        self.weeks.len() as u16
+    }
+
+    /// How many days, 7 for each week.
+    pub fn days(&self) -> u16
+        ensures count { result ≡ day_count self.now }
+        ensures within { result ≤ 112 }
+    {
+        7 * self.weeks()
+    }
+
+    /// How many nurses, from 1 to 200.
+    pub fn nurses(&self) -> usize
+        ensures count { result ≡ nurse_count self.now }
+        ensures some { 0 < result }
+        ensures within { result ≤ 200 }
+    {
+        self.scenario.nurses.len()
+    }
+
+    /// How many shifts, from 1 to 8.
+    pub fn shifts(&self) -> u8
+        ensures count { result ≡ shift_count self.now }
+        ensures some { 0 < result }
+        ensures within { result ≤ 8 }
+    {
+        self.scenario.shifts.len() as u8
+    }
+
+    /// How many skills, from 1 to 8.
+    pub fn skills(&self) -> u8
+        ensures count { result ≡ skill_count self.now }
+        ensures some { 0 < result }
+        ensures within { result ≤ 8 }
+    {
+        self.scenario.skills.len() as u8
+    }
+
+    // ---- names
+
+    /// The name of the scenario.
+    pub fn name(&self) -> &[u8]
+        ensures { result.now ≡ self.now.name }
+    {
+        self.scenario.name.as_slice()
+    }
+
+    pub fn shift_name(&self, shift: Shift) -> &[u8]
+        requires { shift.0 < shift_count self.now }
+        ensures { result.now ≡ slice_index_or self.now.shift_names shift.0 [] }
+    {
+        self.scenario.shifts.name(shift.0 as usize)
+    }
+
+    pub fn skill_name(&self, skill: Skill) -> &[u8]
+        requires { skill.0 < skill_count self.now }
+        ensures { result.now ≡ slice_index_or self.now.skill_names skill.0 [] }
+    {
+        self.scenario.skills.name(skill.0 as usize)
+    }
+
+    /// The name of the contract with a number.
+    pub fn contract_name(&self, contract: usize) -> &[u8]
+        requires { contract < length self.now.contract_names }
+        ensures { result.now ≡ slice_index_or self.now.contract_names contract [] }
+    {
+        self.scenario.contracts.name(contract)
+    }
+
+    pub fn nurse_name(&self, nurse: usize) -> &[u8]
+        requires { nurse < nurse_count self.now }
+        ensures { result.now ≡ nurse_name self.now nurse }
+    {
+        self.scenario.nurses.name(nurse)
+    }
+
+    /// The number of the nurse with a name, compared byte for byte.
+    pub fn find_nurse(&self, name: &[u8]) -> Option<usize>
+        ensures found { result ≡ find_name self.now.nurse_names name.now }
+        ensures within { IfSome result (λ nurse. nurse < nurse_count self.now) }
+    {
+        self.scenario.nurses.find(name)
+    }
+
+    // ---- what is asked for
+
+    /// Minimum and optimum of a day, and of a shift and skill of the case, each at most 999; (0,0) where no line of the week
+    /// has them.
+    pub fn need(&self, day: u16, shift: Shift, skill: Skill) -> Limits
+        ensures limits { result ≡ need self.now day shift.0 skill.0 }
+        ensures small { AreSmall result }
+    {
+        let place = 8 * shift.0 as usize + skill.0 as usize;
+        match self.weeks.get(day as usize / 7) {
+            Some(week) => week.need(place, day as usize % 7),
+            None => Limits::default(),
+        }
+    }
+
+    /// How many days in a row a shift is to be worked, at most 999.
+    pub fn run_of_shift(&self, shift: Shift) -> Limits
+        ensures limits { result ≡ run_of_shift self.now shift.0 }
+        ensures small { AreSmall result }
+    {
+        match self.scenario.runs.get(shift.0 as usize) {
+            Some(run) => *run,
+            None => Limits::default(),
+        }
+    }
+
+    /// Whether a shift forbids another on the next day.
+    pub fn forbids(&self, shift: Shift, next: Shift) -> bool
+        ensures { result ≡ forbids self.now.successions (Some shift) (Some next) }
+    {
+        match self.scenario.successions.get(shift.0 as usize) {
+            Some(forbidden) => match forbidden.get(next.0 as usize) {
+                Some(forbidden) => *forbidden,
+                None => false,
+            },
+            None => false,
+        }
+    }
+
+    /// Whether the shift of one day, if there is one, forbids that of the next day, if there is one.
+    pub fn forbids_next(&self, last: Option<Shift>, next: Option<Shift>) -> bool
+        ensures { result ≡ forbids self.now.successions last next }
+    {
+        match (last, next) {
+            (Some(last), Some(next)) => self.forbids(last, next),
+            _ => false,
+        }
+    }
+
+    /// Whether a request names a nurse, a day and a shift of the case; one with `Any` names every shift.
+    pub fn is_wished_off(&self, nurse: usize, day: u16, shift: Shift) -> bool
+        requires { nurse < nurse_count self.now }
+        ensures { result ≡ is_wished_off self.now nurse day shift.0 }
+    {
+        match self.weeks.get(day as usize / 7) {
+            Some(week) => week.wishes(7 * nurse + day as usize % 7, shift.0 as usize),
+            None => false,
+        }
+    }
+
+    // ---- nurses
+
+    /// The number of a nurse's contract.
+    pub fn contract(&self, nurse: usize) -> usize
+        ensures { result ≡ (nurse_at self.now nurse).contract }
+    {
+        match self.scenario.nurse_rules.get(nurse) {
+            Some(rules) => rules.contract(),
+            None => 0,
+        }
+    }
+
+    /// What a nurse's contract asks for, in numbers of at most 999.
+    pub fn contract_rules(&self, nurse: usize) -> ContractRules
+        ensures rules { result ≡ contract_of self.now nurse }
+        ensures small { HasSmallRules result }
+    {
+        match self.scenario.contract_rules.get(self.contract(nurse)) {
+            Some(rules) => *rules,
+            None => ContractRules::default(),
+        }
+    }
+
+    /// A nurse's skills, in the order of the nurse's line, at most 8.
+    pub fn skills_of(&self, nurse: usize) -> &[Skill]
+        ensures skills { result.now ≡ (nurse_at self.now nurse).skills }
+        ensures few { length result.now ≤ 8 }
+    {
+        match self.scenario.nurse_rules.get(nurse) {
+            Some(rules) => rules.skills(),
+            None => &[],
+        }
+    }
+
+    /// What a nurse did before the first Monday, in numbers of at most 999. A last shift is one of the case's.
+    pub fn past(&self, nurse: usize) -> Past
+        ensures past { result ≡ past_of self.now nurse }
+        ensures small { IsSmallPast result }
+        ensures known { IfSome (last_shift result.border) (λ s. s.0 < shift_count self.now) }
+    {
+        match self.past.get(nurse) {
+            Some(past) => past,
+            None => Past {
+                border: Border::Free(0),
+                assignments: 0,
+                weekends: 0,
+            },
+        }
+    }
+
+    // ---- sizes of the search
+
+    /// The greatest cap of the runs of the shifts, at most 999.
+    pub fn greatest_cap(&self) -> u16
+        ensures cap { result ≡ greatest_of (map cap self.now.runs) }
+        ensures small { result ≤ 999 }
+    {
+        greatest_cap(&self.scenario.runs)
+    }
+
+    /// How many states the search for a nurse has, at most 1,048,576.
+    pub fn states(&self, nurse: usize) -> u32
+        requires { nurse < nurse_count self.now }
+        ensures count { result ≡ state_count self.now nurse }
+        ensures within { result ≤ 1048576 }
+    {
+        state_count(&self.scenario, nurse) as u32
+    }
+
+    /// How many choices a nurse has on a day, at most 65: to be off, and each shift with each of the nurse's skills.
+    #[tactic(auto, unfolding(crate::specs::Sizes::choice_count))]
+    pub fn choice_count(&self, nurse: usize) -> u32
+        ensures count { result ≡ choice_count self.now nurse }
+        ensures within { result ≤ 65 }
+    {
+        let skills = self.skills_of(nurse).len() as u32;
+        1 + self.shifts() as u32 * skills
+    }
+}
+
+/// No nurse has too many states.
+fn check_states(scenario: &Scenario, nurses: &[Nurse]) -> Result<(), CaseFault>
+    requires { length nurses.now ≡ length scenario.now.nurses }
+    ensures few { OnOk result (HasFewStates (case_of scenario.now [] [])) }
+    ensures none { OnOk result (flat_map (state_fault (case_of scenario.now [] [])) (enumerate_from 0 nurses.now) ≡ []) }
+    ensures first { IfErr result (IsFirst (flat_map (state_fault (case_of scenario.now [] [])) (enumerate_from 0 nurses.now))) }
+{
+    for (nurse, line) in nurses.iter().enumerate() {
+        if state_count(scenario, nurse) > MAX_STATES as u128 {
+            return Err(CaseFault::TooManyStates {
+                nurse,
+                name: line.name,
+            });
+        }
+    }
+    Ok(())
+}

@@ -1,0 +1,23 @@
+//! What the texts of an instance mean: its case, with all that is asked of it, and its rosters.
+#![tactic(auto)]
+
+mod case;
+mod choice;
+mod fault;
+mod history;
+mod names;
+mod roster;
+mod rules;
+mod scenario;
+mod section;
+mod sizes;
+mod table;
+mod view;
+mod week;
+
+pub use case::{Case, MAX_STATES};
+pub use choice::{Choice, Shift, Skill};
+pub use fault::CaseFault;
+pub use roster::{Roster, choice_on};
+pub use rules::{Border, ContractRules, Limits, Past};
+pub use view::WeekView;

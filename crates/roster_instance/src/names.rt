@@ -1,0 +1,103 @@
+//! Names, by their numbers.
+
+ghost use Rattle.std.specs.Prelude.{◌≡◌, ◌<◌, ◌++◌, [], ◌∷◌, List, IfOk, IfErr, IfSome, OnOk, Some, None, is_some, length, map, not, if◌then◌else◌, slice_index_or};
+ghost use Rattle.roster_text.specs.Token.{text_of};
+ghost use Rattle.roster_text.specs.declared.token.Token.{Token};
+ghost use Rattle.roster_instance.specs.Checking.{IsFirst};
+ghost use Rattle.roster_instance.specs.Names.{find_name, found, names_of};
+ghost use Rattle.roster_instance.specs.Refusals.{repeated_fault, unknown_fault};
+
+use crate::fault::CaseFault;
+use indexmap::IndexSet;
+use roster_text::Token;
+use std::alloc::{AllocError, Global};
+use std::marker::Model;
+
+/// Different names, numbered from 0 in the order in which they came.
+#[derive(Drop)]
+pub(crate) struct Names {
+    names: IndexSet<Vec<u8>>,
+}
+
+impl Model for Names {
+    ghost use Rattle.std.specs.Prelude.{ℕ, List, map};
+
+    ghost Value = { List (List ℕ) };
+
+    ghost view = { λ n. map (λ name. name.items) n.names.keys };
+}
+
+impl Names {
+    /// No names yet, with room for so many.
+    pub(crate) fn with_capacity(alloc: Global, count: usize) -> Result<Names, AllocError>
+        ensures { IfOk result (λ names. names ≡ []) }
+    {
+        Ok(Names {
+            names: IndexSet::with_capacity(alloc, count)?,
+        })
+    }
+
+    /// Puts a copy of a name at the end. Where the name is there already, nothing changes and the answer is false.
+    fn add(&mut self, alloc: Global, name: &[u8]) -> Result<bool, AllocError>
+        ensures taken { IfOk result (λ taken. taken ≡ not (is_some (find_name self.old name.now))) }
+        ensures added { IfOk result (λ taken. self.new ≡ (if taken then self.old ++ name.now ∷ [] else self.old)) }
+    {
+        if self.names.contains(name) {
+            return Ok(false);
+        }
+        self.names.insert(Vec::from_slice(alloc, name)?)?;
+        Ok(true)
+    }
+
+    /// Puts the name of a token at the end, where it isn't there already.
+    pub(crate) fn add_token(
+        &mut self,
+        alloc: Global,
+        source: &[u8],
+        token: Token,
+    ) -> Result<(), CaseFault>
+        ensures added { OnOk result (self.new ≡ self.old ++ text_of source.now token ∷ []) }
+        ensures none { (earlier : List Token) → self.old ≡ names_of source.now earlier → OnOk result (repeated_fault source.now earlier token ≡ []) }
+        ensures first { (earlier : List Token) → self.old ≡ names_of source.now earlier → IfErr result (IsFirst (repeated_fault source.now earlier token)) }
+    {
+        if !self.add(alloc, token.text(source))? {
+            return Err(CaseFault::Repeated { line: token.line });
+        }
+        Ok(())
+    }
+
+    pub(crate) fn len(&self) -> usize
+        ensures { result ≡ length self.now }
+    {
+        self.names.len()
+    }
+
+    /// The number of a name.
+    pub(crate) fn find(&self, name: &[u8]) -> Option<usize>
+        ensures number { result ≡ find_name self.now name.now }
+        ensures within { IfSome result (λ number. number < length self.now) }
+    {
+        self.names.get_index_of(name)
+    }
+
+    /// The name with a number.
+    pub(crate) fn name(&self, number: usize) -> &[u8]
+        requires { number < length self.now }
+        ensures { result.now ≡ slice_index_or self.now number [] }
+    {
+        self.names.as_slice()[number].as_slice()
+    }
+
+    /// The number of a token's name.
+    pub(crate) fn number(&self, source: &[u8], token: Token) -> Result<usize, CaseFault>
+        ensures number { IfOk result (λ number. found source.now self.now token ≡ Some number) }
+        ensures within { IfOk result (λ number. number < length self.now) }
+        ensures none { OnOk result (unknown_fault source.now self.now token ≡ []) }
+        ensures first { IfErr result (λ f. unknown_fault source.now self.now token ≡ f ∷ []) }
+    {
+        match self.find(token.text(source)) {
+            Some(number) => Ok(number),
+            None => Err(CaseFault::Unknown { line: token.line }),
+        }
+    }
+}

@@ -1,0 +1,68 @@
+//! The numbers of an instance.
+
+ghost use Rattle.std.specs.Prelude.{◌≡◌, ◌≤◌};
+ghost use Rattle.roster_instance.specs.Sizes.{cap};
+ghost use Rattle.roster_instance.specs.RunLaw.{day_faults};
+
+use crate::choice::Shift;
+use std::cmp::max;
+
+/// A least and a greatest number, used as written: the least may be above the greatest.
+/// For the nurses of a shift and skill on a day, the minimum and the optimum.
+#[derive(Clone, Copy, Debug, Default, PartialEq, Eq)]
+pub struct Limits {
+    pub least: u16,
+    pub greatest: u16,
+}
+
+impl Limits {
+    /// Beyond its cap a run, or a total, costs the same.
+    pub fn cap(self) -> u16
+        ensures { result ≡ cap self }
+    {
+        max(self.least, self.greatest)
+    }
+
+    /// What a day adds to the missing and the extra days of the runs of a kind, behind a run of so many days: one extra day
+    /// where it is of the kind and the run is full, and what the run misses where it ends.
+    pub fn day_faults(self, run: u32, of_kind: bool) -> u32
+        ensures faults { result ≡ day_faults self run of_kind }
+        ensures within { result ≤ 65536 }
+    {
+        if of_kind {
+            return (self.greatest as u32 <= run) as u32;
+        }
+        if run == 0 {
+            return 0;
+        }
+        (self.least as u32).saturating_sub(run)
+    }
+}
+
+/// What a contract asks for: assignments, working days in a row, days off in a row, the greatest number of worked
+/// weekends, and whether a weekend is to be worked whole or not at all.
+#[derive(Clone, Copy, Debug, Default, PartialEq, Eq)]
+pub struct ContractRules {
+    pub total: Limits,
+    pub working: Limits,
+    pub free: Limits,
+    pub weekends: u16,
+    pub whole_weekends: bool,
+}
+
+/// The run that stands before the first Monday.
+#[derive(Clone, Copy, Debug, PartialEq, Eq)]
+pub enum Border {
+    /// That many days off.
+    Free(u16),
+    /// The last shift, the days in a row with that shift, and the working days in a row.
+    Working(Shift, u16, u16),
+}
+
+/// What a nurse did before the first Monday: the run that stands there, the assignments and the worked weekends.
+#[derive(Clone, Copy, Debug, PartialEq, Eq)]
+pub struct Past {
+    pub border: Border,
+    pub assignments: u16,
+    pub weekends: u16,
+}

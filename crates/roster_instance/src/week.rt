@@ -1,0 +1,282 @@
+//! The data of the weeks: requirements and requests.
+
+ghost use Rattle.std.specs.Prelude.{◌≡◌, ◌*◌, ◌<◌, ℕ, List, [], IfOk, IfErr, OnOk, codes, false, flat_map, length, map, replicate, slice_index_or, slice_set, true};
+ghost use Rattle.std.specs.Option.{option_map_or};
+ghost use Rattle.roster_text.specs.ReadBack.{weekday};
+ghost use Rattle.roster_text.specs.declared.bundle.WeekData.{WeekData};
+ghost use Rattle.roster_instance.specs.Bundles.{limits_of_week, needs_meant, week_meant, wishes_meant};
+ghost use Rattle.roster_instance.specs.Checking.{IsFirst};
+ghost use Rattle.roster_instance.specs.Faults.{each};
+ghost use Rattle.roster_instance.specs.Meaning.{no_limits};
+ghost use Rattle.roster_instance.specs.Refusals.{request_faults, requirement_faults, week_faults};
+
+use crate::fault::CaseFault;
+use crate::history::check_instance;
+use crate::rules::Limits;
+use crate::scenario::{Scenario, limits_of};
+use crate::section::{Section, add_all};
+use crate::table::Table;
+use roster_text::{Day, OffRequest, Requirement, WeekData, WeekPairs};
+use std::alloc::{AllocError, Global};
+use std::marker::Model;
+
+/// A week: what each shift and skill needs, and which shifts each nurse wishes to be free of on each weekday.
+#[derive(Drop)]
+pub(crate) struct Week {
+    needs: Table<[Limits; 7]>,
+    wishes: Vec<[bool; 8]>,
+}
+
+impl Model for Week {
+    ghost use Rattle.roster_instance.specs.Meaning.{WeekFacts};
+
+    ghost Value = { WeekFacts };
+
+    ghost view = { λ w. record { needs = w.needs; wishes = w.wishes.items } };
+}
+
+impl Week {
+    /// Minimum and optimum of a place on a weekday; (0,0) where no line has them.
+    pub(crate) fn need(&self, place: usize, weekday: usize) -> Limits
+        ensures { result ≡ option_map_or (λ week. slice_index_or week weekday no_limits) (slice_index_or self.now.needs place None) no_limits }
+    {
+        match self.needs.get(place) {
+            Some(days) => match days.get(weekday) {
+                Some(limits) => *limits,
+                None => Limits::default(),
+            },
+            None => Limits::default(),
+        }
+    }
+
+    /// Whether a request names a shift at a place.
+    pub(crate) fn wishes(&self, place: usize, shift: usize) -> bool
+        ensures { result ≡ slice_index_or (slice_index_or self.now.wishes place []) shift false }
+    {
+        match self.wishes.get(place) {
+            Some(shifts) => match shifts.get(shift) {
+                Some(wished) => *wished,
+                None => false,
+            },
+            None => false,
+        }
+    }
+}
+
+/// A day by its number, from 0 for Monday.
+pub(crate) fn weekday(day: Day) -> usize
+    ensures number { result ≡ weekday day }
+    ensures within { result < 7 }
+{
+    match day {
+        Day::Monday => 0,
+        Day::Tuesday => 1,
+        Day::Wednesday => 2,
+        Day::Thursday => 3,
+        Day::Friday => 4,
+        Day::Saturday => 5,
+        Day::Sunday => 6,
+    }
+}
+
+// ---- requirements
+
+#[derive(Drop)]
+struct RequirementSection<'a> {
+    source: &'a [u8],
+    scenario: &'a Scenario,
+    lines: Table<[Limits; 7]>,
+}
+
+impl<'a> Section<Requirement> for RequirementSection<'a> {
+    ghost About = { List ℕ × List (List ℕ) × List (List ℕ) };
+
+    ghost about = { λ s. (s.source.now, s.scenario.now.shifts, s.scenario.now.skills) };
+
+    ghost faults = { λ a. requirement_faults a.0 a.1 a.2 };
+
+    ghost built = { λ s earlier. s.lines ≡ needs_meant s.source.now s.scenario.now.shifts s.scenario.now.skills earlier };
+
+    fn add(&mut self, line: &Requirement) -> Result<(), CaseFault> {
+        let shift = self.scenario.shifts.number(self.source, line.shift)?;
+        let skill = self.scenario.skills.number(self.source, line.skill)?;
+        let place = 8 * shift + skill;
+        if self.lines.get(place).is_some() {
+            return Err(CaseFault::RepeatedRequirement {
+                line: line.skill.line,
+            });
+        }
+        self.lines.set(place, limits_of_week(&line.days));
+        Ok(())
+    }
+}
+
+fn limits_of_week(days: &WeekPairs) -> [Limits; 7]
+    ensures { result ≡ limits_of_week days.now }
+{
+    [
+        limits_of(days.monday),
+        limits_of(days.tuesday),
+        limits_of(days.wednesday),
+        limits_of(days.thursday),
+        limits_of(days.friday),
+        limits_of(days.saturday),
+        limits_of(days.sunday),
+    ]
+}
+
+fn needs_of(
+    alloc: Global,
+    source: &[u8],
+    scenario: &Scenario,
+    lines: &[Requirement],
+) -> Result<Table<[Limits; 7]>, CaseFault>
+    ensures meant { IfOk result (λ table. table ≡ needs_meant source.now scenario.now.shifts scenario.now.skills lines.now) }
+    ensures none { OnOk result (each (requirement_faults source.now scenario.now.shifts scenario.now.skills) lines.now ≡ []) }
+    ensures first { IfErr result (IsFirst (each (requirement_faults source.now scenario.now.shifts scenario.now.skills) lines.now)) }
+{
+    let mut section = RequirementSection {
+        source,
+        scenario,
+        lines: Table::new(alloc, 64)?,
+    };
+    add_all(&mut section, lines)?;
+    Ok(section.lines)
+}
+
+// ---- requests
+
+#[derive(Drop)]
+struct RequestSection<'a> {
+    source: &'a [u8],
+    scenario: &'a Scenario,
+    wishes: Vec<[bool; 8]>,
+}
+
+impl<'a> Section<OffRequest> for RequestSection<'a> {
+    ghost About = { List ℕ × List (List ℕ) × List (List ℕ) };
+
+    ghost about = { λ s. (s.source.now, s.scenario.now.nurses, s.scenario.now.shifts) };
+
+    ghost faults = { λ a earlier q. request_faults a.0 a.1 a.2 q };
+
+    ghost built = { λ s earlier. s.wishes.items ≡ wishes_meant s.source.now s.scenario.now.nurses s.scenario.now.shifts earlier };
+
+    fn add(&mut self, request: &OffRequest) -> Result<(), CaseFault> {
+        let nurse = self.scenario.nurses.number(self.source, request.nurse)?;
+        let place = 7 * nurse + weekday(request.day);
+        if request.shift.text(self.source) == b"Any".as_slice() {
+            wish_all(&mut self.wishes, place);
+        } else {
+            let shift = self.scenario.shifts.number(self.source, request.shift)?;
+            wish(&mut self.wishes, place, shift);
+        }
+        Ok(())
+    }
+}
+
+/// Marks all shifts of a place.
+fn wish_all(wishes: &mut [[bool; 8]], place: usize)
+    ensures { wishes.new ≡ slice_set wishes.old place (replicate 8 true) }
+{
+    if place < wishes.len() {
+        wishes[place] = [true; 8];
+    }
+}
+
+/// Marks a shift of a place.
+fn wish(wishes: &mut [[bool; 8]], place: usize, shift: usize)
+    ensures { wishes.new ≡ slice_set wishes.old place (slice_set (slice_index_or wishes.old place []) shift true) }
+{
+    if place < wishes.len() && shift < 8 {
+        wishes[place][shift] = true;
+    }
+}
+
+/// So many places at which nothing is wished.
+fn no_wishes(alloc: Global, places: usize) -> Result<Vec<[bool; 8]>, AllocError>
+    ensures { IfOk result (λ wishes. wishes.items ≡ replicate places (replicate 8 false)) }
+{
+    let mut wishes = Vec::with_capacity(alloc, places)?;
+    for _ in 0..places {
+        wishes.push([false; 8])?;
+    }
+    Ok(wishes)
+}
+
+fn wishes_of(
+    alloc: Global,
+    source: &[u8],
+    scenario: &Scenario,
+    requests: &[OffRequest],
+) -> Result<Vec<[bool; 8]>, CaseFault>
+    ensures meant { IfOk result (λ wishes. wishes.items ≡ wishes_meant source.now scenario.now.nurses scenario.now.shifts requests.now) }
+    ensures none { OnOk result (flat_map (request_faults source.now scenario.now.nurses scenario.now.shifts) requests.now ≡ []) }
+    ensures first { IfErr result (IsFirst (flat_map (request_faults source.now scenario.now.nurses scenario.now.shifts) requests.now)) }
+{
+    let mut section = RequestSection {
+        source,
+        scenario,
+        wishes: no_wishes(alloc, 7 * scenario.nurses.len())?,
+    };
+    add_all(&mut section, requests)?;
+    Ok(section.wishes)
+}
+
+// ---- weeks
+
+#[derive(Drop)]
+struct WeekSection<'a> {
+    alloc: Global,
+    source: &'a [u8],
+    scenario: &'a Scenario,
+    weeks: Vec<Week>,
+}
+
+impl<'a> Section<WeekData> for WeekSection<'a> {
+    ghost About = { List ℕ × List ℕ × List (List ℕ) × List (List ℕ) × List (List ℕ) };
+
+    ghost about = { λ s. (s.source.now, s.scenario.now.name.items, s.scenario.now.shifts, s.scenario.now.skills, s.scenario.now.nurses) };
+
+    ghost faults = { λ a earlier w. week_faults a.0 a.1 a.2 a.3 a.4 w };
+
+    ghost built = { λ s earlier. s.weeks.items ≡ map (week_meant s.source.now s.scenario.now.shifts s.scenario.now.skills s.scenario.now.nurses) earlier };
+
+    fn add(&mut self, week: &WeekData) -> Result<(), CaseFault> {
+        check_instance(self.source, &self.scenario.name, week.scenario)?;
+        let needs = needs_of(
+            self.alloc,
+            self.source,
+            self.scenario,
+            week.requirements.as_slice(),
+        )?;
+        let wishes = wishes_of(
+            self.alloc,
+            self.source,
+            self.scenario,
+            week.off_requests.items.as_slice(),
+        )?;
+        self.weeks.push(Week { needs, wishes })?;
+        Ok(())
+    }
+}
+
+pub(crate) fn weeks_of(
+    alloc: Global,
+    source: &[u8],
+    scenario: &Scenario,
+    weeks: &[WeekData],
+) -> Result<Vec<Week>, CaseFault>
+    ensures meant { IfOk result (λ built. built.items ≡ map (week_meant source.now scenario.now.shifts scenario.now.skills scenario.now.nurses) weeks.now) }
+    ensures none { OnOk result (flat_map (week_faults source.now scenario.now.name.items scenario.now.shifts scenario.now.skills scenario.now.nurses) weeks.now ≡ []) }
+    ensures first { IfErr result (IsFirst (flat_map (week_faults source.now scenario.now.name.items scenario.now.shifts scenario.now.skills scenario.now.nurses) weeks.now)) }
+{
+    let mut section = WeekSection {
+        alloc,
+        source,
+        scenario,
+        weeks: Vec::with_capacity(alloc, weeks.len())?,
+    };
+    add_all(&mut section, weeks)?;
+    Ok(section.weeks)
+}
