@@ -1,9 +1,9 @@
 -- What a run answers.
-use Rattle.std.specs.Prelude.{◌≡◌, ◌≢◌, ℕ, ◌<◌, ◌≤◌, ◌⊎◌, true, List, [], IfSome, Option, Some, length}
+use Rattle.std.specs.Prelude.{◌≡◌, ◌≢◌, ℕ, ◌<◌, ◌≤◌, ◌⊎◌, List, [], IfSome, Option, Some, length}
 use Rattle.std.specs.Io.KnownBytes.{IsAtEnd}
 use Rattle.roster_text.specs.FirstFault.{IsFirstFault}
 use Rattle.roster_text.specs.Grammar.{Spells}
-use Rattle.roster_text.specs.Io.{Stops, Watched, Writes}
+use Rattle.roster_text.specs.Io.{Stops, Watched, Writes, one_more}
 use Rattle.roster_text.specs.Token.{all_seen, line_at_end, tokens_of}
 use Rattle.roster_text.specs.declared.bundle.Bundle.{Bundle}
 use Rattle.roster_text.specs.declared.fault.TextFault.{TextFault}
@@ -11,6 +11,7 @@ use Rattle.roster_text.specs.declared.fault.TextFault.TheVariants as text
 use Rattle.roster_case.specs.Bundles.{meaning_of, rows_of}
 use Rattle.roster_case.specs.Faults.{first_of}
 use Rattle.roster_case.specs.HardRules.{hard_faults}
+use Rattle.roster_case.specs.Meaning.{Meaning}
 use Rattle.roster_case.specs.Penalties.{costs_of}
 use Rattle.roster_case.specs.Refusals.{all_faults}
 use Rattle.roster_case.specs.Rosters.{Rows}
@@ -36,13 +37,38 @@ pub record ReadsAll {R : Type 0} (remaining : R → Option (List ℕ)) (old new 
   pub all : IfSome (remaining old.inner) (λ given. bytes ≡ given)
   pub end : IsAtEnd (remaining new.inner)
   pub kept : length bytes ≤ 16777216
-  pub failed : new.failed ≡ old.failed
+  pub failures : new.failures ≡ old.failures
 
 -- the bytes spell the bundle
 abbrev pub SpellsBundle : Text → Bundle → Type 0
 SpellsBundle bytes b = Spells (all_seen bytes (tokens_of bytes)) b
 
--- ---- a bundle: what a command answers for it, and why it is refused
+-- ---- a case and its roster: what a command answers for them, and why it stops
+
+-- what a command writes for them
+abbrev pub report_of : Command → Meaning → Rows → Text
+report_of command.Show c r = weeks_text c r
+report_of command.Cost c r = costs_text (costs_of c r)
+report_of command.Sizes c r = sizes_text c
+
+-- the breaches of the hard rules for which a command refuses them, in their order
+abbrev pub breaches_of : Command → Meaning → Rows → List HardFault
+breaches_of command.Show c r = []
+breaches_of command.Cost c r = hard_faults c r
+breaches_of command.Sizes c r = []
+
+-- why a text was not all written, and what was written
+abbrev pub StopsOutput : {W : Type 0} → (W → Option (List ℕ)) → Watched W → Watched W → Text → Fault → Type 0
+StopsOutput contents old new text fault.Output = Stops contents old new text
+StopsOutput contents old new text _ = ⊥
+
+-- why a report was not all written, where these breaches are refused, and what was written
+abbrev pub StopsReport : {W : Type 0} → (W → Option (List ℕ)) → List HardFault → Text → Text → Bundle → Watched W → Watched W → Fault → Type 0
+StopsReport contents broken report bytes b old new (fault.Hard f names) = IsFirstBreach bytes b broken (fault.Hard f names) × (new ≡ old)
+StopsReport contents broken report bytes b old new fault.Output = (broken ≡ []) × Stops contents old new report
+StopsReport contents broken report bytes b old new _ = ⊥
+
+-- ---- a bundle: the same, and why it is refused
 
 -- the roster that its solutions say, by the names of its own case
 abbrev pub roster_of : Text → Bundle → Rows
@@ -50,20 +76,21 @@ roster_of bytes b = rows_of bytes (meaning_of bytes b) b
 
 -- what a command writes for it
 abbrev pub answered_text : Command → Text → Bundle → Text
-answered_text command.Show bytes b = weeks_text (meaning_of bytes b) (roster_of bytes b)
-answered_text command.Cost bytes b = costs_text (costs_of (meaning_of bytes b) (roster_of bytes b))
-answered_text command.Sizes bytes b = sizes_text (meaning_of bytes b)
+answered_text command bytes b = report_of command (meaning_of bytes b) (roster_of bytes b)
 
 -- the breaches of the hard rules for which a command refuses it, in their order
 abbrev pub breaches : Command → Text → Bundle → List HardFault
-breaches command.Show bytes b = []
-breaches command.Cost bytes b = hard_faults (meaning_of bytes b) (roster_of bytes b)
-breaches command.Sizes bytes b = []
+breaches command bytes b = breaches_of command (meaning_of bytes b) (roster_of bytes b)
 
 -- the first fault of its case and its solutions, want of memory aside, with the name of the nurse of which it speaks
 pub record IsRefusedFor (bytes : Text) (b : Bundle) (f : CaseFault) (nurse : Text) : Type 0 where
   pub first : f ≢ Memory → first_of (all_faults bytes b) ≡ Some f
   pub nurse_is : nurse ≡ nurse_of bytes b f
+
+-- that fault, as what a command is stopped by
+abbrev pub IsCaseFault : Text → Bundle → Fault → Type 0
+IsCaseFault bytes b (fault.Case f nurse) = IsRefusedFor bytes b f nurse.now
+IsCaseFault bytes b _ = ⊥
 
 -- nothing else is refused, and this is its first breach
 abbrev pub IsBreachedBy : Command → Text → Bundle → HardFault → BreachNames → Type 0
@@ -129,19 +156,12 @@ pub record ReadsAndRefuses {R Out : Type 0} (remaining : R → Option (List ℕ)
 
 -- the input was not read to its end
 abbrev pub IsUnread : {R : Type 0} → (R → Option (List ℕ)) → Watched R → Watched R → Fault → Type 0
-IsUnread remaining input input_after (fault.Text text.Memory) = input_after.failed ≡ input.failed
-IsUnread remaining input input_after (fault.Text text.ReadFailed) = input_after.failed ≡ true
-IsUnread remaining input input_after (fault.Text text.TooLong) = (input_after.failed ≡ input.failed) × IfSome (remaining input.inner) (λ given. 16777216 < length given)
+IsUnread remaining input input_after (fault.Text text.Memory) = input_after.failures ≡ input.failures
+IsUnread remaining input input_after (fault.Text text.ReadFailed) = input_after.failures ≡ one_more input.failures
+IsUnread remaining input input_after (fault.Text text.TooLong) = (input_after.failures ≡ input.failures) × IfSome (remaining input.inner) (λ given. 16777216 < length given)
 IsUnread remaining input input_after _ = ⊥
 
 -- why the command stopped
 abbrev pub Refuses : {R Out : Type 0} → (R → Option (List ℕ)) → (Out → Option (List ℕ)) → Command → Watched R → Watched R → Watched Out → Watched Out → Fault → Type 0
 Refuses remaining contents command input input_after output output_after f =
     (IsUnread remaining input input_after f × (output_after ≡ output)) ⊎ ReadsAndRefuses remaining contents command input input_after output output_after f
-
--- why the answer for a bundle was not all written, and what was written
-abbrev pub StopsAnswering : {W : Type 0} → (W → Option (List ℕ)) → Command → Text → Bundle → Watched W → Watched W → Fault → Type 0
-StopsAnswering contents command bytes b old new (fault.Text f) = ⊥
-StopsAnswering contents command bytes b old new (fault.Case f nurse) = IsRefusedFor bytes b f nurse.now × (new ≡ old)
-StopsAnswering contents command bytes b old new (fault.Hard f names) = IsBreachedBy command bytes b f names × (new ≡ old)
-StopsAnswering contents command bytes b old new fault.Output = (all_faults bytes b ≡ []) × (breaches command bytes b ≡ []) × Stops contents old new (answered_text command bytes b)

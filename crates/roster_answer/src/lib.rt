@@ -2,11 +2,13 @@
 #![tactic(auto)]
 
 mod answer;
+mod commands;
 mod cost;
 mod fault;
 mod lines;
 mod names;
 mod pieces;
+mod reading;
 mod sizes;
 mod weeks;
 

@@ -1,5 +1,7 @@
 //! What a command line can ask for, and why words are no request.
 
+ghost use Rattle.std.specs.Prelude.{◌≡◌};
+
 use std::alloc::{AllocError, AllocFailed};
 
 /// What the program is to do.

@@ -2,7 +2,7 @@ use Rattle.std.proofs.lemmas.Result.{err_from_is_err_and}
 use Rattle.roster_text.specs.Token.{all_seen, tokens_of}
 use Rattle.roster_text.proofs.SmallNumbers.{small_numbers}
 use Rattle.roster_answer.proofs.AnswerLemmas.{as_many_solutions, first_of_roster}
-use Rattle.roster_answer.proofs.answer.roster_of.Goals as goal
+use Rattle.roster_answer.proofs.reading.roster_of.Goals as goal
 
 pub from_bundle-requires-clause-small : goal.from_bundle-requires-clause-small
 from_bundle-requires-clause-small c = small_numbers (all_seen c.args.source.now (tokens_of c.args.source.now)) c.args.bundle.now c.requires
