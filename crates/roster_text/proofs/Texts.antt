@@ -7,18 +7,18 @@ use Rattle.std.proofs.lemmas.List.Concat.{flat_map-append}
 use Rattle.std.specs.List.{flat_map, range_with_len}
 use Rattle.roster_text.specs.declared.fault.WriteFault.{WriteFault}
 use Rattle.roster_text.specs.declared.fault.WriteFault.TheVariants.{WriteFailed}
-use Rattle.roster_text.specs.Io.{Watched, Writes, StopsAt, StopsIn, Stops, Sends, BreaksIn}
+use Rattle.roster_text.specs.Io.{Watched, Writes, StopsAt, StopsIn, Stops, Sends, BreaksIn, one_more}
 
 -- no text is written by no write
 pub Writes-nil : {W : Type 0} (contents : W → Option (List ℕ)) (w : Watched W) → Writes contents w w []
-Writes-nil contents w = record { taken = Appends-nil (contents w.inner); failed = refl }
+Writes-nil contents w = record { taken = Appends-nil (contents w.inner); failures = refl }
 
 -- wrote xs, and then ys
 pub Writes-append : {W : Type 0} (contents : W → Option (List ℕ)) (old mid new : Watched W) (xs ys : List ℕ) → Writes contents old mid xs → Writes contents mid new ys
     → Writes contents old new (xs ++ ys)
 Writes-append contents old mid new xs ys p q = record {
   taken = Appends-trans _ _ _ xs ys p.taken q.taken;
-  failed = q.failed ∙ p.failed;
+  failures = q.failures ∙ p.failures;
 }
 
 -- stopped in xs, so also in a text that begins with it
@@ -29,7 +29,7 @@ StopsAt-append contents old new xs ys sent p =
     record {
       taken = rw (take-append-le sent xs ys (omega arith)) p.taken;
       left = simp length-append (omega arith);
-      failed = p.failed;
+      failures = p.failures;
     }
 
 -- wrote xs, and stopped in ys
@@ -40,7 +40,7 @@ StopsAt-after contents old mid new xs ys sent p q =
     record {
       taken = rw (take-append-add xs ys sent) (Appends-trans _ _ _ xs (take sent ys) p.taken q.taken);
       left = simp length-append (omega arith);
-      failed = q.failed;
+      failures = q.failures ∙ ap one_more p.failures;
     }
 
 -- ---- the same where nothing is counted

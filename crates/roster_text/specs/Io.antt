@@ -1,15 +1,27 @@
--- Readers and writers under watch: what they give and take, and whether they have failed.
-use Rattle.std.specs.Prelude.{◌≡◌, ℕ, ◌+◌, ◌-◌, ◌^◌, ◌<◌, min, Bool, true, false, List, length, take, Ok, Err, Option, Result, nat_lt, ◌==◌, ◌&&◌}
+-- Readers and writers under watch: what they give and take, and how often they have failed.
+use Rattle.std.specs.Prelude.{◌≡◌, ℕ, ◌+◌, ◌-◌, ◌^◌, ◌<◌, min, Bool, true, false, List, length, take, Ok, Err, Option, Result, nat_lt, ◌==◌, ◌&&◌, if◌then◌else◌}
 use Rattle.std.specs.Io.KnownBytes.{Appends, Consumes}
 use Rattle.roster_text.specs.declared.fault.TextFault.{TextFault}
 use Rattle.roster_text.specs.declared.fault.TextFault.TheVariants.{Memory, ReadFailed, TooLong}
 use Rattle.roster_text.specs.declared.fault.WriteFault.{WriteFault}
 use Rattle.roster_text.specs.declared.fault.WriteFault.TheVariants.{WriteFailed}
 
--- a reader or a writer, and whether one of its calls has failed
+-- a reader or a writer, and how many of its reads and writes have failed
 pub record Watched (T : Type 0) : Type 0 where
   pub inner : T
-  pub failed : Bool
+  pub failures : ℕ
+
+-- a count that stops at 2 ^ 64 - 1
+abbrev pub saturated : ℕ → ℕ
+saturated n = min n (2 ^ 64 - 1)
+
+-- one failure more; the count stops at 2 ^ 64 - 1
+abbrev pub one_more : ℕ → ℕ
+one_more failures = saturated (failures + 1)
+
+-- the count behind a call that fails where the test says so
+abbrev pub counted : ℕ → Bool → ℕ
+counted failures fails = if fails then one_more failures else failures
 
 -- a write of these bytes failed, or took none of at least one
 abbrev pub is_refused : {E : Type 0} → Result ℕ E → List ℕ → Bool
@@ -37,21 +49,17 @@ is_read_failure _ = false
 -- the writer took the whole text, and no write failed
 pub record Writes {W : Type 0} (contents : W → Option (List ℕ)) (old new : Watched W) (text : List ℕ) : Type 0 where
   pub taken : Appends (contents old.inner) (contents new.inner) text
-  pub failed : new.failed ≡ old.failed
+  pub failures : new.failures ≡ old.failures
 
--- a write failed where the writer had taken just these first bytes of the text, and more were left
+-- one write failed, where the writer had taken just these first bytes of the text, and more were left
 pub record StopsAt {W : Type 0} (contents : W → Option (List ℕ)) (old new : Watched W) (text : List ℕ) (sent : ℕ) : Type 0 where
   pub taken : Appends (contents old.inner) (contents new.inner) (take sent text)
   pub left : sent < length text
-  pub failed : new.failed ≡ true
+  pub failures : new.failures ≡ one_more old.failures
 
 -- how many bytes a fault says were sent
 abbrev pub sent_of : WriteFault → ℕ
 sent_of (WriteFailed sent) = sent
-
--- a count that stops at 2 ^ 64 - 1
-abbrev pub saturated : ℕ → ℕ
-saturated n = min n (2 ^ 64 - 1)
 
 -- a write failed inside the text, and the fault counts the bytes that were taken before
 pub record StopsIn {W : Type 0} (contents : W → Option (List ℕ)) (old new : Watched W) (text : List ℕ) (fault : WriteFault) : Type 0 where

@@ -1,8 +1,8 @@
 //! Reading an input to its end.
 
-ghost use Rattle.std.specs.Prelude.{◌≡◌, ◌≤◌, ◌<◌, ◌||◌, IfOk, OnOk, IfErr, IfSome, IsErrOf, length, vec_len};
+ghost use Rattle.std.specs.Prelude.{◌≡◌, ◌≤◌, ◌<◌, IfOk, OnOk, IfErr, IfSome, IsErrOf, length, vec_len};
 ghost use Rattle.std.specs.Io.KnownBytes.{IsAtEnd};
-ghost use Rattle.roster_text.specs.Io.{TakesFront, IsReadFault, is_read_failure};
+ghost use Rattle.roster_text.specs.Io.{TakesFront, IsReadFault, counted, is_read_failure};
 
 use crate::fault::TextFault;
 use crate::watch::Watch;
@@ -26,7 +26,7 @@ pub fn read_all<R: Read>(alloc: Global, input: &mut Watch<R>) -> Result<Vec<u8>,
         → IfSome (R.remaining input.old.inner) (λ given. MAX_INPUT < length given) }
     ensures no_other_error { IfErr result IsReadFault }
 
-    ensures failed { input.new.failed ≡ (input.old.failed || is_read_failure result) }
+    ensures failed { input.new.failures ≡ counted input.old.failures (is_read_failure result) }
     ensures taken { TakesFront (R.remaining input.old.inner) (R.remaining input.new.inner) }
 {
     let mut bytes = Vec::new(alloc);

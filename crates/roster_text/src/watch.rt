@@ -1,21 +1,21 @@
-//! A reader or a writer that remembers whether one of its calls has failed.
+//! A reader or a writer that counts how often it has failed.
 
-ghost use Rattle.std.specs.Prelude.{◌≡◌, ◌||◌, false, is_err};
+ghost use Rattle.std.specs.Prelude.{◌≡◌, ◌<◌, ◌↔◌, IsTrue, is_err};
 ghost use Rattle.std.specs.Io.{ReadsAtMost, WritesAtMost};
 ghost use Rattle.std.specs.Io.KnownBytes.{ReadConsumes, WriteAppends, Keeps};
-ghost use Rattle.roster_text.specs.Io.{is_refused};
+ghost use Rattle.roster_text.specs.Io.{counted, is_refused, one_more};
 
 use std::io;
 use std::io::{Read, Write};
 use std::marker::Model;
 
-/// A reader or a writer that remembers whether one of its reads or writes has failed.
+/// A reader or a writer that counts how many of its reads and writes have failed.
 ///
 /// A write that takes nothing of at least one byte counts as failing. A `flush` isn't counted.
 #[derive(Drop)]
 pub struct Watch<T> {
     inner: T,
-    failed: bool,
+    failures: u64,
 }
 
 impl<T> Model for Watch<T> {
@@ -23,34 +23,38 @@ impl<T> Model for Watch<T> {
 
     ghost Value = { Watched T };
 
-    ghost view = { λ w. record { inner = w.inner; failed = w.failed } };
+    ghost view = { λ w. record { inner = w.inner; failures = w.failures } };
 }
 
 impl<T> Watch<T> {
     /// A watch over a reader or a writer; nothing has failed yet.
     pub fn new(inner: T) -> Watch<T>
         ensures inner { result.inner ≡ inner }
-        ensures failed { result.failed ≡ false }
+        ensures failures { result.failures ≡ 0 }
     {
-        Watch {
-            inner,
-            failed: false,
-        }
+        Watch { inner, failures: 0 }
     }
 
     /// Whether a read or a write has failed so far.
     pub fn failed(&self) -> bool
-        ensures { result ≡ self.now.failed }
+        ensures { IsTrue result ↔ (0 < self.now.failures) }
     {
-        self.failed
+        self.failures > 0
     }
 
     /// The reader or writer itself.
     pub fn into_inner(self) -> T
         ensures { result ≡ self.inner }
     {
-        let Watch { inner, failed: _ } = self;
+        let Watch { inner, failures: _ } = self;
         inner
+    }
+
+    fn count_failure(&mut self)
+        ensures inner { self.new.inner ≡ self.old.inner }
+        ensures failures { self.new.failures ≡ one_more self.old.failures }
+    {
+        self.failures = self.failures.saturating_add(1);
     }
 }
 
@@ -61,10 +65,12 @@ impl<R: Read> Read for Watch<R> {
         ensures bound { ReadsAtMost result buf.new }
         ensures bytes { ReadConsumes (R.remaining self.old.inner) (R.remaining self.new.inner)
             result buf.new }
-        ensures failed { self.new.failed ≡ (self.old.failed || is_err result) }
+        ensures failures { self.new.failures ≡ counted self.old.failures (is_err result) }
     {
         let result = self.inner.read(buf);
-        self.failed = self.failed || result.is_err();
+        if result.is_err() {
+            self.count_failure();
+        }
         result
     }
 }
@@ -76,20 +82,22 @@ impl<W: Write> Write for Watch<W> {
         ensures bound { WritesAtMost result buf.now }
         ensures bytes { WriteAppends (W.contents self.old.inner) (W.contents self.new.inner)
             result buf.now }
-        ensures failed { self.new.failed ≡ (self.old.failed || is_refused result buf.now) }
+        ensures failures { self.new.failures ≡ counted self.old.failures (is_refused result buf.now) }
     {
         let result = self.inner.write(buf);
         let is_refused = match &result {
             Ok(taken) => *taken == 0 && !buf.is_empty(),
             Err(_) => true,
         };
-        self.failed = self.failed || is_refused;
+        if is_refused {
+            self.count_failure();
+        }
         result
     }
 
     fn flush(&mut self) -> io::Result<()>
         ensures bytes { Keeps (W.contents self.old.inner) (W.contents self.new.inner) }
-        ensures failed { self.new.failed ≡ self.old.failed }
+        ensures failures { self.new.failures ≡ self.old.failures }
     {
         self.inner.flush()
     }

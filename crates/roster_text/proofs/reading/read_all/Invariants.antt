@@ -7,7 +7,7 @@ abbrev pub invariant-reading : goal.invariant-reading
 invariant-reading g l = record {
   given : Consumes (g.R.Read.remaining l.initial.input.inner) (g.R.Read.remaining l.input.inner) l.bytes.items;
   kept : vec_len l.bytes ≤ 16777216;
-  failed : l.input.failed ≡ l.initial.input.failed;
+  failures : l.input.failures ≡ l.initial.input.failures;
   chunk : length l.chunk ≡ 65536;
 }
 

@@ -1,0 +1,205 @@
+-- Which fault a failing reader or writer gives, and what a bundle means.
+use Rattle.std.proofs.Common.{◌≡◌, ◌≢◌, ◌⊎◌, ◌∙◌, ◌∷◌, [], ◌<◌, ℕ, Err, List, Option, Result, Ok, ap, ap₂, arith, get_or, inl, inr, length, lit<, map, nat_lt, refl, subst, sym, true, zero, suc}
+use Rattle.std.specs.Prelude.{Contains, IfErr, IfSome, IsErrOf, OnOk}
+use Rattle.std.proofs.lemmas.Bool.{ltb-true}
+use Rattle.std.proofs.lemmas.List.{length-map}
+use Rattle.roster_text.specs.Grammar.{Spells}
+use Rattle.roster_text.specs.Io.{IsReadFault, Stops, Watched, Writes, counted, is_read_failure, one_more}
+use Rattle.roster_text.specs.Token.{all_seen, text_of, tokens_of}
+use Rattle.roster_text.specs.declared.bundle.Bundle.{Bundle}
+use Rattle.roster_text.specs.declared.fault.TextFault.{TextFault}
+use Rattle.roster_text.specs.declared.fault.TextFault.TheVariants as text
+use Rattle.roster_text.specs.declared.token.Token.{Token}
+use Rattle.roster_case.specs.Bundles.{meaning_of, rows_of, week_meant}
+use Rattle.roster_case.specs.Checking.{IsFirst}
+use Rattle.roster_case.specs.Meaning.{Meaning, week_count}
+use Rattle.roster_case.specs.Names.{nurse_names, shift_names, skill_names}
+use Rattle.roster_case.specs.Refusals.{all_faults, case_faults, roster_faults}
+use Rattle.roster_case.specs.Rosters.{Rows}
+use Rattle.roster_case.specs.declared.CaseFault.{CaseFault}
+use Rattle.roster_case.specs.declared.CaseFault.TheVariants as case
+use Rattle.roster_case.proofs.Sections.{IsFirst-behind}
+use Rattle.roster_answer.specs.Answer.{Answers, IsCaseFault, IsUnread, Refuses, RefusesBytes, StopsOutput, StopsReport, answered_text, breaches, breaches_of, report_of, roster_of}
+use Rattle.roster_answer.specs.Lines.{IsFirstBreach, Text, status_of}
+use Rattle.roster_answer.specs.declared.fault.Fault.{Fault}
+use Rattle.roster_answer.specs.declared.fault.Fault.TheVariants as fault
+use Rattle.roster_words.specs.declared.request.Command.{Command}
+
+-- ---- a bundle
+
+weeks_meant : (source : Text) (b : Bundle) → week_count (meaning_of source b) ≡ length b.week_data
+unfolding meaning_of
+weeks_meant source b = length-map b.week_data (week_meant source (shift_names source b) (skill_names source b) (nurse_names source b))
+
+-- a solution for each week of its case
+pub as_many_solutions : (source : Text) (b : Bundle) (c : Meaning) → Spells (all_seen source (tokens_of source)) b → c ≡ meaning_of source b → length b.solutions ≡ week_count c
+as_many_solutions source b c spelled is = spelled.solution_parts ∙ sym spelled.week_data_parts ∙ sym (weeks_meant source b) ∙ sym (ap week_count is)
+
+pub first_of_roster : (source : Text) (b : Bundle) (c : Meaning) (f : CaseFault) → c ≡ meaning_of source b → case_faults source b ≡ [] → IsFirst (roster_faults source c b) f → IsFirst (all_faults source b) f
+first_of_roster source b c f is none first =
+    IsFirst-behind (case_faults source b) (roster_faults source (meaning_of source b) b) f none (subst (λ m. IsFirst (roster_faults source m b) f) is first)
+
+-- the name of an item of the scenario, by its number
+name_at : {A : Type 0} (source : Text) (name : A → Token) (items : List A) (n : ℕ) (item : A) → item ≡ get_or items n item → n < length items
+    → text_of source (name item) ≡ get_or (map (text_of source) (map name items)) n []
+name_at source name [] n item is within = absurd (omega (arith, within))
+name_at source name (x ∷ xs) zero item is within = ap (λ y. text_of source (name y)) is
+name_at source name (x ∷ xs) (suc n) item is within = name_at source name xs n item is (omega (arith, within))
+
+pub name_found : {A : Type 0} (source : Text) (name : A → Token) (items shown : List A) (n : ℕ) (item : A) → shown ≡ items
+    → true ≡ nat_lt n (length shown) → item ≡ get_or shown n item → text_of source (name item) ≡ get_or (map (text_of source) (map name items)) n []
+name_found source name items shown n item shows found is =
+    name_at source name items n item (is ∙ ap (λ xs. get_or xs n item) shows)
+    (ltb-true n (length items) (sym (found ∙ ap (λ xs. nat_lt n (length xs)) shows)))
+
+-- ---- statuses
+
+pub status_listed : (f : Fault) → Contains (0 ∷ 1 ∷ 3 ∷ 4 ∷ []) (status_of f)
+status_listed (fault.Text text.Memory) = (3, lit< tt, refl)
+status_listed (fault.Text text.ReadFailed) = (2, lit< tt, refl)
+status_listed (fault.Text text.TooLong) = (1, lit< tt, refl)
+status_listed (fault.Text (text.Expected line what)) = (1, lit< tt, refl)
+status_listed (fault.Text (text.NumberRange line)) = (1, lit< tt, refl)
+status_listed (fault.Text (text.AfterEnd line)) = (1, lit< tt, refl)
+status_listed (fault.Case case.Memory nurse) = (3, lit< tt, refl)
+status_listed (fault.Case (case.Repeated line) nurse) = (1, lit< tt, refl)
+status_listed (fault.Case (case.Unknown line) nurse) = (1, lit< tt, refl)
+status_listed (fault.Case (case.Reserved line) nurse) = (1, lit< tt, refl)
+status_listed (fault.Case (case.OtherInstance line) nurse) = (1, lit< tt, refl)
+status_listed (fault.Case (case.HistoryWeek line) nurse) = (1, lit< tt, refl)
+status_listed (fault.Case (case.HistoryNurses line) nurse) = (1, lit< tt, refl)
+status_listed (fault.Case (case.RepeatedRequirement line) nurse) = (1, lit< tt, refl)
+status_listed (fault.Case (case.Limit line) nurse) = (1, lit< tt, refl)
+status_listed (fault.Case (case.TooManyStates number name) nurse) = (1, lit< tt, refl)
+status_listed (fault.Case (case.H1 number day) nurse) = (1, lit< tt, refl)
+status_listed (fault.Hard f names) = (1, lit< tt, refl)
+status_listed fault.Output = (2, lit< tt, refl)
+
+-- ---- devices
+
+module _ {R Out : Type 0} (remaining : R → Option (List ℕ)) (contents : Out → Option (List ℕ)) (command : Command) (input after : Watched R) (output written : Watched Out) where
+  pub read_failed : (f : Fault) → Refuses remaining contents command input after output written f → after.failures ≢ input.failures → (f ≡ fault.Text text.ReadFailed) × (written ≡ output)
+  read_failed f (inr h) changed = absurd (changed h.read.failures)
+  read_failed (fault.Text text.Memory) (inl h) changed = absurd (changed h.0)
+  read_failed (fault.Text text.ReadFailed) (inl h) changed = (refl, h.1)
+  read_failed (fault.Text text.TooLong) (inl h) changed = absurd (changed h.0.0)
+  read_failed (fault.Text (text.Expected line what)) (inl h) changed = absurd h.0
+  read_failed (fault.Text (text.NumberRange line)) (inl h) changed = absurd h.0
+  read_failed (fault.Text (text.AfterEnd line)) (inl h) changed = absurd h.0
+  read_failed (fault.Case f nurse) (inl h) changed = absurd h.0
+  read_failed (fault.Hard f names) (inl h) changed = absurd h.0
+  read_failed fault.Output (inl h) changed = absurd h.0
+
+  same_count : written ≡ output → written.failures ≡ output.failures
+  same_count same = ap (λ (w : Watched Out). w.failures) same
+
+  pub write_failed : (f : Fault) → Refuses remaining contents command input after output written f → written.failures ≢ output.failures → f ≡ fault.Output
+  write_failed f (inl h) changed = absurd (changed (same_count h.1))
+  write_failed (fault.Text f) (inr h) changed = absurd (changed (same_count h.refuses.1))
+  write_failed (fault.Case f nurse) (inr h) changed = absurd (changed (same_count h.refuses.1))
+  write_failed (fault.Hard f names) (inr h) changed = absurd (changed (same_count h.refuses.1))
+  write_failed fault.Output (inr h) changed = refl
+
+  -- status 3 is a device that failed once more
+  pub device_failed : (f : Fault) → Refuses remaining contents command input after output written f → status_of f ≡ 3
+      → (after.failures ≡ one_more input.failures) ⊎ (written.failures ≡ one_more output.failures)
+  device_failed (fault.Text text.Memory) h is = absurd (cc)
+  device_failed (fault.Text text.ReadFailed) (inl h) is = inl h.0
+  device_failed (fault.Text text.ReadFailed) (inr h) is = absurd h.refuses.0
+  device_failed (fault.Text text.TooLong) h is = absurd (cc)
+  device_failed (fault.Text (text.Expected line what)) h is = absurd (cc)
+  device_failed (fault.Text (text.NumberRange line)) h is = absurd (cc)
+  device_failed (fault.Text (text.AfterEnd line)) h is = absurd (cc)
+  device_failed (fault.Case case.Memory nurse) h is = absurd (cc)
+  device_failed (fault.Case (case.Repeated line) nurse) h is = absurd (cc)
+  device_failed (fault.Case (case.Unknown line) nurse) h is = absurd (cc)
+  device_failed (fault.Case (case.Reserved line) nurse) h is = absurd (cc)
+  device_failed (fault.Case (case.OtherInstance line) nurse) h is = absurd (cc)
+  device_failed (fault.Case (case.HistoryWeek line) nurse) h is = absurd (cc)
+  device_failed (fault.Case (case.HistoryNurses line) nurse) h is = absurd (cc)
+  device_failed (fault.Case (case.RepeatedRequirement line) nurse) h is = absurd (cc)
+  device_failed (fault.Case (case.Limit line) nurse) h is = absurd (cc)
+  device_failed (fault.Case (case.TooManyStates number name) nurse) h is = absurd (cc)
+  device_failed (fault.Case (case.H1 number day) nurse) h is = absurd (cc)
+  device_failed (fault.Hard f names) h is = absurd (cc)
+  device_failed fault.Output (inl h) is = absurd h.0
+  device_failed fault.Output (inr h) is = inr h.refuses.stopped.stops.failures
+
+-- ---- an input that was not read to its end
+
+module _ {R : Type 0} (A : Type 0) (remaining : R → Option (List ℕ)) (old new : Watched R) where
+  pub unread : (f : TextFault) → IsReadFault f → new.failures ≡ counted old.failures (is_read_failure {A = A} (Err f)) → (IsErrOf {T = A} (Err f) text.TooLong → IfSome (remaining old.inner) (λ given. 16777216 < length given))
+      → IsUnread remaining old new (fault.Text f)
+  unread text.Memory is failures long = failures
+  unread text.ReadFailed is failures long = failures
+  unread text.TooLong is failures long = (failures, long refl)
+  unread (text.Expected line what) is failures long = absurd is
+  unread (text.NumberRange line) is failures long = absurd is
+  unread (text.AfterEnd line) is failures long = absurd is
+
+-- ---- a bundle, once its case and its roster are read
+
+module _ {W : Type 0} (contents : W → Option (List ℕ)) (command : Command) (source : Text) (b : Bundle) (c : Meaning) (r : Rows) (old new : Watched W)
+    (spelled : Spells (all_seen source (tokens_of source)) b) (taken : all_faults source b ≡ []) (case_is : c ≡ meaning_of source b) (rows_are : r ≡ rows_of source c b) where
+  rows_meant : r ≡ roster_of source b
+  rows_meant = rows_are ∙ ap (λ m. rows_of source m b) case_is
+
+  breaches_meant : breaches_of command c r ≡ breaches command source b
+  breaches_meant = ap₂ (breaches_of command) case_is rows_meant
+
+  report_meant : report_of command c r ≡ answered_text command source b
+  report_meant = ap₂ (report_of command) case_is rows_meant
+
+  pub answers : breaches_of command c r ≡ [] → Writes contents old new (report_of command c r) → Answers contents command source old new
+  answers kept written = record {
+    bundle = b;
+    spelled = spelled;
+    taken = taken;
+    kept = sym breaches_meant ∙ kept;
+    written = subst (Writes contents old new) report_meant written;
+  }
+
+  pub refuses : (f : Fault) → StopsReport contents (breaches_of command c r) (report_of command c r) source b old new f → RefusesBytes contents command source old new f
+  refuses (fault.Text f) h = absurd h
+  refuses (fault.Case f nurse) h = absurd h
+  refuses (fault.Hard f names) h = (
+    record {
+      bundle = b;
+      spelled = spelled;
+      refused = (taken, subst (λ broken. IsFirstBreach source b broken (fault.Hard f names)) breaches_meant h.0);
+    },
+    h.1,
+  )
+  refuses fault.Output h = record {
+    bundle = b;
+    spelled = spelled;
+    taken = taken;
+    kept = sym breaches_meant ∙ h.0;
+    stopped = subst (Stops contents old new) report_meant h.1;
+  }
+
+  pub OnOk-answers : {X : Type 0} (result : Result X Fault) → OnOk result (breaches_of command c r ≡ []) → OnOk result (Writes contents old new (report_of command c r))
+      → OnOk result (Answers contents command source old new)
+  OnOk-answers (Ok x) kept written = answers kept written
+  OnOk-answers (Err f) kept written = tt
+
+  pub IfErr-refuses : {X : Type 0} (result : Result X Fault) → IfErr result (StopsReport contents (breaches_of command c r) (report_of command c r) source b old new)
+      → IfErr result (RefusesBytes contents command source old new)
+  IfErr-refuses (Ok x) stopped = tt
+  IfErr-refuses (Err f) stopped = refuses f stopped
+
+-- the fault of a bundle's case or solutions is a refusal of its bytes
+pub refuses_case : {W : Type 0} (contents : W → Option (List ℕ)) (command : Command) (source : Text) (b : Bundle) (w : Watched W) (f : Fault) → Spells (all_seen source (tokens_of source)) b
+    → IsCaseFault source b f → RefusesBytes contents command source w w f
+refuses_case contents command source b w (fault.Text f) spelled h = absurd h
+refuses_case contents command source b w (fault.Case f nurse) spelled h = (record { bundle = b; spelled = spelled; refused = h }, refl)
+refuses_case contents command source b w (fault.Hard f names) spelled h = absurd h
+refuses_case contents command source b w fault.Output spelled h = absurd h
+
+-- a text of a command that refuses no breaches
+pub stops_report : {W : Type 0} (contents : W → Option (List ℕ)) (report source : Text) (b : Bundle) (old new : Watched W) (f : Fault) → StopsOutput contents old new report f
+    → StopsReport contents [] report source b old new f
+stops_report contents report source b old new (fault.Text f) h = absurd h
+stops_report contents report source b old new (fault.Case f nurse) h = absurd h
+stops_report contents report source b old new (fault.Hard f names) h = absurd h
+stops_report contents report source b old new fault.Output h = (refl, h)

@@ -1,0 +1,15 @@
+use Rattle.std.proofs.Common.{subst}
+use Rattle.std.specs.Prelude.{OnErr, OnOk}
+use Rattle.roster_text.specs.Io.{Stops, Writes}
+use Rattle.roster_answer.proofs.PieceLemmas.{cost_pieces-are}
+use Rattle.roster_answer.proofs.cost.write_costs.Goals as goal
+
+pub returns-clause-ok : goal.returns-clause-ok
+returns-clause-ok g c =
+    let out = c.write_pieces in
+    subst (λ text. OnOk out.result (Writes g.W.Write.contents c.args.output.now out.new.output text)) (cost_pieces-are c.args.costs c.total.result c.total.ensures c.requires) out.ensures.ok
+
+pub returns-clause-err : goal.returns-clause-err
+returns-clause-err g c =
+    let out = c.write_pieces in
+    subst (λ text. OnErr out.result (Stops g.W.Write.contents c.args.output.now out.new.output text)) (cost_pieces-are c.args.costs c.total.result c.total.ensures c.requires) out.ensures.err

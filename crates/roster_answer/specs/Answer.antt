@@ -1,0 +1,167 @@
+-- What a run answers.
+use Rattle.std.specs.Prelude.{◌≡◌, ◌≢◌, ℕ, ◌<◌, ◌≤◌, ◌⊎◌, List, [], IfSome, Option, Some, length}
+use Rattle.std.specs.Io.KnownBytes.{IsAtEnd}
+use Rattle.roster_text.specs.FirstFault.{IsFirstFault}
+use Rattle.roster_text.specs.Grammar.{Spells}
+use Rattle.roster_text.specs.Io.{Stops, Watched, Writes, one_more}
+use Rattle.roster_text.specs.Token.{all_seen, line_at_end, tokens_of}
+use Rattle.roster_text.specs.declared.bundle.Bundle.{Bundle}
+use Rattle.roster_text.specs.declared.fault.TextFault.{TextFault}
+use Rattle.roster_text.specs.declared.fault.TextFault.TheVariants as text
+use Rattle.roster_case.specs.Bundles.{meaning_of, rows_of}
+use Rattle.roster_case.specs.Faults.{first_of}
+use Rattle.roster_case.specs.HardRules.{hard_faults}
+use Rattle.roster_case.specs.Meaning.{Meaning}
+use Rattle.roster_case.specs.Penalties.{costs_of}
+use Rattle.roster_case.specs.Refusals.{all_faults}
+use Rattle.roster_case.specs.Rosters.{Rows}
+use Rattle.roster_case.specs.Shown.{weeks_text}
+use Rattle.roster_case.specs.declared.CaseFault.{CaseFault}
+use Rattle.roster_case.specs.declared.CaseFault.TheVariants.{Memory}
+use Rattle.roster_case.specs.declared.fault.HardFault.{HardFault}
+use Rattle.roster_answer.specs.Lines.{IsFirstBreach, Text, costs_text, nurse_of, sizes_text}
+use Rattle.roster_answer.specs.declared.fault.BreachNames.{BreachNames}
+use Rattle.roster_answer.specs.declared.fault.Fault.{Fault}
+use Rattle.roster_answer.specs.declared.fault.Fault.TheVariants as fault
+use Rattle.roster_words.specs.declared.request.Command.{Command}
+use Rattle.roster_words.specs.declared.request.Command.TheVariants as command
+
+-- the log has the line, or a write failed inside it
+abbrev pub Logs : {W : Type 0} → (W → Option (List ℕ)) → Watched W → Watched W → Text → Type 0
+Logs contents old new line = Writes contents old new line ⊎ Stops contents old new line
+
+-- ---- the input
+
+-- these are all bytes of the reader, and no read failed
+pub record ReadsAll {R : Type 0} (remaining : R → Option (List ℕ)) (old new : Watched R) (bytes : Text) : Type 0 where
+  pub all : IfSome (remaining old.inner) (λ given. bytes ≡ given)
+  pub end : IsAtEnd (remaining new.inner)
+  pub kept : length bytes ≤ 16777216
+  pub failures : new.failures ≡ old.failures
+
+-- the bytes spell the bundle
+abbrev pub SpellsBundle : Text → Bundle → Type 0
+SpellsBundle bytes b = Spells (all_seen bytes (tokens_of bytes)) b
+
+-- ---- a case and its roster: what a command answers for them, and why it stops
+
+-- what a command writes for them
+abbrev pub report_of : Command → Meaning → Rows → Text
+report_of command.Show c r = weeks_text c r
+report_of command.Cost c r = costs_text (costs_of c r)
+report_of command.Sizes c r = sizes_text c
+
+-- the breaches of the hard rules for which a command refuses them, in their order
+abbrev pub breaches_of : Command → Meaning → Rows → List HardFault
+breaches_of command.Show c r = []
+breaches_of command.Cost c r = hard_faults c r
+breaches_of command.Sizes c r = []
+
+-- why a text was not all written, and what was written
+abbrev pub StopsOutput : {W : Type 0} → (W → Option (List ℕ)) → Watched W → Watched W → Text → Fault → Type 0
+StopsOutput contents old new text fault.Output = Stops contents old new text
+StopsOutput contents old new text _ = ⊥
+
+-- why a report was not all written, where these breaches are refused, and what was written
+abbrev pub StopsReport : {W : Type 0} → (W → Option (List ℕ)) → List HardFault → Text → Text → Bundle → Watched W → Watched W → Fault → Type 0
+StopsReport contents broken report bytes b old new (fault.Hard f names) = IsFirstBreach bytes b broken (fault.Hard f names) × (new ≡ old)
+StopsReport contents broken report bytes b old new fault.Output = (broken ≡ []) × Stops contents old new report
+StopsReport contents broken report bytes b old new _ = ⊥
+
+-- ---- a bundle: the same, and why it is refused
+
+-- the roster that its solutions say, by the names of its own case
+abbrev pub roster_of : Text → Bundle → Rows
+roster_of bytes b = rows_of bytes (meaning_of bytes b) b
+
+-- what a command writes for it
+abbrev pub answered_text : Command → Text → Bundle → Text
+answered_text command bytes b = report_of command (meaning_of bytes b) (roster_of bytes b)
+
+-- the breaches of the hard rules for which a command refuses it, in their order
+abbrev pub breaches : Command → Text → Bundle → List HardFault
+breaches command bytes b = breaches_of command (meaning_of bytes b) (roster_of bytes b)
+
+-- the first fault of its case and its solutions, want of memory aside, with the name of the nurse of which it speaks
+pub record IsRefusedFor (bytes : Text) (b : Bundle) (f : CaseFault) (nurse : Text) : Type 0 where
+  pub first : f ≢ Memory → first_of (all_faults bytes b) ≡ Some f
+  pub nurse_is : nurse ≡ nurse_of bytes b f
+
+-- that fault, as what a command is stopped by
+abbrev pub IsCaseFault : Text → Bundle → Fault → Type 0
+IsCaseFault bytes b (fault.Case f nurse) = IsRefusedFor bytes b f nurse.now
+IsCaseFault bytes b _ = ⊥
+
+-- nothing else is refused, and this is its first breach
+abbrev pub IsBreachedBy : Command → Text → Bundle → HardFault → BreachNames → Type 0
+IsBreachedBy command bytes b f names = (all_faults bytes b ≡ []) × IsFirstBreach bytes b (breaches command bytes b) (fault.Hard f names)
+
+-- ---- a command, from the bytes
+
+-- the bytes spell a bundle in which nothing is refused, and the answer is written
+pub record Answers {W : Type 0} (contents : W → Option (List ℕ)) (command : Command) (bytes : Text) (old new : Watched W) : Type 0 where
+  pub bundle : Bundle
+  pub spelled : SpellsBundle bytes bundle
+  pub taken : all_faults bytes bundle ≡ []
+  pub kept : breaches command bytes bundle ≡ []
+  pub written : Writes contents old new (answered_text command bytes bundle)
+
+-- the same, but a write failed inside what was to be written
+pub record AnswersPart {W : Type 0} (contents : W → Option (List ℕ)) (command : Command) (bytes : Text) (old new : Watched W) : Type 0 where
+  pub bundle : Bundle
+  pub spelled : SpellsBundle bytes bundle
+  pub taken : all_faults bytes bundle ≡ []
+  pub kept : breaches command bytes bundle ≡ []
+  pub stopped : Stops contents old new (answered_text command bytes bundle)
+
+-- the bytes spell a bundle whose case or solutions have this fault first
+pub record HasCaseFault (bytes : Text) (f : CaseFault) (nurse : Text) : Type 0 where
+  pub bundle : Bundle
+  pub spelled : SpellsBundle bytes bundle
+  pub refused : IsRefusedFor bytes bundle f nurse
+
+-- the bytes spell a bundle in which nothing else is refused, and whose roster has this breach first
+pub record HasBreach (command : Command) (bytes : Text) (f : HardFault) (names : BreachNames) : Type 0 where
+  pub bundle : Bundle
+  pub spelled : SpellsBundle bytes bundle
+  pub refused : IsBreachedBy command bytes bundle f names
+
+-- the bytes have this fault
+abbrev pub HasFault : Text → TextFault → Type 0
+HasFault bytes text.Memory = Unit {0}
+HasFault bytes text.ReadFailed = ⊥
+HasFault bytes text.TooLong = ⊥
+HasFault bytes f = IsFirstFault (line_at_end bytes) (all_seen bytes (tokens_of bytes)) f
+
+-- why a command is not answered in full, and what is written then
+abbrev pub RefusesBytes : {W : Type 0} → (W → Option (List ℕ)) → Command → Text → Watched W → Watched W → Fault → Type 0
+RefusesBytes contents command bytes old new (fault.Text f) = HasFault bytes f × (new ≡ old)
+RefusesBytes contents command bytes old new (fault.Case f nurse) = HasCaseFault bytes f nurse.now × (new ≡ old)
+RefusesBytes contents command bytes old new (fault.Hard f names) = HasBreach command bytes f names × (new ≡ old)
+RefusesBytes contents command bytes old new fault.Output = AnswersPart contents command bytes old new
+
+-- ---- from the reader
+
+-- the input was read, and is answered
+pub record ReadsAndAnswers {R Out : Type 0} (remaining : R → Option (List ℕ)) (contents : Out → Option (List ℕ)) (command : Command) (input input_after : Watched R) (output output_after : Watched Out) : Type 0 where
+  pub bytes : Text
+  pub read : ReadsAll remaining input input_after bytes
+  pub answers : Answers contents command bytes output output_after
+
+-- the input was read, and is refused
+pub record ReadsAndRefuses {R Out : Type 0} (remaining : R → Option (List ℕ)) (contents : Out → Option (List ℕ)) (command : Command) (input input_after : Watched R) (output output_after : Watched Out) (f : Fault) : Type 0 where
+  pub bytes : Text
+  pub read : ReadsAll remaining input input_after bytes
+  pub refuses : RefusesBytes contents command bytes output output_after f
+
+-- the input was not read to its end
+abbrev pub IsUnread : {R : Type 0} → (R → Option (List ℕ)) → Watched R → Watched R → Fault → Type 0
+IsUnread remaining input input_after (fault.Text text.Memory) = input_after.failures ≡ input.failures
+IsUnread remaining input input_after (fault.Text text.ReadFailed) = input_after.failures ≡ one_more input.failures
+IsUnread remaining input input_after (fault.Text text.TooLong) = (input_after.failures ≡ input.failures) × IfSome (remaining input.inner) (λ given. 16777216 < length given)
+IsUnread remaining input input_after _ = ⊥
+
+-- why the command stopped
+abbrev pub Refuses : {R Out : Type 0} → (R → Option (List ℕ)) → (Out → Option (List ℕ)) → Command → Watched R → Watched R → Watched Out → Watched Out → Fault → Type 0
+Refuses remaining contents command input input_after output output_after f =
+    (IsUnread remaining input input_after f × (output_after ≡ output)) ⊎ ReadsAndRefuses remaining contents command input input_after output output_after f

@@ -1,0 +1,86 @@
+//! A command, from the bytes of its input to its output, its log and its status.
+
+ghost use Rattle.std.specs.Prelude.{◌≡◌, ◌≢◌, ◌⊎◌, ℕ, OnOk, IfErr, Contains, [], ◌∷◌, codes};
+ghost use Rattle.roster_text.specs.Io.{one_more};
+ghost use Rattle.roster_answer.specs.Answer.{Answers, Logs, ReadsAndAnswers, Refuses, RefusesBytes};
+ghost use Rattle.roster_answer.specs.Lines.{fault_line, status_of};
+
+use crate::commands::report;
+use crate::fault::Fault;
+use crate::lines::tell;
+use crate::reading::read_roster;
+use roster_text::{Watch, parse_bundle, read_all, tokens};
+use roster_words::{Command, Request};
+use std::alloc::Global;
+use std::io::{Read, Write};
+
+/// Answers a request: reads the input to its end, writes the output, and answers the status. A fault writes its line to
+/// the log.
+pub fn run<R: Read, Out: Write, Log: Write>(
+    alloc: Global,
+    request: &Request,
+    input: &mut Watch<R>,
+    output: &mut Watch<Out>,
+    log: &mut Watch<Log>,
+) -> u8
+    ensures status { Contains (0 ∷ 1 ∷ 3 ∷ 4 ∷ []) result }
+
+    // What is answered, where nothing is refused.
+    ensures done { result ≡ 0 → ReadsAndAnswers R.remaining Out.contents request.now.command input.old input.new output.old output.new }
+    ensures silent { result ≡ 0 → log.new ≡ log.old }
+
+    // Else there is a fault, with its status and its line.
+    ensures refused { (result ≡ 0 → ⊥) → (fault : Fault) × (result ≡ status_of fault)
+        × Refuses R.remaining Out.contents request.now.command input.old input.new output.old output.new fault
+        × Logs Log.contents log.old log.new (fault_line fault) }
+
+    // A read or an output write that fails is told so, and status 3 comes from nothing else.
+    ensures read_failed { input.new.failures ≢ input.old.failures → (result ≡ 3)
+        × (output.new ≡ output.old) × Logs Log.contents log.old log.new (codes "read failed\n") }
+    ensures write_failed { output.new.failures ≢ output.old.failures → (result ≡ 3)
+        × Logs Log.contents log.old log.new (codes "write failed\n") }
+    ensures device { result ≡ 3 → (input.new.failures ≡ one_more input.old.failures)
+        ⊎ (output.new.failures ≡ one_more output.old.failures) }
+{
+    answer(alloc, &request.command, input, output, log)
+}
+
+fn answer<R: Read, Out: Write, Log: Write>(
+    alloc: Global,
+    command: &Command,
+    input: &mut Watch<R>,
+    output: &mut Watch<Out>,
+    log: &mut Watch<Log>,
+) -> u8
+    ensures done { result ≡ 0 → ReadsAndAnswers R.remaining Out.contents command.now input.old input.new output.old output.new }
+    ensures silent { result ≡ 0 → log.new ≡ log.old }
+    ensures refused { (result ≡ 0 → ⊥) → (fault : Fault) × (result ≡ status_of fault)
+        × Refuses R.remaining Out.contents command.now input.old input.new output.old output.new fault
+        × Logs Log.contents log.old log.new (fault_line fault) }
+{
+    let source = match read_all(alloc, input) {
+        Ok(source) => source,
+        Err(fault) => return tell(Fault::Text(fault), log),
+    };
+    match answer_bytes(alloc, command, &source, output) {
+        Ok(()) => 0,
+        Err(fault) => tell(fault, log),
+    }
+}
+
+/// Answers a command for the bundle that the bytes spell: first the case and the roster are read, then the command's
+/// report is written.
+fn answer_bytes<'a, Out: Write>(
+    alloc: Global,
+    command: &Command,
+    source: &'a [u8],
+    output: &mut Watch<Out>,
+) -> Result<(), Fault<'a>>
+    ensures ok { OnOk result (Answers Out.contents command.now source.now output.old output.new) }
+    ensures err { IfErr result (RefusesBytes Out.contents command.now source.now output.old output.new) }
+{
+    let tokens = tokens(alloc, source)?;
+    let bundle = parse_bundle(alloc, source, &tokens)?;
+    let (case, roster) = read_roster(alloc, source, &bundle)?;
+    report(command, source, &bundle, &case, &roster, output)
+}

@@ -1,0 +1,48 @@
+//! Why a command stops.
+
+use roster_case::{CaseFault, HardFault};
+use roster_text::{TextFault, WriteFault};
+
+/// Why a command stopped.
+#[derive(Clone, Copy)]
+pub(crate) enum Fault<'a> {
+    /// The input was not read, or is not spelled as the grammar says.
+    Text(TextFault),
+    /// The case or the solutions are not taken. Beside the fault stands the name of the nurse of which it speaks, empty where
+    /// it speaks of none.
+    Case(CaseFault, &'a [u8]),
+    /// The roster breaks a hard rule that the command asks for.
+    Hard(HardFault, BreachNames<'a>),
+    /// The output failed.
+    Output,
+}
+
+/// The names of which a breach of the hard rules speaks: a shift and a skill, or a nurse. The others are empty.
+#[derive(Clone, Copy)]
+pub(crate) struct BreachNames<'a> {
+    pub(crate) nurse: &'a [u8],
+    pub(crate) shift: &'a [u8],
+    pub(crate) skill: &'a [u8],
+}
+
+impl<'a> From<TextFault> for Fault<'a> {
+    ghost use Rattle.std.specs.Prelude.{◌≡◌};
+    ghost use Rattle.roster_answer.specs.declared.fault.Fault.TheVariants as fault;
+
+    ghost from_gives = { λ e f. f ≡ fault.Text e };
+
+    fn from(e: TextFault) -> Fault<'a> {
+        Fault::Text(e)
+    }
+}
+
+impl<'a> From<WriteFault> for Fault<'a> {
+    ghost use Rattle.std.specs.Prelude.{◌≡◌};
+    ghost use Rattle.roster_answer.specs.declared.fault.Fault.TheVariants as fault;
+
+    ghost from_gives = { λ _ f. f ≡ fault.Output };
+
+    fn from(_e: WriteFault) -> Fault<'a> {
+        Fault::Output
+    }
+}

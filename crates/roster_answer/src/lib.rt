@@ -1,0 +1,16 @@
+//! What a command answers: from the bytes of its input to its output, its log and its status.
+#![tactic(auto)]
+
+mod answer;
+mod commands;
+mod cost;
+mod fault;
+mod lines;
+mod names;
+mod pieces;
+mod reading;
+mod sizes;
+mod weeks;
+
+pub use answer::run;
+pub use lines::{refuse, refuse_output};

@@ -1,0 +1,15 @@
+//! Tests that cross crates: worked runs of the commands, over stand-in devices. It has no code of its own.
+#![tactic(auto)]
+
+#[cfg(test)]
+mod cost_tests;
+#[cfg(test)]
+mod devices_tests;
+#[cfg(test)]
+mod show_tests;
+#[cfg(test)]
+mod state_tests;
+#[cfg(test)]
+mod texts;
+#[cfg(test)]
+mod words_tests;

@@ -1,0 +1,84 @@
+-- What the words of a command line ask for, by clap's reading of them.
+use Rattle.std.specs.Prelude.{◌≡◌, ◌≢◌, ◌⊎◌, Bool, true, false, not, List, [], map, Option, Some, unwrap_or, option_map, codes, string_bytes}
+use Rattle.std.specs.List.{list_any}
+use Rattle.clap.specs.Lexer.{usize_max}
+use Rattle.clap.specs.Words.{App, Row, Rule, Text, all_of, fault_of, new_app, new_rule, subcommand_of, takes, with_rule, with_subcommand}
+use Rattle.clap.specs.declared.builder.action.ArgAction.TheVariants as action
+use Rattle.clap.specs.declared.error.kind.ErrorKind.{ErrorKind}
+use Rattle.clap.specs.declared.error.kind.ErrorKind.TheVariants as kind
+use Rattle.roster_words.specs.declared.request.Command.{Command}
+use Rattle.roster_words.specs.declared.request.Command.TheVariants as command
+use Rattle.roster_words.specs.declared.request.CliFault.{CliFault}
+use Rattle.roster_words.specs.declared.request.CliFault.TheVariants as fault
+use Rattle.roster_words.specs.declared.request.Request.{Request}
+
+-- any number of files
+abbrev pub files_rule : Rule
+files_rule = record (new_rule (codes "FILE")) {
+  action = Some action.Append;
+  range = Some (record { start_inclusive = 0; end_inclusive = usize_max });
+}
+
+-- a command that reads files
+abbrev pub command_of : Text → App
+command_of name = with_rule (new_app name) files_rule
+
+-- the program before its commands: it has a version, and one of its commands is wanted
+abbrev pub bare : App
+bare = record {
+  top = record (new_app (codes "roster")).top { has_version = true; subcommand_required = true; arg_required_else_help = true };
+  subs = [];
+}
+
+-- the program's definition for clap
+abbrev pub program : App
+program = with_subcommand (with_subcommand (with_subcommand bare (command_of (codes "show")).top) (command_of (codes "cost")).top) (command_of (codes "sizes")).top
+
+-- a command's name
+abbrev pub name_of : Command → Text
+name_of command.Show = codes "show"
+name_of command.Cost = codes "cost"
+name_of command.Sizes = codes "sizes"
+
+-- it is the name of a command
+abbrev pub IsName : Text → Type 0
+IsName name = (name ≡ name_of command.Show) ⊎ (name ≡ name_of command.Cost) ⊎ (name ≡ name_of command.Sizes)
+
+-- the files among the matches of a command
+abbrev pub files_in : List Row → List Text
+files_in rows = unwrap_or (all_of (codes "FILE") rows) []
+
+-- the name and the files of the command that was met
+abbrev pub named_files : Option (Text × List Row) → Option (Text × List Text)
+named_files = option_map (λ met. (met.0, files_in met.1))
+
+-- the command's name and the files that clap's matches give for the words
+abbrev pub asked_of : List Text → Option (Text × List Text)
+asked_of words = named_files (subcommand_of program words)
+
+-- a request as a command's name and files
+abbrev pub request_view : Request → Text × List Text
+request_view r = (name_of r.command, map string_bytes r.files.items)
+
+-- help or the version was asked for
+abbrev pub is_help : ErrorKind → Bool
+is_help kind.DisplayHelp = true
+is_help kind.DisplayVersion = true
+is_help _ = false
+
+-- an error of this kind is told as want of memory, help or a mistake
+abbrev pub TellsKind : ErrorKind → CliFault → Type 0
+TellsKind k fault.Memory = Unit {0}
+TellsKind k (fault.Usage text) = (k ≢ kind.OutOfMemory) × (is_help k ≡ false)
+TellsKind k (fault.Help text) = (k ≢ kind.OutOfMemory) × (is_help k ≡ true)
+
+-- clap's definition doesn't take the words, and p holds of a kind of fault that they have
+pub record IsRefused (p : ErrorKind → Bool) (words : List Text) : Type 0 where
+  pub untaken : takes program words ≡ false
+  pub kind : list_any p (fault_of program words) ≡ true
+
+-- why words are refused, where memory is found
+abbrev pub Refuses : List Text → CliFault → Type 0
+Refuses words fault.Memory = Unit {0}
+Refuses words (fault.Usage text) = IsRefused (λ k. not (is_help k)) words
+Refuses words (fault.Help text) = IsRefused is_help words

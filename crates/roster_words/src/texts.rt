@@ -1,0 +1,73 @@
+//! The texts of the help.
+
+pub(crate) const ABOUT: &str =
+    "Reads the texts of a nurse rostering instance, and writes its rosters, what they cost, or how \
+    much a search takes.";
+
+pub(crate) const TEXTS: &str =
+    "The texts of the instance: the scenario, the history, and then the weeks and the rosters, in \
+    one file or in several";
+
+pub(crate) const SHOW: &str = "Write the rosters as they stand, in one tidy form";
+
+pub(crate) const SHOW_HELP: &str = "Examples:
+  roster show examples/mini.txt
+  roster show scenario.txt history.txt week-0.txt roster-0.txt
+
+The files are read one after another, in the order given. Without a file, the
+texts are read from standard input.";
+
+pub(crate) const COST: &str = "Write what the roster costs, rule by rule";
+
+pub(crate) const COST_HELP: &str =
+    "The hard rules are asked first: a roster that breaks one isn't costed. The first
+breach goes to standard error, and the status is 1. The hard rules are: enough
+nurses for each shift and skill; no forbidden succession of shifts; no skill
+that a nurse lacks.
+
+A line is written for each soft rule, and a last one for their total:
+  S1  30 for each nurse missing to the optimum of a day, shift and skill
+  S2  15 for each missing or extra day of a run of one shift, 30 of a working run
+  S3  30 for each missing or extra day of a run of days off
+  S4  10 for each assignment to a shift that the nurse asked not to work
+  S5  30 for each half worked weekend, where the contract wants whole weekends
+  S6  20 for each assignment below the least or above the greatest total
+  S7  30 for each worked weekend above the greatest number
+
+Example:
+  roster cost examples/mini.txt
+
+The files are read one after another, in the order given. Without a file, the
+texts are read from standard input.";
+
+pub(crate) const SIZES: &str = "Write how much the search for each nurse takes";
+
+pub(crate) const SIZES_HELP: &str =
+    "What the search for a nurse's best row takes, before it is begun. A line is
+written for each nurse, in the order of the scenario: the name and four numbers,
+as in 'Ann 1296 2592 9072 27216'. To the owner of a small machine they mean:
+  1296   states that the search tells apart. A state is what the days so far mean
+         for the costs of the days to come.
+  2592   labels of 4 bytes each, in two tables: one for each state of the day at
+         hand, and one for each state of the next
+  9072   pointers, one for each state and day
+  27216  steps of the search at most: one from each state, on each day, by each
+         choice of the nurse
+
+The search takes one nurse at a time, in the same memory. So the line with the
+greatest numbers says how much memory a machine must have.
+
+The hard rules aren't asked.
+
+Example:
+  roster sizes examples/mini.txt
+
+The files are read one after another, in the order given. Without a file, the
+texts are read from standard input.";
+
+pub(crate) const EXAMPLES: &str = "Examples:
+  roster show examples/mini.txt
+  roster cost examples/mini.txt
+  roster sizes examples/mini.txt
+
+'roster COMMAND --help' says more about a command.";
