@@ -15,6 +15,8 @@ mod tests;
 mod token;
 mod view;
 mod watch;
+#[cfg(test)]
+mod watch_tests;
 mod writing;
 
 pub use bundle::{

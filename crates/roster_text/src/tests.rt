@@ -4,7 +4,7 @@ ghost use Rattle.std.specs.Prelude.{ℕ, Option, Some, None, codes, ◌==◌, �
 
 use super::*;
 use roster_devices::{AtEnd, EndlessReader, FailingReader, OneByteReader, ShortWriter};
-use std::io::{BufWriter, ErrorKind, Read, Write};
+use std::io::{ErrorKind, Read};
 use std::test::Fail;
 
 #[test]
@@ -120,18 +120,6 @@ fn counts_what_a_failing_writer_took(rt: HostRuntime) {
         assert!(rt; out.failed());
         assert_eq!(rt; out.into_inner().written(), b"SOLUTIO".as_slice());
     }
-}
-
-#[test]
-fn passes_a_flush_on_and_does_not_count_it(rt: HostRuntime) -> Result<(), Fail> {
-    let mut room = [0; 7];
-    let short = ShortWriter::new(&mut room, AtEnd::Fail);
-    let mut out = Watch::new(BufWriter::new(rt.alloc(), short)?);
-    out.flush()?;
-    write_bytes(&mut out, b"SOLUTION")?;
-    assert!(rt; out.flush().is_err());
-    assert!(rt; !out.failed());
-    Ok(())
 }
 
 #[test]
