@@ -5,5 +5,6 @@ pub mod SmallNumbers
 pub mod FirstFault
 pub mod Reading
 pub mod Io
+pub mod Pieces
 pub mod Canonical
 pub mod ReadBack

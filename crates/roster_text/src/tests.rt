@@ -136,6 +136,26 @@ fn writes_bytes_and_numbers(rt: HostRuntime) -> Result<(), Fail> {
 }
 
 #[test]
+fn writes_pieces(rt: HostRuntime) -> Result<(), Fail> {
+    let pieces = [
+        Piece::Bytes(b"Ann "),
+        Piece::Number(40),
+        Piece::Bytes(b"\n"),
+    ];
+    let mut out = Watch::new(Vec::new(rt.alloc()));
+    write_pieces(&mut out, &pieces)?;
+    assert_eq!(rt; send_pieces(&mut out, 7, &pieces)?, 14);
+    assert_eq!(rt; out.into_inner().as_slice(), b"Ann 40\nAnn 40\n".as_slice());
+    let mut room = [0; 5];
+    let mut out = Watch::new(ShortWriter::new(&mut room, AtEnd::Fail));
+    let answer = write_pieces(&mut out, &pieces);
+    assert_eq!(rt; answer, Err(WriteFault::WriteFailed { sent: 5 }));
+    let answer = send_pieces(&mut out, 7, &pieces);
+    assert_eq!(rt; answer, Err(WriteFault::WriteFailed { sent: 7 }));
+    Ok(())
+}
+
+#[test]
 fn shows_a_write_fault(rt: HostRuntime) -> Result<(), Fail> {
     let fault = WriteFault::WriteFailed { sent: 7 };
     assert_eq!(rt;
