@@ -14,6 +14,8 @@ mod reading;
 #[cfg(test)]
 mod tests;
 mod token;
+#[cfg(test)]
+mod token_tests;
 mod view;
 mod watch;
 #[cfg(test)]
