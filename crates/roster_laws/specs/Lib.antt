@@ -1,1 +1,4 @@
 pub mod Logs
+pub mod Staffing
+pub mod OneRow
+pub mod Greatest
