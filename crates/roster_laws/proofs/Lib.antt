@@ -11,3 +11,4 @@ pub mod Lacking
 pub mod AllRows
 pub mod Allowed
 pub mod GreatestLemmas
+pub mod Kept

@@ -1,10 +1,11 @@
 //! Runs of the improver and their logs. Where a law says nothing of the best rows, it holds for each way to choose them.
 
 ghost use Rattle.std.specs.Prelude.{◌≡◌, ℕ, ◌+◌, ◌*◌, ◌<◌, ◌≤◌, ◌%◌, ◌↔◌, suc, nat_lt, not, true, false, All, AllPairs};
+ghost use Rattle.roster_case.specs.HardRules.{keeps_hard};
 ghost use Rattle.roster_case.specs.Improver.{BestRows, entry, log_of, round, run, same_rows, step};
 ghost use Rattle.roster_case.specs.Meaning.{Meaning, nurse_count};
 ghost use Rattle.roster_case.specs.Penalties.{penalty};
-ghost use Rattle.roster_case.specs.Rosters.{Row, Rows, with_row};
+ghost use Rattle.roster_case.specs.Rosters.{Row, Rows, fits, with_row};
 ghost use Rattle.roster_case.specs.Rows.{IsBestRow, allowed_rows, best_row, penalty_with};
 ghost use Rattle.roster_laws.specs.Logs.{Descends, EndsWith, changes_in, ending, outcome_of, rounds_in};
 
@@ -54,4 +55,10 @@ pub fn changes_are_few()
 /// Along the log no penalty is above an earlier one, and that of a change is below each earlier one by 5 at least.
 pub fn penalty_never_rises()
     ensures { (c : Meaning) (best : BestRows) (rounds : ℕ) (r : Rows) → AllPairs (Descends c) (log_of c best rounds r) }
+{}
+
+/// From a roster that fits and keeps the hard rules, a run of best rows and each line of its log come to such rosters alone.
+pub fn runs_keep_the_hard_rules()
+    ensures log { (c : Meaning) (rounds : ℕ) (r : Rows) → fits c r ≡ true → keeps_hard c r ≡ true → All (λ e. (fits c e.roster ≡ true) × (keeps_hard c e.roster ≡ true)) (log_of c (best_row c) rounds r) }
+    ensures run { (c : Meaning) (rounds : ℕ) (r : Rows) → fits c r ≡ true → keeps_hard c r ≡ true → (fits c (run c (best_row c) rounds r).roster ≡ true) × (keeps_hard c (run c (best_row c) rounds r).roster ≡ true) }
 {}

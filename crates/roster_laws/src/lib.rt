@@ -9,7 +9,7 @@ mod sizes;
 
 pub use improver::{
     changes_are_few, last_round_tells, log_ends_with_the_run, penalty_never_rises,
-    same_rows_are_equal, settled_stays, steps_put_the_best_row_in,
+    runs_keep_the_hard_rules, same_rows_are_equal, settled_stays, steps_put_the_best_row_in,
 };
 pub use prices::{
     hard_rules_by_parts, one_row_replaced, penalty_by_parts, staffing_by_what_is_lacking,
