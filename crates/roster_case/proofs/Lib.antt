@@ -25,3 +25,4 @@ mod CaseLemmas
 mod FitLemmas
 mod SmallLemmas
 mod PastLemmas
+mod ThreeRounds

@@ -26,3 +26,4 @@ pub mod CaseParts
 pub mod Shown
 pub mod Mini
 pub mod MiniText
+pub mod Tight

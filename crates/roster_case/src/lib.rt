@@ -3,6 +3,7 @@
 
 mod case;
 mod choice;
+mod choosing;
 mod costing;
 mod examples;
 mod fault;
@@ -26,6 +27,10 @@ mod weekends;
 
 pub use case::{Case, MAX_STATES};
 pub use choice::{Choice, Shift, Skill};
+pub use choosing::{
+    rows_that_are_kept, rows_that_minimums_exclude, rows_that_skills_exclude,
+    rows_that_successions_exclude, run_of_three_rounds,
+};
 pub use costing::costs;
 pub use examples::{
     breaches_of_the_hard_rules, faults_of_runs, logs_of_runs, penalties_of_an_empty_roster,
