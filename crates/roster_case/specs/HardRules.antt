@@ -10,10 +10,11 @@ use Rattle.roster_instance.specs.declared.Shift.{Shift}
 use Rattle.roster_instance.specs.declared.Skill.{Skill}
 use Rattle.roster_case.specs.declared.fault.HardFault.{HardFault}
 use Rattle.roster_case.specs.declared.fault.HardFault.TheVariants.{H2, H3, H4}
+use Rattle.roster_instance.specs.Counting.{all_below}
 use Rattle.roster_instance.specs.Days.{Days, shift_on}
 use Rattle.roster_instance.specs.Faults.{fault_if, below, is_none_of}
 use Rattle.roster_instance.specs.Meaning.{Meaning, day_count, forbids, shift_count, skill_count, nurse_count, shift_at, skill_at, nurse_at, past_of, need, last_shift}
-use Rattle.roster_instance.specs.Rosters.{Rows, choice_on, row_of, days_of_nurse, cover}
+use Rattle.roster_instance.specs.Rosters.{Row, Rows, choice_on, row_of, days_of_nurse, cover}
 
 -- the shift before a day: on day 0 the history's last
 abbrev pub shift_before : Option Shift → Days → ℕ → Option Shift
@@ -24,6 +25,22 @@ abbrev pub is_able : List Skill → Choice → Bool
 is_able skills Off = true
 is_able skills (Work s k) = list_any (λ own. own.0 == k.0) skills
 
+-- ---- a nurse's row: a day that breaks the successions, a day that the nurse is able to work so, and both over m days
+
+abbrev pub breaks_succession : Meaning → ℕ → Days → ℕ → Bool
+breaks_succession c n days d = forbids c.successions (shift_before (last_shift (past_of c n).border) days d) (shift_on days d)
+
+abbrev pub keeps_successions : Meaning → ℕ → Days → ℕ → Bool
+keeps_successions c n days m = all_below m (λ d. not (breaks_succession c n days d))
+
+abbrev pub is_able_on : Meaning → ℕ → Row → ℕ → Bool
+is_able_on c n row d = is_able (nurse_at c n).skills (choice_on row d)
+
+abbrev pub keeps_skills : Meaning → ℕ → Row → ℕ → Bool
+keeps_skills c n row m = all_below m (is_able_on c n row)
+
+-- ---- the breaches
+
 abbrev pub staffing_fault : Meaning → Rows → ℕ → ℕ → ℕ → List HardFault
 staffing_fault c r d s k =
     fault_if (nat_lt (cover r d s k) (need c d s k).least) (H2 d (shift_at s) (skill_at k) (cover r d s k) (need c d s k).least)
@@ -32,15 +49,13 @@ abbrev pub staffing_faults : Meaning → Rows → List HardFault
 staffing_faults c r = below (day_count c) (λ d. below (shift_count c) (λ s. below (skill_count c) (λ k. staffing_fault c r d s k)))
 
 abbrev pub succession_fault : Meaning → Rows → ℕ → ℕ → List HardFault
-succession_fault c r n d =
-    let days = days_of_nurse r n in
-    fault_if (forbids c.successions (shift_before (last_shift (past_of c n).border) days d) (shift_on days d)) (H3 n d)
+succession_fault c r n d = fault_if (breaks_succession c n (days_of_nurse r n) d) (H3 n d)
 
 abbrev pub succession_faults : Meaning → Rows → List HardFault
 succession_faults c r = below (nurse_count c) (λ n. below (day_count c) (λ d. succession_fault c r n d))
 
 abbrev pub skill_fault : Meaning → Rows → ℕ → ℕ → List HardFault
-skill_fault c r n d = fault_if (not (is_able (nurse_at c n).skills (choice_on (row_of r n) d))) (H4 n d)
+skill_fault c r n d = fault_if (not (is_able_on c n (row_of r n) d)) (H4 n d)
 
 abbrev pub skill_faults : Meaning → Rows → List HardFault
 skill_faults c r = below (nurse_count c) (λ n. below (day_count c) (λ d. skill_fault c r n d))

@@ -58,8 +58,12 @@ abbrev pub is_undesired : Meaning → ℕ → ℕ → Option Shift → Bool
 is_undesired c n d None = false
 is_undesired c n d (Some s) = is_wished_off c n d s.0
 
+-- what a day with this shift, or with none, costs
+abbrev pub off_request_on : Meaning → ℕ → ℕ → Option Shift → ℕ
+off_request_on c n d shift = if is_undesired c n d shift then 10 else 0
+
 abbrev pub undesired : Meaning → ℕ → Days → ℕ
-undesired c n days = sum_below (length days) (λ d. if is_undesired c n d (shift_on days d) then 10 else 0)
+undesired c n days = sum_below (length days) (λ d. off_request_on c n d (shift_on days d))
 
 -- ---- weekends and totals
 

@@ -1,2 +1,3 @@
 pub mod Mini
 pub mod MiniText
+pub mod Tight

@@ -1,8 +1,13 @@
 //! Worked examples of the definitions of a case: what they say of a small instance.
 #![tactic(auto)]
 
+mod choosing;
 mod worked;
 
+pub use choosing::{
+    rows_that_are_kept, rows_that_minimums_exclude, rows_that_skills_exclude,
+    rows_that_successions_exclude, run_of_three_rounds,
+};
 pub use worked::{
     breaches_of_the_hard_rules, faults_of_runs, logs_of_runs, penalties_of_an_empty_roster,
     penalties_of_contracts_and_requests, penalties_with_runs_that_the_history_began,

@@ -128,8 +128,8 @@ pub fn prefixes_of_rows()
 
 /// The log of a run of no rounds, and the logs of single rounds: the last changes nothing, so that the run is settled.
 pub fn logs_of_runs()
-    ensures no_rounds { flat_map (line_of mini) (log_of mini 0 all_free) ≡ codes "start 470\nstopped 470\n" }
-    ensures one_round { flat_map (line_of mini_of_one_shift) (log_of mini_of_one_shift 1 all_free) ≡ codes "start 470\n1 Ann 180\n1 Bob 20\nround 1 20\nstopped 20\n" }
-    ensures second_round { flat_map (line_of mini_of_one_shift) (log_of mini_of_one_shift 1 (early_but 1 ∷ early_on (1 ∷ 5 ∷ 6 ∷ []) ∷ [])) ≡ codes "start 20\n1 Ann 0\nround 1 0\nstopped 0\n" }
-    ensures last_round { flat_map (line_of mini_of_one_shift) (log_of mini_of_one_shift 1 (early_on (0 ∷ 2 ∷ 3 ∷ 4 ∷ []) ∷ early_on (1 ∷ 5 ∷ 6 ∷ []) ∷ [])) ≡ codes "start 0\nround 1 0\nsettled 0\n" }
+    ensures no_rounds { flat_map (line_of mini) (log_of mini (best_row mini) 0 all_free) ≡ codes "start 470\nstopped 470\n" }
+    ensures one_round { flat_map (line_of mini_of_one_shift) (log_of mini_of_one_shift (best_row mini_of_one_shift) 1 all_free) ≡ codes "start 470\n1 Ann 180\n1 Bob 20\nround 1 20\nstopped 20\n" }
+    ensures second_round { flat_map (line_of mini_of_one_shift) (log_of mini_of_one_shift (best_row mini_of_one_shift) 1 (early_but 1 ∷ early_on (1 ∷ 5 ∷ 6 ∷ []) ∷ [])) ≡ codes "start 20\n1 Ann 0\nround 1 0\nstopped 0\n" }
+    ensures last_round { flat_map (line_of mini_of_one_shift) (log_of mini_of_one_shift (best_row mini_of_one_shift) 1 (early_on (0 ∷ 2 ∷ 3 ∷ 4 ∷ []) ∷ early_on (1 ∷ 5 ∷ 6 ∷ []) ∷ [])) ≡ codes "start 0\nround 1 0\nsettled 0\n" }
 {}

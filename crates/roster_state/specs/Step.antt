@@ -5,9 +5,9 @@ use Rattle.roster_case.specs.declared.Shift.{Shift}
 use Rattle.roster_case.specs.declared.Limits.{Limits}
 use Rattle.roster_case.specs.Counting.{one_if, sum_below}
 use Rattle.roster_case.specs.DayLaw.{splits_more, weekends_more}
-use Rattle.roster_case.specs.Days.{Days, is_shift, shift_on}
-use Rattle.roster_case.specs.HardRules.{shift_before}
-use Rattle.roster_case.specs.Meaning.{Meaning, contract_of, last_shift, past_of, run_of_shift, shift_count, forbids}
+use Rattle.roster_case.specs.Days.{Days, is_shift}
+use Rattle.roster_case.specs.HardRules.{breaks_succession}
+use Rattle.roster_case.specs.Meaning.{Meaning, contract_of, run_of_shift, shift_count, forbids}
 use Rattle.roster_case.specs.Penalties.{missing}
 use Rattle.roster_case.specs.Prefix.{Summary}
 use Rattle.roster_case.specs.Sizes.{cap}
@@ -93,4 +93,4 @@ end_cost_of c n s = missing c n s.assignments
 
 -- no shift of these days is forbidden by the one before it, the history's last included
 abbrev pub KeepsSuccessions : Meaning → ℕ → Days → Type 0
-KeepsSuccessions c n days = (d : ℕ) → d < length days → forbids c.successions (shift_before (last_shift (past_of c n).border) days d) (shift_on days d) ≡ false
+KeepsSuccessions c n days = (d : ℕ) → d < length days → breaks_succession c n days d ≡ false

@@ -1,0 +1,74 @@
+-- Each penalty is a multiple of 5, since each weight is.
+use Rattle.std.proofs.Common.{◌≡◌, ◌+◌, ◌-◌, ◌*◌, ◌<◌, ◌≤◌, ◌%◌, ℕ, zero, suc, Bool, true, false, arith, refl, if◌then◌else◌}
+use Rattle.roster_case.specs.Counting.{sum_below}
+use Rattle.roster_case.specs.Days.{Days, split_weekends}
+use Rattle.roster_case.specs.Meaning.{Meaning, contract_of, day_count, nurse_count, shift_count, skill_count}
+use Rattle.roster_case.specs.Penalties.{costs_of, free_runs, off_request_on, is_undesired, over_nurses, penalty, runs_of_shift, shift_runs, split, staffing, staffing_of_day, staffing_of_place, totals, undesired, weekends_above, working_runs}
+use Rattle.roster_case.specs.Rosters.{Rows, days_of_nurse}
+
+abbrev pub IsFive : ℕ → Type 0
+IsFive n = n % 5 ≡ 0
+
+zero_is : IsFive 0
+zero_is = refl
+
+plus : (a b : ℕ) → IsFive a → IsFive b → IsFive (a + b)
+plus a b e f = omega (arith, e, f)
+
+five_times : (n : ℕ) → IsFive (5 * n)
+five_times n = omega arith
+
+sum_is : (n : ℕ) (f : ℕ → ℕ) → ((k : ℕ) → IsFive (f k)) → IsFive (sum_below n f)
+sum_is zero f each = refl
+sum_is (suc n) f each = plus (sum_below n f) (f n) (sum_is n f each) (each n)
+
+where_is : (b : Bool) (n : ℕ) → IsFive n → IsFive (if b then n else 0)
+where_is true n e = e
+where_is false n e = refl
+
+by_10 : (n : ℕ) → IsFive (10 * n)
+by_10 n = omega arith
+
+by_15 : (n : ℕ) → IsFive (15 * n)
+by_15 n = omega arith
+
+by_20 : (n : ℕ) → IsFive (20 * n)
+by_20 n = omega arith
+
+by_30 : (n : ℕ) → IsFive (30 * n)
+by_30 n = omega arith
+
+module _ (c : Meaning) where
+  staffing_is : (r : Rows) → IsFive (staffing c r)
+  staffing_is r = sum_is (day_count c) (staffing_of_day c r) (λ d. sum_is (shift_count c) _ (λ s. sum_is (skill_count c) (staffing_of_place c r d s) (λ k. by_30 _)))
+
+  runs_are : (n : ℕ) (days : Days) → IsFive (working_runs c n days + shift_runs c n days)
+  runs_are n days = plus (working_runs c n days) (shift_runs c n days) (by_30 _) (sum_is (shift_count c) (runs_of_shift c n days) (λ s. by_15 _))
+
+  requests_are : (n : ℕ) (days : Days) → IsFive (undesired c n days)
+  requests_are n days = sum_is _ _ (λ d. where_is (is_undesired c n d _) 10 refl)
+
+  split_is : (n : ℕ) (days : Days) → IsFive (split c n days)
+  split_is n days = where_is (contract_of c n).whole_weekends (30 * split_weekends days) (by_30 (split_weekends days))
+
+  totals_are : (n : ℕ) (days : Days) → IsFive (totals c n days)
+  totals_are n days = plus _ _ (by_20 _) (by_20 _)
+
+  free_is : (n : ℕ) (days : Days) → IsFive (free_runs c n days)
+  free_is n days = by_30 _
+
+  weekends_are : (n : ℕ) (days : Days) → IsFive (weekends_above c n days)
+  weekends_are n days = by_30 _
+
+  over_nurses_is : (r : Rows) (rule : ℕ → Days → ℕ) → ((n : ℕ) (days : Days) → IsFive (rule n days)) → IsFive (over_nurses c r rule)
+  over_nurses_is r rule each = sum_is (nurse_count c) (λ n. rule n (days_of_nurse r n)) (λ n. each n (days_of_nurse r n))
+
+  pub penalty_is : (r : Rows) → IsFive (penalty c r)
+  unfolding penalty costs_of
+  penalty_is r =
+      let runs = plus _ _ (staffing_is r) (over_nurses_is r (λ n days. working_runs c n days + shift_runs c n days) runs_are) in
+      let free = plus _ _ runs (over_nurses_is r (free_runs c) free_is) in
+      let requests = plus _ _ free (over_nurses_is r (undesired c) requests_are) in
+      let weekends = plus _ _ requests (over_nurses_is r (split c) split_is) in
+      let assignments = plus _ _ weekends (over_nurses_is r (totals c) totals_are) in
+      plus _ _ assignments (over_nurses_is r (weekends_above c) weekends_are)

@@ -1,0 +1,26 @@
+-- The greatest sizes of the searches of a case, over its nurses.
+use Rattle.std.specs.Prelude.{◌≡◌, ◌<◌, ◌≤◌, ℕ, ◌*◌, map}
+use Rattle.std.specs.List.{range_with_len}
+use Rattle.roster_case.specs.Meaning.{Meaning, day_count, nurse_count}
+use Rattle.roster_case.specs.Sizes.{choice_count, greatest_of, state_count}
+
+-- how often the search for a nurse's best row extends a label, at most: each state on each day by each choice
+unfoldable pub extension_count : Meaning → ℕ → ℕ
+extension_count c n = state_count c n * day_count c * choice_count c n
+
+-- the greatest number of a nurse
+abbrev pub greatest_over_nurses : Meaning → (Meaning → ℕ → ℕ) → ℕ
+greatest_over_nurses c size = greatest_of (map (size c) (range_with_len 0 (nurse_count c)))
+
+unfoldable pub greatest_state_count : Meaning → ℕ
+greatest_state_count c = greatest_over_nurses c state_count
+
+unfoldable pub greatest_extension_count : Meaning → ℕ
+greatest_extension_count c = greatest_over_nurses c extension_count
+
+-- it is at least that of each nurse, and that of one of them
+pub record IsGreatest (nurses : ℕ) (size : ℕ → ℕ) (greatest : ℕ) : Type 0 where
+  pub above : (n : ℕ) → n < nurses → size n ≤ greatest
+  pub nurse : ℕ
+  pub inside : nurse < nurses
+  pub reached : size nurse ≡ greatest

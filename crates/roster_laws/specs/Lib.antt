@@ -1,0 +1,4 @@
+pub mod Logs
+pub mod Staffing
+pub mod OneRow
+pub mod Greatest

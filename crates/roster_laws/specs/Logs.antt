@@ -1,0 +1,55 @@
+-- What the log of a run tells.
+use Rattle.std.specs.Prelude.{◌≡◌, ℕ, ◌+◌, ◌≤◌, Bool, true, false, List, [], ◌∷◌, ◌++◌, count_by, if◌then◌else◌}
+use Rattle.roster_case.specs.Improver.{BestRows, Entry, Event, Run, changed, log_of, round_done, run, settled, stopped}
+use Rattle.roster_case.specs.Meaning.{Meaning}
+use Rattle.roster_case.specs.Penalties.{penalty}
+use Rattle.roster_case.specs.Rosters.{Rows}
+
+-- ---- what is counted: the steps that replaced a row, and the rounds that were made
+
+abbrev pub is_change : Event → Bool
+is_change (changed k n) = true
+is_change _ = false
+
+abbrev pub is_round : Event → Bool
+is_round (round_done k) = true
+is_round _ = false
+
+abbrev pub changes_in : List Entry → ℕ
+changes_in entries = count_by (λ e. is_change e.event) entries
+
+abbrev pub rounds_in : List Entry → ℕ
+rounds_in entries = count_by (λ e. is_round e.event) entries
+
+-- ---- what is told of a run: whether it is settled, its rounds and changes, and the penalty at its end
+
+pub record Outcome : Type 0 where
+  pub is_settled : Bool
+  pub rounds : ℕ
+  pub changes : ℕ
+  pub total : ℕ
+
+abbrev pub outcome_of : Meaning → BestRows → ℕ → Rows → Outcome
+outcome_of c best rounds r = record {
+  is_settled = (run c best rounds r).is_settled;
+  rounds = rounds_in (log_of c best rounds r);
+  changes = changes_in (log_of c best rounds r);
+  total = penalty c (run c best rounds r).roster;
+}
+
+-- ---- the end
+
+-- how a run ends
+abbrev pub ending : Run → Event
+ending r = if r.is_settled then settled else stopped
+
+-- the last of some entries
+pub record EndsWith (entries : List Entry) (last : Entry) : Type 0 where
+  pub before : List Entry
+  pub split : entries ≡ before ++ last ∷ []
+
+-- ---- from an entry to a later one the penalty doesn't rise, and to a change it falls
+
+pub record Descends (c : Meaning) (e later : Entry) : Type 0 where
+  pub never_rises : penalty c later.roster ≤ penalty c e.roster
+  pub falls : is_change later.event ≡ true → penalty c later.roster + 5 ≤ penalty c e.roster

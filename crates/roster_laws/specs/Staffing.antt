@@ -1,0 +1,29 @@
+-- The staffing of a day, by how many nurses work each shift with each skill.
+use Rattle.std.specs.Prelude.{ℕ, ◌+◌, ◌-◌, ◌*◌, Bool, not, nat_lt}
+use Rattle.roster_case.specs.declared.Choice.{Choice}
+use Rattle.roster_case.specs.declared.Choice.TheVariants.{Work}
+use Rattle.roster_case.specs.Choices.{same_choice}
+use Rattle.roster_case.specs.Counting.{all_below, one_if, sum_below}
+use Rattle.roster_case.specs.Meaning.{Meaning, need, shift_at, shift_count, skill_at, skill_count}
+
+-- one nurse more, with this choice
+abbrev pub with_choice : (ℕ → ℕ → ℕ) → Choice → ℕ → ℕ → ℕ
+with_choice have choice s k = have s k + one_if (same_choice choice (Work (shift_at s) (skill_at k)))
+
+-- how many nurses are wanted on a day, at least and at best
+abbrev pub minimum : Meaning → ℕ → ℕ → ℕ → ℕ
+minimum c d s k = (need c d s k).least
+
+abbrev pub optimum : Meaning → ℕ → ℕ → ℕ → ℕ
+optimum c d s k = (need c d s k).greatest
+
+-- what the missing nurses of a day cost, and whether no minimum is missed
+abbrev pub staffing_by : Meaning → ℕ → (ℕ → ℕ → ℕ) → ℕ
+staffing_by c d have = sum_below (shift_count c) (λ s. sum_below (skill_count c) (λ k. 30 * (optimum c d s k - have s k)))
+
+abbrev pub meets : Meaning → ℕ → (ℕ → ℕ → ℕ) → Bool
+meets c d have = all_below (shift_count c) (λ s. all_below (skill_count c) (λ k. not (nat_lt (have s k) (minimum c d s k))))
+
+-- how many nurses are lacking to what is wanted
+abbrev pub lacking : Meaning → (want have : ℕ → ℕ → ℕ) → ℕ
+lacking c want have = sum_below (shift_count c) (λ s. sum_below (skill_count c) (λ k. want s k - have s k))
