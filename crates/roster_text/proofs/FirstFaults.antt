@@ -263,3 +263,8 @@ one_fault end ts f g x y = by_cuts (cuts x.front x.rest y.front y.rest (sym x.sp
         x.is ∙ ap (fault_at end x.due) q ∙ same_fault end y.front y.rest x.due y.due d y.goes_on ∙ sym y.is
     by_cuts (earlier t z rest p q) = absurd (not_before x.front x.rest t rest q x.stops (due_goes_on y.front y.due y.goes_on x.front t z p))
     by_cuts (later t z rest p q) = absurd (not_before y.front y.rest t rest q y.stops (due_goes_on x.front x.due x.goes_on y.front t z p))
+
+-- what holds of each bundle that is spelled holds of one that was read
+pub of_spelled : (P : Bundle → Type 0) (ts : List Seen) (r : Result Bundle TextFault) → ((b : Bundle) → Spells ts b → P b) → IfOk r (Spells ts) → IfOk r P
+of_spelled P ts (Ok b) holds s = holds b s
+of_spelled P ts (Err f) holds s = tt

@@ -21,6 +21,7 @@ use Rattle.roster_text.proofs.Readers.{Reader, done_reader, then}
 use Rattle.roster_text.proofs.OneToken.{one_reader, name_one, placed_one, value_one, zero_seen, zero_fits, day_one}
 use Rattle.roster_text.proofs.UntilSection.{Start, LineFrom, Lines, no_equals_name, until_reader}
 use Rattle.roster_text.proofs.Several.{AreMany, every, then_word, name_reader, names_reader, section_reader, listed_reader, times_reader}
+use Rattle.roster_text.specs.Limits.{most_counted, most_small}
 
 -- a field, and then the rest
 step : {A B : Type 0} {patA : A → List Pattern} {readA : List Seen → Read A} → Reader every patA readA → {V : B → Type 0} (get : B → A) {patB : B → List Pattern} {k : A → List Seen → Read B} → ((a : A) → Reader (λ b. V b × (get b ≡ a)) patB (k a))
@@ -36,7 +37,7 @@ done : {B : Type 0} {V : B → Type 0} (b : B) → V b → ((x : B) → V x → 
 done {B} {V} b valid only = done_reader V b valid only
 
 small_reader : Reader every small small_at
-small_reader = one_reader (number 999) (value_at 999) (value_one 999)
+small_reader = one_reader (number most_small) (value_at most_small) (value_one most_small)
 
 day_reader : Reader every (λ d. day d ∷ []) day_at
 day_reader = one_reader day day_at day_one
@@ -103,10 +104,10 @@ succession_lines : Lines grammar.succession what.Number
 succession_lines = record { starts = start; any = line }
   where
     start : (s : Succession) → Start what.Number (grammar.succession s)
-    start s = record { lead = s.shift; next = number 99999 (length s.forbidden); rest = (flat_map named s.forbidden ++ []) ++ []; is = refl; labelled = refl; no_equals = no_equals_number 99999 (length s.forbidden) }
+    start s = record { lead = s.shift; next = number most_counted (length s.forbidden); rest = (flat_map named s.forbidden ++ []) ++ []; is = refl; labelled = refl; no_equals = no_equals_number most_counted (length s.forbidden) }
 
     line : (t : Token) → LineFrom grammar.succession what.Number t
-    line t = record { value = record { shift = t; forbidden = [] }; start = start (record { shift = t; forbidden = [] }); lead = refl; more = zero_seen ∷ []; spelled = (zero_fits 99999, tt) }
+    line t = record { value = record { shift = t; forbidden = [] }; start = start (record { shift = t; forbidden = [] }); lead = refl; more = zero_seen ∷ []; spelled = (zero_fits most_counted, tt) }
 
 successions_reader : Reader every (grammar.lines_until keyword.Contracts what.Number grammar.succession) (until_at succession_at keyword.Contracts)
 successions_reader = until_reader grammar.succession succession_at succession_reader keyword.Contracts what.Number succession_lines
@@ -115,7 +116,7 @@ scenario_reader : Reader every grammar.scenario scenario_at
 unfolding scenario_at
 scenario_reader =
     word (what.Keyword keyword.Scenario) (keyword_text keyword.Scenario) refl (word what.Equals (codes "=") refl (step name_reader (λ b. b.name) (λ name.
-    word (what.Keyword keyword.Weeks) (keyword_text keyword.Weeks) refl (word what.Equals (codes "=") refl (step (placed_reader 99999) (λ b. b.weeks) (λ weeks.
+    word (what.Keyword keyword.Weeks) (keyword_text keyword.Weeks) refl (word what.Equals (codes "=") refl (step (placed_reader most_counted) (λ b. b.weeks) (λ weeks.
     step (section_reader named name_at name_reader keyword.Skills) (λ b. b.skills) (λ skills.
     step (section_reader grammar.shift_type shift_type_at shift_type_reader keyword.ShiftTypes) (λ b. b.shifts) (λ shifts.
     word (what.Keyword keyword.Successions) (keyword_text keyword.Successions) refl (step successions_reader (λ b. b.successions) (λ successions.
@@ -145,7 +146,7 @@ HasLines n h = length h.nurses ≡ n
 history_reader : (lines : ℕ) → Reader (HasLines lines) grammar.history (history_at lines)
 unfolding history_at
 history_reader lines =
-    word (what.Keyword keyword.History) (keyword_text keyword.History) refl (step (placed_reader 999) (λ b. b.week) (λ week.
+    word (what.Keyword keyword.History) (keyword_text keyword.History) refl (step (placed_reader most_small) (λ b. b.week) (λ week.
     step name_reader (λ b. b.scenario) (λ scenario.
     word (what.Keyword keyword.NurseHistory) (keyword_text keyword.NurseHistory) refl (many nurse_history_reader lines (λ b. b.nurses) (λ b v. v.0.0) (λ nurses len.
     done (record { week = week; scenario = scenario; nurses = nurses }) (((len, refl), refl), refl) (λ b v i. record { week = v.0.0.1 i; scenario = v.0.1 i; nurses = v.1 i }))))))
@@ -221,7 +222,7 @@ assignment_reader =
 pub solution_reader : Reader every grammar.solution solution_at
 unfolding solution_at
 solution_reader =
-    word (what.Keyword keyword.Solution) (keyword_text keyword.Solution) refl (step (placed_reader 999) (λ b. b.week) (λ week.
+    word (what.Keyword keyword.Solution) (keyword_text keyword.Solution) refl (step (placed_reader most_small) (λ b. b.week) (λ week.
     step name_reader (λ b. b.scenario) (λ scenario.
     step (section_reader grammar.assignment assignment_at assignment_reader keyword.Assignments) (λ b. b.assignments) (λ assignments.
     done (record { week = week; scenario = scenario; assignments = assignments }) (((tt, refl), refl), refl) (λ b v i. record { week = v.0.0.1 i; scenario = v.0.1 i; assignments = v.1 i })))))

@@ -13,6 +13,6 @@ pub mod FirstFaults
 pub mod SmallNumbers
 pub mod Texts
 pub mod Lines
-pub mod Pieces
+pub mod Chunks
 pub mod ShownLines
 pub mod ReadBack

@@ -4,7 +4,7 @@ use Rattle.std.specs.Option.{option_map_or}
 use Rattle.std.specs.List.{flat_map, filter_map, cons_option, range_with_len}
 use Rattle.std.proofs.lemmas.List.Concat.{flat_map-append}
 use Rattle.std.proofs.lemmas.List.Elements.{filter_map-append}
-use Rattle.roster_text.specs.Canonical.{Shown, assignment, assignment_on, nurse_assignments, assignments, assignment_line, heading, canonical, line_on, nurse_lines, weekday_text}
+use Rattle.roster_text.specs.Canonical.{Shown, assignment_on, nurse_assignments, assignments, assignment_line, heading, canonical, line_on, line_text, nurse_lines, weekday_text}
 use Rattle.roster_text.proofs.Texts.{range_with_len_more, flat_map-range_more}
 
 -- a line for each item that there is
@@ -33,16 +33,15 @@ canonical_is s =
     ap (λ l. heading s ++ l) lines
 
 -- the line in its parts
-pub assignment_line_is : (nurse : List ℕ) (weekday : ℕ) (shift skill day : List ℕ) → day ≡ weekday_text weekday
-    → assignment_line (assignment nurse weekday shift skill) ≡ nurse ++ (codes " " ++ (day ++ (codes " " ++ (shift ++ (codes " " ++ (skill ++ (codes "\n" ++ [])))))))
-unfolding assignment_line
-assignment_line_is nurse weekday shift skill day e = rw e (simp append_assoc)
+pub line_text_is : (nurse day shift skill : List ℕ)
+    → line_text nurse day shift skill ≡ nurse ++ (codes " " ++ (day ++ (codes " " ++ (shift ++ (codes " " ++ (skill ++ (codes "\n" ++ [])))))))
+line_text_is nurse day shift skill = simp append_assoc
 
 -- a line where the nurse works
-pub line_on_works : (s : Shown) (n weekday : ℕ) (nurse shift skill : List ℕ) → Some (shift, skill) ≡ s.on n weekday → nurse ≡ s.nurse n
-    → line_on s n weekday ≡ assignment_line (assignment nurse weekday shift skill)
-unfolding line_on
-line_on_works s n weekday nurse shift skill on e = rw (← on, ← e) refl
+pub line_on_works : (s : Shown) (n weekday : ℕ) (nurse day shift skill : List ℕ) → Some (shift, skill) ≡ s.on n weekday → nurse ≡ s.nurse n → day ≡ weekday_text weekday
+    → line_on s n weekday ≡ line_text nurse day shift skill
+unfolding line_on assignment_line
+line_on_works s n weekday nurse day shift skill on e d = rw (← on, ← e, d) refl
 
 -- and none where it is free
 pub line_on_free : (s : Shown) (n weekday : ℕ) → None ≡ s.on n weekday → line_on s n weekday ≡ []

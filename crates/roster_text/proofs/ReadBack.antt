@@ -18,9 +18,9 @@ use Rattle.roster_text.specs.ReadBack.{HasWords, IsReadBack, IsWritable, Says, s
 use Rattle.roster_text.specs.Reading.{solution_at}
 use Rattle.roster_text.specs.Token.{Seen, all_seen, is_mark, is_separator, is_word, is_word_byte, text_of, tokens_of}
 use Rattle.roster_text.proofs.GrammarReaders.{solution_reader}
-use Rattle.roster_text.proofs.Pieces.{Piece, piece, IsGap, IsMarkAlone, IsPiece, word_piece, mark_piece, bytes, texts, pieces_read}
+use Rattle.roster_text.proofs.Chunks.{Chunk, chunk, IsGap, IsMarkAlone, IsChunk, word_chunk, mark_chunk, bytes, texts, chunks_read}
 use Rattle.roster_text.proofs.Readers.{same_value}
-use Rattle.roster_text.proofs.ShownLines.{IsLine, LinesRead, all_lines, all_on_week, blank, feed, line_pieces, lines_are_pieces, lines_bytes, lines_read, name_reads, word_is_name}
+use Rattle.roster_text.proofs.ShownLines.{IsLine, LinesRead, all_lines, all_on_week, blank, feed, line_chunks, lines_are_chunks, lines_bytes, lines_read, name_reads, word_is_name}
 
 -- ---- a number in decimal
 
@@ -52,15 +52,15 @@ decimal_is n small =
       value = numeral.1;
     }
 
--- ---- the pieces of the text
+-- ---- the chunks of the text
 
-abbrev heading_pieces : List ℕ → List ℕ → List ℕ → List Piece → List Piece
-heading_pieces week name count rest =
-    piece (codes "SOLUTION") (codes "\n") ∷ piece week (codes " ") ∷ piece name (codes "\n\n")
-    ∷ piece (codes "ASSIGNMENTS") (codes " ") ∷ piece (codes "=") (codes " ") ∷ piece count (codes "\n") ∷ rest
+abbrev heading_chunks : List ℕ → List ℕ → List ℕ → List Chunk → List Chunk
+heading_chunks week name count rest =
+    chunk (codes "SOLUTION") (codes "\n") ∷ chunk week (codes " ") ∷ chunk name (codes "\n\n")
+    ∷ chunk (codes "ASSIGNMENTS") (codes " ") ∷ chunk (codes "=") (codes " ") ∷ chunk count (codes "\n") ∷ rest
 
-abbrev pieces_of : Shown → List Piece
-pieces_of s = heading_pieces (decimal s.week) s.name (decimal (length (assignments s))) (flat_map line_pieces (assignments s))
+abbrev chunks_of : Shown → List Chunk
+chunks_of s = heading_chunks (decimal s.week) s.name (decimal (length (assignments s))) (flat_map line_chunks (assignments s))
 
 feeds : IsGap (codes "\n\n")
 unfolding is_separator
@@ -83,9 +83,9 @@ heading_joined : (first key equals week name count gap end ends rest others : Li
     ≡ ((first ++ end) ++ week ++ gap ++ name ++ (ends ++ (key ++ (gap ++ (equals ++ gap)))) ++ count ++ end) ++ others
 heading_joined first key equals week name count gap end ends rest others same = rw same (simp append_assoc)
 
-pieces_bytes : (s : Shown) → bytes (pieces_of s) ≡ canonical s
+chunks_bytes : (s : Shown) → bytes (chunks_of s) ≡ canonical s
 unfolding canonical heading
-pieces_bytes s = heading_joined (codes "SOLUTION") (codes "ASSIGNMENTS") (codes "=") (decimal s.week) s.name (decimal (length (assignments s))) (codes " ") (codes "\n") (codes "\n\n") _ _ (lines_bytes (assignments s))
+chunks_bytes s = heading_joined (codes "SOLUTION") (codes "ASSIGNMENTS") (codes "=") (decimal s.week) s.name (decimal (length (assignments s))) (codes " ") (codes "\n") (codes "\n\n") _ _ (lines_bytes (assignments s))
 
 -- what makes a solution readable, line by line
 record IsReadable (s : Shown) : Type 0 where
@@ -100,12 +100,12 @@ readable s w = record {
   lines = all_lines (assignments s) (recursion_from_All HasWords (assignments s) w.words) (all_on_week s);
 }
 
-pieces_are : (s : Shown) → IsWritable s → IsReadable s → AllByRecursion IsPiece (pieces_of s)
-pieces_are s w r =
-    (word_piece _ _ solution_word feed, (word_piece _ _ r.week.word blank, (word_piece _ _ w.name feeds, (word_piece _ _ assignments_word blank, (mark_piece _ _ equals_mark blank, (word_piece _ _ r.count.word feed, lines_are_pieces (assignments s) r.lines))))))
+chunks_are : (s : Shown) → IsWritable s → IsReadable s → AllByRecursion IsChunk (chunks_of s)
+chunks_are s w r =
+    (word_chunk _ _ solution_word feed, (word_chunk _ _ r.week.word blank, (word_chunk _ _ w.name feeds, (word_chunk _ _ assignments_word blank, (mark_chunk _ _ equals_mark blank, (word_chunk _ _ r.count.word feed, lines_are_chunks (assignments s) r.lines))))))
 
-texts_read : (s : Shown) → IsWritable s → IsReadable s → map (text_of (canonical s)) (tokens_of (canonical s)) ≡ texts (pieces_of s)
-texts_read s w r = subst (λ (text : List ℕ). map (text_of text) (tokens_of text) ≡ texts (pieces_of s)) (pieces_bytes s) (pieces_read (pieces_of s) (pieces_are s w r))
+texts_read : (s : Shown) → IsWritable s → IsReadable s → map (text_of (canonical s)) (tokens_of (canonical s)) ≡ texts (chunks_of s)
+texts_read s w r = subst (λ (text : List ℕ). map (text_of text) (tokens_of text) ≡ texts (chunks_of s)) (chunks_bytes s) (chunks_read (chunks_of s) (chunks_are s w r))
 
 -- ---- the solution
 
@@ -136,7 +136,7 @@ solution_of source s w r a b c d e f ts first week name key equals count lines =
       says = record { week = refl; scenario = name; lines = lines.says };
     }
 
-solution_read : (source : List ℕ) (s : Shown) → IsWritable s → IsReadable s → (ts : List Token) → map (text_of source) ts ≡ texts (pieces_of s) → SolutionRead source ts s
+solution_read : (source : List ℕ) (s : Shown) → IsWritable s → IsReadable s → (ts : List Token) → map (text_of source) ts ≡ texts (chunks_of s) → SolutionRead source ts s
 solution_read source s w r [] e = absurd cc
 solution_read source s w r (a ∷ []) e = absurd cc
 solution_read source s w r (a ∷ b ∷ []) e = absurd cc
@@ -144,7 +144,7 @@ solution_read source s w r (a ∷ b ∷ c ∷ []) e = absurd cc
 solution_read source s w r (a ∷ b ∷ c ∷ d ∷ []) e = absurd cc
 solution_read source s w r (a ∷ b ∷ c ∷ d ∷ q ∷ []) e = absurd cc
 solution_read source s w r (a ∷ b ∷ c ∷ d ∷ q ∷ f ∷ ts) e =
-    let behind : map (text_of source) ts ≡ texts (flat_map line_pieces (assignments s)) = cc in
+    let behind : map (text_of source) ts ≡ texts (flat_map line_chunks (assignments s)) = cc in
     solution_of source s w r a b c d q f ts (cc) (cc) (cc) (cc) (cc) (cc) (lines_read source (assignments s) r.lines ts behind)
 
 -- tokens spell one solution at most

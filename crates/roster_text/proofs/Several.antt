@@ -14,6 +14,7 @@ use Rattle.roster_text.specs.FirstFault.{wants_number}
 use Rattle.roster_text.specs.Reading.{Read, ◌>>=◌, word_at, name_at, number_at, value_at, times_at, listed_at, section_at, names_at}
 use Rattle.roster_text.proofs.Readers.{Reader, done_reader, then}
 use Rattle.roster_text.proofs.OneToken.{one_reader, word_one, name_one, placed_one, value_one}
+use Rattle.roster_text.specs.Limits.{most_counted}
 
 -- any value is valid
 abbrev pub every : {A : Type 0} → A → Type 0
@@ -126,7 +127,7 @@ module _ {A : Type 0} (pat : A → List Pattern) (read : List Seen → Read A) (
   pub listed_reader : Reader every (rest_of_section pat) (listed_at read)
   unfolding listed_at
   listed_reader =
-      then every (λ (n : Number). placed n.token 99999 n.value ∷ []) (number_at 99999) (one_reader (λ (n : Number). placed n.token 99999 n.value) (number_at 99999) (placed_one 99999))
+      then every (λ (n : Number). placed n.token most_counted n.value ∷ []) (number_at most_counted) (one_reader (λ (n : Number). placed n.token most_counted n.value) (number_at most_counted) (placed_one most_counted))
       every listed_count (λ b v. tt) (λ b. flat_map pat b.items ++ [])
       (λ n ts. times_at read n.value ts >>= λ xs. Ok (record { count = n.token; items = xs.0 }, xs.1)) (λ n v. listed_items n)
 
@@ -142,7 +143,7 @@ name_reader = one_reader name name_at name_one
 pub names_reader : Reader every counted_names names_at
 unfolding names_at
 names_reader =
-    with_patterns every (λ b. number 99999 (length b) ∷ flat_map named b) counted_names names_at (λ b v. ap (λ (ps : List Pattern). number 99999 (length b) ∷ ps) (sym (append-nil (flat_map named b))))
-    (then every (λ n. number 99999 n ∷ []) (value_at 99999) (one_reader (number 99999) (value_at 99999) (value_one 99999))
+    with_patterns every (λ b. number most_counted (length b) ∷ flat_map named b) counted_names names_at (λ b v. ap (λ (ps : List Pattern). number most_counted (length b) ∷ ps) (sym (append-nil (flat_map named b))))
+    (then every (λ n. number most_counted n ∷ []) (value_at most_counted) (one_reader (number most_counted) (value_at most_counted) (value_one most_counted))
     every length (λ b v. tt) (flat_map named) (λ n ts. times_at name_at n ts)
     (λ n v. with_fact (AreMany n) (λ b. Unit {0} × (length b ≡ n)) (flat_map named) (times_at name_at n) (λ b e. (tt, e)) (λ b w. w.1) (times_reader named name_at name_reader n)))

@@ -1,4 +1,4 @@
--- The lines of a solution that is shown: their pieces, and what they say once they are read.
+-- The lines of a solution that is shown: their chunks, and what they say once they are read.
 use Rattle.std.proofs.Common.{◌≡◌, inl, ℕ, zero, suc, ◌+◌, ◌<◌, true, false, Some, None, List, [], ◌∷◌, ◌++◌, length, map, codes, refl, ◌∙◌, ap, arith, append_assoc, option_map}
 use Rattle.std.proofs.lemmas.Bool.{and_parts}
 use Rattle.std.specs.Prelude.{IsTrue, not, ◌&&◌, nat_lt}
@@ -13,7 +13,7 @@ use Rattle.roster_text.specs.Grammar as grammar
 use Rattle.roster_text.specs.Grammar.{Spelled, is_name, short}
 use Rattle.roster_text.specs.ReadBack.{HasWords, said, weekday}
 use Rattle.roster_text.specs.Token.{all_seen, is_mark, is_separator, is_word, is_word_byte, text_of}
-use Rattle.roster_text.proofs.Pieces.{Piece, piece, IsGap, IsPiece, word_piece, bytes, texts}
+use Rattle.roster_text.proofs.Chunks.{Chunk, chunk, IsGap, IsChunk, word_chunk, bytes, texts}
 use Rattle.roster_text.proofs.TokenLemmas.{is_mark-word_byte}
 
 -- ---- days
@@ -71,7 +71,7 @@ pub all_lines : (xs : List ShownAssignment) → AllByRecursion HasWords xs → A
 all_lines [] words week = tt
 all_lines (a ∷ xs) words week = (record { words = words.0; day = is_day a.weekday week.0 }, all_lines xs words.1 week.1)
 
--- ---- the pieces of a line
+-- ---- the chunks of a line
 
 pub blank : IsGap (codes " ")
 unfolding is_separator
@@ -81,10 +81,10 @@ pub feed : IsGap (codes "\n")
 unfolding is_separator
 feed = record { some = omega arith; separators = refl }
 
-abbrev pub line_pieces : ShownAssignment → List Piece
-line_pieces a = piece a.nurse (codes " ") ∷ piece (weekday_text a.weekday) (codes " ") ∷ piece a.shift (codes " ") ∷ piece a.skill (codes "\n") ∷ []
+abbrev pub line_chunks : ShownAssignment → List Chunk
+line_chunks a = chunk a.nurse (codes " ") ∷ chunk (weekday_text a.weekday) (codes " ") ∷ chunk a.shift (codes " ") ∷ chunk a.skill (codes "\n") ∷ []
 
-pub lines_bytes : (xs : List ShownAssignment) → bytes (flat_map line_pieces xs) ≡ flat_map assignment_line xs
+pub lines_bytes : (xs : List ShownAssignment) → bytes (flat_map line_chunks xs) ≡ flat_map assignment_line xs
 unfolding assignment_line
 lines_bytes [] = refl
 lines_bytes (a ∷ xs) = joined a.nurse (weekday_text a.weekday) a.shift a.skill (codes " ") (codes "\n") _ _ (lines_bytes xs)
@@ -93,11 +93,11 @@ lines_bytes (a ∷ xs) = joined a.nurse (weekday_text a.weekday) a.shift a.skill
         → (nurse ++ gap) ++ ((day ++ gap) ++ ((shift ++ gap) ++ ((skill ++ end) ++ rest))) ≡ (nurse ++ gap ++ day ++ gap ++ shift ++ gap ++ skill ++ end) ++ others
     joined nurse day shift skill gap end rest others e = rw e (simp append_assoc)
 
-pub lines_are_pieces : (xs : List ShownAssignment) → AllByRecursion IsLine xs → AllByRecursion IsPiece (flat_map line_pieces xs)
-lines_are_pieces [] all = tt
-lines_are_pieces (a ∷ xs) all =
+pub lines_are_chunks : (xs : List ShownAssignment) → AllByRecursion IsLine xs → AllByRecursion IsChunk (flat_map line_chunks xs)
+lines_are_chunks [] all = tt
+lines_are_chunks (a ∷ xs) all =
     let words = all.0.words in
-    (word_piece _ _ words.nurse blank, (word_piece _ _ all.0.day.word blank, (word_piece _ _ words.shift blank, (word_piece _ _ words.skill feed, lines_are_pieces xs all.1))))
+    (word_chunk _ _ words.nurse blank, (word_chunk _ _ all.0.day.word blank, (word_chunk _ _ words.shift blank, (word_chunk _ _ words.skill feed, lines_are_chunks xs all.1))))
 
 -- ---- the lines as they are read
 
@@ -118,7 +118,7 @@ pub record LinesRead (source : List ℕ) (ts : List Token) (xs : List ShownAssig
   pub spelled : Spelled (flat_map grammar.assignment items) (all_seen source ts)
   pub says : map (said source) items ≡ xs
 
-pub lines_read : (source : List ℕ) (xs : List ShownAssignment) → AllByRecursion IsLine xs → (ts : List Token) → map (text_of source) ts ≡ texts (flat_map line_pieces xs) → LinesRead source ts xs
+pub lines_read : (source : List ℕ) (xs : List ShownAssignment) → AllByRecursion IsLine xs → (ts : List Token) → map (text_of source) ts ≡ texts (flat_map line_chunks xs) → LinesRead source ts xs
 lines_read source [] all [] e = record { items = []; spelled = tt; says = refl }
 lines_read source [] all (t ∷ ts) e = absurd cc
 lines_read source (a ∷ xs) all [] e = absurd cc
@@ -130,7 +130,7 @@ lines_read source (a ∷ xs) all (n ∷ d ∷ f ∷ k ∷ ts) e =
     let day : text_of source d ≡ weekday_text a.weekday = cc in
     let shift : text_of source f ≡ a.shift = cc in
     let skill : text_of source k ≡ a.skill = cc in
-    let behind : map (text_of source) ts ≡ texts (flat_map line_pieces xs) = cc in
+    let behind : map (text_of source) ts ≡ texts (flat_map line_chunks xs) = cc in
     let words = all.0.words in
     let on = all.0.day in
     let rest = lines_read source xs all.1 ts behind in

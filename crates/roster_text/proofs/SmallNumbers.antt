@@ -21,6 +21,7 @@ use Rattle.roster_text.specs.Token.{Seen}
 use Rattle.roster_text.specs.Grammar as grammar
 use Rattle.roster_text.specs.Grammar.{Fits, Pattern, Spelled, Spells, day, fixed, name, number, parts, placed}
 use Rattle.roster_text.specs.SmallNumbers.{AreSmallNeeds, AreSmallPairs, IsSmallContract, IsSmallLine, IsSmallPair, SaysSmallNumbers}
+use Rattle.roster_text.specs.Limits.{most_counted, most_small}
 
 -- ---- patterns
 
@@ -131,7 +132,7 @@ scenario_within : (s : Scenario) → AreWithin (grammar.scenario s) → All (λ 
 scenario_within s w =
     let each = parts_within (
     grammar.key keyword.Scenario ∷ grammar.equals ∷ grammar.named s.name
-    ∷ grammar.key keyword.Weeks ∷ grammar.equals ∷ (placed s.weeks.token 99999 s.weeks.value ∷ [])
+    ∷ grammar.key keyword.Weeks ∷ grammar.equals ∷ (placed s.weeks.token most_counted s.weeks.value ∷ [])
     ∷ grammar.section keyword.Skills grammar.named s.skills
     ∷ grammar.section keyword.ShiftTypes grammar.shift_type s.shifts
     ∷ grammar.key keyword.Successions ∷ grammar.lines_until keyword.Contracts what.Number grammar.succession s.successions
@@ -145,7 +146,7 @@ scenario_within s w =
 history_within : (h : History) → AreWithin (grammar.history h) → All IsSmallLine h.nurses
 history_within h w =
     let each = parts_within (
-    grammar.key keyword.History ∷ (placed h.week.token 999 h.week.value ∷ []) ∷ grammar.named h.scenario
+    grammar.key keyword.History ∷ (placed h.week.token most_small h.week.value ∷ []) ∷ grammar.named h.scenario
     ∷ grammar.key keyword.NurseHistory ∷ flat_map grammar.nurse_history h.nurses ∷ []) w in
     items_within IsSmallLine grammar.nurse_history small_line h.nurses each.1.1.1.1.0
 

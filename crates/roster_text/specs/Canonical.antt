@@ -40,10 +40,13 @@ abbrev pub weekday_text : ℕ → List ℕ
 weekday_text weekday = slice_index_or
     (codes "Mon" ∷ codes "Tue" ∷ codes "Wed" ∷ codes "Thu" ∷ codes "Fri" ∷ codes "Sat" ∷ codes "Sun" ∷ []) weekday []
 
+-- a line of four words
+abbrev pub line_text : List ℕ → List ℕ → List ℕ → List ℕ → List ℕ
+line_text nurse day shift skill = nurse ++ codes " " ++ day ++ codes " " ++ shift ++ codes " " ++ skill ++ codes "\n"
+
 -- the line of an assignment
 unfoldable pub assignment_line : Assignment → List ℕ
-assignment_line a =
-    a.nurse ++ codes " " ++ weekday_text a.weekday ++ codes " " ++ a.shift ++ codes " " ++ a.skill ++ codes "\n"
+assignment_line a = line_text a.nurse (weekday_text a.weekday) a.shift a.skill
 
 -- what stands before the lines
 unfoldable pub heading : Shown → List ℕ

@@ -29,6 +29,7 @@ use Rattle.roster_text.specs.declared.fault.What.TheVariants as what
 use Rattle.roster_text.specs.declared.token.Token.{Token}
 use Rattle.roster_text.specs.Token.{Seen, is_mark}
 use Rattle.roster_text.specs.Words.{keyword_text}
+use Rattle.roster_text.specs.Limits.{most_counted, most_small}
 
 -- What stands at one place.
 pub data Pattern : Type 0 where
@@ -112,19 +113,19 @@ named token = name token ∷ []
 
 -- a number from 0 to 999
 abbrev pub small : ℕ → List Pattern
-small n = number 999 n ∷ []
+small n = number most_small n ∷ []
 
 -- how many names follow
 abbrev pub count : ℕ → List Pattern
-count n = number 99999 n ∷ []
+count n = number most_counted n ∷ []
 
 -- `(` least `,` greatest `)`
 abbrev pub pair : Pair → List Pattern
-pair p = fixed what.Open (codes "(") ∷ number 999 p.least ∷ fixed what.Comma (codes ",") ∷ number 999 p.greatest ∷ fixed what.Close (codes ")") ∷ []
+pair p = fixed what.Open (codes "(") ∷ number most_small p.least ∷ fixed what.Comma (codes ",") ∷ number most_small p.greatest ∷ fixed what.Close (codes ")") ∷ []
 
 -- a keyword, `=`, how many items follow, and the items
 abbrev pub section : {T : Type 0} → Keyword → (T → List Pattern) → Listed T → List Pattern
-section k item xs = parts (key k ∷ equals ∷ (placed xs.count 99999 (length xs.items) ∷ []) ∷ flat_map item xs.items ∷ [])
+section k item xs = parts (key k ∷ equals ∷ (placed xs.count most_counted (length xs.items) ∷ []) ∷ flat_map item xs.items ∷ [])
 
 -- a count of names, and the names
 abbrev pub counted_names : List Token → List Pattern
@@ -137,7 +138,7 @@ lines_until end second line xs = parts (flat_map line xs ∷ (fixed what.Name (k
 
 -- the same section behind its keyword and `=`, which ended the lines before it
 abbrev pub rest_of_section : {T : Type 0} → (T → List Pattern) → Listed T → List Pattern
-rest_of_section item xs = parts ((placed xs.count 99999 (length xs.items) ∷ []) ∷ flat_map item xs.items ∷ [])
+rest_of_section item xs = parts ((placed xs.count most_counted (length xs.items) ∷ []) ∷ flat_map item xs.items ∷ [])
 
 -- ---- the scenario
 
@@ -156,7 +157,7 @@ nurse n = parts (named n.name ∷ named n.contract ∷ counted_names n.skills �
 abbrev pub scenario : Scenario → List Pattern
 scenario s = parts (
     key keyword.Scenario ∷ equals ∷ named s.name
-    ∷ key keyword.Weeks ∷ equals ∷ (placed s.weeks.token 99999 s.weeks.value ∷ [])
+    ∷ key keyword.Weeks ∷ equals ∷ (placed s.weeks.token most_counted s.weeks.value ∷ [])
     ∷ section keyword.Skills named s.skills
     ∷ section keyword.ShiftTypes shift_type s.shifts
     ∷ key keyword.Successions ∷ lines_until keyword.Contracts what.Number succession s.successions
@@ -170,7 +171,7 @@ nurse_history h = parts (named h.nurse ∷ small h.assignments ∷ small h.weeke
 
 abbrev pub history : History → List Pattern
 history h = parts (
-    key keyword.History ∷ (placed h.week.token 999 h.week.value ∷ []) ∷ named h.scenario
+    key keyword.History ∷ (placed h.week.token most_small h.week.value ∷ []) ∷ named h.scenario
     ∷ key keyword.NurseHistory ∷ flat_map nurse_history h.nurses ∷ [])
 
 -- ---- the weeks
@@ -197,7 +198,7 @@ assignment a = parts (named a.nurse ∷ (day a.day ∷ []) ∷ named a.shift ∷
 
 abbrev pub solution : Solution → List Pattern
 solution s = parts (
-    key keyword.Solution ∷ (placed s.week.token 999 s.week.value ∷ []) ∷ named s.scenario
+    key keyword.Solution ∷ (placed s.week.token most_small s.week.value ∷ []) ∷ named s.scenario
     ∷ section keyword.Assignments assignment s.assignments ∷ [])
 
 -- ---- the bundle

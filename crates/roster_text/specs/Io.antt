@@ -1,5 +1,7 @@
 -- Readers and writers under watch: what they give and take, and how often they have failed.
 use Rattle.std.specs.Prelude.{◌≡◌, ℕ, ◌+◌, ◌-◌, ◌^◌, ◌<◌, min, Bool, true, false, List, length, take, Ok, Err, Option, Result, nat_lt, ◌==◌, ◌&&◌, if◌then◌else◌}
+use Rattle.std.specs.Borrow.{Bor, MutBor}
+use Rattle.std.specs.Fn.{Once}
 use Rattle.std.specs.Io.KnownBytes.{Appends, Consumes}
 use Rattle.roster_text.specs.declared.fault.TextFault.{TextFault}
 use Rattle.roster_text.specs.declared.fault.TextFault.TheVariants.{Memory, ReadFailed, TooLong}
@@ -27,6 +29,28 @@ counted failures fails = if fails then one_more failures else failures
 abbrev pub is_refused : {E : Type 0} → Result ℕ E → List ℕ → Bool
 is_refused (Ok n) bytes = n == 0 && nat_lt 0 (length bytes)
 is_refused (Err e) bytes = true
+
+-- The result is that of one call of `read`, of a device `old` and a buffer of these bytes. The call left the device `new` and
+-- the buffer filled so.
+pub record IsOneRead {F T R : Type 0} (g : Once F (MutBor T × (MutBor (List ℕ) × Unit {0})) (R × (MutBor T × (MutBor (List ℕ) × Unit {0}))))
+    (read : F) (old : T) (bytes : List ℕ) (result : R) (new : T) (filled : List ℕ) : Type 0 where
+  pub device : MutBor T
+  pub buffer : MutBor (List ℕ)
+  pub shows : (device.now ≡ old) × (buffer.now ≡ bytes)
+  pub device_left : MutBor T
+  pub buffer_left : MutBor (List ℕ)
+  pub met : g.post read (device, (buffer, tt)) (result, (device_left, (buffer_left, tt)))
+  pub leaves : (device_left.now ≡ new) × (buffer_left.now ≡ filled)
+
+-- the same of one call of `write`, of a device and these bytes
+pub record IsOneWrite {F T R : Type 0} (g : Once F (MutBor T × (Bor (List ℕ) × Unit {0})) (R × (MutBor T × Unit {0})))
+    (write : F) (old : T) (bytes : List ℕ) (result : R) (new : T) : Type 0 where
+  pub device : MutBor T
+  pub buffer : Bor (List ℕ)
+  pub shows : (device.now ≡ old) × (buffer.now ≡ bytes)
+  pub device_left : MutBor T
+  pub met : g.post write (device, (buffer, tt)) (result, (device_left, tt))
+  pub leaves : device_left.now ≡ new
 
 -- a reader with these bytes left gave some of them, from the front
 abbrev pub TakesFront : Option (List ℕ) → Option (List ℕ) → Type 0

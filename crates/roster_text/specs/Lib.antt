@@ -1,3 +1,4 @@
+pub mod Limits
 pub mod Words
 pub mod Token
 pub mod Grammar
@@ -5,5 +6,6 @@ pub mod SmallNumbers
 pub mod FirstFault
 pub mod Reading
 pub mod Io
+pub mod Pieces
 pub mod Canonical
 pub mod ReadBack

@@ -8,6 +8,7 @@ use Rattle.roster_text.specs.Canonical.{Shown, assignment, assignments, canonica
 use Rattle.roster_text.specs.Canonical.{Assignment as ShownAssignment}
 use Rattle.roster_text.specs.Grammar.{Spelled, solution}
 use Rattle.roster_text.specs.Token.{all_seen, is_word, text_of, tokens_of}
+use Rattle.roster_text.specs.Limits.{most_counted, most_small}
 
 -- each name of an assignment is a word
 pub record HasWords (a : ShownAssignment) : Type 0 where
@@ -17,10 +18,10 @@ pub record HasWords (a : ShownAssignment) : Type 0 where
 
 -- names that are words, and numbers that are in range
 pub record IsWritable (s : Shown) : Type 0 where
-  pub week : s.week ≤ 999
+  pub week : s.week ≤ most_small
   pub name : IsTrue (is_word s.name)
   pub words : All HasWords (assignments s)
-  pub count : length (assignments s) ≤ 99999
+  pub count : length (assignments s) ≤ most_counted
 
 -- a day by its number; 0 is Monday
 abbrev pub weekday : Day → ℕ

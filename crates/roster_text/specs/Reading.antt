@@ -36,6 +36,7 @@ use Rattle.roster_text.specs.declared.token.Token.{Token}
 use Rattle.roster_text.specs.Token.{Seen}
 use Rattle.roster_text.specs.Words.{keyword_text}
 use Rattle.roster_text.specs.Grammar.{short, long, is_name, is_number}
+use Rattle.roster_text.specs.Limits.{most_counted, most_small}
 
 -- What reading gives: a value and the tokens that are left, or the refusal and the tokens from the refused one on.
 abbrev pub Read : Type 0 → Type 0
@@ -83,7 +84,7 @@ value_at limit ts = do
   Ok (n.0.value, n.1)
 
 abbrev pub small_at : List Seen → Read ℕ
-small_at ts = value_at 999 ts
+small_at ts = value_at most_small ts
 
 -- the days from Monday on
 abbrev pub all_days : List Day
@@ -117,7 +118,7 @@ times_at read (suc n) ts = do
 -- a count, and that many
 unfoldable pub listed_at : {A : Type 0} → (List Seen → Read A) → List Seen → Read (Listed A)
 listed_at read ts = do
-  n ← number_at 99999 ts
+  n ← number_at most_counted ts
   xs ← times_at read n.0.value n.1
   Ok (record { count = n.0.token; items = xs.0 }, xs.1)
 
@@ -131,7 +132,7 @@ section_at k read ts = do
 -- a count of names, and the names
 unfoldable pub names_at : List Seen → Read (List Token)
 names_at ts = do
-  n ← value_at 99999 ts
+  n ← value_at most_counted ts
   times_at name_at n.0 n.1
 
 -- the tokens begin with the keyword and `=`
@@ -200,7 +201,7 @@ scenario_at ts = do
   name ← name_at b.1
   c ← key_at keyword.Weeks name.1
   d ← word_at what.Equals (codes "=") c.1
-  weeks ← number_at 99999 d.1
+  weeks ← number_at most_counted d.1
   skills ← section_at keyword.Skills name_at weeks.1
   shifts ← section_at keyword.ShiftTypes shift_type_at skills.1
   e ← key_at keyword.Successions shifts.1
@@ -226,7 +227,7 @@ nurse_history_at ts = do
 unfoldable pub history_at : ℕ → List Seen → Read History
 history_at lines ts = do
   a ← key_at keyword.History ts
-  week ← number_at 999 a.1
+  week ← number_at most_small a.1
   scenario ← name_at week.1
   b ← key_at keyword.NurseHistory scenario.1
   nurses ← times_at nurse_history_at lines b.1
@@ -281,7 +282,7 @@ assignment_at ts = do
 unfoldable pub solution_at : List Seen → Read Solution
 solution_at ts = do
   a ← key_at keyword.Solution ts
-  week ← number_at 999 a.1
+  week ← number_at most_small a.1
   scenario ← name_at week.1
   assignments ← section_at keyword.Assignments assignment_at scenario.1
   Ok (record { week = week.0; scenario = scenario.0; assignments = assignments.0 }, assignments.1)

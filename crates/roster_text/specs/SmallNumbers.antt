@@ -9,26 +9,27 @@ use Rattle.roster_text.specs.declared.bundle.Requirement.{Requirement}
 use Rattle.roster_text.specs.declared.bundle.ShiftType.{ShiftType}
 use Rattle.roster_text.specs.declared.bundle.WeekData.{WeekData}
 use Rattle.roster_text.specs.declared.bundle.WeekPairs.{WeekPairs}
+use Rattle.roster_text.specs.Limits.{most_small}
 
 -- both numbers of a pair
 pub record IsSmallPair (p : Pair) : Type 0 where
-  pub least : p.least ≤ 999
-  pub greatest : p.greatest ≤ 999
+  pub least : p.least ≤ most_small
+  pub greatest : p.greatest ≤ most_small
 
 -- the numbers of a contract, but for the flag
 pub record IsSmallContract (c : Contract) : Type 0 where
   pub total : IsSmallPair c.total
   pub working : IsSmallPair c.working
   pub free : IsSmallPair c.free
-  pub weekends : c.weekends ≤ 999
+  pub weekends : c.weekends ≤ most_small
 
 -- the five numbers of a history line
 pub record IsSmallLine (h : NurseHistory) : Type 0 where
-  pub assignments : h.assignments ≤ 999
-  pub weekends : h.weekends ≤ 999
-  pub shift_run : h.shift_run ≤ 999
-  pub working_run : h.working_run ≤ 999
-  pub free_run : h.free_run ≤ 999
+  pub assignments : h.assignments ≤ most_small
+  pub weekends : h.weekends ≤ most_small
+  pub shift_run : h.shift_run ≤ most_small
+  pub working_run : h.working_run ≤ most_small
+  pub free_run : h.free_run ≤ most_small
 
 -- the pairs of a week
 pub record AreSmallPairs (w : WeekPairs) : Type 0 where

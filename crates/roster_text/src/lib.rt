@@ -9,12 +9,17 @@ mod parsing;
 #[cfg(test)]
 mod parsing_tests;
 mod parts;
+mod pieces;
 mod reading;
 #[cfg(test)]
 mod tests;
 mod token;
+#[cfg(test)]
+mod token_tests;
 mod view;
 mod watch;
+#[cfg(test)]
+mod watch_tests;
 mod writing;
 
 pub use bundle::{
@@ -24,8 +29,9 @@ pub use bundle::{
 pub use fault::{Keyword, TextFault, What, WriteFault};
 pub use laws::written_is_read;
 pub use parsing::{numbers_are_small, one_bundle, one_first_fault, parse_bundle};
+pub use pieces::{Piece, send_pieces, write_bytes, write_number, write_pieces};
 pub use reading::{MAX_INPUT, read_all};
 pub use token::{Token, tokens};
 pub use view::SolutionView;
 pub use watch::Watch;
-pub use writing::{weekday_text, write_bytes, write_number, write_solution};
+pub use writing::{weekday_text, write_solution};

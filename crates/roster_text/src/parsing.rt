@@ -1,6 +1,6 @@
 //! From tokens to what they say.
 
-ghost use Rattle.std.specs.Prelude.{◌≡◌, ◌≢◌, ℕ, List, IfOk, IfErr, MatchResult};
+ghost use Rattle.std.specs.Prelude.{◌≡◌, ◌≢◌, ℕ, List, IfOk, IfErr, MatchResult, length};
 ghost use Rattle.roster_text.specs.FirstFault.{IsFirstFault};
 ghost use Rattle.roster_text.specs.Grammar.{Spells};
 ghost use Rattle.roster_text.specs.Reading.{GivesUnlessMemory, bundle_at, whole_of, fault_of};
@@ -20,6 +20,11 @@ pub fn parse_bundle(alloc: Global, source: &[u8], tokens: &[Token]) -> Result<Bu
 
     // What is read is spelled.
     ensures spelled { IfOk result (Spells (all_seen source.now tokens.now)) }
+
+    // Of such a bundle, what the libraries above ask for.
+    ensures small { IfOk result SaysSmallNumbers }
+    ensures weeks { IfOk result (λ b. length b.week_data ≡ b.scenario.weeks.value) }
+    ensures solutions { IfOk result (λ b. length b.solutions ≡ b.scenario.weeks.value) }
 
     // What is spelled is read, unless memory runs out.
     ensures accepted { (b : Bundle) → Spells (all_seen source.now tokens.now) b →

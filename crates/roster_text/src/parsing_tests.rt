@@ -1,4 +1,6 @@
-use super::*;
+//! What mini says, and the line of each kind of fault.
+
+use crate::{Bundle, Day, Keyword, Pair, TextFault, What, parse_bundle, tokens};
 use std::test::Fail;
 
 const MINI: &str = "SCENARIO = mini
@@ -117,6 +119,20 @@ fn each_fault_has_its_line(rt: HostRuntime) {
             TextFault::Expected {
                 line: 3,
                 what: What::Equals,
+            },
+        ),
+        (
+            "SCENARIO\n",
+            TextFault::Expected {
+                line: 2,
+                what: What::Equals,
+            },
+        ),
+        (
+            "SCENARIO\r\n\n=",
+            TextFault::Expected {
+                line: 3,
+                what: What::Name,
             },
         ),
         (

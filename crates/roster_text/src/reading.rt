@@ -3,6 +3,7 @@
 ghost use Rattle.std.specs.Prelude.{◌≡◌, ◌≤◌, ◌<◌, IfOk, OnOk, IfErr, IfSome, IsErrOf, length, vec_len};
 ghost use Rattle.std.specs.Io.KnownBytes.{IsAtEnd};
 ghost use Rattle.roster_text.specs.Io.{TakesFront, IsReadFault, counted, is_read_failure};
+ghost use Rattle.roster_text.specs.Limits.{most_bytes};
 
 use crate::fault::TextFault;
 use crate::watch::Watch;
@@ -20,10 +21,10 @@ pub fn read_all<R: Read>(alloc: Global, input: &mut Watch<R>) -> Result<Vec<u8>,
     ensures all { IfOk result
         (λ bytes. IfSome (R.remaining input.old.inner) (λ given. bytes.items ≡ given)) }
     ensures end { OnOk result (IsAtEnd (R.remaining input.new.inner)) }
-    ensures kept { IfOk result (λ bytes. vec_len bytes ≤ MAX_INPUT) }
+    ensures kept { IfOk result (λ bytes. vec_len bytes ≤ most_bytes) }
 
     ensures too_long { IsErrOf result TextFault.TooLong
-        → IfSome (R.remaining input.old.inner) (λ given. MAX_INPUT < length given) }
+        → IfSome (R.remaining input.old.inner) (λ given. most_bytes < length given) }
     ensures no_other_error { IfErr result IsReadFault }
 
     ensures failed { input.new.failures ≡ counted input.old.failures (is_read_failure result) }

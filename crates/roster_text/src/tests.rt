@@ -2,9 +2,12 @@
 
 ghost use Rattle.std.specs.Prelude.{ℕ, Option, Some, None, codes, ◌==◌, ◌&&◌, if◌then◌else◌};
 
-use super::*;
+use crate::{
+    Piece, SolutionView, TextFault, Watch, WriteFault, read_all, send_pieces, write_bytes,
+    write_number, write_pieces, write_solution,
+};
 use roster_devices::{AtEnd, EndlessReader, FailingReader, OneByteReader, ShortWriter};
-use std::io::{BufWriter, ErrorKind, Read, Write};
+use std::io::{ErrorKind, Read};
 use std::test::Fail;
 
 #[test]
@@ -123,18 +126,6 @@ fn counts_what_a_failing_writer_took(rt: HostRuntime) {
 }
 
 #[test]
-fn passes_a_flush_on_and_does_not_count_it(rt: HostRuntime) -> Result<(), Fail> {
-    let mut room = [0; 7];
-    let short = ShortWriter::new(&mut room, AtEnd::Fail);
-    let mut out = Watch::new(BufWriter::new(rt.alloc(), short)?);
-    out.flush()?;
-    write_bytes(&mut out, b"SOLUTION")?;
-    assert!(rt; out.flush().is_err());
-    assert!(rt; !out.failed());
-    Ok(())
-}
-
-#[test]
 fn writes_bytes_and_numbers(rt: HostRuntime) -> Result<(), Fail> {
     let mut out = Watch::new(Vec::new(rt.alloc()));
     write_number(&mut out, 0)?;
@@ -144,6 +135,26 @@ fn writes_bytes_and_numbers(rt: HostRuntime) -> Result<(), Fail> {
         out.into_inner().as_slice(),
         b"0 to 18446744073709551615".as_slice()
     );
+    Ok(())
+}
+
+#[test]
+fn writes_pieces(rt: HostRuntime) -> Result<(), Fail> {
+    let pieces = [
+        Piece::Bytes(b"Ann "),
+        Piece::Number(40),
+        Piece::Bytes(b"\n"),
+    ];
+    let mut out = Watch::new(Vec::new(rt.alloc()));
+    write_pieces(&mut out, &pieces)?;
+    assert_eq!(rt; send_pieces(&mut out, 7, &pieces)?, 14);
+    assert_eq!(rt; out.into_inner().as_slice(), b"Ann 40\nAnn 40\n".as_slice());
+    let mut room = [0; 5];
+    let mut out = Watch::new(ShortWriter::new(&mut room, AtEnd::Fail));
+    let answer = write_pieces(&mut out, &pieces);
+    assert_eq!(rt; answer, Err(WriteFault::WriteFailed { sent: 5 }));
+    let answer = send_pieces(&mut out, 7, &pieces);
+    assert_eq!(rt; answer, Err(WriteFault::WriteFailed { sent: 7 }));
     Ok(())
 }
 

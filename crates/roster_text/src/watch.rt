@@ -3,7 +3,7 @@
 ghost use Rattle.std.specs.Prelude.{◌≡◌, ◌<◌, ◌↔◌, IsTrue, is_err};
 ghost use Rattle.std.specs.Io.{ReadsAtMost, WritesAtMost};
 ghost use Rattle.std.specs.Io.KnownBytes.{ReadConsumes, WriteAppends, Keeps};
-ghost use Rattle.roster_text.specs.Io.{counted, is_refused, one_more};
+ghost use Rattle.roster_text.specs.Io.{IsOneRead, IsOneWrite, counted, is_refused, one_more};
 
 use std::io;
 use std::io::{Read, Write};
@@ -50,6 +50,45 @@ impl<T> Watch<T> {
         inner
     }
 
+    // These two take the device's call as an argument, so that their contracts can say that the answer is that of
+    // one call, and what the device is behind it.
+
+    fn read_once<F: FnOnce(&mut T, &mut [u8]) -> io::Result<usize>>(
+        &mut self,
+        buf: &mut [u8],
+        read: F,
+    ) -> io::Result<usize>
+        requires { F.IsAlwaysCallable read }
+        ensures called { IsOneRead F.FnOnce read self.old.inner buf.old result self.new.inner buf.new }
+        ensures failures { self.new.failures ≡ counted self.old.failures (is_err result) }
+    {
+        let result = read(&mut self.inner, buf);
+        if result.is_err() {
+            self.count_failure();
+        }
+        result
+    }
+
+    fn write_once<F: FnOnce(&mut T, &[u8]) -> io::Result<usize>>(
+        &mut self,
+        buf: &[u8],
+        write: F,
+    ) -> io::Result<usize>
+        requires { F.IsAlwaysCallable write }
+        ensures called { IsOneWrite F.FnOnce write self.old.inner buf.now result self.new.inner }
+        ensures failures { self.new.failures ≡ counted self.old.failures (is_refused result buf.now) }
+    {
+        let result = write(&mut self.inner, buf);
+        let is_refused = match &result {
+            Ok(taken) => *taken == 0 && !buf.is_empty(),
+            Err(_) => true,
+        };
+        if is_refused {
+            self.count_failure();
+        }
+        result
+    }
+
     fn count_failure(&mut self)
         ensures inner { self.new.inner ≡ self.old.inner }
         ensures failures { self.new.failures ≡ one_more self.old.failures }
@@ -67,11 +106,7 @@ impl<R: Read> Read for Watch<R> {
             result buf.new }
         ensures failures { self.new.failures ≡ counted self.old.failures (is_err result) }
     {
-        let result = self.inner.read(buf);
-        if result.is_err() {
-            self.count_failure();
-        }
-        result
+        self.read_once(buf, R::read)
     }
 }
 
@@ -84,15 +119,7 @@ impl<W: Write> Write for Watch<W> {
             result buf.now }
         ensures failures { self.new.failures ≡ counted self.old.failures (is_refused result buf.now) }
     {
-        let result = self.inner.write(buf);
-        let is_refused = match &result {
-            Ok(taken) => *taken == 0 && !buf.is_empty(),
-            Err(_) => true,
-        };
-        if is_refused {
-            self.count_failure();
-        }
-        result
+        self.write_once(buf, W::write)
     }
 
     fn flush(&mut self) -> io::Result<()>

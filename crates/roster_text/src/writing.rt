@@ -1,40 +1,14 @@
-//! Writing bytes, numbers and the canonical text of a solution.
+//! Writing the canonical text of a solution.
 
-ghost use Rattle.std.specs.Prelude.{◌≡◌, ◌<◌, ◌≤◌, OnOk, IfOk, IfErr, decimal, length, flat_map};
-ghost use Rattle.roster_text.specs.Io.{Writes, StopsAt, StopsIn, Sends, BreaksIn, sent_of};
-ghost use Rattle.roster_text.specs.Canonical.{canonical, heading, assignments, nurse_assignments, nurse_lines, assignment, assignment_line, weekday_text};
+ghost use Rattle.std.specs.Prelude.{◌≡◌, ◌<◌, ◌≤◌, OnOk, IfOk, IfErr, length};
+ghost use Rattle.roster_text.specs.Io.{Writes, StopsIn, Sends, BreaksIn};
+ghost use Rattle.roster_text.specs.Canonical.{canonical, heading, assignments, nurse_assignments, nurse_lines, line_text, weekday_text};
 
 use crate::fault::WriteFault;
+use crate::pieces::{Piece, send_pieces};
 use crate::view::SolutionView;
 use crate::watch::Watch;
-use itoa::Buffer;
 use std::io::Write;
-
-/// Writes all of the bytes, by as many writes as it takes.
-pub fn write_bytes<W: Write>(out: &mut Watch<W>, bytes: &[u8]) -> Result<(), WriteFault>
-    ensures ok { OnOk result (Writes W.contents out.old out.new bytes.now) }
-    ensures err { IfErr result
-        (λ fault. StopsAt W.contents out.old out.new bytes.now (sent_of fault)) }
-{
-    let mut sent = 0;
-    while sent < bytes.len() {
-        match out.write(&bytes[sent..]) {
-            Ok(taken) if taken > 0 => sent += taken,
-            _ => return Err(WriteFault::WriteFailed { sent }),
-        }
-    }
-    Ok(())
-}
-
-/// Writes a number in decimal, without leading zeros.
-pub fn write_number<W: Write>(out: &mut Watch<W>, number: u64) -> Result<(), WriteFault>
-    ensures ok { OnOk result (Writes W.contents out.old out.new (decimal number)) }
-    ensures err { IfErr result
-        (λ fault. StopsAt W.contents out.old out.new (decimal number) (sent_of fault)) }
-{
-    let mut digits = Buffer::new();
-    write_bytes(out, digits.format(number).as_bytes())
-}
 
 /// Writes the canonical text of one solution: its heading, and a line for each assignment.
 pub fn write_solution<W: Write, S: SolutionView>(
@@ -51,8 +25,7 @@ pub fn write_solution<W: Write, S: SolutionView>(
     Ok(())
 }
 
-// Each of the functions that send a part of a text takes how many of its bytes were sent before, and returns how many
-// are sent then. A fault counts those of the whole text.
+// Each of these sends a part of the text, as `send_pieces` does.
 
 fn send_heading<W: Write, S: SolutionView>(
     out: &mut Watch<W>,
@@ -63,18 +36,17 @@ fn send_heading<W: Write, S: SolutionView>(
         (λ after. Sends W.contents out.old out.new sent after (heading (S.shown view.now))) }
     ensures err { IfErr result (BreaksIn W.contents out.old out.new sent (heading (S.shown view.now))) }
 {
-    let (mut week, mut assignments) = (Buffer::new(), Buffer::new());
-    send_parts(
+    send_pieces(
         out,
         sent,
         &[
-            b"SOLUTION\n",
-            week.format(view.week()).as_bytes(),
-            b" ",
-            view.name(),
-            b"\n\nASSIGNMENTS = ",
-            assignments.format(count_assignments(view)).as_bytes(),
-            b"\n",
+            Piece::Bytes(b"SOLUTION\n"),
+            Piece::Number(u64::from(view.week())),
+            Piece::Bytes(b" "),
+            Piece::Bytes(view.name()),
+            Piece::Bytes(b"\n\nASSIGNMENTS = "),
+            Piece::Number(count_assignments(view)),
+            Piece::Bytes(b"\n"),
         ],
     )
 }
@@ -96,65 +68,40 @@ fn send_nurse<W: Write, S: SolutionView>(
         let Some((shift, skill)) = view.on(nurse, weekday) else {
             continue;
         };
-        sent = send_assignment(out, sent, view.nurse(nurse), weekday, shift, skill)?;
+        let day = weekday_text(weekday);
+        sent = send_line(out, sent, view.nurse(nurse), &day, shift, skill)?;
     }
     Ok(sent)
 }
 
-fn send_assignment<'t, W: Write>(
+fn send_line<'t, W: Write>(
     out: &mut Watch<W>,
     sent: usize,
     nurse: &'t [u8],
-    weekday: u16,
+    day: &'t [u8],
     shift: &'t [u8],
     skill: &'t [u8],
 ) -> Result<usize, WriteFault>
-    requires { weekday < 7 }
     ensures ok { IfOk result
         (λ after. Sends W.contents out.old out.new sent after
-        (assignment_line (assignment nurse.now weekday shift.now skill.now))) }
+        (line_text nurse.now day.now shift.now skill.now)) }
     ensures err { IfErr result
-        (BreaksIn W.contents out.old out.new sent
-        (assignment_line (assignment nurse.now weekday shift.now skill.now))) }
+        (BreaksIn W.contents out.old out.new sent (line_text nurse.now day.now shift.now skill.now)) }
 {
-    let day = weekday_text(weekday);
-    send_parts(
+    send_pieces(
         out,
         sent,
-        &[nurse, b" ", &day, b" ", shift, b" ", skill, b"\n"],
+        &[
+            Piece::Bytes(nurse),
+            Piece::Bytes(b" "),
+            Piece::Bytes(day),
+            Piece::Bytes(b" "),
+            Piece::Bytes(shift),
+            Piece::Bytes(b" "),
+            Piece::Bytes(skill),
+            Piece::Bytes(b"\n"),
+        ],
     )
-}
-
-fn send_parts<W: Write>(
-    out: &mut Watch<W>,
-    mut sent: usize,
-    parts: &[&[u8]],
-) -> Result<usize, WriteFault>
-    ensures ok { IfOk result
-        (λ after. Sends W.contents out.old out.new sent after (flat_map (λ part. part.now) parts.now)) }
-    ensures err { IfErr result
-        (BreaksIn W.contents out.old out.new sent (flat_map (λ part. part.now) parts.now)) }
-{
-    for part in parts {
-        sent = send_bytes(out, sent, part)?;
-    }
-    Ok(sent)
-}
-
-fn send_bytes<W: Write>(
-    out: &mut Watch<W>,
-    before: usize,
-    bytes: &[u8],
-) -> Result<usize, WriteFault>
-    ensures ok { IfOk result (λ after. Sends W.contents out.old out.new before after bytes.now) }
-    ensures err { IfErr result (BreaksIn W.contents out.old out.new before bytes.now) }
-{
-    match write_bytes(out, bytes) {
-        Ok(()) => Ok(before.saturating_add(bytes.len())),
-        Err(WriteFault::WriteFailed { sent }) => Err(WriteFault::WriteFailed {
-            sent: before.saturating_add(sent),
-        }),
-    }
 }
 
 /// A weekday in three letters, as it is written; 0 is Monday.

@@ -3,7 +3,7 @@ use Rattle.std.proofs.Math.Seq.{take-add}
 use Rattle.std.proofs.lemmas.List.{take_rest}
 use Rattle.std.proofs.lemmas.Grind.{common_steps}
 use Rattle.roster_text.proofs.Texts.{Writes-append}
-use Rattle.roster_text.proofs.writing.write_bytes.Goals as goal
+use Rattle.roster_text.proofs.pieces.write_bytes.Goals as goal
 
 pub loop-sent-preserved : goal.loop-sent-preserved
 loop-sent-preserved g c = record {

@@ -9,12 +9,12 @@ use Rattle.roster_text.proofs.TokenLemmas.{is_word_byte-separator, token_at-sepa
 use Rattle.roster_text.specs.Token.{is_separator, is_mark, is_word_byte, is_word, line_at, tokens_from, tokens_of, text_of, IsBetweenTokens}
 
 -- the text of a token, and the separators behind it
-pub record Piece : Type 0 where
+pub record Chunk : Type 0 where
   pub text : List ℕ
   pub gap : List ℕ
 
-abbrev pub piece : List ℕ → List ℕ → Piece
-piece text gap = record { text = text; gap = gap }
+abbrev pub chunk : List ℕ → List ℕ → Chunk
+chunk text gap = record { text = text; gap = gap }
 
 -- a word, or a mark alone
 pub record IsMarkAlone (text : List ℕ) : Type 0 where
@@ -26,20 +26,20 @@ pub record IsGap (gap : List ℕ) : Type 0 where
   pub some : 0 < length gap
   pub separators : list_all is_separator gap ≡ true
 
-pub record IsPiece (p : Piece) : Type 0 where
+pub record IsChunk (p : Chunk) : Type 0 where
   pub text : IsTrue (is_word p.text) ⊎ IsMarkAlone p.text
   pub gap : IsGap p.gap
 
-pub word_piece : (text gap : List ℕ) → IsTrue (is_word text) → IsGap gap → IsPiece (piece text gap)
-word_piece text gap word is_gap = record { text = inl word; gap = is_gap }
+pub word_chunk : (text gap : List ℕ) → IsTrue (is_word text) → IsGap gap → IsChunk (chunk text gap)
+word_chunk text gap word is_gap = record { text = inl word; gap = is_gap }
 
-pub mark_piece : (text gap : List ℕ) → IsMarkAlone text → IsGap gap → IsPiece (piece text gap)
-mark_piece text gap mark is_gap = record { text = inr mark; gap = is_gap }
+pub mark_chunk : (text gap : List ℕ) → IsMarkAlone text → IsGap gap → IsChunk (chunk text gap)
+mark_chunk text gap mark is_gap = record { text = inr mark; gap = is_gap }
 
-abbrev pub bytes : List Piece → List ℕ
+abbrev pub bytes : List Chunk → List ℕ
 bytes ps = flat_map (λ p. p.text ++ p.gap) ps
 
-abbrev pub texts : List Piece → List (List ℕ)
+abbrev pub texts : List Chunk → List (List ℕ)
 texts ps = map (λ p. p.text) ps
 
 -- ---- what stands from a place on
@@ -133,25 +133,25 @@ mark_read text i b gap rest mark g s =
       says = first_bytes text i (b ∷ []) (gap ++ rest) s;
     }
 
-piece_read : (text : List ℕ) (i : ℕ) (p : Piece) (rest : List ℕ) → IsPiece p → Stands text i (p.text ++ (p.gap ++ rest)) → IsBetweenTokens text i → Reads text i (i + length p.text + length p.gap) p.text
-piece_read text i p rest is s between =
+chunk_read : (text : List ℕ) (i : ℕ) (p : Chunk) (rest : List ℕ) → IsChunk p → Stands text i (p.text ++ (p.gap ++ rest)) → IsBetweenTokens text i → Reads text i (i + length p.text + length p.gap) p.text
+chunk_read text i p rest is s between =
     ⊎_elim
     (λ word. word_read text i p.text p.gap rest word is.gap s between)
     (λ mark. subst (λ (w : List ℕ). Stands text i (w ++ (p.gap ++ rest)) → Reads text i (i + length w + length p.gap) w) (sym mark.is)
     (mark_read text i mark.byte p.gap rest mark.mark is.gap) s)
     is.text
 
--- ---- piece after piece
+-- ---- chunk after chunk
 
-pieces_from : (text : List ℕ) (ps : List Piece) (i : ℕ) → AllByRecursion IsPiece ps → Stands text i (bytes ps) → IsBetweenTokens text i → map (text_of text) (tokens_from text i) ≡ texts ps
-pieces_from text [] i all s between = ap (map (text_of text)) (tokens_from-end text i (omega (arith, stands_length text i [] s)))
-pieces_from text (p ∷ ps) i all s between =
+chunks_from : (text : List ℕ) (ps : List Chunk) (i : ℕ) → AllByRecursion IsChunk ps → Stands text i (bytes ps) → IsBetweenTokens text i → map (text_of text) (tokens_from text i) ≡ texts ps
+chunks_from text [] i all s between = ap (map (text_of text)) (tokens_from-end text i (omega (arith, stands_length text i [] s)))
+chunks_from text (p ∷ ps) i all s between =
     let here : Stands text i (p.text ++ (p.gap ++ bytes ps)) = record { inside = s.inside; is = s.is ∙ append_assoc p.text p.gap (bytes ps) } in
-    let read = piece_read text i p (bytes ps) all.0 here between in
+    let read = chunk_read text i p (bytes ps) all.0 here between in
     let behind = stands_behind text i p.text (p.gap ++ bytes ps) here in
-    let rest = pieces_from text ps (i + length p.text + length p.gap) all.1 (stands_behind text (i + length p.text) p.gap (bytes ps) behind) (gap_between text (i + length p.text) p.gap (bytes ps) all.0.gap behind) in
+    let rest = chunks_from text ps (i + length p.text + length p.gap) all.1 (stands_behind text (i + length p.text) p.gap (bytes ps) behind) (gap_between text (i + length p.text) p.gap (bytes ps) all.0.gap behind) in
     ap (map (text_of text)) read.first ∙ (λ k. read.says k ∷ rest k)
 
--- the tokens have the texts of the pieces
-pub pieces_read : (ps : List Piece) → AllByRecursion IsPiece ps → map (text_of (bytes ps)) (tokens_of (bytes ps)) ≡ texts ps
-pieces_read ps all = pieces_from (bytes ps) ps 0 all (record { inside = omega arith; is = refl }) (IsBetweenTokens-start (bytes ps))
+-- the tokens have the texts of the chunks
+pub chunks_read : (ps : List Chunk) → AllByRecursion IsChunk ps → map (text_of (bytes ps)) (tokens_of (bytes ps)) ≡ texts ps
+chunks_read ps all = chunks_from (bytes ps) ps 0 all (record { inside = omega arith; is = refl }) (IsBetweenTokens-start (bytes ps))

@@ -1,7 +1,7 @@
 -- The first `sent` bytes are written, and each turn writes more.
 use Rattle.std.proofs.Common.{◌≤◌, ◌-◌, length, take}
 use Rattle.roster_text.specs.Io.{Writes}
-use Rattle.roster_text.proofs.writing.write_bytes.Given as goal
+use Rattle.roster_text.proofs.pieces.write_bytes.Given as goal
 
 abbrev pub invariant-loop-sent : goal.invariant-loop-sent
 invariant-loop-sent g l = record {
