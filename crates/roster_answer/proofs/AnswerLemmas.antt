@@ -19,10 +19,11 @@ use Rattle.roster_case.specs.Rosters.{Rows}
 use Rattle.roster_case.specs.declared.CaseFault.{CaseFault}
 use Rattle.roster_case.specs.declared.CaseFault.TheVariants as case
 use Rattle.roster_case.proofs.Sections.{IsFirst-behind}
-use Rattle.roster_answer.specs.Answer.{Answers, IsCaseFault, IsUnread, Refuses, RefusesBytes, StopsOutput, StopsReport, answered_text, breaches, breaches_of, report_of, roster_of}
+use Rattle.roster_answer.specs.Answer.{Answers, IsUnread, RefusesBytes, Says, StopsOutput, StopsReport, answered_text, breaches, breaches_of, report_of, roster_of}
 use Rattle.roster_answer.specs.Lines.{IsFirstBreach, Text, status_of}
 use Rattle.roster_answer.specs.declared.fault.Fault.{Fault}
 use Rattle.roster_answer.specs.declared.fault.Fault.TheVariants as fault
+use Rattle.roster_answer.specs.declared.reading.Instance.{Instance}
 use Rattle.roster_words.specs.declared.request.Command.{Command}
 
 -- ---- a bundle
@@ -75,56 +76,6 @@ status_listed (fault.Case (case.H1 number day) nurse) = (1, lit< tt, refl)
 status_listed (fault.Hard f names) = (1, lit< tt, refl)
 status_listed fault.Output = (2, lit< tt, refl)
 
--- ---- devices
-
-module _ {R Out : Type 0} (remaining : R → Option (List ℕ)) (contents : Out → Option (List ℕ)) (command : Command) (input after : Watched R) (output written : Watched Out) where
-  pub read_failed : (f : Fault) → Refuses remaining contents command input after output written f → after.failures ≢ input.failures → (f ≡ fault.Text text.ReadFailed) × (written ≡ output)
-  read_failed f (inr h) changed = absurd (changed h.read.failures)
-  read_failed (fault.Text text.Memory) (inl h) changed = absurd (changed h.0)
-  read_failed (fault.Text text.ReadFailed) (inl h) changed = (refl, h.1)
-  read_failed (fault.Text text.TooLong) (inl h) changed = absurd (changed h.0.0)
-  read_failed (fault.Text (text.Expected line what)) (inl h) changed = absurd h.0
-  read_failed (fault.Text (text.NumberRange line)) (inl h) changed = absurd h.0
-  read_failed (fault.Text (text.AfterEnd line)) (inl h) changed = absurd h.0
-  read_failed (fault.Case f nurse) (inl h) changed = absurd h.0
-  read_failed (fault.Hard f names) (inl h) changed = absurd h.0
-  read_failed fault.Output (inl h) changed = absurd h.0
-
-  same_count : written ≡ output → written.failures ≡ output.failures
-  same_count same = ap (λ (w : Watched Out). w.failures) same
-
-  pub write_failed : (f : Fault) → Refuses remaining contents command input after output written f → written.failures ≢ output.failures → f ≡ fault.Output
-  write_failed f (inl h) changed = absurd (changed (same_count h.1))
-  write_failed (fault.Text f) (inr h) changed = absurd (changed (same_count h.refuses.1))
-  write_failed (fault.Case f nurse) (inr h) changed = absurd (changed (same_count h.refuses.1))
-  write_failed (fault.Hard f names) (inr h) changed = absurd (changed (same_count h.refuses.1))
-  write_failed fault.Output (inr h) changed = refl
-
-  -- status 3 is a device that failed once more
-  pub device_failed : (f : Fault) → Refuses remaining contents command input after output written f → status_of f ≡ 3
-      → (after.failures ≡ one_more input.failures) ⊎ (written.failures ≡ one_more output.failures)
-  device_failed (fault.Text text.Memory) h is = absurd (cc)
-  device_failed (fault.Text text.ReadFailed) (inl h) is = inl h.0
-  device_failed (fault.Text text.ReadFailed) (inr h) is = absurd h.refuses.0
-  device_failed (fault.Text text.TooLong) h is = absurd (cc)
-  device_failed (fault.Text (text.Expected line what)) h is = absurd (cc)
-  device_failed (fault.Text (text.NumberRange line)) h is = absurd (cc)
-  device_failed (fault.Text (text.AfterEnd line)) h is = absurd (cc)
-  device_failed (fault.Case case.Memory nurse) h is = absurd (cc)
-  device_failed (fault.Case (case.Repeated line) nurse) h is = absurd (cc)
-  device_failed (fault.Case (case.Unknown line) nurse) h is = absurd (cc)
-  device_failed (fault.Case (case.Reserved line) nurse) h is = absurd (cc)
-  device_failed (fault.Case (case.OtherInstance line) nurse) h is = absurd (cc)
-  device_failed (fault.Case (case.HistoryWeek line) nurse) h is = absurd (cc)
-  device_failed (fault.Case (case.HistoryNurses line) nurse) h is = absurd (cc)
-  device_failed (fault.Case (case.RepeatedRequirement line) nurse) h is = absurd (cc)
-  device_failed (fault.Case (case.Limit line) nurse) h is = absurd (cc)
-  device_failed (fault.Case (case.TooManyStates number name) nurse) h is = absurd (cc)
-  device_failed (fault.Case (case.H1 number day) nurse) h is = absurd (cc)
-  device_failed (fault.Hard f names) h is = absurd (cc)
-  device_failed fault.Output (inl h) is = absurd h.0
-  device_failed fault.Output (inr h) is = inr h.refuses.stopped.stops.failures
-
 -- ---- an input that was not read to its end
 
 module _ {R : Type 0} (A : Type 0) (remaining : R → Option (List ℕ)) (old new : Watched R) where
@@ -137,64 +88,52 @@ module _ {R : Type 0} (A : Type 0) (remaining : R → Option (List ℕ)) (old ne
   unread (text.NumberRange line) is failures long = absurd is
   unread (text.AfterEnd line) is failures long = absurd is
 
--- ---- a bundle, once its case and its roster are read
+-- ---- an instance, once it is read
 
-module _ {W : Type 0} (contents : W → Option (List ℕ)) (command : Command) (source : Text) (b : Bundle) (c : Meaning) (r : Rows) (old new : Watched W)
-    (spelled : Spells (all_seen source (tokens_of source)) b) (taken : all_faults source b ≡ []) (case_is : c ≡ meaning_of source b) (rows_are : r ≡ rows_of source c b) where
-  rows_meant : r ≡ roster_of source b
-  rows_meant = rows_are ∙ ap (λ m. rows_of source m b) case_is
+module _ {W : Type 0} (contents : W → Option (List ℕ)) (command : Command) (source : Text) (i : Instance) (old new : Watched W) (says : Says source i) where
+  rows_meant : i.roster ≡ roster_of source i.bundle
+  rows_meant = says.roster ∙ ap (λ m. rows_of source m i.bundle) says.case
 
-  breaches_meant : breaches_of command c r ≡ breaches command source b
-  breaches_meant = ap₂ (breaches_of command) case_is rows_meant
+  breaches_meant : breaches_of command i.case i.roster ≡ breaches command source i.bundle
+  breaches_meant = ap₂ (breaches_of command) says.case rows_meant
 
-  report_meant : report_of command c r ≡ answered_text command source b
-  report_meant = ap₂ (report_of command) case_is rows_meant
+  report_meant : report_of command i.case i.roster ≡ answered_text command source i.bundle
+  report_meant = ap₂ (report_of command) says.case rows_meant
 
-  pub answers : breaches_of command c r ≡ [] → Writes contents old new (report_of command c r) → Answers contents command source old new
-  answers kept written = record {
-    bundle = b;
-    spelled = spelled;
-    taken = taken;
+  pub answers : {X : Type 0} (result : Result X Fault) → OnOk result (breaches_of command i.case i.roster ≡ []) → OnOk result (Writes contents old new (report_of command i.case i.roster))
+      → OnOk result (Answers contents command source old new)
+  answers (Ok x) kept written = record {
+    bundle = i.bundle;
+    spelled = says.spelled;
+    taken = says.taken;
     kept = sym breaches_meant ∙ kept;
     written = subst (Writes contents old new) report_meant written;
   }
+  answers (Err f) kept written = tt
 
-  pub refuses : (f : Fault) → StopsReport contents (breaches_of command c r) (report_of command c r) source b old new f → RefusesBytes contents command source old new f
-  refuses (fault.Text f) h = absurd h
-  refuses (fault.Case f nurse) h = absurd h
-  refuses (fault.Hard f names) h = (
+  refuses_for : (f : Fault) → StopsReport contents (breaches_of command i.case i.roster) (report_of command i.case i.roster) source i.bundle old new f → RefusesBytes contents command source old new f
+  refuses_for (fault.Text f) h = absurd h
+  refuses_for (fault.Case f nurse) h = absurd h
+  refuses_for (fault.Hard f names) h = (
     record {
-      bundle = b;
-      spelled = spelled;
-      refused = (taken, subst (λ broken. IsFirstBreach source b broken (fault.Hard f names)) breaches_meant h.0);
+      bundle = i.bundle;
+      spelled = says.spelled;
+      refused = (says.taken, subst (λ broken. IsFirstBreach source i.bundle broken (fault.Hard f names)) breaches_meant h.0);
     },
     h.1,
   )
-  refuses fault.Output h = record {
-    bundle = b;
-    spelled = spelled;
-    taken = taken;
+  refuses_for fault.Output h = record {
+    bundle = i.bundle;
+    spelled = says.spelled;
+    taken = says.taken;
     kept = sym breaches_meant ∙ h.0;
     stopped = subst (Stops contents old new) report_meant h.1;
   }
 
-  pub OnOk-answers : {X : Type 0} (result : Result X Fault) → OnOk result (breaches_of command c r ≡ []) → OnOk result (Writes contents old new (report_of command c r))
-      → OnOk result (Answers contents command source old new)
-  OnOk-answers (Ok x) kept written = answers kept written
-  OnOk-answers (Err f) kept written = tt
-
-  pub IfErr-refuses : {X : Type 0} (result : Result X Fault) → IfErr result (StopsReport contents (breaches_of command c r) (report_of command c r) source b old new)
+  pub refuses : {X : Type 0} (result : Result X Fault) → IfErr result (StopsReport contents (breaches_of command i.case i.roster) (report_of command i.case i.roster) source i.bundle old new)
       → IfErr result (RefusesBytes contents command source old new)
-  IfErr-refuses (Ok x) stopped = tt
-  IfErr-refuses (Err f) stopped = refuses f stopped
-
--- the fault of a bundle's case or solutions is a refusal of its bytes
-pub refuses_case : {W : Type 0} (contents : W → Option (List ℕ)) (command : Command) (source : Text) (b : Bundle) (w : Watched W) (f : Fault) → Spells (all_seen source (tokens_of source)) b
-    → IsCaseFault source b f → RefusesBytes contents command source w w f
-refuses_case contents command source b w (fault.Text f) spelled h = absurd h
-refuses_case contents command source b w (fault.Case f nurse) spelled h = (record { bundle = b; spelled = spelled; refused = h }, refl)
-refuses_case contents command source b w (fault.Hard f names) spelled h = absurd h
-refuses_case contents command source b w fault.Output spelled h = absurd h
+  refuses (Ok x) stopped = tt
+  refuses (Err f) stopped = refuses_for f stopped
 
 -- a text of a command that refuses no breaches
 pub stops_report : {W : Type 0} (contents : W → Option (List ℕ)) (report source : Text) (b : Bundle) (old new : Watched W) (f : Fault) → StopsOutput contents old new report f

@@ -1,5 +1,5 @@
 -- What a run answers.
-use Rattle.std.specs.Prelude.{◌≡◌, ◌≢◌, ℕ, ◌<◌, ◌≤◌, ◌⊎◌, List, [], IfSome, Option, Some, length}
+use Rattle.std.specs.Prelude.{◌≡◌, ◌≢◌, ℕ, ◌<◌, ◌≤◌, ◌⊎◌, true, List, [], IfSome, Option, Some, length}
 use Rattle.std.specs.Io.KnownBytes.{IsAtEnd}
 use Rattle.roster_text.specs.FirstFault.{IsFirstFault}
 use Rattle.roster_text.specs.Grammar.{Spells}
@@ -14,7 +14,7 @@ use Rattle.roster_case.specs.HardRules.{hard_faults}
 use Rattle.roster_case.specs.Meaning.{Meaning}
 use Rattle.roster_case.specs.Penalties.{costs_of}
 use Rattle.roster_case.specs.Refusals.{all_faults}
-use Rattle.roster_case.specs.Rosters.{Rows}
+use Rattle.roster_case.specs.Rosters.{Rows, fits}
 use Rattle.roster_case.specs.Shown.{weeks_text}
 use Rattle.roster_case.specs.declared.CaseFault.{CaseFault}
 use Rattle.roster_case.specs.declared.CaseFault.TheVariants.{Memory}
@@ -23,6 +23,7 @@ use Rattle.roster_answer.specs.Lines.{IsFirstBreach, Text, costs_text, nurse_of,
 use Rattle.roster_answer.specs.declared.fault.BreachNames.{BreachNames}
 use Rattle.roster_answer.specs.declared.fault.Fault.{Fault}
 use Rattle.roster_answer.specs.declared.fault.Fault.TheVariants as fault
+use Rattle.roster_answer.specs.declared.reading.Instance.{Instance}
 use Rattle.roster_words.specs.declared.request.Command.{Command}
 use Rattle.roster_words.specs.declared.request.Command.TheVariants as command
 
@@ -42,6 +43,13 @@ pub record ReadsAll {R : Type 0} (remaining : R → Option (List ℕ)) (old new 
 -- the bytes spell the bundle
 abbrev pub SpellsBundle : Text → Bundle → Type 0
 SpellsBundle bytes b = Spells (all_seen bytes (tokens_of bytes)) b
+
+-- the bytes have this fault
+abbrev pub HasFault : Text → TextFault → Type 0
+HasFault bytes text.Memory = Unit {0}
+HasFault bytes text.ReadFailed = ⊥
+HasFault bytes text.TooLong = ⊥
+HasFault bytes f = IsFirstFault (line_at_end bytes) (all_seen bytes (tokens_of bytes)) f
 
 -- ---- a case and its roster: what a command answers for them, and why it stops
 
@@ -87,11 +95,6 @@ pub record IsRefusedFor (bytes : Text) (b : Bundle) (f : CaseFault) (nurse : Tex
   pub first : f ≢ Memory → first_of (all_faults bytes b) ≡ Some f
   pub nurse_is : nurse ≡ nurse_of bytes b f
 
--- that fault, as what a command is stopped by
-abbrev pub IsCaseFault : Text → Bundle → Fault → Type 0
-IsCaseFault bytes b (fault.Case f nurse) = IsRefusedFor bytes b f nurse.now
-IsCaseFault bytes b _ = ⊥
-
 -- nothing else is refused, and this is its first breach
 abbrev pub IsBreachedBy : Command → Text → Bundle → HardFault → BreachNames → Type 0
 IsBreachedBy command bytes b f names = (all_faults bytes b ≡ []) × IsFirstBreach bytes b (breaches command bytes b) (fault.Hard f names)
@@ -126,12 +129,19 @@ pub record HasBreach (command : Command) (bytes : Text) (f : HardFault) (names :
   pub spelled : SpellsBundle bytes bundle
   pub refused : IsBreachedBy command bytes bundle f names
 
--- the bytes have this fault
-abbrev pub HasFault : Text → TextFault → Type 0
-HasFault bytes text.Memory = Unit {0}
-HasFault bytes text.ReadFailed = ⊥
-HasFault bytes text.TooLong = ⊥
-HasFault bytes f = IsFirstFault (line_at_end bytes) (all_seen bytes (tokens_of bytes)) f
+-- the bytes spell the bundle of the instance, in which nothing is refused, and it has its case and its roster
+pub record Says (bytes : Text) (instance : Instance) : Type 0 where
+  pub spelled : SpellsBundle bytes instance.bundle
+  pub taken : all_faults bytes instance.bundle ≡ []
+  pub case : instance.case ≡ meaning_of bytes instance.bundle
+  pub roster : instance.roster ≡ rows_of bytes instance.case instance.bundle
+  pub fitting : fits instance.case instance.roster ≡ true
+
+-- why the bytes are refused by every command
+abbrev pub StopsReading : Text → Fault → Type 0
+StopsReading bytes (fault.Text f) = HasFault bytes f
+StopsReading bytes (fault.Case f nurse) = HasCaseFault bytes f nurse.now
+StopsReading bytes _ = ⊥
 
 -- why a command is not answered in full, and what is written then
 abbrev pub RefusesBytes : {W : Type 0} → (W → Option (List ℕ)) → Command → Text → Watched W → Watched W → Fault → Type 0

@@ -8,8 +8,8 @@ ghost use Rattle.roster_answer.specs.Lines.{fault_line, status_of};
 use crate::commands::report;
 use crate::fault::Fault;
 use crate::lines::tell;
-use crate::reading::read_roster;
-use roster_text::{Watch, parse_bundle, read_all, tokens};
+use crate::reading::read_instance;
+use roster_text::{Watch, read_all};
 use roster_words::{Command, Request};
 use std::alloc::Global;
 use std::io::{Read, Write};
@@ -68,8 +68,7 @@ fn answer<R: Read, Out: Write, Log: Write>(
     }
 }
 
-/// Answers a command for the bundle that the bytes spell: first the case and the roster are read, then the command's
-/// report is written.
+/// Answers a command for the instance that the bytes spell.
 fn answer_bytes<'a, Out: Write>(
     alloc: Global,
     command: &Command,
@@ -79,8 +78,6 @@ fn answer_bytes<'a, Out: Write>(
     ensures ok { OnOk result (Answers Out.contents command.now source.now output.old output.new) }
     ensures err { IfErr result (RefusesBytes Out.contents command.now source.now output.old output.new) }
 {
-    let tokens = tokens(alloc, source)?;
-    let bundle = parse_bundle(alloc, source, &tokens)?;
-    let (case, roster) = read_roster(alloc, source, &bundle)?;
-    report(command, source, &bundle, &case, &roster, output)
+    let instance = read_instance(alloc, source)?;
+    report(command, source, &instance, output)
 }

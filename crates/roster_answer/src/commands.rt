@@ -1,4 +1,4 @@
-//! What each command writes for a case and its roster.
+//! What each command writes for an instance.
 
 ghost use Rattle.std.specs.Prelude.{◌≡◌, true, [], OnOk, IfErr};
 ghost use Rattle.roster_text.specs.Io.{Writes};
@@ -11,6 +11,7 @@ ghost use Rattle.roster_answer.specs.Lines.{costs_text, sizes_text};
 
 use crate::cost::{keep_hard_rules, write_costs};
 use crate::fault::Fault;
+use crate::reading::Instance;
 use crate::sizes::write_sizes;
 use crate::weeks::write_weeks;
 use roster_case::{Case, Roster, costs};
@@ -18,22 +19,24 @@ use roster_text::{Bundle, Watch};
 use roster_words::Command;
 use std::io::Write;
 
-/// Writes what a command reports of a case and its roster, or says why it is refused. The source and the bundle give the
-/// names that a refusal speaks of.
+/// Writes what a command reports of an instance, or says why it is refused, with the names that the source has.
 pub(crate) fn report<'a, Out: Write>(
     command: &Command,
     source: &'a [u8],
-    bundle: &Bundle,
-    case: &Case,
-    roster: &Roster,
+    instance: &Instance,
     output: &mut Watch<Out>,
 ) -> Result<(), Fault<'a>>
-    requires { fits case.now roster.now ≡ true }
-    ensures kept { OnOk result (breaches_of command.now case.now roster.now ≡ []) }
-    ensures ok { OnOk result (Writes Out.contents output.old output.new (report_of command.now case.now roster.now)) }
-    ensures err { IfErr result (StopsReport Out.contents (breaches_of command.now case.now roster.now)
-        (report_of command.now case.now roster.now) source.now bundle.now output.old output.new) }
+    requires { fits instance.now.case instance.now.roster ≡ true }
+    ensures kept { OnOk result (breaches_of command.now instance.now.case instance.now.roster ≡ []) }
+    ensures ok { OnOk result (Writes Out.contents output.old output.new (report_of command.now instance.now.case instance.now.roster)) }
+    ensures err { IfErr result (StopsReport Out.contents (breaches_of command.now instance.now.case instance.now.roster)
+        (report_of command.now instance.now.case instance.now.roster) source.now instance.now.bundle output.old output.new) }
 {
+    let Instance {
+        bundle,
+        case,
+        roster,
+    } = instance;
     match command {
         Command::Show => show(case, roster, output),
         Command::Cost => cost(source, bundle, case, roster, output),
