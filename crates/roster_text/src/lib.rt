@@ -6,20 +6,12 @@ mod fault;
 mod laws;
 mod parser;
 mod parsing;
-#[cfg(test)]
-mod parsing_tests;
 mod parts;
 mod pieces;
 mod reading;
-#[cfg(test)]
-mod tests;
 mod token;
-#[cfg(test)]
-mod token_tests;
 mod view;
 mod watch;
-#[cfg(test)]
-mod watch_tests;
 mod writing;
 
 pub use bundle::{

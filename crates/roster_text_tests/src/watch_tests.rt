@@ -1,6 +1,6 @@
 //! What no clause says of a watch: which calls reach its device, and how often.
 
-use crate::{TextFault, Watch, WriteFault, read_all, write_bytes, write_number};
+use roster_text::{TextFault, Watch, WriteFault, read_all, write_bytes, write_number};
 use roster_devices::{AtEnd, CallCounter, ShortWriter};
 use std::io::{Read, Write};
 use std::test::Fail;

@@ -2,7 +2,7 @@
 
 ghost use Rattle.std.specs.Prelude.{ℕ, Option, Some, None, codes, ◌==◌, ◌&&◌, if◌then◌else◌};
 
-use crate::{
+use roster_text::{
     Piece, SolutionView, TextFault, Watch, WriteFault, read_all, send_pieces, write_bytes,
     write_number, write_pieces, write_solution,
 };

@@ -1,6 +1,6 @@
 //! Texts that are cut, on the happy path and by the megabyte.
 
-use crate::{Token, tokens};
+use roster_text::{Token, tokens};
 use std::test::Fail;
 
 fn token(start: usize, end: usize, line: usize) -> Token {

@@ -1,6 +1,6 @@
 //! What mini says, and the line of each kind of fault.
 
-use crate::{Bundle, Day, Keyword, Pair, TextFault, What, parse_bundle, tokens};
+use roster_text::{Bundle, Day, Keyword, Pair, TextFault, What, parse_bundle, tokens};
 use std::test::Fail;
 
 const MINI: &str = "SCENARIO = mini
