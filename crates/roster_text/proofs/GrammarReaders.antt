@@ -16,7 +16,7 @@ use Rattle.roster_text.specs.Words.{keyword_text}
 use Rattle.roster_text.specs.Grammar as grammar
 use Rattle.roster_text.specs.Grammar.{Pattern, Fits, Spelled, fixed, name, number, placed, day, named, small, is_number}
 use Rattle.roster_text.specs.FirstFault.{wants_number}
-use Rattle.roster_text.specs.Reading.{Read, ◌>>=◌, word_at, name_at, number_at, value_at, small_at, day_at, times_at, until_at, pair_at, shift_type_at, succession_at, contract_at, nurse_at, scenario_at, nurse_history_at, history_at, week_pairs_at, requirement_at, off_request_at, week_data_at, assignment_at, solution_at, bundle_at}
+use Rattle.roster_text.specs.Reading.{Read, ◌>>=◌, word_at, name_at, number_at, value_at, small_at, day_at, times_at, until_at, pair_at, shift_type_at, succession_at, contract_at, nurse_at, title_at, scenario_at, nurse_history_at, history_at, week_pairs_at, requirement_at, off_request_at, week_data_at, assignment_at, solution_at, bundle_at}
 use Rattle.roster_text.proofs.Readers.{Reader, done_reader, then}
 use Rattle.roster_text.proofs.OneToken.{one_reader, name_one, placed_one, value_one, zero_seen, zero_fits, day_one}
 use Rattle.roster_text.proofs.UntilSection.{Start, LineFrom, Lines, no_equals_name, until_reader}
@@ -112,18 +112,30 @@ succession_lines = record { starts = start; any = line }
 successions_reader : Reader every (grammar.lines_until keyword.Contracts what.Number grammar.succession) (until_at succession_at keyword.Contracts)
 successions_reader = until_reader grammar.succession succession_at succession_reader keyword.Contracts what.Number succession_lines
 
+-- the scenario's name and its number of weeks
+abbrev title : Token × Number → List Pattern
+title t = grammar.parts (
+    grammar.key keyword.Scenario ∷ grammar.equals ∷ named t.0
+    ∷ grammar.key keyword.Weeks ∷ grammar.equals ∷ (placed t.1.token most_counted t.1.value ∷ []) ∷ [])
+
+title_reader : Reader every title title_at
+unfolding title_at
+title_reader =
+    word (what.Keyword keyword.Scenario) (keyword_text keyword.Scenario) refl (word what.Equals (codes "=") refl (step name_reader (λ b. b.0) (λ name.
+    word (what.Keyword keyword.Weeks) (keyword_text keyword.Weeks) refl (word what.Equals (codes "=") refl (step (placed_reader most_counted) (λ b. b.1) (λ weeks.
+    done (name, weeks) ((tt, refl), refl) (λ b v i. (v.0.1 i, v.1 i))))))))
+
 scenario_reader : Reader every grammar.scenario scenario_at
 unfolding scenario_at
 scenario_reader =
-    word (what.Keyword keyword.Scenario) (keyword_text keyword.Scenario) refl (word what.Equals (codes "=") refl (step name_reader (λ b. b.name) (λ name.
-    word (what.Keyword keyword.Weeks) (keyword_text keyword.Weeks) refl (word what.Equals (codes "=") refl (step (placed_reader most_counted) (λ b. b.weeks) (λ weeks.
+    step title_reader (λ b. (b.name, b.weeks)) (λ title.
     step (section_reader named name_at name_reader keyword.Skills) (λ b. b.skills) (λ skills.
     step (section_reader grammar.shift_type shift_type_at shift_type_reader keyword.ShiftTypes) (λ b. b.shifts) (λ shifts.
     word (what.Keyword keyword.Successions) (keyword_text keyword.Successions) refl (step successions_reader (λ b. b.successions) (λ successions.
     step (listed_reader grammar.contract contract_at contract_reader) (λ b. b.contracts) (λ contracts.
     step (section_reader grammar.nurse nurse_at nurse_reader keyword.Nurses) (λ b. b.nurses) (λ nurses.
-    done (record { name = name; weeks = weeks; skills = skills; shifts = shifts; successions = successions; contracts = contracts; nurses = nurses }) (((((((tt, refl), refl), refl), refl), refl), refl), refl)
-    (λ b v i. record { name = v.0.0.0.0.0.0.1 i; weeks = v.0.0.0.0.0.1 i; skills = v.0.0.0.0.1 i; shifts = v.0.0.0.1 i; successions = v.0.0.1 i; contracts = v.0.1 i; nurses = v.1 i })))))))))))))
+    done (record { name = title.0; weeks = title.1; skills = skills; shifts = shifts; successions = successions; contracts = contracts; nurses = nurses }) ((((((tt, refl), refl), refl), refl), refl), refl)
+    (λ b v i. record { name = (v.0.0.0.0.0.1 i).0; weeks = (v.0.0.0.0.0.1 i).1; skills = v.0.0.0.0.1 i; shifts = v.0.0.0.1 i; successions = v.0.0.1 i; contracts = v.0.1 i; nurses = v.1 i }))))))))
 
 -- ---- the history
 

@@ -194,21 +194,27 @@ nurse_at ts = do
   skills ← names_at contract.1
   Ok (record { name = name.0; contract = contract.0; skills = skills.0 }, skills.1)
 
-unfoldable pub scenario_at : List Seen → Read Scenario
-scenario_at ts = do
+-- the scenario's name and its number of weeks
+unfoldable pub title_at : List Seen → Read (Token × Number)
+title_at ts = do
   a ← key_at keyword.Scenario ts
   b ← word_at what.Equals (codes "=") a.1
   name ← name_at b.1
   c ← key_at keyword.Weeks name.1
   d ← word_at what.Equals (codes "=") c.1
   weeks ← number_at most_counted d.1
-  skills ← section_at keyword.Skills name_at weeks.1
+  Ok ((name.0, weeks.0), weeks.1)
+
+unfoldable pub scenario_at : List Seen → Read Scenario
+scenario_at ts = do
+  title ← title_at ts
+  skills ← section_at keyword.Skills name_at title.1
   shifts ← section_at keyword.ShiftTypes shift_type_at skills.1
-  e ← key_at keyword.Successions shifts.1
-  successions ← until_at succession_at keyword.Contracts e.1
+  a ← key_at keyword.Successions shifts.1
+  successions ← until_at succession_at keyword.Contracts a.1
   contracts ← listed_at contract_at successions.1
   nurses ← section_at keyword.Nurses nurse_at contracts.1
-  Ok (record { name = name.0; weeks = weeks.0; skills = skills.0; shifts = shifts.0; successions = successions.0; contracts = contracts.0; nurses = nurses.0 }, nurses.1)
+  Ok (record { name = title.0.0; weeks = title.0.1; skills = skills.0; shifts = shifts.0; successions = successions.0; contracts = contracts.0; nurses = nurses.0 }, nurses.1)
 
 -- ---- the history
 

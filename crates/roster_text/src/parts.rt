@@ -1,14 +1,15 @@
 //! The parts of the four texts, each read as the grammar says.
 
 ghost use Rattle.std.specs.Prelude.{◌≡◌, ◌<◌, length, OnOk};
-ghost use Rattle.roster_text.specs.Reading.{Reads, assignment_at, bundle_at, contract_at, history_at, nurse_at, nurse_history_at, off_request_at, pair_at, requirement_at, scenario_at, shift_type_at, solution_at, succession_at, week_data_at, week_pairs_at};
+ghost use Rattle.roster_text.specs.Reading.{Reads, assignment_at, bundle_at, contract_at, history_at, nurse_at, nurse_history_at, off_request_at, pair_at, requirement_at, scenario_at, shift_type_at, solution_at, succession_at, title_at, week_data_at, week_pairs_at};
 
 use crate::bundle::{
-    Assignment, Bundle, Contract, History, Nurse, NurseHistory, OffRequest, Pair, Requirement,
-    Scenario, ShiftType, Solution, Succession, WeekData, WeekPairs,
+    Assignment, Bundle, Contract, History, Number, Nurse, NurseHistory, OffRequest, Pair,
+    Requirement, Scenario, ShiftType, Solution, Succession, WeekData, WeekPairs,
 };
 use crate::fault::{Keyword, What};
 use crate::parser::{MAX_COUNT, MAX_SMALL, Parse, Parser, Stop};
+use crate::token::Token;
 
 impl Parse for Pair {
     ghost read = { pair_at };
@@ -84,17 +85,29 @@ impl Parse for Nurse {
     }
 }
 
-impl Parse for Scenario {
-    ghost read = { scenario_at };
-
-    #[tactic(auto, unfolding(crate::specs::Reading::scenario_at))]
-    fn parse(parser: &mut Parser<'_>) -> Result<Scenario, Stop> {
+impl Scenario {
+    /// Its name, and how many weeks it has.
+    #[tactic(auto, unfolding(crate::specs::Reading::title_at))]
+    fn title(parser: &mut Parser<'_>) -> Result<(Token, Number), Stop>
+        ensures reads { Reads result parser.new (title_at parser.old) }
+        ensures takes { OnOk result (length parser.new < length parser.old) }
+    {
         parser.key(Keyword::Scenario)?;
         parser.equals()?;
         let name = parser.name()?;
         parser.key(Keyword::Weeks)?;
         parser.equals()?;
         let weeks = parser.number(MAX_COUNT)?;
+        Ok((name, weeks))
+    }
+}
+
+impl Parse for Scenario {
+    ghost read = { scenario_at };
+
+    #[tactic(auto, unfolding(crate::specs::Reading::scenario_at))]
+    fn parse(parser: &mut Parser<'_>) -> Result<Scenario, Stop> {
+        let (name, weeks) = Scenario::title(parser)?;
         let skills = parser.section(Keyword::Skills)?;
         let shifts = parser.section(Keyword::ShiftTypes)?;
         parser.key(Keyword::Successions)?;
