@@ -5,7 +5,7 @@ use Rattle.roster_case.specs.declared.Choice.{Choice}
 use Rattle.roster_case.specs.declared.Choice.TheVariants.{Work}
 use Rattle.roster_case.specs.declared.Border.TheVariants.{Working}
 use Rattle.roster_case.specs.Meaning.{Meaning, shift_at, skill_at}
-use Rattle.roster_examples.specs.Mini.{a_nurse, free_week, is_among, limits, mini, mini_of_one_shift, off_for}
+use Rattle.roster_examples.specs.Mini.{a_nurse, free_week, is_among, limits, mini_of_one_shift, off_for}
 use Rattle.roster_case.specs.Rosters.{Row}
 
 -- these days need a nurse at least
