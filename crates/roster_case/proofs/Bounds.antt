@@ -3,6 +3,7 @@
 use Rattle.std.proofs.Common.{◌≡◌, arith, ℕ, ◌+◌, ◌-◌, ◌*◌, ◌<◌, ◌≤◌, true, ◌||◌, length, if◌then◌else◌}
 use Rattle.roster_instance.specs.Counting.{sum_below}
 use Rattle.roster_instance.specs.Days.{Days, shift_on, works, is_off, days_worked, saturday, worked_weekends, weekends_begun, weekends_ended, split_weekends, one_alone}
+use Rattle.roster_instance.specs.Limits.{most_days, most_nurses, most_shifts, most_skills, most_weeks}
 use Rattle.roster_instance.specs.Meaning.{Meaning, week_count, day_count, shift_count, skill_count, nurse_count, run_of_shift, past_of, contract_of, need}
 use Rattle.roster_case.specs.Penalties.{staffing, staffing_of_day, free_before, worked_before, working_runs, shift_runs, free_runs, is_undesired, undesired, split, totals, weekends_above, over_nurses, costs_of, total_cost}
 use Rattle.roster_instance.specs.Rosters.{Rows, days_of_nurse, cover, fits}
@@ -12,7 +13,7 @@ use Rattle.roster_case.proofs.RunBounds.{where_within, sum_within, count_within,
 
 -- ---- staffing: 30 for each of 999 nurses at most, on 112 days, for 8 shifts with 8 skills
 
-staffing_of_day-within : (c : Meaning) (r : Rows) (d : ℕ) → HasSmallNumbers c → shift_count c ≤ 8 → skill_count c ≤ 8 → staffing_of_day c r d ≤ 1918080
+staffing_of_day-within : (c : Meaning) (r : Rows) (d : ℕ) → HasSmallNumbers c → shift_count c ≤ most_shifts → skill_count c ≤ most_skills → staffing_of_day c r d ≤ 1918080
 staffing_of_day-within c r d small shifts skills = omega (arith, sum_within (shift_count c) 239760 of_shift (λ s h. shift s))
   where
     missing_at : ℕ → ℕ → ℕ
@@ -27,13 +28,13 @@ staffing_of_day-within c r d small shifts skills = omega (arith, sum_within (shi
     shift : (s : ℕ) → of_shift s ≤ 239760
     shift s = omega (arith, sum_within (skill_count c) 29970 (missing_at s) (λ k h. skill s k))
 
-pub staffing-within : (c : Meaning) (r : Rows) → HasSmallNumbers c → shift_count c ≤ 8 → skill_count c ≤ 8 → day_count c ≤ 112 → staffing c r ≤ 214824960
+pub staffing-within : (c : Meaning) (r : Rows) → HasSmallNumbers c → shift_count c ≤ most_shifts → skill_count c ≤ most_skills → day_count c ≤ most_days → staffing c r ≤ 214824960
 staffing-within c r small shifts skills days =
     omega (arith, sum_within (day_count c) 1918080 (staffing_of_day c r) (λ d h. staffing_of_day-within c r d small shifts skills))
 
 -- ---- one nurse, on at most 112 days
 
-module _ (c : Meaning) (n : ℕ) (days : Days) (small : HasSmallNumbers c) (few : length days ≤ 112) where
+module _ (c : Meaning) (n : ℕ) (days : Days) (small : HasSmallNumbers c) (few : length days ≤ most_days) where
   -- 30 * (999 + 1000 * 112)
   pub working_runs-within : working_runs c n days ≤ 3389970
   working_runs-within =
@@ -71,14 +72,14 @@ module _ (c : Meaning) (n : ℕ) (days : Days) (small : HasSmallNumbers c) (few 
 
 -- ---- all nurses
 
-over_nurses-within : (c : Meaning) (r : Rows) (rule : ℕ → Days → ℕ) (m : ℕ) → ((n : ℕ) (days : Days) → length days ≤ 112 → rule n days ≤ m) → ((n : ℕ) → n < nurse_count c → length (days_of_nurse r n) ≤ 112) → over_nurses c r rule ≤ nurse_count c * m
+over_nurses-within : (c : Meaning) (r : Rows) (rule : ℕ → Days → ℕ) (m : ℕ) → ((n : ℕ) (days : Days) → length days ≤ most_days → rule n days ≤ m) → ((n : ℕ) → n < nurse_count c → length (days_of_nurse r n) ≤ most_days) → over_nurses c r rule ≤ nurse_count c * m
 over_nurses-within c r rule m each few = sum_within (nurse_count c) m (λ n. rule n (days_of_nurse r n)) (λ n h. each n (days_of_nurse r n) (few n h))
 
 -- 214,824,960 and 8,549,175 for each of 200 nurses are 1,924,659,960
-pub penalty-within : (c : Meaning) (r : Rows) → HasSmallNumbers c → shift_count c ≤ 8 → skill_count c ≤ 8 → week_count c ≤ 16 → nurse_count c ≤ 200 → fits c r ≡ true → total_cost (costs_of c r) < 2147483648
+pub penalty-within : (c : Meaning) (r : Rows) → HasSmallNumbers c → shift_count c ≤ most_shifts → skill_count c ≤ most_skills → week_count c ≤ most_weeks → nurse_count c ≤ most_nurses → fits c r ≡ true → total_cost (costs_of c r) < 2147483648
 unfolding costs_of
 penalty-within c r small shifts skills weeks nurses fit =
-    let few : (n : ℕ) → n < nurse_count c → length (days_of_nurse r n) ≤ 112 = λ n h. omega (arith, days_of_nurse-length c r n fit h) in
+    let few : (n : ℕ) → n < nurse_count c → length (days_of_nurse r n) ≤ most_days = λ n h. omega (arith, days_of_nurse-length c r n fit h) in
     let runs = over_nurses-within c r (λ n days. working_runs c n days + shift_runs c n days) 5084955 (λ n days d. omega (arith, working_runs-within c n days small d, shift_runs-within c n days small d)) few in
     let free = over_nurses-within c r (free_runs c) 3389970 (λ n days d. free_runs-within c n days small d) few in
     let wishes = over_nurses-within c r (undesired c) 1120 (λ n days d. undesired-within c n days small d) few in

@@ -1,3 +1,4 @@
+pub use Rattle.roster_instance.specs.Limits
 pub use Rattle.roster_instance.specs.Counting
 pub use Rattle.roster_instance.specs.Faults
 pub use Rattle.roster_instance.specs.Days

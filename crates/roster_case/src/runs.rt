@@ -3,6 +3,7 @@
 ghost use Rattle.std.specs.Prelude.{◌≡◌, ◌+◌, ◌*◌, ◌<◌, ◌≤◌, if◌then◌else◌, length};
 ghost use Rattle.roster_instance.specs.Choices.{days_of, shift_of};
 ghost use Rattle.roster_instance.specs.Days.{shift_on};
+ghost use Rattle.roster_instance.specs.Limits.{most_days};
 ghost use Rattle.roster_case.specs.Kinds.{is_of};
 ghost use Rattle.roster_case.specs.Penalties.{free_before, free_runs, shift_run_before, shift_runs, runs_of_shift, worked_before, working_runs};
 ghost use Rattle.roster_case.specs.Runs.{run_faults};
@@ -19,7 +20,7 @@ pub(crate) enum Kind {
 
 /// 30 points for each missing or extra day of a run of working days.
 pub(crate) fn working_runs(case: &Case, nurse: usize, row: &[Choice]) -> u64
-    requires { length row.now ≤ 112 }
+    requires { length row.now ≤ most_days }
     ensures cost { result ≡ working_runs case.now nurse (days_of row.now) }
     ensures within { result ≤ 4294967296 }
 {
@@ -30,7 +31,7 @@ pub(crate) fn working_runs(case: &Case, nurse: usize, row: &[Choice]) -> u64
 
 /// 30 points for each missing or extra day of a run of days off.
 pub(crate) fn free_runs(case: &Case, nurse: usize, row: &[Choice]) -> u64
-    requires { length row.now ≤ 112 }
+    requires { length row.now ≤ most_days }
     ensures cost { result ≡ free_runs case.now nurse (days_of row.now) }
     ensures within { result ≤ 4294967296 }
 {
@@ -42,7 +43,7 @@ pub(crate) fn free_runs(case: &Case, nurse: usize, row: &[Choice]) -> u64
 /// The same of all shifts, 15 points for each day.
 #[tactic(auto, using(crate::proofs::CountLemmas::sum_more))]
 pub(crate) fn shift_runs(case: &Case, nurse: usize, row: &[Choice]) -> u64
-    requires { length row.now ≤ 112 }
+    requires { length row.now ≤ most_days }
     ensures cost { result ≡ shift_runs case.now nurse (days_of row.now) }
     ensures within { result ≤ 4294967296 }
 {
@@ -55,7 +56,7 @@ pub(crate) fn shift_runs(case: &Case, nurse: usize, row: &[Choice]) -> u64
 
 /// 15 points for each missing or extra day of a run of one shift.
 fn runs_of_shift(case: &Case, nurse: usize, row: &[Choice], shift: Shift) -> u64
-    requires { length row.now ≤ 112 }
+    requires { length row.now ≤ most_days }
     ensures cost { result ≡ runs_of_shift case.now nurse (days_of row.now) shift.0 }
     ensures within { result ≤ 268435456 }
 {
@@ -98,7 +99,7 @@ fn shift_run_before(shift: Shift, border: Border) -> u16
 /// The missing and the extra days of all runs of a kind. It goes through the row once, with the length of the run that is
 /// open; `before` is the length of the one that stands before the first Monday.
 fn run_faults(limits: Limits, before: u16, row: &[Choice], kind: Kind) -> u64
-    requires { length row.now ≤ 112 }
+    requires { length row.now ≤ most_days }
     ensures faults { result ≡ run_faults limits before (λ d. is_of kind (shift_on (days_of row.now) d)) (length (days_of row.now)) }
     ensures within { result ≤ 65536 * length row.now }
 {

@@ -2,6 +2,7 @@
 
 ghost use Rattle.std.specs.Prelude.{◌≡◌, ◌+◌, ◌*◌, ◌<◌, ◌≤◌, true, length, slice_index_or, slice_set};
 ghost use Rattle.roster_case.specs.Covers.{AreCovers};
+ghost use Rattle.roster_instance.specs.Limits.{most_days, most_shifts, most_skills};
 ghost use Rattle.roster_instance.specs.Meaning.{shift_count, skill_count};
 ghost use Rattle.roster_case.specs.Penalties.{staffing, staffing_of_day};
 ghost use Rattle.roster_instance.specs.Rosters.{fits};
@@ -13,7 +14,7 @@ use roster_instance::{Case, Choice, Roster, Shift, Skill, choice_on};
 pub(crate) fn staffing(case: &Case, roster: &Roster) -> u64
     requires { fits case.now roster.now ≡ true }
     ensures cost { result ≡ staffing case.now roster.now }
-    ensures within { result ≤ 112 * 134217728 }
+    ensures within { result ≤ most_days * 134217728 }
 {
     let mut cost = 0;
     for day in 0..case.days() {
@@ -45,8 +46,8 @@ fn staffing_of_day(case: &Case, roster: &Roster, day: u16) -> u64
 /// How many nurses work each shift with each skill on a day, each at its place.
 fn covers(case: &Case, roster: &Roster, day: u16) -> [u16; 64]
     requires fitting { fits case.now roster.now ≡ true }
-    requires shifts { shift_count case.now ≤ 8 }
-    requires skills { skill_count case.now ≤ 8 }
+    requires shifts { shift_count case.now ≤ most_shifts }
+    requires skills { skill_count case.now ≤ most_skills }
     ensures { AreCovers roster.now day result }
 {
     let mut counts = [0; 64];

@@ -3,6 +3,7 @@
 ghost use Rattle.std.specs.Prelude.{◌≡◌, ◌*◌, ◌<◌, ◌≤◌, length};
 ghost use Rattle.roster_instance.specs.Choices.{days_of};
 ghost use Rattle.roster_instance.specs.Days.{days_worked, one_alone, split_weekends, worked_weekends, works};
+ghost use Rattle.roster_instance.specs.Limits.{most_days, most_weeks};
 ghost use Rattle.roster_instance.specs.Meaning.{nurse_count};
 ghost use Rattle.roster_case.specs.Penalties.{extra, is_undesired, missing, split, totals, undesired, weekends_above};
 
@@ -11,7 +12,7 @@ use roster_instance::{Case, Choice, Shift};
 /// 10 points for each day with a shift that a request names.
 pub(crate) fn undesired(case: &Case, nurse: usize, row: &[Choice]) -> u64
     requires nurse { nurse < nurse_count case.now }
-    requires days { length row.now ≤ 112 }
+    requires days { length row.now ≤ most_days }
     ensures cost { result ≡ undesired case.now nurse (days_of row.now) }
     ensures within { result ≤ 4294967296 }
 {
@@ -37,7 +38,7 @@ fn is_undesired(case: &Case, nurse: usize, day: u16, shift: Option<Shift>) -> bo
 /// 30 points for each weekend of which exactly one day is worked, where the contract wants whole weekends.
 pub(crate) fn split(case: &Case, nurse: usize, row: &[Choice], weeks: u16) -> u64
     requires days { length row.now ≡ 7 * weeks }
-    requires weeks { weeks ≤ 16 }
+    requires weeks { weeks ≤ most_weeks }
     ensures cost { result ≡ split case.now nurse (days_of row.now) }
     ensures within { result ≤ 4294967296 }
 {
@@ -49,7 +50,7 @@ pub(crate) fn split(case: &Case, nurse: usize, row: &[Choice], weeks: u16) -> u6
 
 /// 20 points for each assignment below the least or above the greatest total, the history's counted in.
 pub(crate) fn totals(case: &Case, nurse: usize, row: &[Choice]) -> u64
-    requires { length row.now ≤ 112 }
+    requires { length row.now ≤ most_days }
     ensures cost { result ≡ totals case.now nurse (days_of row.now) }
     ensures within { result ≤ 4294967296 }
 {
@@ -63,7 +64,7 @@ pub(crate) fn totals(case: &Case, nurse: usize, row: &[Choice]) -> u64
 /// 30 points for each worked weekend above the greatest number, the history's counted in.
 pub(crate) fn weekends_above(case: &Case, nurse: usize, row: &[Choice], weeks: u16) -> u64
     requires days { length row.now ≡ 7 * weeks }
-    requires weeks { weeks ≤ 16 }
+    requires weeks { weeks ≤ most_weeks }
     ensures cost { result ≡ weekends_above case.now nurse (days_of row.now) }
     ensures within { result ≤ 4294967296 }
 {
@@ -75,9 +76,9 @@ pub(crate) fn weekends_above(case: &Case, nurse: usize, row: &[Choice], weeks: u
 
 /// How many days are worked.
 fn days_worked(row: &[Choice]) -> u64
-    requires { length row.now ≤ 112 }
+    requires { length row.now ≤ most_days }
     ensures days { result ≡ days_worked (days_of row.now) }
-    ensures within { result ≤ 112 }
+    ensures within { result ≤ most_days }
 {
     let mut days = 0;
     for choice in row {
@@ -91,9 +92,9 @@ fn days_worked(row: &[Choice]) -> u64
 /// How many weekends have a worked day.
 fn worked_weekends(row: &[Choice], weeks: u16) -> u64
     requires days { length row.now ≡ 7 * weeks }
-    requires weeks { weeks ≤ 16 }
+    requires weeks { weeks ≤ most_weeks }
     ensures weekends { result ≡ worked_weekends (days_of row.now) }
-    ensures within { result ≤ 16 }
+    ensures within { result ≤ most_weeks }
 {
     let mut count = 0;
     for week in 0..weeks {
@@ -108,9 +109,9 @@ fn worked_weekends(row: &[Choice], weeks: u16) -> u64
 /// How many weekends have exactly one.
 fn split_weekends(row: &[Choice], weeks: u16) -> u64
     requires days { length row.now ≡ 7 * weeks }
-    requires weeks { weeks ≤ 16 }
+    requires weeks { weeks ≤ most_weeks }
     ensures weekends { result ≡ split_weekends (days_of row.now) }
-    ensures within { result ≤ 16 }
+    ensures within { result ≤ most_weeks }
 {
     let mut count = 0;
     for week in 0..weeks {

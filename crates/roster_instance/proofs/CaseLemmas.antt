@@ -1,5 +1,5 @@
 -- A case by its parts: what they mean, and the faults of all of them in their order.
-use Rattle.std.proofs.Common.{◌≡◌, ◌∙◌, ◌≤◌, ℕ, ap, refl, subst, sym, List, [], ◌++◌, map, nat_lt, Option}
+use Rattle.std.proofs.Common.{◌≡◌, ◌∙◌, ◌≤◌, ℕ, ap, refl, subst, sym, List, [], ◌++◌, append_assoc, map, nat_lt, Option}
 use Rattle.std.specs.List.{enumerate_from, flat_map}
 use Rattle.roster_text.specs.Token.{text_of}
 use Rattle.roster_text.specs.declared.bundle.Bundle.{Bundle}
@@ -10,13 +10,14 @@ use Rattle.roster_instance.specs.declared.fault.CaseFault.TheVariants.{TooManySt
 use Rattle.roster_instance.specs.declared.rules.Past.{Past}
 use Rattle.roster_instance.specs.declared.scenario.Scenario.{Scenario}
 use Rattle.roster_instance.specs.Bundles.{meaning_of, past_meant, week_meant}
-use Rattle.roster_instance.specs.CaseParts.{HasFewStates, IsScenarioOf, case_of}
+use Rattle.roster_instance.specs.CaseParts.{HasFewStates, IsScenarioOf, case_of, faults_behind}
 use Rattle.roster_instance.specs.Checking.{IsFirst}
 use Rattle.roster_instance.specs.Faults.{fault_if}
 use Rattle.roster_instance.specs.Meaning.{WeekFacts}
 use Rattle.roster_instance.specs.Names.{nurse_names, shift_names, skill_names}
 use Rattle.roster_instance.specs.Refusals.{case_faults, history_faults, scenario_faults, state_fault, week_faults}
-use Rattle.roster_instance.specs.Sizes.{max_states, state_count}
+use Rattle.roster_instance.specs.Limits.{most_states}
+use Rattle.roster_instance.specs.Sizes.{state_count}
 use Rattle.roster_instance.proofs.Sections.{IsFirst-behind, IsFirst-front, both_none}
 
 -- the number of states doesn't depend on the history, nor on the weeks
@@ -25,7 +26,7 @@ unfolding state_count
 states_alike s past weeks n = refl
 
 pub few_states : (s : Scenario) (past : List (Option Past)) (weeks : List WeekFacts) → HasFewStates (case_of s [] []) → HasFewStates (case_of s past weeks)
-few_states s past weeks few = λ n within. subst (λ k. k ≤ max_states) (sym (states_alike s past weeks n)) (few n within)
+few_states s past weeks few = λ n within. subst (λ k. k ≤ most_states) (sym (states_alike s past weeks n)) (few n within)
 
 module _ (source : List ℕ) (b : Bundle) (s : Scenario) (is : IsScenarioOf source b s) where
   abbrev past_faults : List CaseFault
@@ -73,35 +74,22 @@ module _ (source : List ℕ) (b : Bundle) (s : Scenario) (is : IsScenarioOf sour
   weeks_same = λ i. flat_map (week_faults source (is.name_is i) (is.shifts_are i) (is.skills_are i) (is.nurses_are i)) b.week_data
 
   states_same : faults_of_states ≡ flat_map (state_fault (meaning_of source b)) (enumerate_from 0 b.scenario.nurses.items)
-  states_same = λ i. flat_map (λ (n : ℕ × Nurse). fault_if (nat_lt max_states (states_are n.0 i)) (TooManyStates n.0 n.1.name)) (enumerate_from 0 b.scenario.nurses.items)
+  states_same = λ i. flat_map (λ (n : ℕ × Nurse). fault_if (nat_lt most_states (states_are n.0 i)) (TooManyStates n.0 n.1.name)) (enumerate_from 0 b.scenario.nurses.items)
 
-  -- all faults by the parts
-  all_same : scenario_faults source b ++ past_faults ++ faults_of_weeks ++ faults_of_states ≡ case_faults source b
+  -- the faults of the scenario and those behind it are all
+  all_same : scenario_faults source b ++ faults_behind source b s ≡ case_faults source b
   unfolding case_faults
-  all_same = λ i. scenario_faults source b ++ past_same i ++ weeks_same i ++ states_same i
+  all_same =
+      sym (append_assoc (scenario_faults source b) (past_faults ++ faults_of_weeks) faults_of_states)
+      ∙ ap (λ fs. fs ++ faults_of_states) (sym (append_assoc (scenario_faults source b) past_faults faults_of_weeks))
+      ∙ (λ i. scenario_faults source b ++ past_same i ++ weeks_same i ++ states_same i)
 
   module _ (none : scenario_faults source b ≡ []) where
-    pub first_of_past : (f : CaseFault) → IsFirst past_faults f → IsFirst (case_faults source b) f
-    first_of_past f first = subst (λ fs. IsFirst fs f) all_same
-        (IsFirst-front (scenario_faults source b ++ past_faults ++ faults_of_weeks) faults_of_states f
-        (IsFirst-front (scenario_faults source b ++ past_faults) faults_of_weeks f (IsFirst-behind (scenario_faults source b) past_faults f none first)))
+    pub first_behind : (f : CaseFault) → IsFirst (faults_behind source b s) f → IsFirst (case_faults source b) f
+    first_behind f first = subst (λ fs. IsFirst fs f) all_same (IsFirst-behind (scenario_faults source b) (faults_behind source b s) f none first)
 
-    module _ (none_in_past : past_faults ≡ []) where
-      pub first_of_weeks : (f : CaseFault) → IsFirst faults_of_weeks f → IsFirst (case_faults source b) f
-      first_of_weeks f first = subst (λ fs. IsFirst fs f) all_same
-          (IsFirst-front (scenario_faults source b ++ past_faults ++ faults_of_weeks) faults_of_states f
-          (IsFirst-behind (scenario_faults source b ++ past_faults) faults_of_weeks f (both_none (scenario_faults source b) past_faults none none_in_past) first))
-
-      module _ (none_in_weeks : faults_of_weeks ≡ []) where
-        none_before : scenario_faults source b ++ past_faults ++ faults_of_weeks ≡ []
-        none_before = both_none (scenario_faults source b ++ past_faults) faults_of_weeks (both_none (scenario_faults source b) past_faults none none_in_past) none_in_weeks
-
-        pub first_of_states : (f : CaseFault) → IsFirst faults_of_states f → IsFirst (case_faults source b) f
-        first_of_states f first = subst (λ fs. IsFirst fs f) all_same
-            (IsFirst-behind (scenario_faults source b ++ past_faults ++ faults_of_weeks) faults_of_states f none_before first)
-
-        pub none_at_all : faults_of_states ≡ [] → case_faults source b ≡ []
-        none_at_all none_of_states = sym all_same ∙ both_none (scenario_faults source b ++ past_faults ++ faults_of_weeks) faults_of_states none_before none_of_states
+    pub none_at_all : faults_behind source b s ≡ [] → case_faults source b ≡ []
+    none_at_all none_behind = sym all_same ∙ both_none (scenario_faults source b) (faults_behind source b s) none none_behind
 
 pub first_of_scenario : (source : List ℕ) (b : Bundle) (f : CaseFault) → IsFirst (scenario_faults source b) f → IsFirst (case_faults source b) f
 unfolding case_faults

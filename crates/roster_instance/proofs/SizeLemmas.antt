@@ -8,7 +8,8 @@ use Rattle.roster_instance.specs.declared.rules.Limits.{Limits}
 use Rattle.roster_instance.specs.Faults.{fault_if, first_of}
 use Rattle.roster_instance.specs.Meaning.{Meaning, contract_of, no_limits, shift_count}
 use Rattle.roster_instance.specs.Refusals.{state_fault}
-use Rattle.roster_instance.specs.Sizes.{greatest_of, max_states, state_count, cap}
+use Rattle.roster_instance.specs.Limits.{most_states}
+use Rattle.roster_instance.specs.Sizes.{greatest_of, state_count, cap}
 use Rattle.roster_instance.specs.Small.{AreSmall}
 
 pub greatest_of-push : (ns : List ℕ) (n : ℕ) → greatest_of (ns ++ n ∷ []) ≡ max (greatest_of ns) n
@@ -43,11 +44,11 @@ within-more f i most so_far own n below = go (cases_eq n i)
     go (inr other) = so_far n (omega (arith, below, other))
 
 module _ (c : Meaning) (number : ℕ) (nurse : Nurse) (states : ℕ) (is : states ≡ state_count c number) where
-  fault_by : (b : Bool) → nat_lt max_states states ≡ b → state_fault c (number, nurse) ≡ fault_if b (TooManyStates number nurse.name)
-  fault_by b h = ap (λ b. fault_if b (TooManyStates number nurse.name)) (ap (nat_lt max_states) (sym is) ∙ h)
+  fault_by : (b : Bool) → nat_lt most_states states ≡ b → state_fault c (number, nurse) ≡ fault_if b (TooManyStates number nurse.name)
+  fault_by b h = ap (λ b. fault_if b (TooManyStates number nurse.name)) (ap (nat_lt most_states) (sym is) ∙ h)
 
-  pub too_many : max_states < states → first_of (state_fault c (number, nurse)) ≡ Some (TooManyStates number nurse.name)
-  too_many h = ap first_of (fault_by true (lt-ltb max_states states h))
+  pub too_many : most_states < states → first_of (state_fault c (number, nurse)) ≡ Some (TooManyStates number nurse.name)
+  too_many h = ap first_of (fault_by true (lt-ltb most_states states h))
 
-  pub few_enough : states ≤ max_states → state_fault c (number, nurse) ≡ []
-  few_enough h = fault_by false (le-ltb max_states states h)
+  pub few_enough : states ≤ most_states → state_fault c (number, nurse) ≡ []
+  few_enough h = fault_by false (le-ltb most_states states h)

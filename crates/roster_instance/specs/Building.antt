@@ -3,17 +3,18 @@ use Rattle.std.specs.Prelude.{◌≡◌, ℕ, ◌<◌, ◌≤◌, Bool, List, ma
 use Rattle.roster_text.specs.declared.token.Token.{Token}
 use Rattle.roster_instance.specs.declared.choice.Skill.{Skill}
 use Rattle.roster_instance.specs.Bundles.{Names, numbers_among, skill_named}
+use Rattle.roster_instance.specs.Limits.{most_nurses, most_shifts, most_skills, most_weeks}
 
 -- how many weeks, skills, shifts and nurses there may be (our profile)
 pub record HasCounts (weeks skills shifts nurses : ℕ) : Type 0 where
   pub some_weeks : 0 < weeks
-  pub few_weeks : weeks ≤ 16
+  pub few_weeks : weeks ≤ most_weeks
   pub some_skills : 0 < skills
-  pub few_skills : skills ≤ 8
+  pub few_skills : skills ≤ most_skills
   pub some_shifts : 0 < shifts
-  pub few_shifts : shifts ≤ 8
+  pub few_shifts : shifts ≤ most_shifts
   pub some_nurses : 0 < nurses
-  pub few_nurses : nurses ≤ 200
+  pub few_nurses : nurses ≤ most_nurses
 
 -- a nurse's skills, as far as the tokens say them: a flag for each skill number, and the skills in their order
 pub record HasSkills (source : List ℕ) (skills : Names) (ts : List Token) (taken : List Bool) (own : List Skill) : Type 0 where

@@ -1,14 +1,18 @@
 -- The parts of which a case is built.
-use Rattle.std.specs.Prelude.{◌≡◌, ℕ, ◌<◌, ◌≤◌, List, length, map, Option, IfSome}
+use Rattle.std.specs.Prelude.{◌≡◌, ℕ, ◌<◌, ◌≤◌, List, [], ◌++◌, flat_map, length, map, Option, IfSome}
+use Rattle.std.specs.List.{enumerate_from}
 use Rattle.roster_text.specs.declared.bundle.Bundle.{Bundle}
 use Rattle.roster_text.specs.declared.bundle.ShiftType.{ShiftType}
 use Rattle.roster_text.specs.Token.{text_of}
+use Rattle.roster_instance.specs.declared.fault.CaseFault.{CaseFault}
 use Rattle.roster_instance.specs.declared.rules.Past.{Past}
 use Rattle.roster_instance.specs.declared.scenario.Scenario.{Scenario}
 use Rattle.roster_instance.specs.Bundles.{contract_meant, limits_of, nurse_meant, successions_meant}
 use Rattle.roster_instance.specs.Meaning.{Meaning, WeekFacts, last_shift, nurse_count, past_of, shift_count}
 use Rattle.roster_instance.specs.Names.{contract_names, nurse_names, shift_names, skill_names}
-use Rattle.roster_instance.specs.Sizes.{max_states, state_count}
+use Rattle.roster_instance.specs.Limits.{most_states}
+use Rattle.roster_instance.specs.Refusals.{history_faults, state_fault, week_faults}
+use Rattle.roster_instance.specs.Sizes.{state_count}
 use Rattle.roster_instance.specs.Small.{HasSmallNumbers}
 
 -- what a scenario is built of
@@ -39,9 +43,16 @@ case_of s past weeks = record {
   weeks = weeks;
 }
 
+-- the faults behind the scenario: of the history, of the weeks, and too many states
+abbrev pub faults_behind : List ℕ → Bundle → Scenario → List CaseFault
+faults_behind source b s =
+    history_faults source s.name.items s.nurses s.shifts b.history
+    ++ flat_map (week_faults source s.name.items s.shifts s.skills s.nurses) b.week_data
+    ++ flat_map (state_fault (case_of s [] [])) (enumerate_from 0 b.scenario.nurses.items)
+
 -- no nurse's search takes too many states
 abbrev pub HasFewStates : Meaning → Type 0
-HasFewStates c = (n : ℕ) → n < nurse_count c → state_count c n ≤ max_states
+HasFewStates c = (n : ℕ) → n < nurse_count c → state_count c n ≤ most_states
 
 -- the last shift of each nurse's history, if there is one, is a shift of the case
 abbrev pub HasKnownPast : Meaning → Type 0

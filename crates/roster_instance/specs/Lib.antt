@@ -1,3 +1,4 @@
+pub mod Limits
 pub mod Counting
 pub mod Faults
 pub mod Days

@@ -24,7 +24,8 @@ use Rattle.roster_instance.specs.Bundles.{Names, meaning_of}
 use Rattle.roster_instance.specs.Faults.{fault_if, each}
 use Rattle.roster_instance.specs.Meaning.{Meaning}
 use Rattle.roster_instance.specs.Names.{same_name, reads, skill_names, shift_names, contract_names, nurse_names, is_known, number_of}
-use Rattle.roster_instance.specs.Sizes.{state_count, max_states}
+use Rattle.roster_instance.specs.Limits.{most_contracts, most_nurses, most_shifts, most_skills, most_states, most_weeks}
+use Rattle.roster_instance.specs.Sizes.{state_count}
 
 -- ---- the faults of one token
 
@@ -78,14 +79,22 @@ nurse_faults source contracts skills earlier n =
 abbrev pub listed_faults : {A : Type 0} → ℕ → (List A → A → List CaseFault) → Listed A → List CaseFault
 listed_faults limit faults section = limit_fault limit section.count (length section.items) ++ each faults section.items
 
+-- the shifts with the lines of successions
+abbrev pub faults_of_shifts : List ℕ → Bundle → List CaseFault
+faults_of_shifts source b = listed_faults most_shifts (shift_faults source) b.scenario.shifts ++ each (succession_faults source (shift_names source b)) b.scenario.successions
+
+-- the contracts and the nurses
+abbrev pub faults_of_staff : List ℕ → Bundle → List CaseFault
+faults_of_staff source b =
+    listed_faults most_contracts (contract_faults source) b.scenario.contracts
+    ++ listed_faults most_nurses (nurse_faults source (contract_names source b) (skill_names source b)) b.scenario.nurses
+
 abbrev pub scenario_faults : List ℕ → Bundle → List CaseFault
 scenario_faults source b =
-    limit_fault 16 b.scenario.weeks.token b.scenario.weeks.value
-    ++ listed_faults 8 (repeated_fault source) b.scenario.skills
-    ++ listed_faults 8 (shift_faults source) b.scenario.shifts
-    ++ each (succession_faults source (shift_names source b)) b.scenario.successions
-    ++ listed_faults 64 (contract_faults source) b.scenario.contracts
-    ++ listed_faults 200 (nurse_faults source (contract_names source b) (skill_names source b)) b.scenario.nurses
+    limit_fault most_weeks b.scenario.weeks.token b.scenario.weeks.value
+    ++ listed_faults most_skills (repeated_fault source) b.scenario.skills
+    ++ faults_of_shifts source b
+    ++ faults_of_staff source b
 
 -- ---- the history
 
@@ -121,7 +130,7 @@ week_faults source name shifts skills nurses w =
 -- ---- the states: for the first nurse whose search would need too many
 
 abbrev pub state_fault : Meaning → ℕ × Nurse → List CaseFault
-state_fault c n = fault_if (nat_lt max_states (state_count c n.0)) (TooManyStates n.0 n.1.name)
+state_fault c n = fault_if (nat_lt most_states (state_count c n.0)) (TooManyStates n.0 n.1.name)
 
 -- all faults of the case
 unfoldable pub case_faults : List ℕ → Bundle → List CaseFault

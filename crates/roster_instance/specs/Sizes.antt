@@ -23,7 +23,3 @@ state_count c n =
 -- how many choices a nurse has on a day
 unfoldable pub choice_count : Meaning → ℕ → ℕ
 choice_count c n = 1 + shift_count c * length (nurse_at c n).skills
-
--- the most states that the search takes
-abbrev pub max_states : ℕ
-max_states = 1048576

@@ -4,10 +4,11 @@ ghost use Rattle.std.specs.Prelude.{◌≡◌, ◌≢◌, ◌*◌, ◌<◌, ◌�
 ghost use Rattle.std.specs.List.{enumerate_from};
 ghost use Rattle.roster_text.specs.SmallNumbers.{SaysSmallNumbers};
 ghost use Rattle.roster_text.specs.declared.bundle.Nurse.{Nurse};
-ghost use Rattle.roster_instance.specs.CaseParts.{case_of, HasFewStates};
-ghost use Rattle.roster_instance.specs.Bundles.{meaning_of};
+ghost use Rattle.roster_instance.specs.CaseParts.{case_of, faults_behind, HasFewStates, IsScenarioOf};
+ghost use Rattle.roster_instance.specs.Bundles.{meaning_of, past_meant, week_meant};
 ghost use Rattle.roster_instance.specs.Checking.{IsFirst};
 ghost use Rattle.roster_instance.specs.Faults.{first_of};
+ghost use Rattle.roster_instance.specs.Limits.{most_days, most_nurses, most_shifts, most_skills, most_states, most_weeks};
 ghost use Rattle.roster_instance.specs.Meaning.{contract_of, day_count, is_wished_off, last_shift, need, nurse_at, nurse_count, nurse_name, past_of, run_of_shift, shift_count, skill_count, week_count, forbids};
 ghost use Rattle.roster_instance.specs.Names.{find_name};
 ghost use Rattle.roster_instance.specs.Refusals.{case_faults, state_fault};
@@ -71,13 +72,11 @@ impl Case {
         ensures refused { IfErr result (λ f. f ≢ CaseFault.Memory → first_of (case_faults source.now bundle.now) ≡ Some f) }
     {
         let scenario = Scenario::from_bundle(alloc, bundle, source)?;
-        let past = past_of(alloc, source, &scenario, &bundle.history)?;
-        let weeks = weeks_of(alloc, source, &scenario, bundle.week_data.as_slice())?;
-        check_states(&scenario, bundle.scenario.nurses.items.as_slice())?;
+        let told = read_told(alloc, source, bundle, &scenario)?;
         Ok(Case {
             scenario,
-            past,
-            weeks,
+            past: told.past,
+            weeks: told.weeks,
         })
     }
 
@@ -96,10 +95,10 @@ impl Case {
     /// A law: the limits that every case keeps, on which the bounds of sums over it rest.
     pub fn keeps_limits(&self)
         ensures small { HasSmallNumbers self.now }
-        ensures weeks { week_count self.now ≤ 16 }
-        ensures shifts { shift_count self.now ≤ 8 }
-        ensures skills { skill_count self.now ≤ 8 }
-        ensures nurses { nurse_count self.now ≤ 200 }
+        ensures weeks { week_count self.now ≤ most_weeks }
+        ensures shifts { shift_count self.now ≤ most_shifts }
+        ensures skills { skill_count self.now ≤ most_skills }
+        ensures nurses { nurse_count self.now ≤ most_nurses }
     {
         self.scenario();
         self.weeks();
@@ -114,7 +113,7 @@ impl Case {
     pub fn weeks(&self) -> u16
         ensures count { result ≡ week_count self.now }
         ensures some { 0 < result }
-        ensures within { result ≤ 16 }
+        ensures within { result ≤ most_weeks }
     {
         self.weeks.len() as u16
     }
@@ -122,7 +121,7 @@ impl Case {
     /// How many days, 7 for each week.
     pub fn days(&self) -> u16
         ensures count { result ≡ day_count self.now }
-        ensures within { result ≤ 112 }
+        ensures within { result ≤ most_days }
     {
         7 * self.weeks()
     }
@@ -131,7 +130,7 @@ impl Case {
     pub fn nurses(&self) -> usize
         ensures count { result ≡ nurse_count self.now }
         ensures some { 0 < result }
-        ensures within { result ≤ 200 }
+        ensures within { result ≤ most_nurses }
     {
         self.scenario.nurses.len()
     }
@@ -140,7 +139,7 @@ impl Case {
     pub fn shifts(&self) -> u8
         ensures count { result ≡ shift_count self.now }
         ensures some { 0 < result }
-        ensures within { result ≤ 8 }
+        ensures within { result ≤ most_shifts }
     {
         self.scenario.shifts.len() as u8
     }
@@ -149,7 +148,7 @@ impl Case {
     pub fn skills(&self) -> u8
         ensures count { result ≡ skill_count self.now }
         ensures some { 0 < result }
-        ensures within { result ≤ 8 }
+        ensures within { result ≤ most_skills }
     {
         self.scenario.skills.len() as u8
     }
@@ -286,7 +285,7 @@ impl Case {
     /// A nurse's skills, in the order of the nurse's line, at most 8.
     pub fn skills_of(&self, nurse: usize) -> &[Skill]
         ensures skills { result.now ≡ (nurse_at self.now nurse).skills }
-        ensures few { length result.now ≤ 8 }
+        ensures few { length result.now ≤ most_skills }
     {
         match self.scenario.nurse_rules.get(nurse) {
             Some(rules) => rules.skills(),
@@ -324,7 +323,7 @@ impl Case {
     pub fn states(&self, nurse: usize) -> u32
         requires { nurse < nurse_count self.now }
         ensures count { result ≡ state_count self.now nurse }
-        ensures within { result ≤ 1048576 }
+        ensures within { result ≤ most_states }
     {
         state_count(&self.scenario, nurse) as u32
     }
@@ -338,6 +337,33 @@ impl Case {
         let skills = self.skills_of(nurse).len() as u32;
         1 + self.shifts() as u32 * skills
     }
+}
+
+/// What stands behind the scenario: the past of the nurses, and the weeks.
+#[derive(Drop)]
+struct Told {
+    past: Table<Past>,
+    weeks: Vec<Week>,
+}
+
+/// The history and the weeks, where nothing in them is refused and no nurse has too many states.
+fn read_told(
+    alloc: Global,
+    source: &[u8],
+    bundle: &Bundle,
+    scenario: &Scenario,
+) -> Result<Told, CaseFault>
+    requires scenario { IsScenarioOf source.now bundle.now scenario.now }
+    ensures past { IfOk result (λ told. told.past ≡ past_meant source.now scenario.now.nurses scenario.now.shifts bundle.now.history.nurses) }
+    ensures weeks { IfOk result (λ told. told.weeks.items ≡ map (week_meant source.now scenario.now.shifts scenario.now.skills scenario.now.nurses) bundle.now.week_data) }
+    ensures few { OnOk result (HasFewStates (case_of scenario.now [] [])) }
+    ensures none { OnOk result (faults_behind source.now bundle.now scenario.now ≡ []) }
+    ensures first { IfErr result (IsFirst (faults_behind source.now bundle.now scenario.now)) }
+{
+    let past = past_of(alloc, source, scenario, &bundle.history)?;
+    let weeks = weeks_of(alloc, source, scenario, bundle.week_data.as_slice())?;
+    check_states(scenario, bundle.scenario.nurses.items.as_slice())?;
+    Ok(Told { past, weeks })
 }
 
 /// No nurse has too many states.

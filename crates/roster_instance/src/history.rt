@@ -3,6 +3,7 @@
 ghost use Rattle.std.specs.Prelude.{◌≡◌, ◌≤◌, ℕ, List, [], IfOk, IfErr, OnOk, codes, length};
 ghost use Rattle.roster_instance.specs.Bundles.{border_meant, past_meant};
 ghost use Rattle.roster_instance.specs.Checking.{IsFirst};
+ghost use Rattle.roster_instance.specs.Limits.{most_shifts};
 ghost use Rattle.roster_instance.specs.Refusals.{history_faults, history_line_faults, instance_fault, unknown_unless};
 
 use crate::choice::Shift;
@@ -50,7 +51,7 @@ impl<'a> Section<NurseHistory> for HistorySection<'a> {
 
 /// The run that stands before the first Monday.
 fn border_of(source: &[u8], shifts: &Names, line: &NurseHistory) -> Result<Border, CaseFault>
-    requires { length shifts.now ≤ 8 }
+    requires { length shifts.now ≤ most_shifts }
     ensures border { IfOk result (λ border. border ≡ border_meant source.now shifts.now line.now) }
     ensures none { OnOk result (unknown_unless source.now (codes "None") shifts.now line.now.last_shift ≡ []) }
     ensures first { IfErr result (IsFirst (unknown_unless source.now (codes "None") shifts.now line.now.last_shift)) }

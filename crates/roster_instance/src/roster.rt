@@ -7,6 +7,7 @@ ghost use Rattle.roster_text.specs.declared.bundle.Solution.{Solution};
 ghost use Rattle.roster_instance.specs.Bundles.{place_of_line, row_meant, rows_of, solution_meant, work_meant};
 ghost use Rattle.roster_instance.specs.Checking.{IsFirst};
 ghost use Rattle.roster_instance.specs.Faults.{each, first_of};
+ghost use Rattle.roster_instance.specs.Limits.{most_nurses, most_weeks};
 ghost use Rattle.roster_instance.specs.Meaning.{nurse_count, week_count};
 ghost use Rattle.roster_instance.specs.Refusals.{assignment_faults, roster_faults, solution_faults};
 ghost use Rattle.roster_instance.specs.Rosters.{choice_on, cover, fits, is_choice_of, is_row_of, row_of};
@@ -152,7 +153,7 @@ struct LineSection<'a> {
     scenario: &'a Scenario,
     week: u16,
     lines: Table<Choice>,
-    ghost early: { week < 16 },
+    ghost early: { week < most_weeks },
 }
 
 impl<'a> Section<Assignment> for LineSection<'a> {
@@ -189,7 +190,7 @@ fn table_of(
     week: u16,
     solution: &Solution,
 ) -> Result<Table<Choice>, CaseFault>
-    requires { week < 16 }
+    requires { week < most_weeks }
     ensures meant { IfOk result (λ table. table ≡ solution_meant source.now scenario.now.nurses scenario.now.shifts scenario.now.skills solution.now) }
     ensures none { OnOk result (solution_faults source.now scenario.now.name.items scenario.now.nurses scenario.now.shifts scenario.now.skills (week, solution.now) ≡ []) }
     ensures first { IfErr result (IsFirst (solution_faults source.now scenario.now.name.items scenario.now.nurses scenario.now.shifts scenario.now.skills (week, solution.now))) }
@@ -212,7 +213,7 @@ fn tables_of(
     scenario: &Scenario,
     solutions: &[Solution],
 ) -> Result<Vec<Table<Choice>>, CaseFault>
-    requires { length solutions.now ≤ 16 }
+    requires { length solutions.now ≤ most_weeks }
     ensures meant { IfOk result (λ tables. tables.items ≡ map (solution_meant source.now scenario.now.nurses scenario.now.shifts scenario.now.skills) solutions.now) }
     ensures none { OnOk result (flat_map (solution_faults source.now scenario.now.name.items scenario.now.nurses scenario.now.shifts scenario.now.skills) (enumerate_from 0 solutions.now) ≡ []) }
     ensures first { IfErr result (IsFirst (flat_map (solution_faults source.now scenario.now.name.items scenario.now.nurses scenario.now.shifts scenario.now.skills) (enumerate_from 0 solutions.now))) }
@@ -232,8 +233,8 @@ fn rows_of(
     tables: &[Table<Choice>],
     nurses: usize,
 ) -> Result<Vec<Vec<Choice>>, AllocError>
-    requires weeks { length tables.now ≤ 16 }
-    requires nurses { nurses ≤ 200 }
+    requires weeks { length tables.now ≤ most_weeks }
+    requires nurses { nurses ≤ most_nurses }
     ensures { IfOk result (λ rows. map (λ row. row.items) rows.items ≡ map (row_meant tables.now) (range_with_len 0 nurses)) }
 {
     let mut rows = Vec::with_capacity(alloc, nurses)?;
@@ -244,8 +245,8 @@ fn rows_of(
 }
 
 fn row_of(alloc: Global, tables: &[Table<Choice>], nurse: usize) -> Result<Vec<Choice>, AllocError>
-    requires weeks { length tables.now ≤ 16 }
-    requires nurse { nurse < 200 }
+    requires weeks { length tables.now ≤ most_weeks }
+    requires nurse { nurse < most_nurses }
     ensures { IfOk result (λ row. row.items ≡ row_meant tables.now nurse) }
 {
     let days = 7 * tables.len();

@@ -11,8 +11,9 @@ ghost use Rattle.roster_instance.specs.Building.{HasCounts, HasSkills};
 ghost use Rattle.roster_instance.specs.Bundles.{contract_meant, limits_of, nurse_meant, numbers_among, skill_named, successions_meant};
 ghost use Rattle.roster_instance.specs.Checking.{IsFirst};
 ghost use Rattle.roster_instance.specs.Faults.{each};
+ghost use Rattle.roster_instance.specs.Limits.{most_contracts, most_nurses, most_shifts, most_skills};
 ghost use Rattle.roster_instance.specs.Names.{contract_names, names_of, nurse_names, shift_names, skill_names};
-ghost use Rattle.roster_instance.specs.Refusals.{contract_faults, limit_fault, listed_faults, nurse_faults, own_skill_faults, repeated_fault, reserved_fault, scenario_faults, shift_faults, succession_faults, unknown_fault};
+ghost use Rattle.roster_instance.specs.Refusals.{contract_faults, faults_of_shifts, faults_of_staff, limit_fault, listed_faults, nurse_faults, own_skill_faults, repeated_fault, reserved_fault, scenario_faults, shift_faults, succession_faults, unknown_fault};
 
 use crate::choice::Skill;
 use crate::fault::CaseFault;
@@ -68,24 +69,85 @@ impl Scenario {
         let text = &bundle.scenario;
         let weeks = text.weeks.value as usize;
         check_count(MAX_WEEKS, text.weeks.token, weeks)?;
+        let name = Vec::from_slice(alloc, text.name.text(source))?;
         let skills = skills_of(alloc, source, &text.skills)?;
-        let (shifts, runs) = shifts_of(alloc, source, &text.shifts)?;
-        let successions = successions_of(alloc, source, &shifts, text.successions.as_slice())?;
-        let (contracts, contract_rules) = contracts_of(alloc, source, &text.contracts)?;
-        let (nurses, nurse_rules) = nurses_of(alloc, source, &contracts, &skills, &text.nurses)?;
+        let shifts = read_shifts(alloc, source, bundle)?;
+        let staff = read_staff(alloc, source, bundle, &skills)?;
         Ok(Scenario {
-            name: Vec::from_slice(alloc, text.name.text(source))?,
+            name,
             skills,
-            shifts,
-            runs,
-            successions,
-            contracts,
-            contract_rules,
-            nurses,
-            nurse_rules,
+            shifts: shifts.names,
+            runs: shifts.runs,
+            successions: shifts.successions,
+            contracts: staff.contracts,
+            contract_rules: staff.contract_rules,
+            nurses: staff.nurses,
+            nurse_rules: staff.nurse_rules,
             weeks,
         })
     }
+}
+
+/// The shifts of a scenario.
+#[derive(Drop)]
+struct Shifts {
+    names: Names,
+    runs: Vec<Limits>,
+    successions: Table<[bool; 8]>,
+}
+
+fn read_shifts(alloc: Global, source: &[u8], bundle: &Bundle) -> Result<Shifts, CaseFault>
+    ensures names { IfOk result (λ r. r.names ≡ shift_names source.now bundle.now) }
+    ensures few { IfOk result (λ r. (0 < length r.names) × (length r.names ≤ most_shifts)) }
+    ensures runs { IfOk result (λ r. r.runs.items ≡ map (λ (s : ShiftType). limits_of s.run) bundle.now.scenario.shifts.items) }
+    ensures successions { IfOk result (λ r. r.successions ≡ successions_meant source.now (shift_names source.now bundle.now) bundle.now.scenario.successions) }
+    ensures none { OnOk result (faults_of_shifts source.now bundle.now ≡ []) }
+    ensures first { IfErr result (IsFirst (faults_of_shifts source.now bundle.now)) }
+{
+    let text = &bundle.scenario;
+    let (names, runs) = shifts_of(alloc, source, &text.shifts)?;
+    let successions = successions_of(alloc, source, &names, text.successions.as_slice())?;
+    Ok(Shifts {
+        names,
+        runs,
+        successions,
+    })
+}
+
+/// The contracts and the nurses of a scenario.
+#[derive(Drop)]
+struct Staff {
+    contracts: Names,
+    contract_rules: Vec<ContractRules>,
+    nurses: Names,
+    nurse_rules: Vec<NurseRules>,
+}
+
+fn read_staff(
+    alloc: Global,
+    source: &[u8],
+    bundle: &Bundle,
+    skills: &Names,
+) -> Result<Staff, CaseFault>
+    requires skills { skills.now ≡ skill_names source.now bundle.now }
+    requires few_skills { length skills.now ≤ most_skills }
+    ensures contracts { IfOk result (λ r. r.contracts ≡ contract_names source.now bundle.now) }
+    ensures rules { IfOk result (λ r. r.contract_rules.items ≡ map contract_meant bundle.now.scenario.contracts.items) }
+    ensures nurses { IfOk result (λ r. r.nurses ≡ nurse_names source.now bundle.now) }
+    ensures few { IfOk result (λ r. (0 < length r.nurses) × (length r.nurses ≤ most_nurses)) }
+    ensures facts { IfOk result (λ r. r.nurse_rules.items ≡ map (nurse_meant source.now (contract_names source.now bundle.now) (skill_names source.now bundle.now)) bundle.now.scenario.nurses.items) }
+    ensures none { OnOk result (faults_of_staff source.now bundle.now ≡ []) }
+    ensures first { IfErr result (IsFirst (faults_of_staff source.now bundle.now)) }
+{
+    let text = &bundle.scenario;
+    let (contracts, contract_rules) = contracts_of(alloc, source, &text.contracts)?;
+    let (nurses, nurse_rules) = nurses_of(alloc, source, &contracts, skills, &text.nurses)?;
+    Ok(Staff {
+        contracts,
+        contract_rules,
+        nurses,
+        nurse_rules,
+    })
 }
 
 /// A count is from 1 to its limit.
@@ -134,9 +196,9 @@ impl<'a> Section<Token> for SkillSection<'a> {
 
 fn skills_of(alloc: Global, source: &[u8], skills: &Listed<Token>) -> Result<Names, CaseFault>
     ensures names { IfOk result (λ names. names ≡ names_of source.now skills.now.items) }
-    ensures few { IfOk result (λ names. (0 < length names) × (length names ≤ 8)) }
-    ensures none { OnOk result (listed_faults 8 (repeated_fault source.now) skills.now ≡ []) }
-    ensures first { IfErr result (IsFirst (listed_faults 8 (repeated_fault source.now) skills.now)) }
+    ensures few { IfOk result (λ names. (0 < length names) × (length names ≤ most_skills)) }
+    ensures none { OnOk result (listed_faults most_skills (repeated_fault source.now) skills.now ≡ []) }
+    ensures first { IfErr result (IsFirst (listed_faults most_skills (repeated_fault source.now) skills.now)) }
 {
     check_count(MAX_SKILLS, skills.count, skills.items.len())?;
     let mut section = SkillSection {
@@ -193,10 +255,10 @@ fn shifts_of(
     shifts: &Listed<ShiftType>,
 ) -> Result<(Names, Vec<Limits>), CaseFault>
     ensures names { IfOk result (λ r. r.0 ≡ names_of source.now (map (λ (s : ShiftType). s.name) shifts.now.items)) }
-    ensures few { IfOk result (λ r. (0 < length r.0) × (length r.0 ≤ 8)) }
+    ensures few { IfOk result (λ r. (0 < length r.0) × (length r.0 ≤ most_shifts)) }
     ensures runs { IfOk result (λ r. r.1.items ≡ map (λ (s : ShiftType). limits_of s.run) shifts.now.items) }
-    ensures none { OnOk result (listed_faults 8 (shift_faults source.now) shifts.now ≡ []) }
-    ensures first { IfErr result (IsFirst (listed_faults 8 (shift_faults source.now) shifts.now)) }
+    ensures none { OnOk result (listed_faults most_shifts (shift_faults source.now) shifts.now ≡ []) }
+    ensures first { IfErr result (IsFirst (listed_faults most_shifts (shift_faults source.now) shifts.now)) }
 {
     let count = shifts.items.len();
     check_count(MAX_SHIFTS, shifts.count, count)?;
@@ -346,8 +408,8 @@ fn contracts_of(
 ) -> Result<(Names, Vec<ContractRules>), CaseFault>
     ensures names { IfOk result (λ r. r.0 ≡ names_of source.now (map (λ (c : Contract). c.name) contracts.now.items)) }
     ensures rules { IfOk result (λ r. r.1.items ≡ map contract_meant contracts.now.items) }
-    ensures none { OnOk result (listed_faults 64 (contract_faults source.now) contracts.now ≡ []) }
-    ensures first { IfErr result (IsFirst (listed_faults 64 (contract_faults source.now) contracts.now)) }
+    ensures none { OnOk result (listed_faults most_contracts (contract_faults source.now) contracts.now ≡ []) }
+    ensures first { IfErr result (IsFirst (listed_faults most_contracts (contract_faults source.now) contracts.now)) }
 {
     let count = contracts.items.len();
     check_count(MAX_CONTRACTS, contracts.count, count)?;
@@ -387,7 +449,7 @@ impl NurseRules {
 
     pub(crate) fn skills(&self) -> &[Skill]
         ensures skills { result.now ≡ self.now.skills }
-        ensures few { length result.now ≤ 8 }
+        ensures few { length result.now ≤ most_skills }
     {
         self.skills.as_slice()
     }
@@ -400,7 +462,7 @@ struct OwnSkillSection<'a> {
     skills: &'a Names,
     taken: [bool; 8],
     own: ArrayVec<Skill, 8>,
-    ghost few: { length skills.now ≤ 8 },
+    ghost few: { length skills.now ≤ most_skills },
     ghost counted: { length own.items ≡ count_by (λ flag. flag) taken },
 }
 
@@ -429,7 +491,7 @@ fn own_skills_of(
     skills: &Names,
     tokens: &[Token],
 ) -> Result<ArrayVec<Skill, 8>, CaseFault>
-    requires { length skills.now ≤ 8 }
+    requires { length skills.now ≤ most_skills }
     ensures own { IfOk result (λ own. own.items ≡ map (skill_named source.now skills.now) tokens.now) }
     ensures none { OnOk result (each (own_skill_faults source.now skills.now) tokens.now ≡ []) }
     ensures first { IfErr result (IsFirst (each (own_skill_faults source.now skills.now) tokens.now)) }
@@ -452,7 +514,7 @@ struct NurseSection<'a> {
     skills: &'a Names,
     names: Names,
     rules: Vec<NurseRules>,
-    ghost few: { length skills.now ≤ 8 },
+    ghost few: { length skills.now ≤ most_skills },
 }
 
 impl<'a> Section<Nurse> for NurseSection<'a> {
@@ -480,12 +542,12 @@ fn nurses_of(
     skills: &Names,
     nurses: &Listed<Nurse>,
 ) -> Result<(Names, Vec<NurseRules>), CaseFault>
-    requires { length skills.now ≤ 8 }
+    requires { length skills.now ≤ most_skills }
     ensures names { IfOk result (λ r. r.0 ≡ names_of source.now (map (λ (n : Nurse). n.name) nurses.now.items)) }
-    ensures few { IfOk result (λ r. (0 < length r.0) × (length r.0 ≤ 200)) }
+    ensures few { IfOk result (λ r. (0 < length r.0) × (length r.0 ≤ most_nurses)) }
     ensures rules { IfOk result (λ r. r.1.items ≡ map (nurse_meant source.now contracts.now skills.now) nurses.now.items) }
-    ensures none { OnOk result (listed_faults 200 (nurse_faults source.now contracts.now skills.now) nurses.now ≡ []) }
-    ensures first { IfErr result (IsFirst (listed_faults 200 (nurse_faults source.now contracts.now skills.now) nurses.now)) }
+    ensures none { OnOk result (listed_faults most_nurses (nurse_faults source.now contracts.now skills.now) nurses.now ≡ []) }
+    ensures first { IfErr result (IsFirst (listed_faults most_nurses (nurse_faults source.now contracts.now skills.now) nurses.now)) }
 {
     let count = nurses.items.len();
     check_count(MAX_NURSES, nurses.count, count)?;

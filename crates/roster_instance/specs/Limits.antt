@@ -1,0 +1,25 @@
+-- The limits of an instance (our profile; eight skills, eight shifts and the number of states keep the search small).
+use Rattle.std.specs.Prelude.{ℕ, ◌*◌}
+
+-- the most weeks, and their days
+abbrev pub most_weeks : ℕ
+most_weeks = 16
+
+abbrev pub most_days : ℕ
+most_days = 7 * most_weeks
+
+abbrev pub most_skills : ℕ
+most_skills = 8
+
+abbrev pub most_shifts : ℕ
+most_shifts = 8
+
+abbrev pub most_contracts : ℕ
+most_contracts = 64
+
+abbrev pub most_nurses : ℕ
+most_nurses = 200
+
+-- the most states of the search for a nurse
+abbrev pub most_states : ℕ
+most_states = 1048576
