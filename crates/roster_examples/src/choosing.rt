@@ -1,5 +1,5 @@
 //! Worked examples of allowed rows, best rows and runs of the improver.
-#![tactic(auto, unfolding(roster_case::specs::Choices::all_rows, roster_case::specs::HardRules::hard_faults, roster_case::specs::Penalties::costs_of, roster_case::specs::Penalties::penalty, roster_case::specs::Runs::run_faults))]
+#![tactic(auto, unfolding(roster_instance::specs::Choices::all_rows, roster_case::specs::HardRules::hard_faults, roster_case::specs::Penalties::costs_of, roster_case::specs::Penalties::penalty, roster_case::specs::Runs::run_faults))]
 
 ghost use Rattle.std.specs.Prelude.{◌≡◌, [], ◌∷◌, Some, None, codes, filter, flat_map, map, true, false};
 ghost use Rattle.roster_case.specs.declared.Choice.TheVariants.{Off};
