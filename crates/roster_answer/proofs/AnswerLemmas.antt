@@ -5,6 +5,7 @@ use Rattle.std.proofs.lemmas.Bool.{ltb-true}
 use Rattle.std.proofs.lemmas.List.{length-map}
 use Rattle.roster_text.specs.Grammar.{Spells}
 use Rattle.roster_text.specs.Io.{IsReadFault, Stops, Watched, Writes, counted, is_read_failure, one_more}
+use Rattle.roster_text.specs.Limits.{most_bytes}
 use Rattle.roster_text.specs.Token.{all_seen, text_of, tokens_of}
 use Rattle.roster_text.specs.declared.bundle.Bundle.{Bundle}
 use Rattle.roster_text.specs.declared.fault.TextFault.{TextFault}
@@ -79,7 +80,7 @@ status_listed fault.Output = (2, lit< tt, refl)
 -- ---- an input that was not read to its end
 
 module _ {R : Type 0} (A : Type 0) (remaining : R → Option (List ℕ)) (old new : Watched R) where
-  pub unread : (f : TextFault) → IsReadFault f → new.failures ≡ counted old.failures (is_read_failure {A = A} (Err f)) → (IsErrOf {T = A} (Err f) text.TooLong → IfSome (remaining old.inner) (λ given. 16777216 < length given))
+  pub unread : (f : TextFault) → IsReadFault f → new.failures ≡ counted old.failures (is_read_failure {A = A} (Err f)) → (IsErrOf {T = A} (Err f) text.TooLong → IfSome (remaining old.inner) (λ given. most_bytes < length given))
       → IsUnread remaining old new (fault.Text f)
   unread text.Memory is failures long = failures
   unread text.ReadFailed is failures long = failures

@@ -1,24 +1,13 @@
 -- A line that is written piece by piece.
-use Rattle.std.proofs.Common.{◌≡◌, ◌∙◌, ◌+◌, ◌-◌, ◌*◌, ◌<◌, ℕ, ap, ap₂, arith, sym, List, ◌∷◌, ◌++◌, append_assoc, codes, decimal, drop, flat_map, get_or, length, min, take}
+use Rattle.std.proofs.Common.{◌≡◌, ◌∙◌, ◌+◌, ◌-◌, ◌*◌, ◌<◌, ℕ, ap, ap₂, arith, sym, List, ◌++◌, append_assoc, codes, decimal, flat_map, min}
 use Rattle.std.proofs.Math.Nat.{min-eq_left}
-use Rattle.std.proofs.lemmas.Grind.{flat_map-append}
-use Rattle.std.proofs.lemmas.List.{drop_more, take-append-drop}
 use Rattle.std.specs.List.{range_with_len}
 use Rattle.roster_text.proofs.Texts.{flat_map-range_split}
 use Rattle.roster_case.specs.Meaning.{Meaning, day_count, nurse_count, nurse_name}
 use Rattle.roster_case.specs.Penalties.{total_cost}
 use Rattle.roster_case.specs.Sizes.{choice_count, state_count}
 use Rattle.roster_case.specs.declared.penalties.Costs.{Costs}
-use Rattle.roster_answer.specs.Lines.{Text, costs_text, piece_text, pieces_text, search_line, sizes_line, sizes_text}
-use Rattle.roster_answer.specs.declared.pieces.Piece.{Piece}
-
--- what stands in front of a piece, the piece, and what stands behind it
-pub pieces_text-at : (pieces : List Piece) (i : ℕ) (d : Piece) → i < length pieces
-    → pieces_text pieces ≡ pieces_text (take i pieces) ++ piece_text (get_or pieces i d) ++ pieces_text (drop (i + 1) pieces)
-pieces_text-at pieces i d within =
-    ap pieces_text (sym (take-append-drop i pieces) ∙ ap (λ rest. take i pieces ++ rest) (drop_more pieces i d within))
-    ∙ flat_map-append piece_text (take i pieces) (get_or pieces i d ∷ drop (i + 1) pieces)
-    ∙ sym (append_assoc (pieces_text (take i pieces)) (piece_text (get_or pieces i d)) (pieces_text (drop (i + 1) pieces)))
+use Rattle.roster_answer.specs.Lines.{Text, costs_text, search_line, sizes_line, sizes_text}
 
 -- what is expected on a line
 pub expected-line : (line what : Text) → codes "line " ++ (line ++ (codes ": expected " ++ (what ++ codes "\n"))) ≡ codes "line " ++ line ++ codes ": expected " ++ what ++ codes "\n"

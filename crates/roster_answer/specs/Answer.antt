@@ -4,6 +4,7 @@ use Rattle.std.specs.Io.KnownBytes.{IsAtEnd}
 use Rattle.roster_text.specs.FirstFault.{IsFirstFault}
 use Rattle.roster_text.specs.Grammar.{Spells}
 use Rattle.roster_text.specs.Io.{Stops, Watched, Writes, one_more}
+use Rattle.roster_text.specs.Limits.{most_bytes}
 use Rattle.roster_text.specs.Token.{all_seen, line_at_end, tokens_of}
 use Rattle.roster_text.specs.declared.bundle.Bundle.{Bundle}
 use Rattle.roster_text.specs.declared.fault.TextFault.{TextFault}
@@ -37,7 +38,7 @@ Logs contents old new line = Writes contents old new line ⊎ Stops contents old
 pub record ReadsAll {R : Type 0} (remaining : R → Option (List ℕ)) (old new : Watched R) (bytes : Text) : Type 0 where
   pub all : IfSome (remaining old.inner) (λ given. bytes ≡ given)
   pub end : IsAtEnd (remaining new.inner)
-  pub kept : length bytes ≤ 16777216
+  pub kept : length bytes ≤ most_bytes
   pub failures : new.failures ≡ old.failures
 
 -- the bytes spell the bundle
@@ -168,7 +169,7 @@ pub record ReadsAndRefuses {R Out : Type 0} (remaining : R → Option (List ℕ)
 abbrev pub IsUnread : {R : Type 0} → (R → Option (List ℕ)) → Watched R → Watched R → Fault → Type 0
 IsUnread remaining input input_after (fault.Text text.Memory) = input_after.failures ≡ input.failures
 IsUnread remaining input input_after (fault.Text text.ReadFailed) = input_after.failures ≡ one_more input.failures
-IsUnread remaining input input_after (fault.Text text.TooLong) = (input_after.failures ≡ input.failures) × IfSome (remaining input.inner) (λ given. 16777216 < length given)
+IsUnread remaining input input_after (fault.Text text.TooLong) = (input_after.failures ≡ input.failures) × IfSome (remaining input.inner) (λ given. most_bytes < length given)
 IsUnread remaining input input_after _ = ⊥
 
 -- why the command stopped

@@ -20,20 +20,9 @@ use Rattle.roster_case.specs.declared.penalties.Costs.{Costs}
 use Rattle.roster_answer.specs.declared.fault.BreachNames.{BreachNames}
 use Rattle.roster_answer.specs.declared.fault.Fault.{Fault}
 use Rattle.roster_answer.specs.declared.fault.Fault.TheVariants as fault
-use Rattle.roster_answer.specs.declared.pieces.Piece.{Piece}
-use Rattle.roster_answer.specs.declared.pieces.Piece.TheVariants as piece
 
 abbrev pub Text : Type 0
 Text = List ℕ
-
--- ---- pieces of which a line is made
-
-abbrev pub piece_text : Piece → Text
-piece_text (piece.Bytes bytes) = bytes.now
-piece_text (piece.Number n) = decimal n
-
-abbrev pub pieces_text : List Piece → Text
-pieces_text pieces = flat_map piece_text pieces
 
 -- ---- lines
 

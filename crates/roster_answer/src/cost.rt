@@ -1,7 +1,7 @@
 //! The command `cost`: the hard rules, and then what the roster costs.
 
-ghost use Rattle.std.specs.Prelude.{◌≡◌, ◌<◌, true, [], OnOk, OnErr, IfErr};
-ghost use Rattle.roster_text.specs.Io.{Stops, Writes};
+ghost use Rattle.std.specs.Prelude.{◌≡◌, ◌<◌, true, [], OnOk, IfErr};
+ghost use Rattle.roster_text.specs.Io.{StopsIn, Writes};
 ghost use Rattle.roster_case.specs.HardRules.{hard_faults};
 ghost use Rattle.roster_case.specs.Penalties.{total_cost};
 ghost use Rattle.roster_case.specs.Rosters.{fits};
@@ -9,9 +9,8 @@ ghost use Rattle.roster_answer.specs.Lines.{IsFirstBreach, costs_text};
 
 use crate::fault::Fault;
 use crate::names::names_of;
-use crate::pieces::{Piece, write_pieces};
 use roster_case::{Case, Costs, Roster, first_hard};
-use roster_text::{Bundle, Watch, WriteFault};
+use roster_text::{Bundle, Piece, Watch, WriteFault, write_pieces};
 use std::io::Write;
 
 /// That a roster keeps the hard rules; else the fault is the first breach.
@@ -35,7 +34,7 @@ pub(crate) fn keep_hard_rules<'a>(
 pub(crate) fn write_costs<W: Write>(output: &mut Watch<W>, costs: Costs) -> Result<(), WriteFault>
     requires { total_cost costs < 2147483648 }
     ensures ok { OnOk result (Writes W.contents output.old output.new (costs_text costs)) }
-    ensures err { OnErr result (Stops W.contents output.old output.new (costs_text costs)) }
+    ensures err { IfErr result (StopsIn W.contents output.old output.new (costs_text costs)) }
 {
     write_pieces(
         output,

@@ -7,7 +7,6 @@ mod cost;
 mod fault;
 mod lines;
 mod names;
-mod pieces;
 mod reading;
 mod sizes;
 mod weeks;

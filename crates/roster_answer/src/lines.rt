@@ -1,14 +1,13 @@
 //! The line of each fault on the log, and its status.
 
-ghost use Rattle.std.specs.Prelude.{◌≡◌, OnOk, OnErr, ◌++◌, codes, decimal};
-ghost use Rattle.roster_text.specs.Io.{Stops, Writes};
+ghost use Rattle.std.specs.Prelude.{◌≡◌, OnOk, IfErr, ◌++◌, codes, decimal};
+ghost use Rattle.roster_text.specs.Io.{StopsIn, Writes};
 ghost use Rattle.roster_answer.specs.Answer.{Logs};
 ghost use Rattle.roster_answer.specs.Lines.{case_line, fault_line, hard_line, missing_line, nurse_day_line, status_of, text_line, text_status};
 
 use crate::fault::{BreachNames, Fault};
-use crate::pieces::{Piece, write_pieces};
 use roster_case::{CaseFault, HardFault};
-use roster_text::{TextFault, Watch, WriteFault, weekday_text};
+use roster_text::{Piece, TextFault, Watch, WriteFault, weekday_text, write_pieces};
 use std::io::Write;
 
 /// Tells a fault of the input, as `run` does: its line goes to the log, and its status is answered.
@@ -48,7 +47,7 @@ fn status_of(fault: Fault<'_>) -> u8
 
 fn write_line<Log: Write>(fault: Fault<'_>, log: &mut Watch<Log>) -> Result<(), WriteFault>
     ensures ok { OnOk result (Writes Log.contents log.old log.new (fault_line fault.entry)) }
-    ensures err { OnErr result (Stops Log.contents log.old log.new (fault_line fault.entry)) }
+    ensures err { IfErr result (StopsIn Log.contents log.old log.new (fault_line fault.entry)) }
 {
     match fault {
         Fault::Text(fault) => write_text_line(fault, log),
@@ -60,7 +59,7 @@ fn write_line<Log: Write>(fault: Fault<'_>, log: &mut Watch<Log>) -> Result<(), 
 
 fn write_text_line<Log: Write>(fault: TextFault, log: &mut Watch<Log>) -> Result<(), WriteFault>
     ensures ok { OnOk result (Writes Log.contents log.old log.new (text_line fault)) }
-    ensures err { OnErr result (Stops Log.contents log.old log.new (text_line fault)) }
+    ensures err { IfErr result (StopsIn Log.contents log.old log.new (text_line fault)) }
 {
     match fault {
         TextFault::Memory => write_pieces(log, &[Piece::Bytes(b"no memory\n")]),
@@ -89,7 +88,7 @@ fn write_case_line<Log: Write>(
     log: &mut Watch<Log>,
 ) -> Result<(), WriteFault>
     ensures ok { OnOk result (Writes Log.contents log.old log.new (case_line fault nurse.now)) }
-    ensures err { OnErr result (Stops Log.contents log.old log.new (case_line fault nurse.now)) }
+    ensures err { IfErr result (StopsIn Log.contents log.old log.new (case_line fault nurse.now)) }
 {
     match fault {
         CaseFault::Memory => write_pieces(log, &[Piece::Bytes(b"no memory\n")]),
@@ -121,7 +120,7 @@ fn write_hard_line<Log: Write>(
     log: &mut Watch<Log>,
 ) -> Result<(), WriteFault>
     ensures ok { OnOk result (Writes Log.contents log.old log.new (hard_line fault names.entry)) }
-    ensures err { OnErr result (Stops Log.contents log.old log.new (hard_line fault names.entry)) }
+    ensures err { IfErr result (StopsIn Log.contents log.old log.new (hard_line fault names.entry)) }
 {
     match fault {
         HardFault::H2 {
@@ -149,7 +148,7 @@ fn write_missing<'a, Log: Write>(
     log: &mut Watch<Log>,
 ) -> Result<(), WriteFault>
     ensures ok { OnOk result (Writes Log.contents log.old log.new (missing_line week weekday.now names.entry have need)) }
-    ensures err { OnErr result (Stops Log.contents log.old log.new (missing_line week weekday.now names.entry have need)) }
+    ensures err { IfErr result (StopsIn Log.contents log.old log.new (missing_line week weekday.now names.entry have need)) }
 {
     write_pieces(
         log,
@@ -180,7 +179,7 @@ fn write_nurse_day<'a, Log: Write>(
     log: &mut Watch<Log>,
 ) -> Result<(), WriteFault>
     ensures ok { OnOk result (Writes Log.contents log.old log.new (nurse_day_line rule.now week weekday.now nurse.now)) }
-    ensures err { OnErr result (Stops Log.contents log.old log.new (nurse_day_line rule.now week weekday.now nurse.now)) }
+    ensures err { IfErr result (StopsIn Log.contents log.old log.new (nurse_day_line rule.now week weekday.now nurse.now)) }
 {
     write_pieces(
         log,
@@ -200,7 +199,7 @@ fn write_nurse_day<'a, Log: Write>(
 /// Writes what is wrong on a line of the input.
 fn write_at<Log: Write>(line: usize, what: &[u8], log: &mut Watch<Log>) -> Result<(), WriteFault>
     ensures ok { OnOk result (Writes Log.contents log.old log.new (codes "line " ++ decimal line ++ what.now)) }
-    ensures err { OnErr result (Stops Log.contents log.old log.new (codes "line " ++ decimal line ++ what.now)) }
+    ensures err { IfErr result (StopsIn Log.contents log.old log.new (codes "line " ++ decimal line ++ what.now)) }
 {
     write_pieces(
         log,

@@ -1,14 +1,13 @@
 //! The command `sizes`: how much the search for each nurse takes.
 
-ghost use Rattle.std.specs.Prelude.{◌≡◌, ◌<◌, OnOk, OnErr};
-ghost use Rattle.roster_text.specs.Io.{Stops, Writes};
+ghost use Rattle.std.specs.Prelude.{◌≡◌, ◌<◌, OnOk, OnErr, IfErr};
+ghost use Rattle.roster_text.specs.Io.{Stops, StopsIn, Writes};
 ghost use Rattle.roster_case.specs.Meaning.{nurse_count};
 ghost use Rattle.roster_answer.specs.Lines.{sizes_line, sizes_text};
 
-use crate::pieces::{Piece, write_pieces};
 use roster_case::Case;
 use roster_state::Ranges;
-use roster_text::{Watch, WriteFault};
+use roster_text::{Piece, Watch, WriteFault, write_pieces};
 use std::io::Write;
 
 /// Writes a line for each nurse.
@@ -30,7 +29,7 @@ fn write_sizes_of<W: Write>(
 ) -> Result<(), WriteFault>
     requires { nurse < nurse_count case.now }
     ensures ok { OnOk result (Writes W.contents output.old output.new (sizes_line case.now nurse)) }
-    ensures err { OnErr result (Stops W.contents output.old output.new (sizes_line case.now nurse)) }
+    ensures err { IfErr result (StopsIn W.contents output.old output.new (sizes_line case.now nurse)) }
 {
     let states = Ranges::of(case, nurse).product() as u64;
     let days = case.days() as u64;

@@ -82,3 +82,9 @@ abbrev pub Refuses : List Text → CliFault → Type 0
 Refuses words fault.Memory = Unit {0}
 Refuses words (fault.Usage text) = IsRefused (λ k. not (is_help k)) words
 Refuses words (fault.Help text) = IsRefused is_help words
+
+-- its text isn't empty
+abbrev pub HasText : CliFault → Type 0
+HasText fault.Memory = Unit {0}
+HasText (fault.Usage text) = string_bytes text ≢ []
+HasText (fault.Help text) = string_bytes text ≢ []

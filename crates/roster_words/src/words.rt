@@ -1,11 +1,12 @@
 //! From words to a request.
 
-ghost use Rattle.std.specs.Prelude.{◌≡◌, [], Some, IfOk, IfErr, OnOk, IsSomeAnd, map, string_bytes};
+ghost use Rattle.std.specs.Prelude.{◌≡◌, ◌≢◌, [], Some, IfOk, IfErr, OnOk, IsSomeAnd, map, string_bytes};
 ghost use Rattle.clap.specs.Words.{fault_of, found_of, kind_of, rows_of, subcommand_rows_of};
-ghost use Rattle.roster_words.specs.CommandLine.{IsName, Refuses, TellsKind, asked_of, files_in, named_files, program, request_view};
+ghost use Rattle.roster_words.specs.CommandLine.{HasText, IsName, Refuses, TellsKind, asked_of, files_in, named_files, program, request_view};
 
 use crate::program::{FILES, program};
 use crate::request::{CliFault, Command, Request};
+use crate::texts::EXAMPLES;
 use clap::ArgMatches;
 use clap::error::ErrorKind;
 use std::alloc::{AllocError, Global};
@@ -17,6 +18,7 @@ pub fn request_of<S: AsStr>(alloc: Global, words: &[S]) -> Result<Request, CliFa
     ensures request { IfOk result (λ r. asked_of (map S.text words.now) ≡ Some (request_view r)) }
     ensures faultless { OnOk result (fault_of program (map S.text words.now) ≡ []) }
     ensures refusal { IfErr result (Refuses (map S.text words.now)) }
+    ensures text { IfErr result HasText }
 {
     match program(alloc)?.try_get_matches_from(words) {
         Ok(matches) => request_in(alloc, &matches),
@@ -52,14 +54,26 @@ fn files_of(alloc: Global, given: &ArgMatches<'_>) -> Result<Vec<String>, AllocE
 }
 
 fn refusal(alloc: Global, error: &clap::Error) -> CliFault
-    ensures { TellsKind (kind_of error.now) result }
+    ensures kind { TellsKind (kind_of error.now) result }
+    ensures text { HasText result }
 {
     if error.kind() == ErrorKind::OutOfMemory {
         return CliFault::Memory;
     }
-    match error.to_string(alloc) {
+    match text_of(alloc, error) {
         Err(_) => CliFault::Memory,
         Ok(text) if error.use_stderr() => CliFault::Usage(text),
         Ok(text) => CliFault::Help(text),
     }
+}
+
+/// The text of an error. `clap` promises none, so where it is empty the examples stand for it.
+fn text_of(alloc: Global, error: &clap::Error) -> Result<String, AllocError>
+    ensures { IfOk result (λ text. string_bytes text ≢ []) }
+{
+    let text = error.to_string(alloc)?;
+    if text.is_empty() {
+        return String::from_str(alloc, EXAMPLES);
+    }
+    Ok(text)
 }

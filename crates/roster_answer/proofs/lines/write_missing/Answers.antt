@@ -1,6 +1,6 @@
 use Rattle.std.proofs.Common.{codes, decimal, subst}
-use Rattle.std.specs.Prelude.{OnErr, OnOk}
-use Rattle.roster_text.specs.Io.{Stops, Writes}
+use Rattle.std.specs.Prelude.{IfErr, OnOk}
+use Rattle.roster_text.specs.Io.{StopsIn, Writes}
 use Rattle.roster_answer.proofs.PieceLemmas.{missing-line}
 use Rattle.roster_answer.proofs.lines.write_missing.Goals as goal
 
@@ -16,6 +16,6 @@ pub returns-clause-err : goal.returns-clause-err
 returns-clause-err g c =
     let out = c.write_pieces in
     let names = c.args.names in
-    subst (λ text. OnErr out.result (Stops g.Log.Write.contents c.args.log.now out.new.output text))
+    subst (λ text. IfErr out.result (StopsIn g.Log.Write.contents c.args.log.now out.new.output text))
     (missing-line (codes "H2 week ") (decimal c.args.week) (codes " ") c.args.weekday.now (codes " ") names.shift.now (codes " ") names.skill.now (codes ": ") (decimal c.args.have) (codes " of ")
     (decimal c.args.need) (codes "\n")) out.ensures.err

@@ -1,7 +1,7 @@
 use Rattle.std.proofs.Common.{◌≡◌, ◌+◌, ◌-◌, arith, flat_map, subst, sym}
 use Rattle.std.specs.List.{range_with_len}
 use Rattle.roster_text.specs.Io.{Stops, Writes}
-use Rattle.roster_text.proofs.Texts.{Stops-after, Stops-append, Writes-append, flat_map-range_more}
+use Rattle.roster_text.proofs.Texts.{Stops-after, Stops-append, Stops-from_in, Writes-append, flat_map-range_more}
 use Rattle.roster_case.specs.Meaning.{nurse_count}
 use Rattle.roster_answer.specs.Lines.{sizes_line}
 use Rattle.roster_answer.proofs.PieceLemmas.{sizes_text-all, sizes_text-split}
@@ -17,7 +17,7 @@ returns-in_err-write_sizes_of-clause-err g c =
     OnErr-always c.from_residual.result _
     (subst (Stops contents c.args.output.now c.write_sizes_of.new.output) (sym (sizes_text-split c.args.case.now i n c.loop-nurse-test.true c.nurses-nurse-end.ensures.count))
     (Stops-append contents c.args.output.now c.write_sizes_of.new.output _ (flat_map line (range_with_len (i + 1) (n - (i + 1))))
-    (Stops-after contents c.args.output.now c.loop-nurse.output c.write_sizes_of.new.output (flat_map line (range_with_len 0 i)) (line i) c.loop-nurse.invariant c.in_err-write_sizes_of.ensures.err)))
+    (Stops-after contents c.args.output.now c.loop-nurse.output c.write_sizes_of.new.output (flat_map line (range_with_len 0 i)) (line i) c.loop-nurse.invariant (Stops-from_in contents c.loop-nurse.output c.write_sizes_of.new.output (line i) c.in_err-write_sizes_of.field-0 c.in_err-write_sizes_of.ensures.err))))
 
 pub loop-nurse-preserved : goal.loop-nurse-preserved
 loop-nurse-preserved g c =

@@ -1,6 +1,6 @@
 use Rattle.std.proofs.Common.{◌≡◌, ◌∙◌, subst}
-use Rattle.std.specs.Prelude.{OnErr, OnOk}
-use Rattle.roster_text.specs.Io.{Stops, Writes}
+use Rattle.std.specs.Prelude.{IfErr, OnOk}
+use Rattle.roster_text.specs.Io.{StopsIn, Writes}
 use Rattle.roster_answer.specs.Lines.{sizes_line}
 use Rattle.roster_answer.proofs.PieceLemmas.{search_pieces, sizes_pieces-are}
 use Rattle.roster_answer.proofs.sizes.write_sizes_of.Given as given
@@ -19,4 +19,4 @@ returns-clause-ok g c =
 pub returns-clause-err : goal.returns-clause-err
 returns-clause-err g c =
     let out = c.write_pieces in
-    subst (λ text. OnErr out.result (Stops g.W.Write.contents c.args.output.now out.new.output text)) (line g c) out.ensures.err
+    subst (λ text. IfErr out.result (StopsIn g.W.Write.contents c.args.output.now out.new.output text)) (line g c) out.ensures.err

@@ -33,6 +33,6 @@ returns-in-Err-clause-refusal g c =
     let words = map g.S.AsStr.text c.args.words.now in
     let is_program = c.in_ok-program.ensures in
     let among = c.in-Err.ensures.kinds (ap is_simple_and_free is_program ∙ free) in
-    refuses words (kind_of c.in-Err.error) c.refusal.result c.refusal.ensures
+    refuses words (kind_of c.in-Err.error) c.refusal.result c.refusal.ensures.kind
     (λ taken. c.in-Err.ensures.passes (ap (λ (a : App). takes a words) is_program ∙ taken))
     (subst (λ (a : App). HasKind (fault_of a words) c.in-Err.error) is_program among)
