@@ -2,7 +2,9 @@
 #![tactic(auto)]
 
 mod joined;
+mod start;
 
 pub use joined::Joined;
 pub use roster_answer::{refuse, refuse_output, run};
 pub use roster_words::{CliFault, Command, Request, request_of};
+pub use start::{answer_command_line, answer_words};

@@ -8,6 +8,8 @@ mod devices_tests;
 #[cfg(test)]
 mod show_tests;
 #[cfg(test)]
+mod start_tests;
+#[cfg(test)]
 mod state_tests;
 #[cfg(test)]
 mod texts;

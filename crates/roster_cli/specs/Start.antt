@@ -1,0 +1,39 @@
+-- How the program ends. `contents` is all that an output has taken, and `held` what it has not sent on of that.
+use Rattle.std.specs.Prelude.{◌≡◌, ℕ, ◌⊎◌, List, [], Option, Some, codes, map, string_bytes}
+use Rattle.std.specs.Io.KnownBytes.{Appends}
+use Rattle.roster_text.specs.Io.{Watched}
+use Rattle.roster_answer.specs.Answer.{Logs}
+use Rattle.roster_answer.specs.Lines.{Text}
+use Rattle.roster_words.specs.CommandLine.{Refuses, asked_of, request_view}
+use Rattle.roster_words.specs.declared.request.CliFault.{CliFault}
+use Rattle.roster_words.specs.declared.request.CliFault.TheVariants as cli
+use Rattle.roster_words.specs.declared.request.Request.{Request}
+
+-- with status 0 the output took the text and sent all on, and nothing was logged; else the output failed, and that is told
+abbrev pub Sends : {Out Log : Type 0} → (Out → Option Text) → (Out → Text) → (Log → Option Text) → Text → ℕ → Out → Out → Watched Log → Watched Log → Type 0
+Sends contents held logged text status output output_after log log_after =
+    (status ≡ 0 → Appends (contents output) (contents output_after) text × (held output_after ≡ []) × (log_after ≡ log))
+    × ((status ≡ 0 → ⊥) → (status ≡ 3) × Logs logged log log_after (codes "write failed\n"))
+
+-- how words that are no request are answered
+abbrev pub TellsWords : {Out Log : Type 0} → (Out → Option Text) → (Out → Text) → (Log → Option Text) → CliFault → ℕ → Out → Out → Watched Log → Watched Log → Type 0
+TellsWords contents held logged cli.Memory status output output_after log log_after = (status ≡ 4) × (output_after ≡ output) × Logs logged log log_after (codes "no memory\n")
+TellsWords contents held logged (cli.Usage text) status output output_after log log_after = (status ≡ 2) × (output_after ≡ output) × Logs logged log log_after (string_bytes text)
+TellsWords contents held logged (cli.Help text) status output output_after log log_after = Sends contents held logged (string_bytes text) status output output_after log log_after
+
+-- the words are those of a request; with status 0 all of the output was sent on, and nothing was logged
+pub record AnswersRequest {Out Log : Type 0} (held : Out → Text) (words : List Text) (status : ℕ) (output_after : Out) (log log_after : Watched Log) : Type 0 where
+  pub request : Request
+  pub asked : asked_of words ≡ Some (request_view request)
+  pub done : status ≡ 0 → (held output_after ≡ []) × (log_after ≡ log)
+
+-- the words are no request, and that was told
+pub record RefusesWords {Out Log : Type 0} (contents : Out → Option Text) (held : Out → Text) (logged : Log → Option Text) (words : List Text) (status : ℕ) (output output_after : Out) (log log_after : Watched Log) : Type 0 where
+  pub why : CliFault
+  pub refused : Refuses words why
+  pub told : TellsWords contents held logged why status output output_after log log_after
+
+-- how words are answered
+abbrev pub AnswersWords : {Out Log : Type 0} → (Out → Option Text) → (Out → Text) → (Log → Option Text) → List Text → ℕ → Out → Out → Watched Log → Watched Log → Type 0
+AnswersWords contents held logged words status output output_after log log_after =
+    AnswersRequest held words status output_after log log_after ⊎ RefusesWords contents held logged words status output output_after log log_after

@@ -1,0 +1,165 @@
+//! The program from its words and streams to its status.
+
+ghost use Rattle.std.specs.Prelude.{◌≡◌, [], codes, map, string_bytes};
+ghost use Rattle.std.specs.Io.KnownBytes.{Keeps};
+ghost use Rattle.std.specs.Io.Buffered.{writer_buffer, writer_contents};
+ghost use Rattle.roster_answer.specs.Answer.{Logs};
+ghost use Rattle.roster_cli.specs.Start.{AnswersWords, Sends, TellsWords};
+
+use crate::joined::Joined;
+use roster_answer::{refuse, refuse_output, run};
+use roster_text::{TextFault, Watch, write_bytes};
+use roster_words::{CliFault, Request, request_of};
+use std::alloc::Global;
+use std::io::{BufWriter, ErrorKind, Read, Write};
+use std::rt::{Env, Files};
+use std::{env, fs, io};
+
+const WORDS_ARE_NO_TEXT: &str = "error: a word of the command line is not UTF-8\n";
+
+/// Answers the command line of a program: reads the files that it names, or `input` where it names none, writes to
+/// `output`, and answers the status.
+pub fn answer_command_line<
+    R: Env + Files + AllocGlobal,
+    In: Read + Drop,
+    Out: Write + Drop,
+    Log: Write,
+>(rt: &R, input: In, output: &mut BufWriter<Out>, log: &mut Watch<Log>) -> u8 {
+    match words_of(rt) {
+        Ok(words) => answer_words(rt, &words, input, output, log),
+        Err(fault) => refuse_words(fault, output, log),
+    }
+}
+
+/// The words of the command line.
+fn words_of(rt: &(impl Env + AllocGlobal)) -> Result<Vec<String>, CliFault> {
+    let alloc = rt.alloc();
+    let given = match env::args(rt) {
+        Ok(given) => given,
+        Err(error) if error.kind() == ErrorKind::OutOfMemory => return Err(CliFault::Memory),
+        Err(_) => return Err(CliFault::Usage(String::from_str(alloc, WORDS_ARE_NO_TEXT)?)),
+    };
+    // A `collect` would try a growth again that is refused.
+    let mut words = Vec::with_capacity(alloc, given.len())?;
+    words.extend(given)?;
+    Ok(words)
+}
+
+/// Does what these words ask for, the program's name the first of them.
+pub fn answer_words<R: Files + AllocGlobal, In: Read + Drop, Out: Write + Drop, Log: Write>(
+    rt: &R,
+    words: &[String],
+    input: In,
+    output: &mut BufWriter<Out>,
+    log: &mut Watch<Log>,
+) -> u8
+    ensures answers { AnswersWords (writer_contents Out.contents) writer_buffer Log.contents (map string_bytes words.now)
+        result output.old output.new log.old log.new }
+{
+    match request_of(rt.alloc(), words) {
+        Ok(request) => answer_request(rt, &request, input, output, log),
+        Err(fault) => refuse_words(fault, output, log),
+    }
+}
+
+/// Tells why words are no request: a help text is what was asked for, and goes to the output.
+fn refuse_words<Out: Write + Drop, Log: Write>(
+    fault: CliFault,
+    output: &mut BufWriter<Out>,
+    log: &mut Watch<Log>,
+) -> u8
+    ensures told { TellsWords (writer_contents Out.contents) writer_buffer Log.contents fault result output.old output.new log.old log.new }
+{
+    match fault {
+        CliFault::Memory => refuse(TextFault::Memory, log),
+        CliFault::Usage(text) => {
+            let _ = write_bytes(log, text.as_bytes());
+            2
+        }
+        CliFault::Help(text) => help(text.as_bytes(), output, log),
+    }
+}
+
+/// Writes a help text to the output.
+fn help<Out: Write + Drop, Log: Write>(
+    text: &[u8],
+    output: &mut BufWriter<Out>,
+    log: &mut Watch<Log>,
+) -> u8
+    ensures sent { Sends (writer_contents Out.contents) writer_buffer Log.contents text.now result output.old output.new log.old log.new }
+{
+    match output.write_all(text) {
+        Ok(()) => flush(output, log),
+        Err(_) => refuse_output(log),
+    }
+}
+
+/// Answers a request over the files that it names, or over `input` where it names none.
+#[tactic(auto, using(crate::proofs::StartLemmas::no_text_fault_is_done))]
+fn answer_request<R: Files + AllocGlobal, In: Read + Drop, Out: Write + Drop, Log: Write>(
+    rt: &R,
+    request: &Request,
+    input: In,
+    output: &mut BufWriter<Out>,
+    log: &mut Watch<Log>,
+) -> u8
+    ensures done { result ≡ 0 → (writer_buffer output.new ≡ []) × (log.new ≡ log.old) }
+{
+    let alloc = rt.alloc();
+    if request.files.is_empty() {
+        return answer(alloc, request, input, output, log);
+    }
+    match open_all(alloc, &request.files, |path| fs::open(rt, path)) {
+        Ok(files) => answer(alloc, request, Joined::new(files), output, log),
+        Err(fault) => refuse(fault, log),
+    }
+}
+
+/// Opens files in order.
+fn open_all<T: Drop, F: Fn(&str) -> io::Result<T>>(
+    alloc: Global,
+    paths: &[String],
+    open_file: F,
+) -> Result<Vec<T>, TextFault>
+    requires { F.IsAlwaysCallable open_file }
+{
+    let mut files = Vec::with_capacity(alloc, paths.len())?;
+    for path in paths {
+        match open_file(path.as_str()) {
+            Ok(file) => files.push(file)?,
+            Err(error) if error.kind() == ErrorKind::OutOfMemory => return Err(TextFault::Memory),
+            Err(_) => return Err(TextFault::ReadFailed),
+        }
+    }
+    Ok(files)
+}
+
+fn answer<In: Read + Drop, Out: Write + Drop, Log: Write>(
+    alloc: Global,
+    request: &Request,
+    input: In,
+    output: &mut BufWriter<Out>,
+    log: &mut Watch<Log>,
+) -> u8
+    ensures done { result ≡ 0 → (writer_buffer output.new ≡ []) × (log.new ≡ log.old) }
+{
+    let mut input = Watch::new(input);
+    let mut watched = Watch::new(&mut *output);
+    let status = run(alloc, request, &mut input, &mut watched, log);
+    if status != 0 {
+        return status;
+    }
+    flush(output, log)
+}
+
+/// Sends on what the output holds back.
+fn flush<Out: Write + Drop, Log: Write>(output: &mut BufWriter<Out>, log: &mut Watch<Log>) -> u8
+    ensures sent { result ≡ 0 → (writer_buffer output.new ≡ []) × (log.new ≡ log.old) }
+    ensures failed { (result ≡ 0 → ⊥) → (result ≡ 3) × Logs Log.contents log.old log.new (codes "write failed\n") }
+    ensures bytes { Keeps (writer_contents Out.contents output.old) (writer_contents Out.contents output.new) }
+{
+    match output.flush() {
+        Ok(()) => 0,
+        Err(_) => refuse_output(log),
+    }
+}
