@@ -1,5 +1,5 @@
 -- Among all rows each row of the case stands once, and no other.
-use Rattle.std.proofs.Common.{◌≡◌, ◌∙◌, ◌+◌, ◌*◌, ◌<◌, ◌≤◌, ◌⊎◌, ◌&&◌, ◌==◌, ℕ, zero, suc, Bool, true, false, cond, inl, inr, ap, ap₂, arith, sym, refl, List, [], ◌∷◌, length, map, add-mul, nat_le, nat_lt, Contains, if◌then◌else◌}
+use Rattle.std.proofs.Common.{◌≡◌, ◌∙◌, ◌+◌, ◌*◌, ◌<◌, ◌&&◌, ◌==◌, ℕ, zero, suc, Bool, true, false, cond, ap, ap₂, arith, sym, refl, List, [], ◌∷◌, length, map, add-mul, nat_le, nat_lt, Contains, if◌then◌else◌}
 use Rattle.std.specs.List.{All, count_by, flat_map, list_all, range_with_len, sum_by}
 use Rattle.std.proofs.lemmas.Bool.{ne_eqb}
 use Rattle.std.proofs.lemmas.Bool.Decides.{nat_tests}

@@ -4,7 +4,7 @@ use Rattle.std.specs.List.{All, AllPairs, fold, range_with_len}
 use Rattle.std.proofs.lemmas.Bool.{cases_Bool, true≢false}
 use Rattle.std.proofs.lemmas.List.Elements.{All-cons, All-nil}
 use Rattle.std.proofs.lemmas.List.Kept.{AllPairs-cons}
-use Rattle.roster_case.specs.Improver.{BestRows, Entry, Event, changed, changes, entries_from, entry, log_of, round, round_done, round_log, same_rows, settled, started, step, stopped}
+use Rattle.roster_case.specs.Improver.{BestRows, Entry, changed, changes, entries_from, entry, log_of, round, round_done, round_log, same_rows, settled, started, step, stopped}
 use Rattle.roster_case.specs.Meaning.{Meaning, nurse_count}
 use Rattle.roster_case.specs.Penalties.{penalty}
 use Rattle.roster_case.specs.Rosters.{Rows}

@@ -1,9 +1,9 @@
 -- Each penalty is a multiple of 5, since each weight is.
-use Rattle.std.proofs.Common.{◌≡◌, ◌+◌, ◌-◌, ◌*◌, ◌<◌, ◌≤◌, ◌%◌, ℕ, zero, suc, Bool, true, false, arith, refl, if◌then◌else◌}
+use Rattle.std.proofs.Common.{◌≡◌, ◌+◌, ◌*◌, ◌%◌, ℕ, zero, suc, Bool, true, false, arith, refl, if◌then◌else◌}
 use Rattle.roster_case.specs.Counting.{sum_below}
 use Rattle.roster_case.specs.Days.{Days, split_weekends}
 use Rattle.roster_case.specs.Meaning.{Meaning, contract_of, day_count, nurse_count, shift_count, skill_count}
-use Rattle.roster_case.specs.Penalties.{costs_of, free_runs, off_request_on, is_undesired, over_nurses, penalty, runs_of_shift, shift_runs, split, staffing, staffing_of_day, staffing_of_place, totals, undesired, weekends_above, working_runs}
+use Rattle.roster_case.specs.Penalties.{costs_of, free_runs, is_undesired, over_nurses, penalty, runs_of_shift, shift_runs, split, staffing, staffing_of_day, staffing_of_place, totals, undesired, weekends_above, working_runs}
 use Rattle.roster_case.specs.Rosters.{Rows, days_of_nurse}
 
 abbrev pub IsFive : ℕ → Type 0

@@ -4,7 +4,7 @@ use Rattle.std.specs.List.{range_with_len}
 use Rattle.std.proofs.lemmas.Bool.{cases_lt}
 use Rattle.roster_case.specs.Meaning.{Meaning, nurse_count}
 use Rattle.roster_case.specs.Sizes.{greatest_of, state_count}
-use Rattle.roster_laws.specs.Greatest.{IsGreatest, extension_count, greatest_extension_count, greatest_over_nurses, greatest_state_count}
+use Rattle.roster_laws.specs.Greatest.{IsGreatest, extension_count, greatest_extension_count, greatest_state_count}
 
 abbrev greatest_from : (ℕ → ℕ) → ℕ → ℕ → ℕ
 greatest_from size a n = greatest_of (map size (range_with_len a n))

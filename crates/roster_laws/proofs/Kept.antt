@@ -1,5 +1,5 @@
 -- What each step keeps holds all along a log, and at the run's end.
-use Rattle.std.proofs.Common.{◌≡◌, ◌∙◌, ◌+◌, ◌⊎◌, ◌&&◌, ◌==◌, ℕ, zero, suc, Bool, true, false, cond, inl, inr, arith, refl, List, [], ◌∷◌, ◌++◌, Option, Some, None, length, length-set, nat_lt, Contains}
+use Rattle.std.proofs.Common.{◌≡◌, ◌∙◌, ◌+◌, ◌⊎◌, ◌==◌, ℕ, zero, suc, Bool, true, false, cond, inl, inr, arith, refl, List, [], ◌∷◌, Option, Some, None, length, length-set, nat_lt, Contains}
 use Rattle.std.specs.List.{All, fold, list_all, range_with_len}
 use Rattle.std.proofs.lemmas.Bool.{and_from, and_parts, cases_Bool, eq-eqb, eqb-true}
 use Rattle.std.proofs.lemmas.List.Elements.{All-append, All-cons, All-nil, All-set, Contains-append_right}

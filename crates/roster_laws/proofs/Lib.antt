@@ -12,3 +12,4 @@ pub mod AllRows
 pub mod Allowed
 pub mod GreatestLemmas
 pub mod Kept
+pub mod InOrder

@@ -1,12 +1,12 @@
 -- Laws of runs, by induction on the rounds that are left.
-use Rattle.std.proofs.Common.{◌≡◌, ◌∙◌, ◌+◌, ◌*◌, ◌<◌, ◌≤◌, ◌⊎◌, ℕ, zero, suc, Bool, true, false, inl, inr, ap, arith, sym, refl, List, [], ◌∷◌, ◌++◌, append_assoc, zero-add}
-use Rattle.std.specs.List.{All, range_with_len}
+use Rattle.std.proofs.Common.{◌≡◌, ◌∙◌, ◌+◌, ◌*◌, ◌<◌, ◌≤◌, ◌⊎◌, ℕ, zero, suc, true, false, inl, inr, ap, arith, sym, refl, List, [], ◌∷◌, ◌++◌, append_assoc, zero-add}
+use Rattle.std.specs.List.{All}
 use Rattle.std.proofs.Math.Nat.{mul-le-mul_left}
 use Rattle.std.proofs.lemmas.Bool.{cases_Bool, true≢false}
-use Rattle.roster_case.specs.Improver.{BestRows, Entry, Run, changes, entries_from, entry, log_of, round, round_done, round_log, run, same_rows, settled, started, step}
+use Rattle.roster_case.specs.Improver.{BestRows, Entry, Run, entries_from, entry, log_of, round, round_log, run, same_rows, settled, started, step}
 use Rattle.roster_case.specs.Meaning.{Meaning, nurse_count}
 use Rattle.roster_case.specs.Penalties.{penalty}
-use Rattle.roster_case.specs.Rosters.{Row, Rows}
+use Rattle.roster_case.specs.Rosters.{Rows}
 use Rattle.roster_case.specs.Rows.{allowed_rows, best_row, penalty_with}
 use Rattle.roster_laws.specs.Logs.{EndsWith, changes_in, ending, rounds_in}
 use Rattle.roster_laws.proofs.Rounds.{changes_in-append, changes_in-round, moves_some, none_steps, round_falls, rounds_in-append, rounds_in-round, stays_none}

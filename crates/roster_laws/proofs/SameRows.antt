@@ -1,5 +1,5 @@
 -- The test whether two rosters have the same rows tells whether they are one.
-use Rattle.std.proofs.Common.{◌≡◌, ◌∙◌, ◌==◌, Bool, true, ap, ap₂, sym, refl, [], ◌∷◌}
+use Rattle.std.proofs.Common.{◌≡◌, ◌∙◌, ◌==◌, true, ap, ap₂, sym, refl, [], ◌∷◌}
 use Rattle.std.proofs.lemmas.Bool.{and_from, and_parts, eq-eqb, eqb-true, true≢false}
 use Rattle.roster_case.specs.declared.Choice.{Choice}
 use Rattle.roster_case.specs.declared.Choice.TheVariants.{Off, Work}

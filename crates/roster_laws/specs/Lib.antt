@@ -2,3 +2,4 @@ pub mod Logs
 pub mod Staffing
 pub mod OneRow
 pub mod Greatest
+pub mod RowOrder

@@ -1,6 +1,6 @@
 //! The rows of a case, those that are allowed, and the best of them.
 
-ghost use Rattle.std.specs.Prelude.{◌≡◌, ◌<◌, ◌↔◌, ℕ, true, Contains, IsSome, count_by};
+ghost use Rattle.std.specs.Prelude.{◌≡◌, ◌<◌, ◌↔◌, ℕ, true, AllPairs, Contains, IsSome, count_by};
 ghost use Rattle.roster_case.specs.Choices.{all_choices, all_rows};
 ghost use Rattle.roster_case.specs.Counting.{one_if};
 ghost use Rattle.roster_case.specs.HardRules.{keeps_hard};
@@ -8,11 +8,13 @@ ghost use Rattle.roster_case.specs.Improver.{same_row};
 ghost use Rattle.roster_case.specs.Meaning.{Meaning, day_count, nurse_count};
 ghost use Rattle.roster_case.specs.Rosters.{Row, Rows, fits, is_row_of, row_of};
 ghost use Rattle.roster_case.specs.Rows.{allowed_rows, best_row, row_keeps};
+ghost use Rattle.roster_laws.specs.RowOrder.{IsEarlier};
 
-/// All rows are just those of the case, each once.
+/// All rows are just those of the case, each once, and in their order.
 pub fn all_rows_are_the_rows_of_the_case()
     ensures members { (c : Meaning) (row : Row) → Contains (all_rows (all_choices c) (day_count c)) row ↔ (is_row_of c row ≡ true) }
     ensures once { (c : Meaning) (row : Row) → count_by (same_row row) (all_rows (all_choices c) (day_count c)) ≡ one_if (is_row_of c row) }
+    ensures order { (c : Meaning) → AllPairs (IsEarlier (all_choices c)) (all_rows (all_choices c) (day_count c)) }
 {}
 
 /// The allowed rows of a nurse are just the rows of the case with which the roster keeps the hard rules. The present row is one
