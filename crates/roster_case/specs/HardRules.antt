@@ -10,6 +10,7 @@ use Rattle.roster_instance.specs.declared.Shift.{Shift}
 use Rattle.roster_instance.specs.declared.Skill.{Skill}
 use Rattle.roster_case.specs.declared.fault.HardFault.{HardFault}
 use Rattle.roster_case.specs.declared.fault.HardFault.TheVariants.{H2, H3, H4}
+use Rattle.roster_instance.specs.Counting.{all_below}
 use Rattle.roster_instance.specs.Days.{Days, shift_on}
 use Rattle.roster_instance.specs.Faults.{fault_if, below, is_none_of}
 use Rattle.roster_instance.specs.Meaning.{Meaning, day_count, forbids, shift_count, skill_count, nurse_count, shift_at, skill_at, nurse_at, past_of, need, last_shift}
@@ -24,6 +25,16 @@ abbrev pub is_able : List Skill → Choice → Bool
 is_able skills Off = true
 is_able skills (Work s k) = list_any (λ own. own.0 == k.0) skills
 
+-- ---- a nurse's row: a day that breaks the successions, and whether m days keep them
+
+abbrev pub breaks_succession : Meaning → ℕ → Days → ℕ → Bool
+breaks_succession c n days d = forbids c.successions (shift_before (last_shift (past_of c n).border) days d) (shift_on days d)
+
+abbrev pub keeps_successions : Meaning → ℕ → Days → ℕ → Bool
+keeps_successions c n days m = all_below m (λ d. not (breaks_succession c n days d))
+
+-- ---- the breaches
+
 abbrev pub staffing_fault : Meaning → Rows → ℕ → ℕ → ℕ → List HardFault
 staffing_fault c r d s k =
     fault_if (nat_lt (cover r d s k) (need c d s k).least) (H2 d (shift_at s) (skill_at k) (cover r d s k) (need c d s k).least)
@@ -32,9 +43,7 @@ abbrev pub staffing_faults : Meaning → Rows → List HardFault
 staffing_faults c r = below (day_count c) (λ d. below (shift_count c) (λ s. below (skill_count c) (λ k. staffing_fault c r d s k)))
 
 abbrev pub succession_fault : Meaning → Rows → ℕ → ℕ → List HardFault
-succession_fault c r n d =
-    let days = days_of_nurse r n in
-    fault_if (forbids c.successions (shift_before (last_shift (past_of c n).border) days d) (shift_on days d)) (H3 n d)
+succession_fault c r n d = fault_if (breaks_succession c n (days_of_nurse r n) d) (H3 n d)
 
 abbrev pub succession_faults : Meaning → Rows → List HardFault
 succession_faults c r = below (nurse_count c) (λ n. below (day_count c) (λ d. succession_fault c r n d))

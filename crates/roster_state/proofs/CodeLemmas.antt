@@ -5,7 +5,8 @@ use Rattle.std.proofs.lemmas.Nat.{div-add-mod', div-mul-add, div_below, mod-mul-
 use Rattle.roster_case.specs.declared.Shift.{Shift}
 use Rattle.roster_case.specs.Meaning.{Meaning, shift_at}
 use Rattle.roster_case.specs.Prefix.{Summary}
-use Rattle.roster_case.specs.Sizes.{max_states, state_count}
+use Rattle.roster_case.specs.Limits.{most_states}
+use Rattle.roster_case.specs.Sizes.{state_count}
 use Rattle.roster_state.specs.Codes.{KeepLimits, Sizes, code_of, fits, number_of, product, shift_numbered, sizes_of, state_at, state_numbered}
 
 -- ---- sizes
@@ -146,11 +147,11 @@ module _ (z now : Sizes) (s state : Summary) (number : ℕ) (sizes : z ≡ now) 
 
     -- nothing on the way to the number is large
     module _ (keep : KeepLimits z) where
-      pub digits-small : all_digits < max_states
+      pub digits-small : all_digits < most_states
       digits-small = omega (arith, digits-within, keep.states, ap product sizes)
 
-      pub weekends-small : to_weekends ≤ max_states
-      weekends-small = factor-within to_weekends z.assignments max_states keep.assignments.some (omega (arith, digits-small))
+      pub weekends-small : to_weekends ≤ most_states
+      weekends-small = factor-within to_weekends z.assignments most_states keep.assignments.some (omega (arith, digits-small))
 
 -- ---- the state of a number
 

@@ -6,3 +6,4 @@ pub mod SumLaw
 pub mod StartLaw
 pub mod StepBounds
 mod CodeLemmas
+pub mod TriedDays

@@ -4,7 +4,8 @@ use Rattle.std.specs.Prelude.{ℕ, ◌+◌, ◌-◌, ◌*◌, ◌/◌, ◌%◌, 
 use Rattle.roster_case.specs.declared.Shift.{Shift}
 use Rattle.roster_case.specs.Meaning.{Meaning, contract_of, shift_at, shift_count}
 use Rattle.roster_case.specs.Prefix.{Summary}
-use Rattle.roster_case.specs.Sizes.{greatest_of, max_states, cap}
+use Rattle.roster_case.specs.Limits.{most_states}
+use Rattle.roster_case.specs.Sizes.{greatest_of, cap}
 
 -- how many values each of the five numbers has
 pub record Sizes : Type 0 where
@@ -71,4 +72,4 @@ pub record KeepLimits (z : Sizes) : Type 0 where
   pub shift_run : IsWithin 1000 z.shift_run
   pub assignments : IsWithin 1000 z.assignments
   pub weekends : IsWithin 1000 z.weekends
-  pub states : product z ≤ max_states
+  pub states : product z ≤ most_states

@@ -3,11 +3,11 @@
 use Rattle.std.specs.Prelude.{◌≡◌, ℕ, ◌+◌, ◌*◌, ◌<◌, not, true, false, length, min, nat_le, if◌then◌else◌, Option, Some, None, is_some}
 use Rattle.roster_case.specs.declared.Shift.{Shift}
 use Rattle.roster_case.specs.declared.Limits.{Limits}
-use Rattle.roster_case.specs.Counting.{one_if, sum_below}
+use Rattle.roster_case.specs.Counting.{count_below, one_if, sum_below}
 use Rattle.roster_case.specs.DayLaw.{splits_more, weekends_more}
-use Rattle.roster_case.specs.Days.{Days, is_shift, shift_on}
-use Rattle.roster_case.specs.HardRules.{shift_before}
-use Rattle.roster_case.specs.Meaning.{Meaning, contract_of, last_shift, past_of, run_of_shift, shift_count, forbids}
+use Rattle.roster_case.specs.Days.{Days, is_shift}
+use Rattle.roster_case.specs.HardRules.{breaks_succession, keeps_successions}
+use Rattle.roster_case.specs.Meaning.{Meaning, contract_of, forbids, run_of_shift, shift_count}
 use Rattle.roster_case.specs.Penalties.{missing}
 use Rattle.roster_case.specs.Prefix.{Summary}
 use Rattle.roster_case.specs.Sizes.{cap}
@@ -93,4 +93,8 @@ end_cost_of c n s = missing c n s.assignments
 
 -- no shift of these days is forbidden by the one before it, the history's last included
 abbrev pub KeepsSuccessions : Meaning → ℕ → Days → Type 0
-KeepsSuccessions c n days = (d : ℕ) → d < length days → forbids c.successions (shift_before (last_shift (past_of c n).border) days d) (shift_on days d) ≡ false
+KeepsSuccessions c n days = (d : ℕ) → d < length days → breaks_succession c n days d ≡ false
+
+-- how many days are gone through, up to the first forbidden one and that one included: each before which none is
+abbrev pub days_tried : Meaning → ℕ → Days → ℕ
+days_tried c n days = count_below (length days) (keeps_successions c n days)

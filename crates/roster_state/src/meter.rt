@@ -10,6 +10,10 @@ use std::marker::Model;
 #[derive(Drop)]
 pub struct Meter {
     count: u64,
+
+    /// It holds nothing. A mutable reference can neither be copied nor made from nothing, so no derive of `Clone`, `Copy` or
+    /// `Default` compiles on a meter: a search can't count on a copy.
+    unshared: [&'static mut (); 0],
 }
 
 impl Model for Meter {
@@ -27,7 +31,10 @@ impl Meter {
         ensures same { case.new ≡ case.old }
     {
         let _ = case;
-        Meter { count: 0 }
+        Meter {
+            count: 0,
+            unshared: [],
+        }
     }
 
     /// How many extensions were counted.

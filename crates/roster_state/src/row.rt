@@ -5,15 +5,15 @@ ghost use Rattle.roster_case.specs.Choices.{days_of};
 ghost use Rattle.roster_case.specs.Meaning.{day_count, nurse_count};
 ghost use Rattle.roster_case.specs.Penalties.{own_cost};
 ghost use Rattle.roster_case.specs.Rosters.{is_row_of};
-ghost use Rattle.roster_state.specs.Step.{KeepsSuccessions};
+ghost use Rattle.roster_state.specs.Step.{days_tried, KeepsSuccessions};
 
 use crate::meter::Meter;
 use crate::step::{end_cost, extend, start};
 use roster_case::{Case, Choice};
 
 /// What a row costs its nurse in runs, split weekends, totals and worked weekends, in penalty points: the cost of the start,
-/// of a step for each day and of the end. None exactly where a shift forbids the next. The meter counts one for each day that
-/// was taken.
+/// of a step for each day and of the end. None exactly where a shift forbids the next. The meter counts one for each day, up to
+/// the first forbidden one and that one included.
 pub fn row_cost(case: &Case, nurse: usize, row: &[Choice], meter: &mut Meter) -> Option<u64>
     requires nurse { nurse < nurse_count case.now }
     requires row { is_row_of case.now row.now ≡ true }
@@ -21,7 +21,7 @@ pub fn row_cost(case: &Case, nurse: usize, row: &[Choice], meter: &mut Meter) ->
     ensures cost { IfSome result (λ cost. cost ≡ own_cost case.now nurse (days_of row.now)) }
     ensures kept { IfSome result (λ cost. KeepsSuccessions case.now nurse (days_of row.now)) }
     ensures forbidden { IsNone result → KeepsSuccessions case.now nurse (days_of row.now) → ⊥ }
-    ensures counted { meter.new ≤ meter.old + day_count case.now }
+    ensures counted { meter.new ≡ meter.old + days_tried case.now nurse (days_of row.now) }
 {
     let (mut state, before) = start(case, nurse);
     let mut cost = before as u64;

@@ -4,11 +4,12 @@ use Rattle.std.proofs.lemmas.List.{length-map}
 use Rattle.std.specs.List.{list_all}
 use Rattle.roster_case.specs.Choices.{days_of, shift_of}
 use Rattle.roster_case.specs.Days.{shift_on}
-use Rattle.roster_case.specs.HardRules.{shift_before}
+use Rattle.roster_case.specs.HardRules.{breaks_succession, shift_before}
 use Rattle.roster_case.specs.Meaning.{Meaning, day_count, last_shift, past_of, forbids}
 use Rattle.roster_case.specs.Prefix.{due, summary_of}
 use Rattle.roster_case.specs.Rosters.{Row, is_choice_of, is_row_of}
 use Rattle.roster_state.proofs.RowLemmas.{forbidden_by, front, front_more, kept_more, length_front, not_both}
+use Rattle.roster_state.proofs.TriedDays.{tried-all, tried-up_to}
 use Rattle.roster_state.proofs.row.row_cost.Goals as goal
 
 row_days : (k : Meaning) (row : Row) → is_row_of k row ≡ true → length row ≡ day_count k
@@ -24,6 +25,20 @@ returns-in_err-next-clause-forbidden c none keeps =
     let inside : day < length (days_of row) = omega (arith, days, length-map row shift_of, c.days-day-end.ensures.count) in
     not_both _ (c.in_err-next.ensures.forbidden.0 refl)
     (forbidden_by k n row day c.loop-day.state c.shift.result (omega (arith, days, c.days-day-end.ensures.count)) c.loop-day.invariant.state_is c.shift.ensures ∙ keeps day inside)
+
+-- the refused day counts, and no day behind it
+pub returns-in_err-next-clause-counted : goal.returns-in_err-next-clause-counted
+returns-in_err-next-clause-counted c =
+    let k = c.args.case.now in
+    let n = c.args.nurse in
+    let row = c.args.row.now in
+    let day = c.loop-day.day in
+    let days = row_days k row c.requires.row in
+    let inside : day < length (days_of row) = omega (arith, days, length-map row shift_of, c.days-day-end.ensures.count) in
+    let breaks : forbids k.successions (shift_before (last_shift (past_of k n).border) (days_of row) day) (shift_on (days_of row) day) ≡ true =
+    sym (forbidden_by k n row day c.loop-day.state c.shift.result (omega (arith, days, c.days-day-end.ensures.count)) c.loop-day.invariant.state_is c.shift.ensures) ∙ c.in_err-next.ensures.forbidden.0 refl in
+    let tried = tried-up_to (breaks_succession k n (days_of row)) (length (days_of row)) day inside c.loop-day.invariant.kept breaks in
+    omega (arith, tried, c.loop-day.invariant.counted, c.in_err-next.ensures.counted)
 
 pub loop-day-preserved : goal.loop-day-preserved
 loop-day-preserved c =
@@ -51,3 +66,12 @@ pub returns-clause-kept : goal.returns-clause-kept
 returns-clause-kept c d h =
     let days = row_days c.args.case.now c.args.row.now c.requires.row in
     c.loop-day.invariant.kept d (omega (arith, h, days, length-map c.args.row.now shift_of, c.days-day-end.ensures.count, c.loop-day-test.false))
+
+pub returns-clause-counted : goal.returns-clause-counted
+returns-clause-counted c =
+    let k = c.args.case.now in
+    let row = c.args.row.now in
+    let days = row_days k row c.requires.row in
+    let all : length (days_of row) ≡ c.loop-day.day = omega (arith, days, length-map row shift_of, c.days-day-end.ensures.count, c.loop-day-test.false) in
+    let tried = tried-all (breaks_succession k c.args.nurse (days_of row)) (length (days_of row)) (λ d h. c.loop-day.invariant.kept d (omega (arith, h, all))) in
+    omega (arith, all, tried, c.loop-day.invariant.counted)

@@ -14,5 +14,5 @@ invariant-loop-day l = record {
   fitting : fits (sizes_of l.case l.nurse) l.state ≡ true;
   kept : (d : ℕ) → d < l.day → forbids l.case.successions (shift_before (last_shift (past_of l.case l.nurse).border) (days_of l.row) d) (shift_on (days_of l.row) d) ≡ false;
   within : l.cost ≤ 49950 + 45200 * l.day;
-  counted : l.meter ≤ l.fn.meter + l.day;
+  counted : l.meter ≡ l.fn.meter + l.day;
 }

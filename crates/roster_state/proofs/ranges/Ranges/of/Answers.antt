@@ -1,5 +1,6 @@
 use Rattle.std.proofs.Common.{◌≡◌, ◌+◌, ◌≤◌, arith, max, rules, subst, sym}
-use Rattle.roster_case.specs.Sizes.{max_states, state_count}
+use Rattle.roster_case.specs.Limits.{most_states}
+use Rattle.roster_case.specs.Sizes.{state_count}
 use Rattle.roster_state.specs.Codes.{Sizes, product, sizes_of}
 use Rattle.roster_state.proofs.CodeLemmas.{product-is_state_count}
 use Rattle.roster_state.proofs.ranges.Ranges.of.Goals as goal
@@ -28,7 +29,7 @@ invariant_of-result c =
       shift_run = record { some = omega arith; few = omega arith };
       assignments = record { some = omega arith; few = omega arith };
       weekends = record { some = omega arith; few = omega arith };
-      states = subst (λ n. n ≤ max_states) (sym (states c)) (subst (λ n. n ≤ max_states) c.states-states.ensures.count c.states-states.ensures.within);
+      states = subst (λ n. n ≤ most_states) (sym (states c)) (subst (λ n. n ≤ most_states) c.states-states.ensures.count c.states-states.ensures.within);
     }
 
 pub returns-clause-states : goal.returns-clause-states

@@ -1,5 +1,5 @@
 use Rattle.std.proofs.Common.{◌*◌, arith}
-use Rattle.roster_case.specs.Sizes.{max_states}
+use Rattle.roster_case.specs.Limits.{most_states}
 use Rattle.roster_state.proofs.CodeLemmas.{factor-within, product-some}
 use Rattle.roster_state.proofs.ranges.Ranges.product.Goals as goal
 
@@ -7,7 +7,7 @@ pub overflow_mul-result-3 : goal.overflow_mul-result-3
 overflow_mul-result-3 c =
     let r = c.self.inside in
     let keep = c.self.invariant in
-    let few = factor-within (r.last * r.run * r.shift_run * r.assignments) r.weekends max_states keep.weekends.some keep.states in
+    let few = factor-within (r.last * r.run * r.shift_run * r.assignments) r.weekends most_states keep.weekends.some keep.states in
     omega (arith, few)
 
 pub returns-clause-some : goal.returns-clause-some
