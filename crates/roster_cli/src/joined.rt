@@ -1,7 +1,6 @@
 //! Several readers as one.
 
 ghost use Rattle.std.specs.Prelude.{◌≡◌};
-ghost use Rattle.roster_cli.specs.JoinedBytes.{ReadsJoined};
 
 use std::io;
 use std::io::Read;
@@ -34,27 +33,6 @@ impl<R> Joined<R> {
     {
         Joined { readers, done: 0 }
     }
-
-    // Takes the readers' own read as an argument, so that the contract can say that the answer is made of one call of it.
-    fn read_first<F: FnOnce(&mut R, &mut [u8]) -> io::Result<usize>>(
-        &mut self,
-        buf: &mut [u8],
-        read: F,
-    ) -> io::Result<usize>
-        requires { F.IsAlwaysCallable read }
-        ensures { ReadsJoined F.FnOnce read self.old buf.old result self.new buf.new }
-    {
-        if self.done == self.readers.len() || buf.is_empty() {
-            return Ok(0);
-        }
-        let taken = read(&mut self.readers[self.done], buf)?;
-        if taken > 0 {
-            return Ok(taken);
-        }
-        self.done += 1;
-        buf[0] = b'\n';
-        Ok(1)
-    }
 }
 
 impl<R: Read> Read for Joined<R> {
@@ -71,6 +49,15 @@ impl<R: Read> Read for Joined<R> {
         // Only a reader's fault is one, and it passes over no reader.
         ensures fault { OnErr result ((0 < length self.old) × (length self.new ≡ length self.old)) }
     {
-        self.read_first(buf, R::read)
+        if self.done == self.readers.len() || buf.is_empty() {
+            return Ok(0);
+        }
+        let taken = self.readers[self.done].read(buf)?;
+        if taken > 0 {
+            return Ok(taken);
+        }
+        self.done += 1;
+        buf[0] = b'\n';
+        Ok(1)
     }
 }

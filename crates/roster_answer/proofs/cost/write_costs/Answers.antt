@@ -7,9 +7,9 @@ use Rattle.roster_answer.proofs.cost.write_costs.Goals as goal
 pub returns-clause-ok : goal.returns-clause-ok
 returns-clause-ok g c =
     let out = c.write_pieces in
-    subst (λ text. OnOk out.result (Writes g.W.Write.contents c.args.output.now out.new.output text)) (cost_pieces-are c.args.costs c.total.result c.total.ensures c.requires) out.ensures.ok
+    subst (λ text. OnOk out.result (Writes g.W.Write.contents c.args.output.now out.new.out text)) (cost_pieces-are c.args.costs c.total.result c.total.ensures c.requires) out.ensures.ok
 
 pub returns-clause-err : goal.returns-clause-err
 returns-clause-err g c =
     let out = c.write_pieces in
-    subst (λ text. IfErr out.result (StopsIn g.W.Write.contents c.args.output.now out.new.output text)) (cost_pieces-are c.args.costs c.total.result c.total.ensures c.requires) out.ensures.err
+    subst (λ text. IfErr out.result (StopsIn g.W.Write.contents c.args.output.now out.new.out text)) (cost_pieces-are c.args.costs c.total.result c.total.ensures c.requires) out.ensures.err

@@ -8,7 +8,7 @@ pub returns-clause-ok : goal.returns-clause-ok
 returns-clause-ok g c =
     let out = c.write_pieces in
     let names = c.args.names in
-    subst (λ text. OnOk out.result (Writes g.Log.Write.contents c.args.log.now out.new.output text))
+    subst (λ text. OnOk out.result (Writes g.Log.Write.contents c.args.log.now out.new.out text))
     (missing-line (codes "H2 week ") (decimal c.args.week) (codes " ") c.args.weekday.now (codes " ") names.shift.now (codes " ") names.skill.now (codes ": ") (decimal c.args.have) (codes " of ")
     (decimal c.args.need) (codes "\n")) out.ensures.ok
 
@@ -16,6 +16,6 @@ pub returns-clause-err : goal.returns-clause-err
 returns-clause-err g c =
     let out = c.write_pieces in
     let names = c.args.names in
-    subst (λ text. IfErr out.result (StopsIn g.Log.Write.contents c.args.log.now out.new.output text))
+    subst (λ text. IfErr out.result (StopsIn g.Log.Write.contents c.args.log.now out.new.out text))
     (missing-line (codes "H2 week ") (decimal c.args.week) (codes " ") c.args.weekday.now (codes " ") names.shift.now (codes " ") names.skill.now (codes ": ") (decimal c.args.have) (codes " of ")
     (decimal c.args.need) (codes "\n")) out.ensures.err

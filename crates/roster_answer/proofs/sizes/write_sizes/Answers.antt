@@ -17,7 +17,7 @@ returns-in_err-write_sizes_of-clause-err g c =
     OnErr-always c.from_residual.result _
     (subst (Stops contents c.args.output.now c.write_sizes_of.new.output) (sym (sizes_text-split c.args.case.now i n c.loop-nurse-test.true c.nurses-nurse-end.ensures.count))
     (Stops-append contents c.args.output.now c.write_sizes_of.new.output _ (flat_map line (range_with_len (i + 1) (n - (i + 1))))
-    (Stops-after contents c.args.output.now c.loop-nurse.output c.write_sizes_of.new.output (flat_map line (range_with_len 0 i)) (line i) c.loop-nurse.invariant (Stops-from_in contents c.loop-nurse.output c.write_sizes_of.new.output (line i) c.in_err-write_sizes_of.field-0 c.in_err-write_sizes_of.ensures.err))))
+    (Stops-after contents c.args.output.now c.loop-nurse.output c.write_sizes_of.new.output (flat_map line (range_with_len 0 i)) (line i) c.loop-nurse.invariant (Stops-from_in contents c.loop-nurse.output c.write_sizes_of.new.output (line i) _ c.in_err-write_sizes_of.ensures.err))))
 
 pub loop-nurse-preserved : goal.loop-nurse-preserved
 loop-nurse-preserved g c =

@@ -14,9 +14,9 @@ line g c =
 pub returns-clause-ok : goal.returns-clause-ok
 returns-clause-ok g c =
     let out = c.write_pieces in
-    subst (λ text. OnOk out.result (Writes g.W.Write.contents c.args.output.now out.new.output text)) (line g c) out.ensures.ok
+    subst (λ text. OnOk out.result (Writes g.W.Write.contents c.args.output.now out.new.out text)) (line g c) out.ensures.ok
 
 pub returns-clause-err : goal.returns-clause-err
 returns-clause-err g c =
     let out = c.write_pieces in
-    subst (λ text. IfErr out.result (StopsIn g.W.Write.contents c.args.output.now out.new.output text)) (line g c) out.ensures.err
+    subst (λ text. IfErr out.result (StopsIn g.W.Write.contents c.args.output.now out.new.out text)) (line g c) out.ensures.err
