@@ -67,6 +67,7 @@ impl Case {
         // What is taken has no fault, and means what the texts say.
         ensures meant { IfOk result (λ case. case ≡ meaning_of source.now bundle.now) }
         ensures taken { OnOk result (case_faults source.now bundle.now ≡ []) }
+        ensures weeks { IfOk result (λ case. week_count case ≡ bundle.now.scenario.weeks.value) }
 
         // Else the answer is the first fault, memory apart.
         ensures refused { IfErr result (λ f. f ≢ CaseFault.Memory → first_of (case_faults source.now bundle.now) ≡ Some f) }

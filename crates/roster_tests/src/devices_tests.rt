@@ -101,6 +101,18 @@ fn joined_readers(rt: HostRuntime) -> Result<(), Fail> {
     Joined::new(readers).read_to_end(&mut bytes)?;
     assert_eq!(rt; bytes.as_slice(), b"ab\n\nc\n".as_slice());
 
+    let mut readers = Vec::new(alloc);
+    for piece in [b"ab".as_slice(), b"c"] {
+        readers.push(piece)?;
+    }
+    let mut small = Joined::new(readers);
+    let mut byte = [0];
+    for given in b"ab\nc\n" {
+        assert_eq!(rt; small.read(&mut byte)?, 1);
+        assert_eq!(rt; byte[0], *given);
+    }
+    assert_eq!(rt; small.read(&mut byte)?, 0);
+
     let mut none = Joined::new(Vec::<OneByteReader>::new(alloc));
     assert_eq!(rt; none.read(&mut [0; 4])?, 0);
 

@@ -6,6 +6,8 @@ mod cost_tests;
 #[cfg(test)]
 mod devices_tests;
 #[cfg(test)]
+mod library_tests;
+#[cfg(test)]
 mod show_tests;
 #[cfg(test)]
 mod start_tests;

@@ -2,11 +2,11 @@
 
 ghost use Rattle.std.specs.Prelude.{ℕ, Option, Some, None, codes, ◌==◌, ◌&&◌, if◌then◌else◌};
 
+use roster_devices::{AtEnd, EndlessReader, FailingReader, OneByteReader, ShortWriter};
 use roster_text::{
     Piece, SolutionView, TextFault, Watch, WriteFault, read_all, send_pieces, write_bytes,
     write_number, write_pieces, write_solution,
 };
-use roster_devices::{AtEnd, EndlessReader, FailingReader, OneByteReader, ShortWriter};
 use std::io::{ErrorKind, Read};
 use std::test::Fail;
 

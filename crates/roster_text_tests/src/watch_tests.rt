@@ -1,7 +1,7 @@
 //! What no clause says of a watch: which calls reach its device, and how often.
 
-use roster_text::{TextFault, Watch, WriteFault, read_all, write_bytes, write_number};
 use roster_devices::{AtEnd, CallCounter, ShortWriter};
+use roster_text::{TextFault, Watch, WriteFault, read_all, write_bytes, write_number};
 use std::io::{Read, Write};
 use std::test::Fail;
 

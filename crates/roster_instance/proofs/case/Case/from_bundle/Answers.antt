@@ -41,3 +41,8 @@ pub returns-clause-taken : goal.returns-clause-taken
 returns-clause-taken c =
     let ok = c.in_ok-scenario.ensures in
     none_at_all c.args.source.now c.args.bundle.now c.in_ok-scenario.scenario ok.meant ok.none c.in_ok-told.ensures.none
+
+pub returns-clause-weeks : goal.returns-clause-weeks
+returns-clause-weeks c =
+    let s = c.in_ok-scenario.scenario in
+    ap length c.in_ok-told.ensures.weeks ∙ length-map c.args.bundle.now.week_data (week_meant c.args.source.now s.shifts s.skills s.nurses) ∙ c.requires.weeks
