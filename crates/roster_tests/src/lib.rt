@@ -10,8 +10,6 @@ mod library_tests;
 #[cfg(test)]
 mod show_tests;
 #[cfg(test)]
-mod start_tests;
-#[cfg(test)]
 mod state_tests;
 #[cfg(test)]
 mod texts;
