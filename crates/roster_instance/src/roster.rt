@@ -26,9 +26,15 @@ use std::alloc::{AllocError, Global};
 use std::marker::Model;
 
 /// A row for each nurse, with a choice for each day.
-#[derive(Drop)]
 pub struct Roster {
     rows: Vec<Vec<Choice>>,
+}
+
+// By hand, so that who drops a roster has one call to prove and not the drops of all its rows.
+impl Drop for Roster {
+    fn drop(self) {
+        let Roster { rows: _ } = self;
+    }
 }
 
 impl Model for Roster {

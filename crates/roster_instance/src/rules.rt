@@ -9,7 +9,7 @@ use std::cmp::max;
 
 /// A least and a greatest number, used as written: the least may be above the greatest.
 /// For the nurses of a shift and skill on a day, the minimum and the optimum.
-#[derive(Clone, Copy, Debug, Default, PartialEq, Eq)]
+#[derive(Clone, Copy, Default)]
 pub struct Limits {
     pub least: u16,
     pub greatest: u16,
@@ -41,7 +41,7 @@ impl Limits {
 
 /// What a contract asks for: assignments, working days in a row, days off in a row, the greatest number of worked
 /// weekends, and whether a weekend is to be worked whole or not at all.
-#[derive(Clone, Copy, Debug, Default, PartialEq, Eq)]
+#[derive(Clone, Copy, Default)]
 pub struct ContractRules {
     pub total: Limits,
     pub working: Limits,
@@ -51,7 +51,7 @@ pub struct ContractRules {
 }
 
 /// The run that stands before the first Monday.
-#[derive(Clone, Copy, Debug, PartialEq, Eq)]
+#[derive(Clone, Copy)]
 pub enum Border {
     /// That many days off.
     Free(u16),
@@ -60,7 +60,7 @@ pub enum Border {
 }
 
 /// What a nurse did before the first Monday: the run that stands there, the assignments and the worked weekends.
-#[derive(Clone, Copy, Debug, PartialEq, Eq)]
+#[derive(Clone, Copy)]
 pub struct Past {
     pub border: Border,
     pub assignments: u16,

@@ -38,7 +38,6 @@ const MAX_CONTRACTS: usize = 64;
 const MAX_NURSES: usize = 200;
 
 /// What a scenario says.
-#[derive(Drop)]
 pub(crate) struct Scenario {
     pub(crate) name: Vec<u8>,
     pub(crate) skills: Names,
@@ -51,6 +50,24 @@ pub(crate) struct Scenario {
     pub(crate) nurse_rules: Vec<NurseRules>,
     pub(crate) weeks: usize,
     ghost counts: { HasCounts weeks (length skills) (length shifts) (length nurses) },
+}
+
+// By hand, so that who drops a scenario has one call to prove and not the drops of all its parts.
+impl Drop for Scenario {
+    fn drop(self) {
+        let Scenario {
+            name: _,
+            skills: _,
+            shifts: _,
+            runs: _,
+            successions: _,
+            contracts: _,
+            contract_rules: _,
+            nurses: _,
+            nurse_rules: _,
+            weeks: _,
+        } = self;
+    }
 }
 
 impl Scenario {

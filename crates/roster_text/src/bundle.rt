@@ -64,7 +64,7 @@ impl Day {
 }
 
 /// The items of a section, in the order of the text.
-#[derive(Debug, Drop)]
+#[derive(Drop)]
 pub struct Items<T> {
     items: Vec<T>,
 }
@@ -105,42 +105,42 @@ impl<T> Items<T> {
 }
 
 /// A number with the place where it stands.
-#[derive(Clone, Copy, Debug, PartialEq, Eq)]
+#[derive(Clone, Copy)]
 pub struct Number {
     pub token: Token,
     pub value: u32,
 }
 
 /// A section that begins with the count of its items, and where that count stands.
-#[derive(Debug, Drop)]
+#[derive(Drop)]
 pub struct Listed<T> {
     pub count: Token,
     pub items: Items<T>,
 }
 
 /// A least and a greatest number, or a minimum and an optimum, each from 0 to 999.
-#[derive(Clone, Copy, Debug, PartialEq, Eq)]
+#[derive(Clone, Copy)]
 pub struct Pair {
     pub least: u16,
     pub greatest: u16,
 }
 
 /// A shift, and how many days in a row it is to be worked.
-#[derive(Clone, Copy, Debug, PartialEq, Eq)]
+#[derive(Clone, Copy)]
 pub struct ShiftType {
     pub name: Token,
     pub run: Pair,
 }
 
 /// The shifts that may not follow a shift on the next day.
-#[derive(Debug, Drop)]
+#[derive(Drop)]
 pub struct Succession {
     pub shift: Token,
     pub forbidden: Items<Token>,
 }
 
 /// What a contract asks for: assignments, days in a row of work and of free time, worked weekends, whole weekends.
-#[derive(Clone, Copy, Debug, PartialEq, Eq)]
+#[derive(Clone, Copy)]
 pub struct Contract {
     pub name: Token,
     pub total: Pair,
@@ -152,7 +152,7 @@ pub struct Contract {
 }
 
 /// A nurse with the name of a contract and the names of skills.
-#[derive(Debug, Drop)]
+#[derive(Drop)]
 pub struct Nurse {
     pub name: Token,
     pub contract: Token,
@@ -160,7 +160,7 @@ pub struct Nurse {
 }
 
 /// The scenario: what stays the same in every week.
-#[derive(Debug, Drop)]
+#[derive(Drop)]
 pub struct Scenario {
     pub name: Token,
     pub weeks: Number,
@@ -172,7 +172,7 @@ pub struct Scenario {
 }
 
 /// What a nurse did before the first Monday. The last shift may be the word `None`.
-#[derive(Clone, Copy, Debug, PartialEq, Eq)]
+#[derive(Clone, Copy)]
 pub struct NurseHistory {
     pub nurse: Token,
     pub assignments: u16,
@@ -184,7 +184,7 @@ pub struct NurseHistory {
 }
 
 /// The history: a line for each nurse.
-#[derive(Debug, Drop)]
+#[derive(Drop)]
 pub struct History {
     pub week: Number,
     pub scenario: Token,
@@ -192,7 +192,7 @@ pub struct History {
 }
 
 /// A pair for each day of a week.
-#[derive(Clone, Copy, Debug, PartialEq, Eq)]
+#[derive(Clone, Copy)]
 pub struct WeekPairs {
     pub monday: Pair,
     pub tuesday: Pair,
@@ -204,7 +204,7 @@ pub struct WeekPairs {
 }
 
 /// How many nurses a shift and skill needs at least, and at best, on each day of a week.
-#[derive(Clone, Copy, Debug, PartialEq, Eq)]
+#[derive(Clone, Copy)]
 pub struct Requirement {
     pub shift: Token,
     pub skill: Token,
@@ -212,7 +212,7 @@ pub struct Requirement {
 }
 
 /// A nurse's wish to have a day free of a shift; the shift may be the word `Any`.
-#[derive(Clone, Copy, Debug, PartialEq, Eq)]
+#[derive(Clone, Copy)]
 pub struct OffRequest {
     pub nurse: Token,
     pub shift: Token,
@@ -220,7 +220,7 @@ pub struct OffRequest {
 }
 
 /// What one week asks for.
-#[derive(Debug, Drop)]
+#[derive(Drop)]
 pub struct WeekData {
     pub scenario: Token,
     pub requirements: Items<Requirement>,
@@ -228,7 +228,7 @@ pub struct WeekData {
 }
 
 /// A nurse works a shift with a skill on a day.
-#[derive(Clone, Copy, Debug, PartialEq, Eq)]
+#[derive(Clone, Copy)]
 pub struct Assignment {
     pub nurse: Token,
     pub day: Day,
@@ -237,7 +237,7 @@ pub struct Assignment {
 }
 
 /// The roster of one week.
-#[derive(Debug, Drop)]
+#[derive(Drop)]
 pub struct Solution {
     pub week: Number,
     pub scenario: Token,
@@ -245,12 +245,23 @@ pub struct Solution {
 }
 
 /// The four texts: a scenario, a history, the data of each week and a solution for each week.
-#[derive(Debug, Drop)]
 pub struct Bundle {
     pub scenario: Scenario,
     pub history: History,
     pub week_data: Items<WeekData>,
     pub solutions: Items<Solution>,
+}
+
+// By hand, so that who drops a bundle has one call to prove and not the drops of all its parts.
+impl Drop for Bundle {
+    fn drop(self) {
+        let Bundle {
+            scenario: _,
+            history: _,
+            week_data: _,
+            solutions: _,
+        } = self;
+    }
 }
 
 impl Bundle {

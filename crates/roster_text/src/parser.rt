@@ -16,7 +16,7 @@ use std::alloc::{AllocError, AllocFailed, Global};
 use std::marker::Model;
 
 /// Why the grammar doesn't go on at a token, or at the end.
-#[derive(Clone, Copy, Debug, PartialEq, Eq)]
+#[derive(Clone, Copy)]
 pub(crate) enum Refusal {
     /// Something else is due there.
     Due(What),
@@ -25,7 +25,7 @@ pub(crate) enum Refusal {
 }
 
 /// Why a part was not read.
-#[derive(Debug, Drop)]
+#[derive(Drop)]
 pub(crate) enum Stop {
     Memory,
     Refused(Refusal),

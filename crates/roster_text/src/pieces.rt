@@ -10,7 +10,7 @@ use itoa::Buffer;
 use std::io::Write;
 
 /// A piece of a text: bytes as they are, or a number in decimal, without leading zeros.
-#[derive(Clone, Copy, Debug)]
+#[derive(Clone, Copy)]
 pub enum Piece<'a> {
     Bytes(&'a [u8]),
     Number(u64),
