@@ -2,13 +2,12 @@
 #![tactic(auto)]
 
 #[cfg(test)]
-mod cost_tests;
+mod command_tests;
 #[cfg(test)]
 mod devices_tests;
 #[cfg(test)]
 mod library_tests;
 #[cfg(test)]
-mod show_tests;
 #[cfg(test)]
 mod state_tests;
 #[cfg(test)]

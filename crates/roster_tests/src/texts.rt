@@ -95,17 +95,6 @@ pub(crate) fn mini_with(alloc: Global, changes: &[(usize, &str)]) -> Result<Stri
     Ok(text)
 }
 
-pub(crate) fn with_carriage_returns(alloc: Global, text: &str) -> Result<Vec<u8>, AllocError> {
-    let mut bytes = Vec::new(alloc);
-    for byte in text.as_bytes() {
-        if *byte == b'\n' {
-            bytes.push(b'\r')?;
-        }
-        bytes.push(*byte)?;
-    }
-    Ok(bytes)
-}
-
 /// What a run left behind.
 #[derive(Debug, Drop)]
 pub(crate) struct Ran {
@@ -163,23 +152,4 @@ pub(crate) fn run_over(
 
 pub(crate) fn shown(alloc: Global, input: impl Read + Drop) -> Result<Ran, Fail> {
     run_over(alloc, Command::Show, input)
-}
-
-/// The instance mini with so many weeks, each as its own.
-pub(crate) fn empty_weeks(alloc: Global, weeks: u32) -> Result<String, AllocError> {
-    let count = format!(in alloc; "WEEKS = {weeks}")?;
-    let whole = mini_with(alloc, &[(3, count.as_str())])?;
-    let mut text = String::new(alloc);
-    for line in whole.as_str().lines().take(29) {
-        text.push_str(line)?;
-        text.push_str("\n")?;
-    }
-    for _ in 0..weeks {
-        text.push_str(WEEK)?;
-        text.push_str(PAIRS)?;
-    }
-    for _ in 0..weeks {
-        text.push_str(EMPTY_ROSTER)?;
-    }
-    Ok(text)
 }
