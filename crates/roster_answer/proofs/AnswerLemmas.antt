@@ -7,10 +7,10 @@ use Rattle.roster_text.specs.Grammar.{Spells}
 use Rattle.roster_text.specs.Io.{IsReadFault, Stops, Watched, Writes, counted, is_read_failure, one_more}
 use Rattle.roster_text.specs.Limits.{most_bytes}
 use Rattle.roster_text.specs.Token.{all_seen, text_of, tokens_of}
-use Rattle.roster_text.specs.declared.bundle.Bundle.{Bundle}
+use Rattle.roster_text.specs.declared.Bundle.{Bundle}
 use Rattle.roster_text.specs.declared.fault.TextFault.{TextFault}
 use Rattle.roster_text.specs.declared.fault.TextFault.TheVariants as text
-use Rattle.roster_text.specs.declared.token.Token.{Token}
+use Rattle.roster_text.specs.declared.Token.{Token}
 use Rattle.roster_case.specs.Bundles.{meaning_of, rows_of, week_meant}
 use Rattle.roster_case.specs.Checking.{IsFirst}
 use Rattle.roster_case.specs.Meaning.{Meaning, week_count}

@@ -7,7 +7,8 @@ use Rattle.std.proofs.lemmas.List.FromFn.{length-range_with_len, map-range_with_
 use Rattle.roster_text.specs.Canonical.{canonical}
 use Rattle.roster_text.specs.Io.{Stops, StopsIn, Watched, Writes}
 use Rattle.roster_text.specs.declared.fault.WriteFault.{WriteFault}
-use Rattle.roster_text.proofs.Texts.{Stops-after, Stops-from_in, Writes-append, range_with_len-add}
+use Rattle.roster_text.proofs.Texts.{Stops-after, Stops-from_in, Writes-append}
+use Rattle.roster_text.proofs.Ranges.{range_with_len-add}
 use Rattle.roster_case.specs.Meaning.{Meaning, week_count}
 use Rattle.roster_case.specs.Rosters.{Rows}
 use Rattle.roster_case.specs.Shown.{shown_week, weeks_text}

@@ -4,7 +4,7 @@ use Rattle.std.specs.List.{range_with_len}
 use Rattle.roster_text.specs.Canonical.{weekday_text}
 use Rattle.roster_text.specs.Token.{text_of}
 use Rattle.roster_text.specs.Words.{what_text}
-use Rattle.roster_text.specs.declared.bundle.Bundle.{Bundle}
+use Rattle.roster_text.specs.declared.Bundle.{Bundle}
 use Rattle.roster_text.specs.declared.fault.TextFault.{TextFault}
 use Rattle.roster_text.specs.declared.fault.TextFault.TheVariants as text
 use Rattle.roster_case.specs.Faults.{first_of}

@@ -4,7 +4,7 @@ use Rattle.std.specs.List.{flat_map, range_with_len}
 use Rattle.std.specs.Option.{option_or}
 use Rattle.std.proofs.lemmas.Grind.{flat_map-append}
 use Rattle.std.proofs.Math.ListN.{get_or-map}
-use Rattle.roster_text.proofs.Texts.{flat_map-range_more, range_with_len-add}
+use Rattle.roster_bundle.proofs.Ranges.{flat_map-range_more, range_with_len-add}
 use Rattle.roster_instance.specs.Choices.{shift_of}
 use Rattle.roster_instance.specs.Days.{Days, shift_on}
 use Rattle.roster_instance.specs.Faults.{below, fault_if, first_of}

@@ -1,10 +1,10 @@
 -- A case by its parts: what they mean, and the faults of all of them in their order.
 use Rattle.std.proofs.Common.{◌≡◌, ◌∙◌, ◌≤◌, ℕ, ap, refl, subst, sym, List, [], ◌++◌, append_assoc, map, nat_lt, Option}
 use Rattle.std.specs.List.{enumerate_from, flat_map}
-use Rattle.roster_text.specs.Token.{text_of}
-use Rattle.roster_text.specs.declared.bundle.Bundle.{Bundle}
-use Rattle.roster_text.specs.declared.bundle.Nurse.{Nurse}
-use Rattle.roster_text.specs.declared.bundle.WeekData.{WeekData}
+use Rattle.roster_bundle.specs.Token.{text_of}
+use Rattle.roster_bundle.specs.declared.bundle.Bundle.{Bundle}
+use Rattle.roster_bundle.specs.declared.bundle.Nurse.{Nurse}
+use Rattle.roster_bundle.specs.declared.bundle.WeekData.{WeekData}
 use Rattle.roster_instance.specs.declared.fault.CaseFault.{CaseFault}
 use Rattle.roster_instance.specs.declared.fault.CaseFault.TheVariants.{TooManyStates}
 use Rattle.roster_instance.specs.declared.rules.Past.{Past}

@@ -4,10 +4,10 @@ use Rattle.std.specs.Prelude.{option_map, unwrap_or}
 use Rattle.std.specs.List.{enumerate_from, flat_map, list_all, range_with_len}
 use Rattle.std.proofs.lemmas.List.{length-map}
 use Rattle.std.proofs.lemmas.List.FromFn.{length-range_with_len}
-use Rattle.roster_text.specs.declared.bundle.Assignment.{Assignment}
-use Rattle.roster_text.specs.declared.bundle.Bundle.{Bundle}
-use Rattle.roster_text.specs.declared.bundle.Solution.{Solution}
-use Rattle.roster_text.specs.declared.token.Token.{Token}
+use Rattle.roster_bundle.specs.declared.bundle.Assignment.{Assignment}
+use Rattle.roster_bundle.specs.declared.bundle.Bundle.{Bundle}
+use Rattle.roster_bundle.specs.declared.bundle.Solution.{Solution}
+use Rattle.roster_bundle.specs.declared.token.Token.{Token}
 use Rattle.roster_instance.specs.declared.choice.Choice.{Choice}
 use Rattle.roster_instance.specs.declared.choice.Choice.TheVariants.{Off}
 use Rattle.roster_instance.specs.Bundles.{choice_meant, place_of_line, row_meant, rows_of, solution_meant, work_meant}

@@ -2,7 +2,7 @@
 use Rattle.std.proofs.Common.{◌≡◌, ◌∙◌, ◌++◌, ◌∷◌, ℕ, Bool, true, false, List, [], Option, Some, None, ap, ap₂, codes, get_or, is_some, length, replicate, sym}
 use Rattle.std.proofs.Math.ListN.{set}
 use Rattle.std.specs.List.{list_any}
-use Rattle.roster_text.specs.declared.bundle.NurseHistory.{NurseHistory}
+use Rattle.roster_bundle.specs.declared.bundle.NurseHistory.{NurseHistory}
 use Rattle.roster_instance.specs.Bundles.{Names, line_meant, past_meant}
 use Rattle.roster_instance.specs.Faults.{fault_if, first_of}
 use Rattle.roster_instance.specs.Names.{found, same_name}

@@ -8,8 +8,8 @@ use Rattle.std.proofs.lemmas.Bool.Decides.{nat_tests}
 use Rattle.std.proofs.lemmas.List.{length-map, map_push}
 use Rattle.std.proofs.lemmas.List.Quantifiers.{position-Some}
 use Rattle.std.proofs.lemmas.Slice.Eq.{bytes_eq-Decides}
-use Rattle.roster_text.specs.Token.{text_of}
-use Rattle.roster_text.specs.declared.token.Token.{Token}
+use Rattle.roster_bundle.specs.Token.{text_of}
+use Rattle.roster_bundle.specs.declared.token.Token.{Token}
 use Rattle.roster_instance.specs.Names.{find_name, found, has_number, is_known, names_of, number_of, same_name}
 use Rattle.roster_instance.specs.Refusals.{repeated_fault, unknown_fault}
 use Rattle.roster_instance.specs.Faults.{fault_if}

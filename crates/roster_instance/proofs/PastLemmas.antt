@@ -2,7 +2,7 @@
 use Rattle.std.proofs.Common.{◌≡◌, ◌<◌, ℕ, Bool, true, false, IfSome, List, Option, Some, None, codes, cond, get_or, length, subst, sym}
 use Rattle.std.specs.Prelude.{option_map, unwrap_or}
 use Rattle.std.specs.List.{range_with_len}
-use Rattle.roster_text.specs.declared.bundle.NurseHistory.{NurseHistory}
+use Rattle.roster_bundle.specs.declared.bundle.NurseHistory.{NurseHistory}
 use Rattle.roster_instance.specs.declared.rules.Border.{Border}
 use Rattle.roster_instance.specs.declared.rules.Border.TheVariants.{Free, Working}
 use Rattle.roster_instance.specs.declared.rules.Past.{Past}

@@ -2,8 +2,8 @@
 use Rattle.std.proofs.Common.{◌≡◌, ◌∙◌, ℕ, Bool, false, true, sym, ap, List, [], ◌∷◌, ◌++◌, get_or, length, map, Option, Some, None, is_some}
 use Rattle.std.proofs.Math.ListN.{set}
 use Rattle.std.specs.List.{flat_map, list_any}
-use Rattle.roster_text.specs.declared.bundle.Succession.{Succession}
-use Rattle.roster_text.specs.declared.token.Token.{Token}
+use Rattle.roster_bundle.specs.declared.bundle.Succession.{Succession}
+use Rattle.roster_bundle.specs.declared.token.Token.{Token}
 use Rattle.roster_instance.specs.Bundles.{Names, numbers_among, successions_meant}
 use Rattle.roster_instance.specs.Checking.{IsFirst}
 use Rattle.roster_instance.specs.Faults.{fault_if}

@@ -2,7 +2,7 @@
 use Rattle.std.proofs.Common.{◌≡◌, ◌∙◌, ◌+◌, ◌*◌, ◌≤◌, ◌<◌, ◌⊎◌, ℕ, suc, Bool, Some, max, ap, arith, false, inl, inr, le-ltb, lt-ltb, get_or, nat_lt, subst, sym, true, List, [], ◌∷◌, ◌++◌, map}
 use Rattle.std.proofs.lemmas.Bool.{cases_eq}
 use Rattle.std.proofs.lemmas.Nat.{mul-le}
-use Rattle.roster_text.specs.declared.bundle.Nurse.{Nurse}
+use Rattle.roster_bundle.specs.declared.bundle.Nurse.{Nurse}
 use Rattle.roster_instance.specs.declared.fault.CaseFault.TheVariants.{TooManyStates}
 use Rattle.roster_instance.specs.declared.rules.Limits.{Limits}
 use Rattle.roster_instance.specs.Faults.{fault_if, first_of}

@@ -4,15 +4,15 @@ use Rattle.std.specs.Prelude.{find, option_map, unwrap_or}
 use Rattle.std.specs.Option.{option_map_or}
 use Rattle.std.specs.List.{range_with_len}
 use Rattle.std.proofs.lemmas.List.Elements.{All-head, All-tail}
-use Rattle.roster_text.specs.SmallNumbers.{AreSmallNeeds, AreSmallPairs, IsSmallContract, IsSmallLine, IsSmallPair, SaysSmallNumbers}
-use Rattle.roster_text.specs.declared.bundle.Bundle.{Bundle}
-use Rattle.roster_text.specs.declared.bundle.Contract.{Contract}
-use Rattle.roster_text.specs.declared.bundle.NurseHistory.{NurseHistory}
-use Rattle.roster_text.specs.declared.bundle.Pair.{Pair}
-use Rattle.roster_text.specs.declared.bundle.Requirement.{Requirement}
-use Rattle.roster_text.specs.declared.bundle.ShiftType.{ShiftType}
-use Rattle.roster_text.specs.declared.bundle.WeekData.{WeekData}
-use Rattle.roster_text.specs.declared.bundle.WeekPairs.{WeekPairs}
+use Rattle.roster_bundle.specs.SmallNumbers.{AreSmallNeeds, AreSmallPairs, IsSmallContract, IsSmallLine, IsSmallPair, SaysSmallNumbers}
+use Rattle.roster_bundle.specs.declared.bundle.Bundle.{Bundle}
+use Rattle.roster_bundle.specs.declared.bundle.Contract.{Contract}
+use Rattle.roster_bundle.specs.declared.bundle.NurseHistory.{NurseHistory}
+use Rattle.roster_bundle.specs.declared.bundle.Pair.{Pair}
+use Rattle.roster_bundle.specs.declared.bundle.Requirement.{Requirement}
+use Rattle.roster_bundle.specs.declared.bundle.ShiftType.{ShiftType}
+use Rattle.roster_bundle.specs.declared.bundle.WeekData.{WeekData}
+use Rattle.roster_bundle.specs.declared.bundle.WeekPairs.{WeekPairs}
 use Rattle.roster_instance.specs.declared.rules.Border.TheVariants.{Free, Working}
 use Rattle.roster_instance.specs.declared.rules.Limits.{Limits}
 use Rattle.roster_instance.specs.declared.rules.Past.{Past}

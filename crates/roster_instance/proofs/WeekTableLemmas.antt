@@ -3,7 +3,7 @@ use Rattle.std.proofs.Common.{◌≡◌, ◌∙◌, ◌+◌, ◌*◌, ◌<◌, �
 use Rattle.std.specs.Prelude.{option_and_then, option_map}
 use Rattle.std.proofs.Math.ListN.{set}
 use Rattle.std.specs.List.{list_any}
-use Rattle.roster_text.specs.declared.bundle.Requirement.{Requirement}
+use Rattle.roster_bundle.specs.declared.bundle.Requirement.{Requirement}
 use Rattle.roster_instance.specs.Bundles.{Names, limits_of_week, needs_meant, place_of_need}
 use Rattle.roster_instance.specs.Faults.{fault_if, first_of}
 use Rattle.roster_instance.specs.Names.{found, same_name}

@@ -1,9 +1,9 @@
 -- The parts of which a case is built.
 use Rattle.std.specs.Prelude.{◌≡◌, ℕ, ◌<◌, ◌≤◌, List, [], ◌++◌, flat_map, length, map, Option, IfSome}
 use Rattle.std.specs.List.{enumerate_from}
-use Rattle.roster_text.specs.declared.bundle.Bundle.{Bundle}
-use Rattle.roster_text.specs.declared.bundle.ShiftType.{ShiftType}
-use Rattle.roster_text.specs.Token.{text_of}
+use Rattle.roster_bundle.specs.declared.bundle.Bundle.{Bundle}
+use Rattle.roster_bundle.specs.declared.bundle.ShiftType.{ShiftType}
+use Rattle.roster_bundle.specs.Token.{text_of}
 use Rattle.roster_instance.specs.declared.fault.CaseFault.{CaseFault}
 use Rattle.roster_instance.specs.declared.rules.Past.{Past}
 use Rattle.roster_instance.specs.declared.scenario.Scenario.{Scenario}

@@ -1,11 +1,11 @@
 -- The names of a bundle: bytes of its source, numbered in the order of the scenario.
 use Rattle.std.specs.Prelude.{ℕ, Bool, List, map, Option, is_some, position, unwrap_or, bytes_eq}
-use Rattle.roster_text.specs.declared.bundle.Bundle.{Bundle}
-use Rattle.roster_text.specs.declared.bundle.Contract.{Contract}
-use Rattle.roster_text.specs.declared.bundle.Nurse.{Nurse}
-use Rattle.roster_text.specs.declared.bundle.ShiftType.{ShiftType}
-use Rattle.roster_text.specs.declared.token.Token.{Token}
-use Rattle.roster_text.specs.Token.{text_of}
+use Rattle.roster_bundle.specs.declared.bundle.Bundle.{Bundle}
+use Rattle.roster_bundle.specs.declared.bundle.Contract.{Contract}
+use Rattle.roster_bundle.specs.declared.bundle.Nurse.{Nurse}
+use Rattle.roster_bundle.specs.declared.bundle.ShiftType.{ShiftType}
+use Rattle.roster_bundle.specs.declared.token.Token.{Token}
+use Rattle.roster_bundle.specs.Token.{text_of}
 use Rattle.roster_instance.specs.Tables.{is_at}
 
 -- two tokens have one text, and a token has this text

@@ -2,24 +2,24 @@
 -- but for too many states, which stand behind all others of the case and before those of the solutions.
 use Rattle.std.specs.Prelude.{ℕ, ◌+◌, ◌*◌, not, ◌&&◌, ◌||◌, ◌==◌, nat_lt, List, ◌++◌, length, map, flat_map, codes}
 use Rattle.std.specs.List.{enumerate_from, list_any}
-use Rattle.roster_text.specs.declared.bundle.Assignment.{Assignment}
-use Rattle.roster_text.specs.declared.bundle.Bundle.{Bundle}
-use Rattle.roster_text.specs.declared.bundle.Contract.{Contract}
-use Rattle.roster_text.specs.declared.bundle.History.{History}
-use Rattle.roster_text.specs.declared.bundle.Listed.{Listed}
-use Rattle.roster_text.specs.declared.bundle.Nurse.{Nurse}
-use Rattle.roster_text.specs.declared.bundle.NurseHistory.{NurseHistory}
-use Rattle.roster_text.specs.declared.bundle.OffRequest.{OffRequest}
-use Rattle.roster_text.specs.declared.bundle.Requirement.{Requirement}
-use Rattle.roster_text.specs.declared.bundle.ShiftType.{ShiftType}
-use Rattle.roster_text.specs.declared.bundle.Solution.{Solution}
-use Rattle.roster_text.specs.declared.bundle.Succession.{Succession}
-use Rattle.roster_text.specs.declared.bundle.WeekData.{WeekData}
-use Rattle.roster_text.specs.declared.token.Token.{Token}
-use Rattle.roster_text.specs.Token.{text_of}
+use Rattle.roster_bundle.specs.declared.bundle.Assignment.{Assignment}
+use Rattle.roster_bundle.specs.declared.bundle.Bundle.{Bundle}
+use Rattle.roster_bundle.specs.declared.bundle.Contract.{Contract}
+use Rattle.roster_bundle.specs.declared.bundle.History.{History}
+use Rattle.roster_bundle.specs.declared.bundle.Listed.{Listed}
+use Rattle.roster_bundle.specs.declared.bundle.Nurse.{Nurse}
+use Rattle.roster_bundle.specs.declared.bundle.NurseHistory.{NurseHistory}
+use Rattle.roster_bundle.specs.declared.bundle.OffRequest.{OffRequest}
+use Rattle.roster_bundle.specs.declared.bundle.Requirement.{Requirement}
+use Rattle.roster_bundle.specs.declared.bundle.ShiftType.{ShiftType}
+use Rattle.roster_bundle.specs.declared.bundle.Solution.{Solution}
+use Rattle.roster_bundle.specs.declared.bundle.Succession.{Succession}
+use Rattle.roster_bundle.specs.declared.bundle.WeekData.{WeekData}
+use Rattle.roster_bundle.specs.declared.token.Token.{Token}
+use Rattle.roster_bundle.specs.Token.{text_of}
 use Rattle.roster_instance.specs.declared.fault.CaseFault.{CaseFault}
 use Rattle.roster_instance.specs.declared.fault.CaseFault.TheVariants.{Repeated, Unknown, Reserved, OtherInstance, HistoryWeek, HistoryNurses, RepeatedRequirement, Limit, TooManyStates, H1}
-use Rattle.roster_text.specs.ReadBack.{weekday}
+use Rattle.roster_bundle.specs.Weekdays.{weekday}
 use Rattle.roster_instance.specs.Bundles.{Names, meaning_of}
 use Rattle.roster_instance.specs.Faults.{fault_if, each}
 use Rattle.roster_instance.specs.Meaning.{Meaning}

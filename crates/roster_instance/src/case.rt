@@ -2,8 +2,8 @@
 
 ghost use Rattle.std.specs.Prelude.{◌≡◌, ◌≢◌, ◌*◌, ◌<◌, ◌≤◌, ℕ, List, [], Some, IfOk, IfErr, IfSome, OnOk, flat_map, length, map, slice_index_or};
 ghost use Rattle.std.specs.List.{enumerate_from};
-ghost use Rattle.roster_text.specs.SmallNumbers.{SaysSmallNumbers};
-ghost use Rattle.roster_text.specs.declared.bundle.Nurse.{Nurse};
+ghost use Rattle.roster_bundle.specs.SmallNumbers.{SaysSmallNumbers};
+ghost use Rattle.roster_bundle.specs.declared.bundle.Nurse.{Nurse};
 ghost use Rattle.roster_instance.specs.CaseParts.{case_of, faults_behind, HasFewStates, IsScenarioOf};
 ghost use Rattle.roster_instance.specs.Bundles.{meaning_of, past_meant, week_meant};
 ghost use Rattle.roster_instance.specs.Checking.{IsFirst};
@@ -23,7 +23,7 @@ use crate::scenario::Scenario;
 use crate::sizes::{greatest_cap, state_count};
 use crate::table::Table;
 use crate::week::{Week, weeks_of};
-use roster_text::{Bundle, Nurse};
+use roster_bundle::{Bundle, Nurse};
 use std::alloc::Global;
 use std::marker::Model;
 

@@ -1,6 +1,6 @@
 //! Why an instance or a roster is not taken.
 
-use roster_text::Token;
+use roster_bundle::Token;
 use std::alloc::{AllocError, AllocFailed};
 use thiserror::Error;
 

@@ -13,7 +13,7 @@ use crate::rules::{Border, Past};
 use crate::scenario::Scenario;
 use crate::section::{Section, add_all};
 use crate::table::Table;
-use roster_text::{History, NurseHistory, Token};
+use roster_bundle::{History, NurseHistory, Token};
 use std::alloc::Global;
 
 #[derive(Drop)]

@@ -1,15 +1,15 @@
 //! Names, by their numbers.
 
 ghost use Rattle.std.specs.Prelude.{◌≡◌, ◌<◌, ◌++◌, [], ◌∷◌, List, IfOk, IfErr, IfSome, OnOk, Some, None, is_some, length, map, not, if◌then◌else◌, slice_index_or};
-ghost use Rattle.roster_text.specs.Token.{text_of};
-ghost use Rattle.roster_text.specs.declared.token.Token.{Token};
+ghost use Rattle.roster_bundle.specs.Token.{text_of};
+ghost use Rattle.roster_bundle.specs.declared.token.Token.{Token};
 ghost use Rattle.roster_instance.specs.Checking.{IsFirst};
 ghost use Rattle.roster_instance.specs.Names.{find_name, found, names_of};
 ghost use Rattle.roster_instance.specs.Refusals.{repeated_fault, unknown_fault};
 
 use crate::fault::CaseFault;
 use indexmap::IndexSet;
-use roster_text::Token;
+use roster_bundle::Token;
 use std::alloc::{AllocError, Global};
 use std::marker::Model;
 

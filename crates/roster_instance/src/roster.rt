@@ -2,8 +2,8 @@
 
 ghost use Rattle.std.specs.Prelude.{◌≡◌, true, ◌≢◌, ◌*◌, ◌/◌, ◌<◌, ◌≤◌, ℕ, List, [], Some, IfOk, IfErr, OnOk, flat_map, length, map};
 ghost use Rattle.std.specs.List.{enumerate_from, list_all, range_with_len};
-ghost use Rattle.roster_text.specs.declared.bundle.Assignment.{Assignment};
-ghost use Rattle.roster_text.specs.declared.bundle.Solution.{Solution};
+ghost use Rattle.roster_bundle.specs.declared.bundle.Assignment.{Assignment};
+ghost use Rattle.roster_bundle.specs.declared.bundle.Solution.{Solution};
 ghost use Rattle.roster_instance.specs.Bundles.{place_of_line, row_meant, rows_of, solution_meant, work_meant};
 ghost use Rattle.roster_instance.specs.Checking.{IsFirst};
 ghost use Rattle.roster_instance.specs.Faults.{each, first_of};
@@ -21,7 +21,7 @@ use crate::scenario::Scenario;
 use crate::section::{Section, add_all};
 use crate::table::Table;
 use crate::week::weekday;
-use roster_text::{Assignment, Bundle, Solution};
+use roster_bundle::{Assignment, Bundle, Solution};
 use std::alloc::{AllocError, Global};
 use std::marker::Model;
 

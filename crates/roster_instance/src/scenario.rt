@@ -1,12 +1,12 @@
 //! The scenario: its names, shifts, contracts and nurses.
 
 ghost use Rattle.std.specs.Prelude.{◌≡◌, ◌<◌, ◌≤◌, ℕ, List, [], IfOk, IfErr, OnOk, count_by, flat_map, length, map};
-ghost use Rattle.roster_text.specs.Token.{text_of};
-ghost use Rattle.roster_text.specs.declared.bundle.Contract.{Contract};
-ghost use Rattle.roster_text.specs.declared.bundle.Nurse.{Nurse};
-ghost use Rattle.roster_text.specs.declared.bundle.Pair.{Pair};
-ghost use Rattle.roster_text.specs.declared.bundle.ShiftType.{ShiftType};
-ghost use Rattle.roster_text.specs.declared.token.Token.{Token};
+ghost use Rattle.roster_bundle.specs.Token.{text_of};
+ghost use Rattle.roster_bundle.specs.declared.bundle.Contract.{Contract};
+ghost use Rattle.roster_bundle.specs.declared.bundle.Nurse.{Nurse};
+ghost use Rattle.roster_bundle.specs.declared.bundle.Pair.{Pair};
+ghost use Rattle.roster_bundle.specs.declared.bundle.ShiftType.{ShiftType};
+ghost use Rattle.roster_bundle.specs.declared.token.Token.{Token};
 ghost use Rattle.roster_instance.specs.Building.{HasCounts, HasSkills};
 ghost use Rattle.roster_instance.specs.Bundles.{contract_meant, limits_of, nurse_meant, numbers_among, skill_named, successions_meant};
 ghost use Rattle.roster_instance.specs.Checking.{IsFirst};
@@ -22,7 +22,7 @@ use crate::rules::{ContractRules, Limits};
 use crate::section::{Section, add_all};
 use crate::table::Table;
 use arrayvec::ArrayVec;
-use roster_text::{Bundle, Contract, Listed, Nurse, Pair, ShiftType, Succession, Token};
+use roster_bundle::{Bundle, Contract, Listed, Nurse, Pair, ShiftType, Succession, Token};
 use std::alloc::Global;
 use std::marker::Model;
 

@@ -7,7 +7,7 @@ ghost use Rattle.roster_instance.specs.Rosters.{fits};
 use crate::case::Case;
 use crate::choice::Choice;
 use crate::roster::Roster;
-use roster_text::SolutionView;
+use roster_bundle::SolutionView;
 use std::marker::Model;
 
 /// A week of a roster that fits its case.

@@ -2,8 +2,8 @@
 
 ghost use Rattle.std.specs.Prelude.{◌≡◌, ◌*◌, ◌<◌, ℕ, List, [], IfOk, IfErr, OnOk, codes, false, flat_map, length, map, replicate, slice_index_or, slice_set, true};
 ghost use Rattle.std.specs.Option.{option_map_or};
-ghost use Rattle.roster_text.specs.ReadBack.{weekday};
-ghost use Rattle.roster_text.specs.declared.bundle.WeekData.{WeekData};
+ghost use Rattle.roster_bundle.specs.Weekdays.{weekday};
+ghost use Rattle.roster_bundle.specs.declared.bundle.WeekData.{WeekData};
 ghost use Rattle.roster_instance.specs.Bundles.{limits_of_week, needs_meant, week_meant, wishes_meant};
 ghost use Rattle.roster_instance.specs.Checking.{IsFirst};
 ghost use Rattle.roster_instance.specs.Faults.{each};
@@ -16,7 +16,7 @@ use crate::rules::Limits;
 use crate::scenario::{Scenario, limits_of};
 use crate::section::{Section, add_all};
 use crate::table::Table;
-use roster_text::{Day, OffRequest, Requirement, WeekData, WeekPairs};
+use roster_bundle::{Day, OffRequest, Requirement, WeekData, WeekPairs};
 use std::alloc::{AllocError, Global};
 use std::marker::Model;
 

@@ -1,7 +1,7 @@
 -- The hard rules by parts, and with one nurse's row replaced.
 use Rattle.std.proofs.Common.{◌≡◌, ◌∙◌, ◌+◌, ◌<◌, ◌&&◌, ℕ, zero, suc, Bool, true, false, not, ap, ap₂, arith, refl, sym, List, [], ◌∷◌, ◌++◌, length, nat_lt}
 use Rattle.std.proofs.lemmas.Bool.{and_parts}
-use Rattle.roster_text.proofs.Texts.{flat_map-range_more}
+use Rattle.roster_text.proofs.Ranges.{flat_map-range_more}
 use Rattle.roster_case.specs.Choices.{days_of}
 use Rattle.roster_case.specs.Counting.{all_below}
 use Rattle.roster_case.specs.Faults.{below, fault_if, is_none_of}

@@ -6,7 +6,7 @@ use Rattle.std.proofs.lemmas.List.Sums.{AllPass-from_list_all}
 use Rattle.std.specs.Prelude.{IsTrue}
 use Rattle.std.specs.List.{AllByRecursion, flat_map, list_all, prefix_len}
 use Rattle.roster_text.proofs.TokenLemmas.{is_word_byte-separator, token_at-separator, tokens_from-over, tokens_from-end, tokens_from-mark, tokens_from-word, word_end_from, IsBetweenTokens-after, IsBetweenTokens-start}
-use Rattle.roster_text.specs.Token.{is_separator, is_mark, is_word_byte, is_word, line_at, tokens_from, tokens_of, text_of, IsBetweenTokens}
+use Rattle.roster_bundle.specs.Token.{is_separator, is_mark, is_word_byte, is_word, line_at, tokens_from, tokens_of, text_of, IsBetweenTokens}
 
 -- the text of a token, and the separators behind it
 pub record Chunk : Type 0 where

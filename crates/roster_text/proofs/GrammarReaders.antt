@@ -1,17 +1,17 @@
 -- The parts of the four texts, field by field.
 use Rattle.std.proofs.Common.{◌≡◌, ℕ, true, false, List, [], ◌∷◌, ◌++◌, length, Ok, refl, sym, ap, ◌∙◌, codes}
 use Rattle.std.specs.List.{flat_map}
-use Rattle.roster_text.specs.declared.bundle.Bundle.{Bundle}
-use Rattle.roster_text.specs.declared.bundle.History.{History}
-use Rattle.roster_text.specs.declared.bundle.Number.{Number}
-use Rattle.roster_text.specs.declared.bundle.Requirement.{Requirement}
-use Rattle.roster_text.specs.declared.bundle.Scenario.{Scenario}
-use Rattle.roster_text.specs.declared.bundle.Succession.{Succession}
+use Rattle.roster_bundle.specs.declared.bundle.Bundle.{Bundle}
+use Rattle.roster_bundle.specs.declared.bundle.History.{History}
+use Rattle.roster_bundle.specs.declared.bundle.Number.{Number}
+use Rattle.roster_bundle.specs.declared.bundle.Requirement.{Requirement}
+use Rattle.roster_bundle.specs.declared.bundle.Scenario.{Scenario}
+use Rattle.roster_bundle.specs.declared.bundle.Succession.{Succession}
 use Rattle.roster_text.specs.declared.fault.Keyword.TheVariants as keyword
 use Rattle.roster_text.specs.declared.fault.What.{What}
 use Rattle.roster_text.specs.declared.fault.What.TheVariants as what
-use Rattle.roster_text.specs.declared.token.Token.{Token}
-use Rattle.roster_text.specs.Token.{Seen, is_mark}
+use Rattle.roster_bundle.specs.declared.token.Token.{Token}
+use Rattle.roster_bundle.specs.Token.{Seen, is_mark}
 use Rattle.roster_text.specs.Words.{keyword_text}
 use Rattle.roster_text.specs.Grammar as grammar
 use Rattle.roster_text.specs.Grammar.{Pattern, Fits, Spelled, fixed, name, number, placed, day, named, small, is_number}
@@ -21,7 +21,7 @@ use Rattle.roster_text.proofs.Readers.{Reader, done_reader, then}
 use Rattle.roster_text.proofs.OneToken.{one_reader, name_one, placed_one, value_one, zero_seen, zero_fits, day_one}
 use Rattle.roster_text.proofs.UntilSection.{Start, LineFrom, Lines, no_equals_name, until_reader}
 use Rattle.roster_text.proofs.Several.{AreMany, every, then_word, name_reader, names_reader, section_reader, listed_reader, times_reader}
-use Rattle.roster_text.specs.Limits.{most_counted, most_small}
+use Rattle.roster_bundle.specs.Limits.{most_counted, most_small}
 
 -- a field, and then the rest
 step : {A B : Type 0} {patA : A → List Pattern} {readA : List Seen → Read A} → Reader every patA readA → {V : B → Type 0} (get : B → A) {patB : B → List Pattern} {k : A → List Seen → Read B} → ((a : A) → Reader (λ b. V b × (get b ≡ a)) patB (k a))

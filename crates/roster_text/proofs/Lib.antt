@@ -1,3 +1,4 @@
+pub use Rattle.roster_bundle.proofs.Ranges
 pub mod TokenFacts
 pub mod TokenLemmas
 pub mod TokenLines

@@ -4,8 +4,8 @@ use Rattle.std.specs.Option.{option_map_or}
 use Rattle.std.specs.List.{flat_map, filter_map, cons_option, range_with_len}
 use Rattle.std.proofs.lemmas.List.Concat.{flat_map-append}
 use Rattle.std.proofs.lemmas.List.Elements.{filter_map-append}
-use Rattle.roster_text.specs.Canonical.{Shown, assignment_on, nurse_assignments, assignments, assignment_line, heading, canonical, line_on, line_text, nurse_lines, weekday_text}
-use Rattle.roster_text.proofs.Texts.{range_with_len_more, flat_map-range_more}
+use Rattle.roster_bundle.specs.Canonical.{Shown, assignment_on, nurse_assignments, assignments, assignment_line, heading, canonical, line_on, line_text, nurse_lines, weekday_text}
+use Rattle.roster_bundle.proofs.Ranges.{range_with_len_more, flat_map-range_more}
 
 -- a line for each item that there is
 flat_map-filter_map : {X Y : Type 0} (f : Y → List ℕ) (h : X → Option Y) (xs : List X) → flat_map f (filter_map h xs) ≡ flat_map (λ x. option_map_or f (h x) []) xs

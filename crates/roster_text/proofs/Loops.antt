@@ -4,7 +4,7 @@ use Rattle.std.proofs.lemmas.List.{append-nil}
 use Rattle.roster_text.specs.declared.fault.Keyword.{Keyword}
 use Rattle.roster_text.specs.declared.parser.Stop.{Stop}
 use Rattle.roster_text.specs.declared.parser.Stop.TheVariants as stop
-use Rattle.roster_text.specs.Token.{Seen}
+use Rattle.roster_bundle.specs.Token.{Seen}
 use Rattle.roster_text.specs.Reading.{Read, Reads, ◌>>=◌, times_at, until_with, begins_section}
 
 -- what was read before, and what is still read

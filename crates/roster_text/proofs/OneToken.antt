@@ -5,16 +5,17 @@ use Rattle.std.specs.Str.{bytes_eq}
 use Rattle.std.specs.Str.Parse.{digits_value}
 use Rattle.std.proofs.lemmas.Bool.{leb-true, le-leb}
 use Rattle.std.proofs.lemmas.Slice.Eq.{bytes_eq-Decides}
-use Rattle.roster_text.specs.declared.bundle.Day.{Day}
-use Rattle.roster_text.specs.declared.bundle.Day.TheVariants as days
-use Rattle.roster_text.specs.declared.bundle.Number.{Number}
+use Rattle.roster_bundle.specs.declared.bundle.Day.{Day}
+use Rattle.roster_bundle.specs.declared.bundle.Day.TheVariants as days
+use Rattle.roster_bundle.specs.declared.bundle.Number.{Number}
 use Rattle.roster_text.specs.declared.fault.What.{What}
 use Rattle.roster_text.specs.declared.fault.What.TheVariants as what
 use Rattle.roster_text.specs.declared.parser.Refusal.{Refusal}
 use Rattle.roster_text.specs.declared.parser.Refusal.TheVariants.{Due, OutOfRange}
-use Rattle.roster_text.specs.declared.token.Token.{Token}
-use Rattle.roster_text.specs.Token.{Seen, is_mark}
-use Rattle.roster_text.specs.Grammar.{Pattern, fixed, name, number, placed, day, Fits, Spelled, label, is_name, is_number, short, long}
+use Rattle.roster_bundle.specs.declared.token.Token.{Token}
+use Rattle.roster_bundle.specs.Token.{Seen, is_mark}
+use Rattle.roster_text.specs.Grammar.{Pattern, fixed, name, number, placed, day, Fits, Spelled, label, is_name, is_number}
+use Rattle.roster_bundle.specs.Weekdays.{short, long}
 use Rattle.roster_text.specs.FirstFault.{wants_number}
 use Rattle.roster_text.specs.Reading.{Read, word_at, name_at, number_at, value_at, is_day, day_of, all_days, day_or_stop, day_at}
 use Rattle.roster_text.proofs.Readers.{Reader, Stops, Found, refusal, same_value, same_rest}

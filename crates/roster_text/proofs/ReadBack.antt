@@ -9,14 +9,14 @@ use Rattle.std.specs.Char.{is_ascii_digit}
 use Rattle.std.specs.Prelude.{IsTrue}
 use Rattle.std.specs.List.{AllByRecursion, flat_map, list_all}
 use Rattle.std.specs.Str.Parse.{AllDigits, digits_value}
-use Rattle.roster_text.specs.declared.bundle.Solution.{Solution}
-use Rattle.roster_text.specs.declared.token.Token.{Token}
-use Rattle.roster_text.specs.Canonical.{Shown, assignments, canonical, heading}
+use Rattle.roster_bundle.specs.declared.bundle.Solution.{Solution}
+use Rattle.roster_bundle.specs.declared.token.Token.{Token}
+use Rattle.roster_bundle.specs.Canonical.{Shown, assignments, canonical, heading}
 use Rattle.roster_text.specs.Grammar as grammar
 use Rattle.roster_text.specs.Grammar.{Pattern, Spelled, is_name, is_number, solution}
 use Rattle.roster_text.specs.ReadBack.{HasWords, IsReadBack, IsWritable, Says, said}
 use Rattle.roster_text.specs.Reading.{solution_at}
-use Rattle.roster_text.specs.Token.{Seen, all_seen, is_mark, is_separator, is_word, is_word_byte, text_of, tokens_of}
+use Rattle.roster_bundle.specs.Token.{Seen, all_seen, is_mark, is_separator, is_word, is_word_byte, text_of, tokens_of}
 use Rattle.roster_text.proofs.GrammarReaders.{solution_reader}
 use Rattle.roster_text.proofs.Chunks.{Chunk, chunk, IsGap, IsMarkAlone, IsChunk, word_chunk, mark_chunk, bytes, texts, chunks_read}
 use Rattle.roster_text.proofs.Readers.{same_value}

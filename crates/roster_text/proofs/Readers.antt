@@ -4,7 +4,7 @@ use Rattle.std.proofs.Common.{◌≡◌, ◌⊎◌, inl, inr, List, [], ◌∷�
 use Rattle.std.specs.Prelude.{if◌then◌else◌}
 use Rattle.roster_text.specs.declared.parser.Refusal.{Refusal}
 use Rattle.roster_text.specs.declared.parser.Refusal.TheVariants.{Due, OutOfRange}
-use Rattle.roster_text.specs.Token.{Seen}
+use Rattle.roster_bundle.specs.Token.{Seen}
 use Rattle.roster_text.specs.Grammar.{Pattern, Spelled, label, is_number}
 use Rattle.roster_text.specs.FirstFault.{wants_number}
 use Rattle.roster_text.specs.Reading.{Read, ◌>>=◌}

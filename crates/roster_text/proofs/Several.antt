@@ -2,19 +2,19 @@
 use Rattle.std.proofs.Common.{◌≡◌, ℕ, zero, suc, false, List, [], ◌∷◌, ◌++◌, length, Ok, refl, sym, ap, subst, ◌∙◌, codes, arith}
 use Rattle.std.proofs.lemmas.List.{append-nil}
 use Rattle.std.specs.List.{flat_map}
-use Rattle.roster_text.specs.declared.bundle.Listed.{Listed}
-use Rattle.roster_text.specs.declared.bundle.Number.{Number}
+use Rattle.roster_bundle.specs.declared.bundle.Listed.{Listed}
+use Rattle.roster_bundle.specs.declared.bundle.Number.{Number}
 use Rattle.roster_text.specs.declared.fault.Keyword.{Keyword}
 use Rattle.roster_text.specs.declared.fault.What.{What}
 use Rattle.roster_text.specs.declared.fault.What.TheVariants as what
-use Rattle.roster_text.specs.Token.{Seen}
+use Rattle.roster_bundle.specs.Token.{Seen}
 use Rattle.roster_text.specs.Words.{keyword_text}
 use Rattle.roster_text.specs.Grammar.{Pattern, fixed, name, number, placed, Spelled, named, section, counted_names, rest_of_section}
 use Rattle.roster_text.specs.FirstFault.{wants_number}
 use Rattle.roster_text.specs.Reading.{Read, ◌>>=◌, word_at, name_at, number_at, value_at, times_at, listed_at, section_at, names_at}
 use Rattle.roster_text.proofs.Readers.{Reader, done_reader, then}
 use Rattle.roster_text.proofs.OneToken.{one_reader, word_one, name_one, placed_one, value_one}
-use Rattle.roster_text.specs.Limits.{most_counted}
+use Rattle.roster_bundle.specs.Limits.{most_counted}
 
 -- any value is valid
 abbrev pub every : {A : Type 0} → A → Type 0

@@ -3,16 +3,18 @@ use Rattle.std.proofs.Common.{◌≡◌, inl, ℕ, zero, suc, ◌+◌, ◌<◌, 
 use Rattle.std.proofs.lemmas.Bool.{and_parts}
 use Rattle.std.specs.Prelude.{IsTrue, not, ◌&&◌, nat_lt}
 use Rattle.std.specs.List.{AllByRecursion, cons_option, filter_map, flat_map, list_all, range_with_len}
-use Rattle.roster_text.specs.declared.bundle.Assignment.{Assignment}
-use Rattle.roster_text.specs.declared.bundle.Day.{Day}
-use Rattle.roster_text.specs.declared.bundle.Day.TheVariants as days
-use Rattle.roster_text.specs.declared.token.Token.{Token}
-use Rattle.roster_text.specs.Canonical.{Shown, assignment_on, assignments, assignment_line, nurse_assignments, weekday_text}
-use Rattle.roster_text.specs.Canonical.{Assignment as ShownAssignment}
+use Rattle.roster_bundle.specs.declared.bundle.Assignment.{Assignment}
+use Rattle.roster_bundle.specs.declared.bundle.Day.{Day}
+use Rattle.roster_bundle.specs.declared.bundle.Day.TheVariants as days
+use Rattle.roster_bundle.specs.declared.token.Token.{Token}
+use Rattle.roster_bundle.specs.Canonical.{Shown, assignment_on, assignments, assignment_line, nurse_assignments, weekday_text}
+use Rattle.roster_bundle.specs.Canonical.{Assignment as ShownAssignment}
 use Rattle.roster_text.specs.Grammar as grammar
-use Rattle.roster_text.specs.Grammar.{Spelled, is_name, short}
-use Rattle.roster_text.specs.ReadBack.{HasWords, said, weekday}
-use Rattle.roster_text.specs.Token.{all_seen, is_mark, is_separator, is_word, is_word_byte, text_of}
+use Rattle.roster_text.specs.Grammar.{Spelled, is_name}
+use Rattle.roster_bundle.specs.Weekdays.{short}
+use Rattle.roster_text.specs.ReadBack.{HasWords, said}
+use Rattle.roster_bundle.specs.Weekdays.{weekday}
+use Rattle.roster_bundle.specs.Token.{all_seen, is_mark, is_separator, is_word, is_word_byte, text_of}
 use Rattle.roster_text.proofs.Chunks.{Chunk, chunk, IsGap, IsChunk, word_chunk, bytes, texts}
 use Rattle.roster_text.proofs.TokenLemmas.{is_mark-word_byte}
 

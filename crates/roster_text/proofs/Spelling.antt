@@ -1,6 +1,6 @@
 -- Lists of patterns and the tokens that fit them, cut and put together.
 use Rattle.std.proofs.Common.{◌≡◌, ◌⊎◌, inl, inr, List, [], ◌∷◌, ◌++◌, refl, ap}
-use Rattle.roster_text.specs.Token.{Seen}
+use Rattle.roster_bundle.specs.Token.{Seen}
 use Rattle.roster_text.specs.Grammar.{Pattern, Spelled}
 
 pub spelled_append : (ps qs : List Pattern) (ts us : List Seen) → Spelled ps ts → Spelled qs us → Spelled (ps ++ qs) (ts ++ us)

@@ -5,6 +5,7 @@ use Rattle.std.proofs.KnownBytes.{Appends-nil, Appends-trans}
 use Rattle.std.proofs.lemmas.List.{drop_more}
 use Rattle.std.proofs.lemmas.List.Concat.{flat_map-append}
 use Rattle.std.specs.List.{flat_map, range_with_len}
+use Rattle.roster_bundle.proofs.Ranges.{flat_map-range_more, range_with_len-add}
 use Rattle.roster_text.specs.declared.fault.WriteFault.{WriteFault}
 use Rattle.roster_text.specs.declared.fault.WriteFault.TheVariants.{WriteFailed}
 use Rattle.roster_text.specs.Io.{Watched, Writes, StopsAt, StopsIn, Stops, Sends, BreaksIn, one_more}
@@ -102,19 +103,6 @@ StopsIn-from_breaks_in contents old new text fault p = record {
 }
 
 -- ---- texts that are made piece by piece
-
-pub range_with_len-add : (a m k : ℕ) → range_with_len a (m + k) ≡ range_with_len a m ++ range_with_len (a + m) k
-range_with_len-add a zero k = rw (zero-add, add-zero) refl
-range_with_len-add a (suc m) k =
-    let e : suc m + k ≡ suc (m + k) = omega arith in
-    let f : a + suc m ≡ (a + 1) + m = omega arith in
-    rw (e, f) (ap (λ l. a ∷ l) (range_with_len-add (a + 1) m k))
-
-pub range_with_len_more : (m : ℕ) → range_with_len 0 (m + 1) ≡ range_with_len 0 m ++ m ∷ []
-range_with_len_more m = range_with_len-add 0 m 1 ∙ ap (λ a. range_with_len 0 m ++ a ∷ []) (zero-add m)
-
-pub flat_map-range_more : {A : Type 0} (f : ℕ → List A) (m : ℕ) → flat_map f (range_with_len 0 (m + 1)) ≡ flat_map f (range_with_len 0 m) ++ f m
-flat_map-range_more f m = ap (flat_map f) (range_with_len_more m) ∙ flat_map-append f _ _ ∙ ap (λ l. flat_map f (range_with_len 0 m) ++ l) (append-nil (f m))
 
 -- the pieces up to m, the next piece, and those behind it
 pub flat_map-range_split : {A : Type 0} (f : ℕ → List A) (m n : ℕ) → m < n → flat_map f (range_with_len 0 n) ≡ (flat_map f (range_with_len 0 m) ++ f m) ++ flat_map f (range_with_len (m + 1) (n - (m + 1)))

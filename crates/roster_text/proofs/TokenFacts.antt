@@ -8,8 +8,8 @@ use Rattle.std.proofs.lemmas.List.Sums.{list_all-from_AllPass}
 use Rattle.std.specs.Prelude.{IsTrue, IsFalse, IfSome, All, Any, AllPairs}
 use Rattle.std.specs.List.{cons_option}
 use Rattle.roster_text.proofs.TokenLemmas.{word_byte_from, token_at-mark, token_at-word, token_at-separator, token_at-in_word, tokens_from-more, tokens_from-end, passes_from, stops_after, front_within, follows-in_word, word_end_from, word_end-lt}
-use Rattle.roster_text.specs.declared.token.Token.{Token}
-use Rattle.roster_text.specs.Token.{is_separator, is_mark, is_word_byte, is_word, follows_word_byte, line_at, token_at, tokens_from, tokens_of, text_of, IsWithin, IsMark, IsWholeWord, IsMarkOrWord, Covers, AreTokensOf}
+use Rattle.roster_bundle.specs.declared.token.Token.{Token}
+use Rattle.roster_bundle.specs.Token.{is_separator, is_mark, is_word_byte, is_word, follows_word_byte, line_at, token_at, tokens_from, tokens_of, text_of, IsWithin, IsMark, IsWholeWord, IsMarkOrWord, Covers, AreTokensOf}
 
 -- the token that is a mark, and the token that is a word
 abbrev mark_at : List ℕ → ℕ → Token

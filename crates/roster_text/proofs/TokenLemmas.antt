@@ -7,7 +7,7 @@ use Rattle.std.proofs.lemmas.List.Sums.{prefix_len_passes, prefix_len_stops, pre
 use Rattle.std.specs.Prelude.{IsTrue, IsFalse}
 use Rattle.std.specs.List.{cons_option, filter_map, prefix_len, range_with_len}
 use Rattle.roster_text.proofs.TokenLines.{line_at-other, line_at-over}
-use Rattle.roster_text.specs.Token.{is_separator, is_mark, is_word_byte, follows_word_byte, begins_at, end_from, line_at, token_at, tokens_from, IsBetweenTokens}
+use Rattle.roster_bundle.specs.Token.{is_separator, is_mark, is_word_byte, follows_word_byte, begins_at, end_from, line_at, token_at, tokens_from, IsBetweenTokens}
 
 -- ---- a byte is of one class
 

@@ -4,7 +4,7 @@ use Rattle.std.proofs.lemmas.Bool.{eq-eqb, ne_eqb}
 use Rattle.std.proofs.lemmas.List.{length-take-le}
 use Rattle.std.proofs.lemmas.List.Sums.{count_by_more_yes, count_by_more_no, count_by-le-length}
 use Rattle.std.specs.Prelude.{◌==◌}
-use Rattle.roster_text.specs.Token.{line_feeds, line_at}
+use Rattle.roster_bundle.specs.Token.{line_feeds, line_at}
 
 -- behind an LF the line is the next
 pub line_at-feed : (text : List ℕ) (i : ℕ) → i < length text → get_or text i 0 ≡ 10 → line_at text (i + 1) ≡ line_at text i + 1

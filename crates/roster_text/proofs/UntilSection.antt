@@ -10,8 +10,8 @@ use Rattle.roster_text.specs.declared.fault.What.{What}
 use Rattle.roster_text.specs.declared.fault.What.TheVariants as what
 use Rattle.roster_text.specs.declared.parser.Refusal.{Refusal}
 use Rattle.roster_text.specs.declared.parser.Refusal.TheVariants.{Due}
-use Rattle.roster_text.specs.declared.token.Token.{Token}
-use Rattle.roster_text.specs.Token.{Seen, is_mark}
+use Rattle.roster_bundle.specs.declared.token.Token.{Token}
+use Rattle.roster_bundle.specs.Token.{Seen, is_mark}
 use Rattle.roster_text.specs.Words.{keyword_text}
 use Rattle.roster_text.specs.Grammar.{Pattern, fixed, name, Fits, Spelled, label, is_name, lines_until}
 use Rattle.roster_text.specs.Reading.{Read, ◌>>=◌, begins_section, until_with, until_at}

@@ -1,11 +1,11 @@
 -- The fault of a list of tokens that spells no bundle: the first token, or the end, at which it no longer goes on.
 use Rattle.std.specs.Prelude.{◌≡◌, ℕ, Bool, true, false, ◌&&◌, List, [], ◌∷◌, ◌++◌, if◌then◌else◌}
-use Rattle.roster_text.specs.declared.bundle.Bundle.{Bundle}
+use Rattle.roster_bundle.specs.declared.bundle.Bundle.{Bundle}
 use Rattle.roster_text.specs.declared.fault.TextFault.{TextFault}
 use Rattle.roster_text.specs.declared.fault.TextFault.TheVariants.{Expected, NumberRange, AfterEnd}
 use Rattle.roster_text.specs.declared.fault.What.{What}
 use Rattle.roster_text.specs.declared.fault.What.TheVariants as what
-use Rattle.roster_text.specs.Token.{Seen}
+use Rattle.roster_bundle.specs.Token.{Seen}
 use Rattle.roster_text.specs.Grammar.{Pattern, Spelled, Spells, label, bundle, is_number}
 
 -- a list that begins with these tokens spells a bundle

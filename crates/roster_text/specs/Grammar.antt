@@ -4,32 +4,33 @@ use Rattle.std.specs.Prelude.{◌≡◌, ◌≤◌, ◌⊎◌, ℕ, Bool, true, 
 use Rattle.std.specs.List.{flat_map, list_all}
 use Rattle.std.specs.Char.{is_ascii_digit}
 use Rattle.std.specs.Str.Parse.{digits_value}
-use Rattle.roster_text.specs.declared.bundle.Assignment.{Assignment}
-use Rattle.roster_text.specs.declared.bundle.Bundle.{Bundle}
-use Rattle.roster_text.specs.declared.bundle.Contract.{Contract}
-use Rattle.roster_text.specs.declared.bundle.Day.{Day}
-use Rattle.roster_text.specs.declared.bundle.Day.TheVariants as days
-use Rattle.roster_text.specs.declared.bundle.History.{History}
-use Rattle.roster_text.specs.declared.bundle.Listed.{Listed}
-use Rattle.roster_text.specs.declared.bundle.Nurse.{Nurse}
-use Rattle.roster_text.specs.declared.bundle.NurseHistory.{NurseHistory}
-use Rattle.roster_text.specs.declared.bundle.OffRequest.{OffRequest}
-use Rattle.roster_text.specs.declared.bundle.Pair.{Pair}
-use Rattle.roster_text.specs.declared.bundle.Requirement.{Requirement}
-use Rattle.roster_text.specs.declared.bundle.Scenario.{Scenario}
-use Rattle.roster_text.specs.declared.bundle.ShiftType.{ShiftType}
-use Rattle.roster_text.specs.declared.bundle.Solution.{Solution}
-use Rattle.roster_text.specs.declared.bundle.Succession.{Succession}
-use Rattle.roster_text.specs.declared.bundle.WeekData.{WeekData}
-use Rattle.roster_text.specs.declared.bundle.WeekPairs.{WeekPairs}
+use Rattle.roster_bundle.specs.declared.bundle.Assignment.{Assignment}
+use Rattle.roster_bundle.specs.declared.bundle.Bundle.{Bundle}
+use Rattle.roster_bundle.specs.declared.bundle.Contract.{Contract}
+use Rattle.roster_bundle.specs.declared.bundle.Day.{Day}
+use Rattle.roster_bundle.specs.declared.bundle.Day.TheVariants as days
+use Rattle.roster_bundle.specs.declared.bundle.History.{History}
+use Rattle.roster_bundle.specs.declared.bundle.Listed.{Listed}
+use Rattle.roster_bundle.specs.declared.bundle.Nurse.{Nurse}
+use Rattle.roster_bundle.specs.declared.bundle.NurseHistory.{NurseHistory}
+use Rattle.roster_bundle.specs.declared.bundle.OffRequest.{OffRequest}
+use Rattle.roster_bundle.specs.declared.bundle.Pair.{Pair}
+use Rattle.roster_bundle.specs.declared.bundle.Requirement.{Requirement}
+use Rattle.roster_bundle.specs.declared.bundle.Scenario.{Scenario}
+use Rattle.roster_bundle.specs.declared.bundle.ShiftType.{ShiftType}
+use Rattle.roster_bundle.specs.declared.bundle.Solution.{Solution}
+use Rattle.roster_bundle.specs.declared.bundle.Succession.{Succession}
+use Rattle.roster_bundle.specs.declared.bundle.WeekData.{WeekData}
+use Rattle.roster_bundle.specs.declared.bundle.WeekPairs.{WeekPairs}
 use Rattle.roster_text.specs.declared.fault.Keyword.{Keyword}
 use Rattle.roster_text.specs.declared.fault.Keyword.TheVariants as keyword
 use Rattle.roster_text.specs.declared.fault.What.{What}
 use Rattle.roster_text.specs.declared.fault.What.TheVariants as what
-use Rattle.roster_text.specs.declared.token.Token.{Token}
-use Rattle.roster_text.specs.Token.{Seen, is_mark}
+use Rattle.roster_bundle.specs.declared.token.Token.{Token}
+use Rattle.roster_bundle.specs.Token.{Seen, is_mark}
+use Rattle.roster_bundle.specs.Weekdays.{short, long}
 use Rattle.roster_text.specs.Words.{keyword_text}
-use Rattle.roster_text.specs.Limits.{most_counted, most_small}
+use Rattle.roster_bundle.specs.Limits.{most_counted, most_small}
 
 -- What stands at one place.
 pub data Pattern : Type 0 where
@@ -43,26 +44,6 @@ pub data Pattern : Type 0 where
   placed : Token → ℕ → ℕ → Pattern
   -- a day, in either spelling
   day : Day → Pattern
-
--- a day in three letters
-abbrev pub short : Day → List ℕ
-short days.Monday = codes "Mon"
-short days.Tuesday = codes "Tue"
-short days.Wednesday = codes "Wed"
-short days.Thursday = codes "Thu"
-short days.Friday = codes "Fri"
-short days.Saturday = codes "Sat"
-short days.Sunday = codes "Sun"
-
--- a day written out
-abbrev pub long : Day → List ℕ
-long days.Monday = codes "Monday"
-long days.Tuesday = codes "Tuesday"
-long days.Wednesday = codes "Wednesday"
-long days.Thursday = codes "Thursday"
-long days.Friday = codes "Friday"
-long days.Saturday = codes "Saturday"
-long days.Sunday = codes "Sunday"
 
 -- a name is any word: a token that is no mark
 abbrev pub is_name : List ℕ → Bool

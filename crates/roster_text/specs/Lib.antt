@@ -1,11 +1,12 @@
-pub mod Limits
+pub use Rattle.roster_bundle.specs.Limits
+pub use Rattle.roster_bundle.specs.Weekdays
+pub use Rattle.roster_bundle.specs.Token
+pub use Rattle.roster_bundle.specs.SmallNumbers
+pub use Rattle.roster_bundle.specs.Canonical
 pub mod Words
-pub mod Token
 pub mod Grammar
-pub mod SmallNumbers
 pub mod FirstFault
 pub mod Reading
 pub mod Io
 pub mod Pieces
-pub mod Canonical
 pub mod ReadBack

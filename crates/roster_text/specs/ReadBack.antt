@@ -1,14 +1,15 @@
 -- A solution that is written and read: what it takes, and what is read then.
 use Rattle.std.specs.Prelude.{◌≡◌, ℕ, ◌≤◌, IsTrue, List, All, length, map}
-use Rattle.roster_text.specs.declared.bundle.Assignment.{Assignment}
-use Rattle.roster_text.specs.declared.bundle.Day.{Day}
-use Rattle.roster_text.specs.declared.bundle.Day.TheVariants as days
-use Rattle.roster_text.specs.declared.bundle.Solution.{Solution}
-use Rattle.roster_text.specs.Canonical.{Shown, assignment, assignments, canonical}
-use Rattle.roster_text.specs.Canonical.{Assignment as ShownAssignment}
+use Rattle.roster_bundle.specs.declared.bundle.Assignment.{Assignment}
+use Rattle.roster_bundle.specs.declared.bundle.Day.{Day}
+use Rattle.roster_bundle.specs.declared.bundle.Day.TheVariants as days
+use Rattle.roster_bundle.specs.declared.bundle.Solution.{Solution}
+use Rattle.roster_bundle.specs.Canonical.{Shown, assignment, assignments, canonical}
+use Rattle.roster_bundle.specs.Canonical.{Assignment as ShownAssignment}
+use Rattle.roster_bundle.specs.Weekdays.{weekday}
 use Rattle.roster_text.specs.Grammar.{Spelled, solution}
-use Rattle.roster_text.specs.Token.{all_seen, is_word, text_of, tokens_of}
-use Rattle.roster_text.specs.Limits.{most_counted, most_small}
+use Rattle.roster_bundle.specs.Token.{all_seen, is_word, text_of, tokens_of}
+use Rattle.roster_bundle.specs.Limits.{most_counted, most_small}
 
 -- each name of an assignment is a word
 pub record HasWords (a : ShownAssignment) : Type 0 where
@@ -22,16 +23,6 @@ pub record IsWritable (s : Shown) : Type 0 where
   pub name : IsTrue (is_word s.name)
   pub words : All HasWords (assignments s)
   pub count : length (assignments s) ≤ most_counted
-
--- a day by its number; 0 is Monday
-abbrev pub weekday : Day → ℕ
-weekday days.Monday = 0
-weekday days.Tuesday = 1
-weekday days.Wednesday = 2
-weekday days.Thursday = 3
-weekday days.Friday = 4
-weekday days.Saturday = 5
-weekday days.Sunday = 6
 
 -- what an assignment says, by the texts of its names in the source
 abbrev pub said : List ℕ → Assignment → ShownAssignment

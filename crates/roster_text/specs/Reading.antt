@@ -3,25 +3,25 @@ use Rattle.std.specs.Prelude.{◌≡◌, ℕ, zero, suc, Bool, false, ◌&&◌, 
 use Rattle.std.specs.List.{find}
 use Rattle.std.specs.Str.{bytes_eq}
 use Rattle.std.specs.Str.Parse.{digits_value}
-use Rattle.roster_text.specs.declared.bundle.Assignment.{Assignment}
-use Rattle.roster_text.specs.declared.bundle.Bundle.{Bundle}
-use Rattle.roster_text.specs.declared.bundle.Contract.{Contract}
-use Rattle.roster_text.specs.declared.bundle.Day.{Day}
-use Rattle.roster_text.specs.declared.bundle.Day.TheVariants as days
-use Rattle.roster_text.specs.declared.bundle.History.{History}
-use Rattle.roster_text.specs.declared.bundle.Listed.{Listed}
-use Rattle.roster_text.specs.declared.bundle.Number.{Number}
-use Rattle.roster_text.specs.declared.bundle.Nurse.{Nurse}
-use Rattle.roster_text.specs.declared.bundle.NurseHistory.{NurseHistory}
-use Rattle.roster_text.specs.declared.bundle.OffRequest.{OffRequest}
-use Rattle.roster_text.specs.declared.bundle.Pair.{Pair}
-use Rattle.roster_text.specs.declared.bundle.Requirement.{Requirement}
-use Rattle.roster_text.specs.declared.bundle.Scenario.{Scenario}
-use Rattle.roster_text.specs.declared.bundle.ShiftType.{ShiftType}
-use Rattle.roster_text.specs.declared.bundle.Solution.{Solution}
-use Rattle.roster_text.specs.declared.bundle.Succession.{Succession}
-use Rattle.roster_text.specs.declared.bundle.WeekData.{WeekData}
-use Rattle.roster_text.specs.declared.bundle.WeekPairs.{WeekPairs}
+use Rattle.roster_bundle.specs.declared.bundle.Assignment.{Assignment}
+use Rattle.roster_bundle.specs.declared.bundle.Bundle.{Bundle}
+use Rattle.roster_bundle.specs.declared.bundle.Contract.{Contract}
+use Rattle.roster_bundle.specs.declared.bundle.Day.{Day}
+use Rattle.roster_bundle.specs.declared.bundle.Day.TheVariants as days
+use Rattle.roster_bundle.specs.declared.bundle.History.{History}
+use Rattle.roster_bundle.specs.declared.bundle.Listed.{Listed}
+use Rattle.roster_bundle.specs.declared.bundle.Number.{Number}
+use Rattle.roster_bundle.specs.declared.bundle.Nurse.{Nurse}
+use Rattle.roster_bundle.specs.declared.bundle.NurseHistory.{NurseHistory}
+use Rattle.roster_bundle.specs.declared.bundle.OffRequest.{OffRequest}
+use Rattle.roster_bundle.specs.declared.bundle.Pair.{Pair}
+use Rattle.roster_bundle.specs.declared.bundle.Requirement.{Requirement}
+use Rattle.roster_bundle.specs.declared.bundle.Scenario.{Scenario}
+use Rattle.roster_bundle.specs.declared.bundle.ShiftType.{ShiftType}
+use Rattle.roster_bundle.specs.declared.bundle.Solution.{Solution}
+use Rattle.roster_bundle.specs.declared.bundle.Succession.{Succession}
+use Rattle.roster_bundle.specs.declared.bundle.WeekData.{WeekData}
+use Rattle.roster_bundle.specs.declared.bundle.WeekPairs.{WeekPairs}
 use Rattle.roster_text.specs.declared.fault.Keyword.{Keyword}
 use Rattle.roster_text.specs.declared.fault.Keyword.TheVariants as keyword
 use Rattle.roster_text.specs.declared.fault.TextFault.{TextFault}
@@ -32,11 +32,12 @@ use Rattle.roster_text.specs.declared.parser.Refusal.{Refusal}
 use Rattle.roster_text.specs.declared.parser.Refusal.TheVariants.{Due, OutOfRange}
 use Rattle.roster_text.specs.declared.parser.Stop.{Stop}
 use Rattle.roster_text.specs.declared.parser.Stop.TheVariants as stop
-use Rattle.roster_text.specs.declared.token.Token.{Token}
-use Rattle.roster_text.specs.Token.{Seen}
+use Rattle.roster_bundle.specs.declared.token.Token.{Token}
+use Rattle.roster_bundle.specs.Token.{Seen}
 use Rattle.roster_text.specs.Words.{keyword_text}
-use Rattle.roster_text.specs.Grammar.{short, long, is_name, is_number}
-use Rattle.roster_text.specs.Limits.{most_counted, most_small}
+use Rattle.roster_text.specs.Grammar.{is_name, is_number}
+use Rattle.roster_bundle.specs.Weekdays.{short, long}
+use Rattle.roster_bundle.specs.Limits.{most_counted, most_small}
 
 -- What reading gives: a value and the tokens that are left, or the refusal and the tokens from the refused one on.
 abbrev pub Read : Type 0 → Type 0

@@ -1,6 +1,6 @@
 //! What holds of writing and reading together.
 
-ghost use Rattle.roster_text.specs.Canonical.{Shown};
+ghost use Rattle.roster_bundle.specs.Canonical.{Shown};
 ghost use Rattle.roster_text.specs.ReadBack.{IsWritable, IsReadBack};
 
 /// The tokens of a text that `write_solution` writes spell just one solution: it has the week, the scenario's name

@@ -1,7 +1,6 @@
 //! The four texts of an instance: bytes, tokens, grammar, and the canonical text of a solution.
 #![tactic(auto)]
 
-mod bundle;
 mod fault;
 mod laws;
 mod parser;
@@ -10,20 +9,19 @@ mod parts;
 mod pieces;
 mod reading;
 mod token;
-mod view;
 mod watch;
 mod writing;
 
-pub use bundle::{
-    Assignment, Bundle, Contract, Day, History, Items, Listed, Number, Nurse, NurseHistory,
-    OffRequest, Pair, Requirement, Scenario, ShiftType, Solution, Succession, WeekData, WeekPairs,
-};
 pub use fault::{Keyword, TextFault, What, WriteFault};
 pub use laws::written_is_read;
 pub use parsing::{numbers_are_small, one_bundle, one_first_fault, parse_bundle};
 pub use pieces::{Piece, send_pieces, write_bytes, write_number, write_pieces};
 pub use reading::{MAX_INPUT, read_all};
-pub use token::{Token, tokens};
-pub use view::SolutionView;
+pub use roster_bundle::{
+    Assignment, Bundle, Contract, Day, History, Items, Listed, Number, Nurse, NurseHistory,
+    OffRequest, Pair, Requirement, Scenario, ShiftType, Solution, SolutionView, Succession, Token,
+    WeekData, WeekPairs,
+};
+pub use token::tokens;
 pub use watch::Watch;
 pub use writing::{weekday_text, write_solution};

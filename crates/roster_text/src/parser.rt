@@ -6,12 +6,12 @@ ghost use Rattle.std.specs.List.{list_all};
 ghost use Rattle.std.specs.Str.Parse.{digits_value};
 ghost use Rattle.roster_text.specs.Grammar.{is_number, is_name};
 ghost use Rattle.roster_text.specs.Reading.{Read, Reads, begins_section, first_of, day_at, day_of, key_at, listed_at, name_at, names_at, number_at, section_at, small_at, times_at, until_at, value_at, word_at};
-ghost use Rattle.roster_text.specs.Token.{Seen};
+ghost use Rattle.roster_bundle.specs.Token.{Seen};
 ghost use Rattle.roster_text.specs.Words.{keyword_text};
 
-use crate::bundle::{Day, Items, Listed, Number};
 use crate::fault::{Keyword, What};
-use crate::token::{Token, is_mark};
+use crate::token::is_mark;
+use roster_bundle::{Day, Items, Listed, Number, Token};
 use std::alloc::{AllocError, AllocFailed, Global};
 use std::marker::Model;
 
@@ -61,7 +61,7 @@ pub(crate) struct Parser<'a> {
 
 impl<'a> Model for Parser<'a> {
     ghost use Rattle.std.specs.Prelude.{List, All, length};
-    ghost use Rattle.roster_text.specs.Token.{Seen, IsWithin, all_seen};
+    ghost use Rattle.roster_bundle.specs.Token.{Seen, IsWithin, all_seen};
 
     ghost Value = { List Seen };
 
@@ -81,7 +81,7 @@ pub(crate) trait Parse: Sized + Drop {
 }
 
 impl<'a> Parser<'a> {
-    ghost use Rattle.roster_text.specs.Token.{IsWithin, all_seen};
+    ghost use Rattle.roster_bundle.specs.Token.{IsWithin, all_seen};
     ghost use Rattle.std.specs.Prelude.{All};
 
     pub(crate) fn new(alloc: Global, source: &'a [u8], tokens: &'a [Token]) -> Parser<'a>

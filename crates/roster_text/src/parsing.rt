@@ -4,13 +4,13 @@ ghost use Rattle.std.specs.Prelude.{◌≡◌, ◌≢◌, ℕ, List, IfOk, IfErr
 ghost use Rattle.roster_text.specs.FirstFault.{IsFirstFault};
 ghost use Rattle.roster_text.specs.Grammar.{Spells};
 ghost use Rattle.roster_text.specs.Reading.{GivesUnlessMemory, bundle_at, whole_of, fault_of};
-ghost use Rattle.roster_text.specs.SmallNumbers.{SaysSmallNumbers};
-ghost use Rattle.roster_text.specs.Token.{Seen, all_seen, line_at_end, tokens_of};
+ghost use Rattle.roster_bundle.specs.SmallNumbers.{SaysSmallNumbers};
+ghost use Rattle.roster_bundle.specs.Token.{Seen, all_seen, line_at_end, tokens_of};
 
-use crate::bundle::Bundle;
 use crate::fault::TextFault;
 use crate::parser::{Parse, Parser, Refusal, Stop};
-use crate::token::{Token, line_at_end};
+use crate::token::line_at_end;
+use roster_bundle::{Bundle, Token};
 use std::alloc::Global;
 
 /// The bundle that the tokens of a source spell: a scenario, a history, the data of as many weeks as it says,

@@ -3,13 +3,12 @@
 ghost use Rattle.std.specs.Prelude.{◌≡◌, ◌<◌, length, OnOk};
 ghost use Rattle.roster_text.specs.Reading.{Reads, assignment_at, bundle_at, contract_at, history_at, nurse_at, nurse_history_at, off_request_at, pair_at, requirement_at, scenario_at, shift_type_at, solution_at, succession_at, title_at, week_data_at, week_pairs_at};
 
-use crate::bundle::{
-    Assignment, Bundle, Contract, History, Number, Nurse, NurseHistory, OffRequest, Pair,
-    Requirement, Scenario, ShiftType, Solution, Succession, WeekData, WeekPairs,
-};
 use crate::fault::{Keyword, What};
 use crate::parser::{MAX_COUNT, MAX_SMALL, Parse, Parser, Stop};
-use crate::token::Token;
+use roster_bundle::{
+    Assignment, Bundle, Contract, History, Number, Nurse, NurseHistory, OffRequest, Pair,
+    Requirement, Scenario, ShiftType, Solution, Succession, Token, WeekData, WeekPairs,
+};
 
 impl Parse for Pair {
     ghost read = { pair_at };
@@ -85,21 +84,19 @@ impl Parse for Nurse {
     }
 }
 
-impl Scenario {
-    /// Its name, and how many weeks it has.
-    #[tactic(auto, unfolding(crate::specs::Reading::title_at))]
-    fn title(parser: &mut Parser<'_>) -> Result<(Token, Number), Stop>
-        ensures reads { Reads result parser.new (title_at parser.old) }
-        ensures takes { OnOk result (length parser.new < length parser.old) }
-    {
-        parser.key(Keyword::Scenario)?;
-        parser.equals()?;
-        let name = parser.name()?;
-        parser.key(Keyword::Weeks)?;
-        parser.equals()?;
-        let weeks = parser.number(MAX_COUNT)?;
-        Ok((name, weeks))
-    }
+/// The name of the scenario, and how many weeks it has.
+#[tactic(auto, unfolding(crate::specs::Reading::title_at))]
+fn scenario_title(parser: &mut Parser<'_>) -> Result<(Token, Number), Stop>
+    ensures reads { Reads result parser.new (title_at parser.old) }
+    ensures takes { OnOk result (length parser.new < length parser.old) }
+{
+    parser.key(Keyword::Scenario)?;
+    parser.equals()?;
+    let name = parser.name()?;
+    parser.key(Keyword::Weeks)?;
+    parser.equals()?;
+    let weeks = parser.number(MAX_COUNT)?;
+    Ok((name, weeks))
 }
 
 impl Parse for Scenario {
@@ -107,7 +104,7 @@ impl Parse for Scenario {
 
     #[tactic(auto, unfolding(crate::specs::Reading::scenario_at))]
     fn parse(parser: &mut Parser<'_>) -> Result<Scenario, Stop> {
-        let (name, weeks) = Scenario::title(parser)?;
+        let (name, weeks) = scenario_title(parser)?;
         let skills = parser.section(Keyword::Skills)?;
         let shifts = parser.section(Keyword::ShiftTypes)?;
         parser.key(Keyword::Successions)?;
@@ -143,24 +140,22 @@ impl Parse for NurseHistory {
     }
 }
 
-impl History {
-    /// The history, with so many lines.
-    #[tactic(auto, unfolding(crate::specs::Reading::history_at))]
-    fn parse(parser: &mut Parser<'_>, lines: usize) -> Result<History, Stop>
-        ensures reads { Reads result parser.new (history_at lines parser.old) }
-        ensures takes { OnOk result (length parser.new < length parser.old) }
-    {
-        parser.key(Keyword::History)?;
-        let week = parser.number(u32::from(MAX_SMALL))?;
-        let scenario = parser.name()?;
-        parser.key(Keyword::NurseHistory)?;
-        let nurses = parser.times(lines)?;
-        Ok(History {
-            week,
-            scenario,
-            nurses,
-        })
-    }
+/// The history, with so many lines.
+#[tactic(auto, unfolding(crate::specs::Reading::history_at))]
+fn parse_history(parser: &mut Parser<'_>, lines: usize) -> Result<History, Stop>
+    ensures reads { Reads result parser.new (history_at lines parser.old) }
+    ensures takes { OnOk result (length parser.new < length parser.old) }
+{
+    parser.key(Keyword::History)?;
+    let week = parser.number(u32::from(MAX_SMALL))?;
+    let scenario = parser.name()?;
+    parser.key(Keyword::NurseHistory)?;
+    let nurses = parser.times(lines)?;
+    Ok(History {
+        week,
+        scenario,
+        nurses,
+    })
 }
 
 impl Parse for WeekPairs {
@@ -264,7 +259,7 @@ impl Parse for Bundle {
     #[tactic(auto, unfolding(crate::specs::Reading::bundle_at))]
     fn parse(parser: &mut Parser<'_>) -> Result<Bundle, Stop> {
         let scenario = Scenario::parse(parser)?;
-        let history = History::parse(parser, scenario.nurses.items.len())?;
+        let history = parse_history(parser, scenario.nurses.items.len())?;
         let weeks = scenario.weeks.value as usize;
         let week_data = parser.times(weeks)?;
         let solutions = parser.times(weeks)?;

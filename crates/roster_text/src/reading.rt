@@ -3,7 +3,7 @@
 ghost use Rattle.std.specs.Prelude.{◌≡◌, ◌≤◌, ◌<◌, IfOk, OnOk, IfErr, IfSome, IsErrOf, length, vec_len};
 ghost use Rattle.std.specs.Io.KnownBytes.{IsAtEnd};
 ghost use Rattle.roster_text.specs.Io.{TakesFront, IsReadFault, counted, is_read_failure};
-ghost use Rattle.roster_text.specs.Limits.{most_bytes};
+ghost use Rattle.roster_bundle.specs.Limits.{most_bytes};
 
 use crate::fault::TextFault;
 use crate::watch::Watch;

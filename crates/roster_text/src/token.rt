@@ -2,41 +2,20 @@
 
 ghost use Rattle.std.specs.Prelude.{◌≡◌, ℕ, ◌+◌, ◌-◌, ◌<◌, ◌≤◌, All, length, IfOk, IfErr, drop};
 ghost use Rattle.std.specs.List.{prefix_len};
-ghost use Rattle.roster_text.specs.Token.{is_separator, is_mark, is_word_byte, end_from, line_at, line_at_end, tokens_from, tokens_of, IsBetweenTokens, IsWithin, AreTokensOf};
+ghost use Rattle.roster_bundle.specs.Token.{is_separator, is_mark, is_word_byte, end_from, line_at, line_at_end, tokens_from, tokens_of, IsBetweenTokens, IsWithin, AreTokensOf};
 
 use crate::fault::TextFault;
+use roster_bundle::Token;
 use std::alloc::Global;
-use std::cmp::min;
 
-/// A token of a text: the bytes from `start` up to `end`, on this line (from 1).
-#[derive(Clone, Copy, Debug, PartialEq, Eq)]
-pub struct Token {
-    pub start: usize,
-    pub end: usize,
-    pub line: usize,
-}
-
-impl Token {
-    ghost use Rattle.roster_text.specs.Token.{text_of};
-
-    /// The bytes of the token in its source. What of it lies behind the end of the source is left out.
-    pub fn text(self, source: &[u8]) -> &[u8]
-        ensures { result.now ≡ text_of source.now self }
-    {
-        let end = min(self.end, source.len());
-        let start = min(self.start, end);
-        &source[start..end]
-    }
-}
-
-#[tactic(auto, unfolding(crate::specs::Token::is_separator))]
+#[tactic(auto, unfolding(roster_bundle::specs::Token::is_separator))]
 fn is_separator(byte: u8) -> bool
     ensures { result ≡ is_separator byte }
 {
     matches!(byte, b' ' | b'\t' | b'\n' | b'\r')
 }
 
-#[tactic(auto, unfolding(crate::specs::Token::is_mark))]
+#[tactic(auto, unfolding(roster_bundle::specs::Token::is_mark))]
 pub(crate) fn is_mark(byte: u8) -> bool
     ensures { result ≡ is_mark byte }
 {
@@ -44,7 +23,7 @@ pub(crate) fn is_mark(byte: u8) -> bool
 }
 
 // One test of all eight bytes, since this is what runs at each byte of a word.
-#[tactic(auto, unfolding(crate::specs::Token::is_word_byte, crate::specs::Token::is_separator, crate::specs::Token::is_mark))]
+#[tactic(auto, unfolding(roster_bundle::specs::Token::is_word_byte, roster_bundle::specs::Token::is_separator, roster_bundle::specs::Token::is_mark))]
 fn is_word_byte(byte: u8) -> bool
     ensures { result ≡ is_word_byte byte }
 {
@@ -83,7 +62,7 @@ fn word_end(text: &[u8], mut at: usize) -> usize
 }
 
 // The end of the token that begins at `start`.
-#[tactic(auto, unfolding(crate::specs::Token::end_from))]
+#[tactic(auto, unfolding(roster_bundle::specs::Token::end_from))]
 fn token_end(text: &[u8], start: usize) -> usize
     requires { start < length text.now }
     ensures { result ≡ end_from text.now start }

@@ -2,12 +2,12 @@
 
 ghost use Rattle.std.specs.Prelude.{◌≡◌, ◌<◌, ◌≤◌, OnOk, IfOk, IfErr, length};
 ghost use Rattle.roster_text.specs.Io.{Writes, StopsIn, Sends, BreaksIn};
-ghost use Rattle.roster_text.specs.Canonical.{canonical, heading, assignments, nurse_assignments, nurse_lines, line_text, weekday_text};
+ghost use Rattle.roster_bundle.specs.Canonical.{canonical, heading, assignments, nurse_assignments, nurse_lines, line_text, weekday_text};
 
 use crate::fault::WriteFault;
 use crate::pieces::{Piece, send_pieces};
-use crate::view::SolutionView;
 use crate::watch::Watch;
+use roster_bundle::SolutionView;
 use std::io::Write;
 
 /// Writes the canonical text of one solution: its heading, and a line for each assignment.

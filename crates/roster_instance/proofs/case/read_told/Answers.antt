@@ -1,6 +1,6 @@
 use Rattle.std.proofs.Common.{◌∙◌, ap, subst, sym, List, []}
 use Rattle.std.specs.List.{enumerate_from, flat_map}
-use Rattle.roster_text.specs.declared.bundle.Nurse.{Nurse}
+use Rattle.roster_bundle.specs.declared.bundle.Nurse.{Nurse}
 use Rattle.roster_instance.specs.declared.fault.CaseFault.{CaseFault}
 use Rattle.roster_instance.specs.CaseParts.{case_of}
 use Rattle.roster_instance.specs.Checking.{IsFirst}

@@ -1,5 +1,5 @@
 use Rattle.std.proofs.Common.{◌∙◌, None, ap, replicate, sym}
-use Rattle.roster_text.specs.declared.bundle.Succession.{Succession}
+use Rattle.roster_bundle.specs.declared.bundle.Succession.{Succession}
 use Rattle.roster_instance.specs.Bundles.{numbers_among}
 use Rattle.roster_instance.specs.Names.{found}
 use Rattle.roster_instance.proofs.TableLemmas.{table-empty}

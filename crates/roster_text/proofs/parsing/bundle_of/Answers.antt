@@ -1,6 +1,6 @@
 use Rattle.std.proofs.Common.{All, length, sym, subst}
-use Rattle.roster_text.specs.Token.{IsWithin}
-use Rattle.roster_text.specs.declared.token.Token.{Token}
+use Rattle.roster_bundle.specs.Token.{IsWithin}
+use Rattle.roster_bundle.specs.declared.token.Token.{Token}
 use Rattle.std.proofs.Common.{List}
 use Rattle.roster_text.proofs.TokenFacts.{tokens_are}
 use Rattle.roster_text.proofs.parsing.bundle_of.Goals as goal

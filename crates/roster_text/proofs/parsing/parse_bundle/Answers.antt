@@ -1,6 +1,6 @@
 use Rattle.std.proofs.Common.{◌≡◌, length}
-use Rattle.roster_text.specs.SmallNumbers.{SaysSmallNumbers}
-use Rattle.roster_text.specs.Token.{all_seen, line_at_end}
+use Rattle.roster_bundle.specs.SmallNumbers.{SaysSmallNumbers}
+use Rattle.roster_bundle.specs.Token.{all_seen, line_at_end}
 use Rattle.roster_text.proofs.FirstFaults.{is_spelled, is_accepted, is_refused, of_spelled}
 use Rattle.roster_text.proofs.SmallNumbers.{small_numbers}
 use Rattle.roster_text.proofs.parsing.parse_bundle.Goals as goal

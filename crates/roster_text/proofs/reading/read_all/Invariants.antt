@@ -1,7 +1,7 @@
 -- What is kept is what the reader gave, and there is room for the rest of the limit.
 use Rattle.std.proofs.Common.{◌≡◌, ◌≤◌, ◌+◌, ◌-◌, length, vec_len}
 use Rattle.std.specs.Io.KnownBytes.{Consumes}
-use Rattle.roster_text.specs.Limits.{most_bytes}
+use Rattle.roster_bundle.specs.Limits.{most_bytes}
 use Rattle.roster_text.proofs.reading.read_all.Given as goal
 
 abbrev pub invariant-reading : goal.invariant-reading

@@ -1,5 +1,5 @@
 use Rattle.std.proofs.Common.{rules}
-use Rattle.roster_text.specs.Token.{line_feeds}
+use Rattle.roster_bundle.specs.Token.{line_feeds}
 use Rattle.roster_text.proofs.token.line_at_end.Goals as goal
 
 pub returns : goal.returns

@@ -1,6 +1,6 @@
 use Rattle.std.proofs.Common.{sym, subst, inl, arith}
 use Rattle.std.proofs.lemmas.Grind.{common_steps}
-use Rattle.roster_text.specs.Token.{AreTokensOf}
+use Rattle.roster_bundle.specs.Token.{AreTokensOf}
 use Rattle.roster_text.proofs.TokenFacts.{tokens_are}
 use Rattle.roster_text.proofs.TokenLemmas.{length-tokens_from-le}
 use Rattle.roster_text.proofs.token.tokens.Goals as goal

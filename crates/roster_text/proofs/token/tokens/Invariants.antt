@@ -1,5 +1,5 @@
 use Rattle.std.proofs.Common.{◌≡◌, ◌++◌}
-use Rattle.roster_text.specs.Token.{tokens_from, tokens_of}
+use Rattle.roster_bundle.specs.Token.{tokens_from, tokens_of}
 use Rattle.roster_text.proofs.token.tokens.Given as goal
 
 abbrev pub invariant-loop-token : goal.invariant-loop-token

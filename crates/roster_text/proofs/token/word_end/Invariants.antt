@@ -1,6 +1,6 @@
 use Rattle.std.proofs.Common.{length, ◌-◌, ◌≡◌, ◌+◌, ◌≤◌, drop}
 use Rattle.std.specs.List.{prefix_len}
-use Rattle.roster_text.specs.Token.{is_word_byte}
+use Rattle.roster_bundle.specs.Token.{is_word_byte}
 use Rattle.roster_text.proofs.token.word_end.Given as goal
 
 abbrev pub invariant-loop-at : goal.invariant-loop-at

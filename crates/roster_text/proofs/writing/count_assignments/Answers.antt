@@ -1,5 +1,5 @@
 use Rattle.std.proofs.Common.{rules, arith}
-use Rattle.roster_text.specs.Canonical.{assignments}
+use Rattle.roster_bundle.specs.Canonical.{assignments}
 use Rattle.roster_text.proofs.Lines.{count-nurse_more}
 use Rattle.roster_text.proofs.writing.count_assignments.Goals as goal
 

@@ -1,6 +1,6 @@
 use Rattle.std.proofs.Common.{◌≡◌, ◌+◌, if◌then◌else◌, is_some, rules, arith}
 use Rattle.std.proofs.lemmas.Bool.Decides.{nat_tests}
-use Rattle.roster_text.specs.Canonical.{nurse_assignments}
+use Rattle.roster_bundle.specs.Canonical.{nurse_assignments}
 use Rattle.roster_text.proofs.Lines.{count-weekday_more}
 use Rattle.roster_text.proofs.writing.count_of_nurse.Goals as goal
 use Rattle.roster_text.proofs.writing.count_of_nurse.Goals.{then-is_some, else-is_some}

@@ -1,7 +1,7 @@
 -- The count so far is that of the weekdays so far.
 use Rattle.std.proofs.Common.{◌≡◌, ◌≤◌, length}
 use Rattle.std.specs.List.{filter_map, range_with_len}
-use Rattle.roster_text.specs.Canonical.{assignment_on}
+use Rattle.roster_bundle.specs.Canonical.{assignment_on}
 use Rattle.roster_text.proofs.writing.count_of_nurse.Given as goal
 
 abbrev pub invariant-loop-weekday : goal.invariant-loop-weekday

@@ -1,6 +1,6 @@
 use Rattle.std.proofs.Common.{[], rules}
 use Rattle.std.proofs.lemmas.Result.{err_from_is_err_and}
-use Rattle.roster_text.specs.Canonical.{line_on, nurse_lines}
+use Rattle.roster_bundle.specs.Canonical.{line_on, nurse_lines}
 use Rattle.roster_text.proofs.Texts.{BreaksIn-range, Sends-range, Sends-range-nil}
 use Rattle.roster_text.proofs.Lines.{line_on_works, line_on_free}
 use Rattle.roster_text.proofs.writing.send_nurse.Goals as goal

@@ -1,7 +1,7 @@
 -- The lines of the weekdays so far are sent.
 use Rattle.std.specs.List.{flat_map, range_with_len}
 use Rattle.roster_text.specs.Io.{Sends}
-use Rattle.roster_text.specs.Canonical.{line_on}
+use Rattle.roster_bundle.specs.Canonical.{line_on}
 use Rattle.roster_text.proofs.writing.send_nurse.Given as goal
 
 abbrev pub invariant-loop-weekday : goal.invariant-loop-weekday

@@ -1,6 +1,6 @@
 use Rattle.std.proofs.Common.{◌≡◌, arith}
 use Rattle.std.proofs.lemmas.Result.{err_from_is_err_and}
-use Rattle.roster_text.specs.Canonical.{heading, nurse_lines}
+use Rattle.roster_bundle.specs.Canonical.{heading, nurse_lines}
 use Rattle.roster_text.proofs.Texts.{StopsIn-from_breaks_in, BreaksIn-append, BreaksIn-range, Sends-range}
 use Rattle.roster_text.proofs.Lines.{canonical_is}
 use Rattle.roster_text.proofs.writing.write_solution.Goals as goal

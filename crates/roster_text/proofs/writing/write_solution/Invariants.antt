@@ -2,7 +2,7 @@
 use Rattle.std.proofs.Common.{◌++◌}
 use Rattle.std.specs.List.{flat_map, range_with_len}
 use Rattle.roster_text.specs.Io.{Sends}
-use Rattle.roster_text.specs.Canonical.{heading, nurse_lines}
+use Rattle.roster_bundle.specs.Canonical.{heading, nurse_lines}
 use Rattle.roster_text.proofs.writing.write_solution.Given as goal
 
 abbrev pub invariant-loop-nurse : goal.invariant-loop-nurse

@@ -1,6 +1,6 @@
 use Rattle.std.proofs.Common.{◌≡◌, ◌∙◌, ◌<◌, ap, length, List, map, subst, sym}
 use Rattle.std.specs.List.{enumerate_from, flat_map, range_with_len}
-use Rattle.roster_text.specs.declared.bundle.Solution.{Solution}
+use Rattle.roster_bundle.specs.declared.bundle.Solution.{Solution}
 use Rattle.roster_instance.specs.declared.fault.CaseFault.{CaseFault}
 use Rattle.roster_instance.specs.Bundles.{row_meant, rows_of, solution_meant}
 use Rattle.roster_instance.specs.Checking.{IsFirst}

@@ -1,5 +1,5 @@
 use Rattle.std.proofs.Common.{refl, arith}
-use Rattle.roster_text.specs.Token.{line_feeds}
+use Rattle.roster_bundle.specs.Token.{line_feeds}
 use Rattle.roster_text.proofs.TokenLemmas.{IsBetweenTokens-start}
 use Rattle.roster_text.proofs.token.Scanner.new.Goals as goal
 

@@ -1,15 +1,15 @@
 -- The small numbers of a bundle: each that stands in a pair, a contract or a history line is from 0 to 999 (the format;
 -- the range is our profile).
 use Rattle.std.specs.Prelude.{◌≤◌, All}
-use Rattle.roster_text.specs.declared.bundle.Bundle.{Bundle}
-use Rattle.roster_text.specs.declared.bundle.Contract.{Contract}
-use Rattle.roster_text.specs.declared.bundle.NurseHistory.{NurseHistory}
-use Rattle.roster_text.specs.declared.bundle.Pair.{Pair}
-use Rattle.roster_text.specs.declared.bundle.Requirement.{Requirement}
-use Rattle.roster_text.specs.declared.bundle.ShiftType.{ShiftType}
-use Rattle.roster_text.specs.declared.bundle.WeekData.{WeekData}
-use Rattle.roster_text.specs.declared.bundle.WeekPairs.{WeekPairs}
-use Rattle.roster_text.specs.Limits.{most_small}
+use Rattle.roster_bundle.specs.declared.bundle.Bundle.{Bundle}
+use Rattle.roster_bundle.specs.declared.bundle.Contract.{Contract}
+use Rattle.roster_bundle.specs.declared.bundle.NurseHistory.{NurseHistory}
+use Rattle.roster_bundle.specs.declared.bundle.Pair.{Pair}
+use Rattle.roster_bundle.specs.declared.bundle.Requirement.{Requirement}
+use Rattle.roster_bundle.specs.declared.bundle.ShiftType.{ShiftType}
+use Rattle.roster_bundle.specs.declared.bundle.WeekData.{WeekData}
+use Rattle.roster_bundle.specs.declared.bundle.WeekPairs.{WeekPairs}
+use Rattle.roster_bundle.specs.Limits.{most_small}
 
 -- both numbers of a pair
 pub record IsSmallPair (p : Pair) : Type 0 where

@@ -1,7 +1,7 @@
 //! What a solution has to show so that it can be written.
 
 ghost use Rattle.std.specs.Prelude.{◌≡◌, ◌*◌, ◌^◌, ◌<◌, option_map};
-ghost use Rattle.roster_text.specs.Canonical.{Shown};
+ghost use Rattle.roster_bundle.specs.Canonical.{Shown};
 
 /// One week's solution, by the numbers of its nurses and of the weekdays, 0 being Monday.
 pub trait SolutionView {

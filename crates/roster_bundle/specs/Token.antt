@@ -1,7 +1,7 @@
 -- The tokens of a text, told place by place.
 use Rattle.std.specs.Prelude.{◌≡◌, ℕ, ◌+◌, ◌-◌, ◌<◌, ◌≤◌, ◌⊎◌, Bool, not, ◌&&◌, ◌||◌, ◌==◌, nat_lt, if◌then◌else◌, IsTrue, IsFalse, Option, Some, None, List, All, Any, AllPairs, length, map, drop, slice_index, slice_range, count_by, take}
 use Rattle.std.specs.List.{filter_map, list_all, prefix_len, range_with_len}
-use Rattle.roster_text.specs.declared.token.Token.{Token}
+use Rattle.roster_bundle.specs.declared.token.Token.{Token}
 
 -- a blank, a tab, an LF or a CR
 unfoldable pub is_separator : ℕ → Bool

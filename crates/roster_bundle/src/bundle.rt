@@ -19,7 +19,7 @@ pub enum Day {
 
 impl Day {
     ghost use Rattle.std.specs.Prelude.{◌≡◌};
-    ghost use Rattle.roster_text.specs.Grammar.{short, long};
+    ghost use Rattle.roster_bundle.specs.Weekdays.{short, long};
 
     /// The days of a week, from Monday on.
     pub const ALL: [Day; 7] = [
@@ -78,7 +78,8 @@ impl<T> Model for Items<T> {
 }
 
 impl<T> Items<T> {
-    pub(crate) fn from_vec(items: Vec<T>) -> Self
+    /// The items of a list.
+    pub fn from_vec(items: Vec<T>) -> Self
         ensures { result ≡ items.items }
     {
         Items { items }

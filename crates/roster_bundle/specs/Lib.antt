@@ -1,0 +1,5 @@
+pub mod Limits
+pub mod Weekdays
+pub mod Token
+pub mod SmallNumbers
+pub mod Canonical

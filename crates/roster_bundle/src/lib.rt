@@ -1,0 +1,13 @@
+//! What the four texts of an instance say, place by place, and what a solution shows. `roster_text` passes all of it on.
+#![tactic(auto)]
+
+mod bundle;
+mod token;
+mod view;
+
+pub use bundle::{
+    Assignment, Bundle, Contract, Day, History, Items, Listed, Number, Nurse, NurseHistory,
+    OffRequest, Pair, Requirement, Scenario, ShiftType, Solution, Succession, WeekData, WeekPairs,
+};
+pub use token::Token;
+pub use view::SolutionView;
