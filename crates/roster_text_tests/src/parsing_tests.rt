@@ -1,6 +1,6 @@
 //! What mini says, and the line of each kind of fault.
 
-use roster_text::{Bundle, Day, Keyword, Pair, TextFault, What, parse_bundle, tokens};
+use roster_text::{Bundle, Day, Keyword, TextFault, What, parse_bundle, tokens};
 use std::test::Fail;
 
 const MINI: &str = "SCENARIO = mini
@@ -64,20 +64,9 @@ fn mini_is_read(rt: HostRuntime) -> Result<(), Fail> {
     assert_eq!(rt; bundle.scenario.shifts.items.len(), 2);
     assert_eq!(rt; bundle.scenario.nurses.items.len(), 2);
     for contract in bundle.scenario.contracts.items.as_slice() {
-        assert_eq!(rt;
-            contract.total,
-            Pair {
-                least: 2,
-                greatest: 5
-            }
-        );
-        assert_eq!(rt;
-            contract.free,
-            Pair {
-                least: 1,
-                greatest: 5
-            }
-        );
+        let (total, free) = (contract.total, contract.free);
+        assert_eq!(rt; (total.least, total.greatest), (2, 5));
+        assert_eq!(rt; (free.least, free.greatest), (1, 5));
         assert_eq!(rt; contract.weekends, 1);
         assert_eq!(rt; contract.complete_weekends, 1);
     }
