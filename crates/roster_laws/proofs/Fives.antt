@@ -4,6 +4,7 @@ use Rattle.roster_case.specs.Counting.{sum_below}
 use Rattle.roster_case.specs.Days.{Days, split_weekends}
 use Rattle.roster_case.specs.Meaning.{Meaning, contract_of, day_count, nurse_count, shift_count, skill_count}
 use Rattle.roster_case.specs.Penalties.{costs_of, free_runs, is_undesired, over_nurses, penalty, runs_of_shift, shift_runs, split, staffing, staffing_of_day, staffing_of_place, totals, undesired, weekends_above, working_runs}
+use Rattle.roster_case.specs.Weights.{request_weight, split_weight}
 use Rattle.roster_case.specs.Rosters.{Rows, days_of_nurse}
 
 abbrev pub IsFive : ℕ → Type 0
@@ -46,10 +47,10 @@ module _ (c : Meaning) where
   runs_are n days = plus (working_runs c n days) (shift_runs c n days) (by_30 _) (sum_is (shift_count c) (runs_of_shift c n days) (λ s. by_15 _))
 
   requests_are : (n : ℕ) (days : Days) → IsFive (undesired c n days)
-  requests_are n days = sum_is _ _ (λ d. where_is (is_undesired c n d _) 10 refl)
+  requests_are n days = sum_is _ _ (λ d. where_is (is_undesired c n d _) request_weight refl)
 
   split_is : (n : ℕ) (days : Days) → IsFive (split c n days)
-  split_is n days = where_is (contract_of c n).whole_weekends (30 * split_weekends days) (by_30 (split_weekends days))
+  split_is n days = where_is (contract_of c n).whole_weekends (split_weight * split_weekends days) (by_30 (split_weekends days))
 
   totals_are : (n : ℕ) (days : Days) → IsFive (totals c n days)
   totals_are n days = plus _ _ (by_20 _) (by_20 _)
