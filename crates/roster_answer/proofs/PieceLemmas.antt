@@ -1,10 +1,11 @@
 -- A line that is written piece by piece.
-use Rattle.std.proofs.Common.{◌≡◌, ◌∙◌, ◌+◌, ◌-◌, ◌*◌, ◌<◌, ℕ, ap, ap₂, arith, sym, List, ◌++◌, append_assoc, codes, decimal, flat_map, min}
+use Rattle.std.proofs.Common.{◌≡◌, ◌∙◌, ◌+◌, ◌-◌, ◌*◌, ◌<◌, ℕ, ap, ap₂, arith, sym, ◌++◌, append_assoc, codes, decimal, flat_map, min}
 use Rattle.std.proofs.Math.Nat.{min-eq_left}
 use Rattle.std.specs.List.{range_with_len}
 use Rattle.roster_text.proofs.Texts.{flat_map-range_split}
 use Rattle.roster_case.specs.Meaning.{Meaning, day_count, nurse_count, nurse_name}
 use Rattle.roster_case.specs.Penalties.{total_cost}
+use Rattle.roster_case.specs.Room.{penalty_room}
 use Rattle.roster_case.specs.Sizes.{choice_count, state_count}
 use Rattle.roster_case.specs.declared.penalties.Costs.{Costs}
 use Rattle.roster_answer.specs.Lines.{Text, costs_text, search_line, sizes_line, sizes_text}
@@ -35,7 +36,7 @@ cost_pieces k total =
     ++ (codes "\nS6 " ++ (decimal k.s6 ++ (codes "\nS7 " ++ (decimal k.s7 ++ (codes "\ntotal " ++ (decimal total ++ codes "\n")))))))))))))))
 
 -- they are the report, where the total is a small one
-pub cost_pieces-are : (k : Costs) (total : ℕ) → total ≡ min (total_cost k) 18446744073709551615 → total_cost k < 2147483648 → cost_pieces k total ≡ costs_text k
+pub cost_pieces-are : (k : Costs) (total : ℕ) → total ≡ min (total_cost k) 18446744073709551615 → total_cost k < penalty_room → cost_pieces k total ≡ costs_text k
 unfolding costs_text
 cost_pieces-are k total is within =
     let sum : total ≡ total_cost k = is ∙ min-eq_left (omega (arith, within)) in

@@ -2,6 +2,7 @@
 use Rattle.std.specs.Prelude.{◌≡◌, ℕ, ◌*◌, ◌/◌, ◌%◌, ◌++◌, List, [], codes, decimal, flat_map, Some, slice_index_or}
 use Rattle.std.specs.List.{range_with_len}
 use Rattle.roster_text.specs.Canonical.{weekday_text}
+use Rattle.roster_text.specs.Limits.{most_bytes}
 use Rattle.roster_text.specs.Token.{text_of}
 use Rattle.roster_text.specs.Words.{what_text}
 use Rattle.roster_text.specs.declared.Bundle.{Bundle}
@@ -30,7 +31,7 @@ Text = List ℕ
 abbrev pub text_line : TextFault → Text
 text_line text.Memory = codes "no memory\n"
 text_line text.ReadFailed = codes "read failed\n"
-text_line text.TooLong = codes "input longer than 16777216 bytes\n"
+text_line text.TooLong = codes "input longer than " ++ decimal most_bytes ++ codes " bytes\n"
 text_line (text.Expected line what) = codes "line " ++ decimal line ++ codes ": expected " ++ what_text what ++ codes "\n"
 text_line (text.NumberRange line) = codes "line " ++ decimal line ++ codes ": number out of range\n"
 text_line (text.AfterEnd line) = codes "line " ++ decimal line ++ codes ": text after the end\n"

@@ -4,6 +4,7 @@ ghost use Rattle.std.specs.Prelude.{◌≡◌, ◌<◌, true, [], OnOk, IfErr};
 ghost use Rattle.roster_text.specs.Io.{StopsIn, Writes};
 ghost use Rattle.roster_case.specs.HardRules.{hard_faults};
 ghost use Rattle.roster_case.specs.Penalties.{total_cost};
+ghost use Rattle.roster_case.specs.Room.{penalty_room};
 ghost use Rattle.roster_case.specs.Rosters.{fits};
 ghost use Rattle.roster_answer.specs.Lines.{IsFirstBreach, costs_text};
 
@@ -32,7 +33,7 @@ pub(crate) fn keep_hard_rules<'a>(
 
 /// Writes a line for each soft rule, and one for the total.
 pub(crate) fn write_costs<W: Write>(output: &mut Watch<W>, costs: Costs) -> Result<(), WriteFault>
-    requires { total_cost costs < 2147483648 }
+    requires { total_cost costs < penalty_room }
     ensures ok { OnOk result (Writes W.contents output.old output.new (costs_text costs)) }
     ensures err { IfErr result (StopsIn W.contents output.old output.new (costs_text costs)) }
 {

@@ -7,7 +7,7 @@ ghost use Rattle.roster_answer.specs.Lines.{case_line, fault_line, hard_line, mi
 
 use crate::fault::{BreachNames, Fault};
 use roster_case::{CaseFault, HardFault};
-use roster_text::{Piece, TextFault, Watch, WriteFault, weekday_text, write_pieces};
+use roster_text::{MAX_INPUT, Piece, TextFault, Watch, WriteFault, weekday_text, write_pieces};
 use std::io::Write;
 
 /// Tells a fault of the input, as `run` does: its line goes to the log, and its status is answered.
@@ -64,9 +64,14 @@ fn write_text_line<Log: Write>(fault: TextFault, log: &mut Watch<Log>) -> Result
     match fault {
         TextFault::Memory => write_pieces(log, &[Piece::Bytes(b"no memory\n")]),
         TextFault::ReadFailed => write_pieces(log, &[Piece::Bytes(b"read failed\n")]),
-        TextFault::TooLong => {
-            write_pieces(log, &[Piece::Bytes(b"input longer than 16777216 bytes\n")])
-        }
+        TextFault::TooLong => write_pieces(
+            log,
+            &[
+                Piece::Bytes(b"input longer than "),
+                Piece::Number(MAX_INPUT as u64),
+                Piece::Bytes(b" bytes\n"),
+            ],
+        ),
         TextFault::Expected { line, what } => write_pieces(
             log,
             &[

@@ -1,71 +1,103 @@
 -- Bounds of the penalties of a roster, where the numbers of an instance are small: all sums stay below 2^31. The bounds are
--- for the largest case: 200 nurses, 16 weeks, 8 shifts and 8 skills.
+-- for the largest case, by its limits and the weights.
 use Rattle.std.proofs.Common.{◌≡◌, arith, ℕ, ◌+◌, ◌-◌, ◌*◌, ◌<◌, ◌≤◌, true, ◌||◌, length, if◌then◌else◌}
 use Rattle.roster_instance.specs.Counting.{sum_below}
 use Rattle.roster_instance.specs.Days.{Days, shift_on, works, is_off, days_worked, saturday, worked_weekends, weekends_begun, weekends_ended, split_weekends, one_alone}
-use Rattle.roster_instance.specs.Limits.{most_days, most_nurses, most_shifts, most_skills, most_weeks}
+use Rattle.roster_instance.specs.Limits.{most_days, most_nurses, most_shifts, most_skills, most_small, most_weeks}
 use Rattle.roster_instance.specs.Meaning.{Meaning, week_count, day_count, shift_count, skill_count, nurse_count, run_of_shift, past_of, contract_of, need}
 use Rattle.roster_case.specs.Penalties.{staffing, staffing_of_day, free_before, worked_before, working_runs, shift_runs, free_runs, is_undesired, undesired, split, totals, weekends_above, over_nurses, costs_of, total_cost}
+use Rattle.roster_case.specs.Room.{most_staffing, penalty_room}
+use Rattle.roster_case.specs.Weights.{staffing_weight, working_run_weight, shift_run_weight, free_run_weight, request_weight, split_weight, assignment_weight, weekend_weight}
 use Rattle.roster_instance.specs.Rosters.{Rows, days_of_nurse, cover, fits}
 use Rattle.roster_instance.specs.Small.{HasSmallNumbers}
 use Rattle.roster_instance.proofs.RosterFacts.{days_of_nurse-length}
 use Rattle.roster_case.proofs.RunBounds.{where_within, sum_within, count_within, all_runs_within, all_shifts_within}
 
--- ---- staffing: 30 for each of 999 nurses at most, on 112 days, for 8 shifts with 8 skills
+-- ---- staffing
 
-staffing_of_day-within : (c : Meaning) (r : Rows) (d : ℕ) → HasSmallNumbers c → shift_count c ≤ most_shifts → skill_count c ≤ most_skills → staffing_of_day c r d ≤ 1918080
-staffing_of_day-within c r d small shifts skills = omega (arith, sum_within (shift_count c) 239760 of_shift (λ s h. shift s))
+abbrev most_staffing_of_place : ℕ
+most_staffing_of_place = staffing_weight * most_small
+
+abbrev most_staffing_of_shift : ℕ
+most_staffing_of_shift = most_skills * most_staffing_of_place
+
+abbrev most_staffing_of_day : ℕ
+most_staffing_of_day = most_shifts * most_staffing_of_shift
+
+staffing_of_day-within : (c : Meaning) (r : Rows) (d : ℕ) → HasSmallNumbers c → shift_count c ≤ most_shifts → skill_count c ≤ most_skills → staffing_of_day c r d ≤ most_staffing_of_day
+staffing_of_day-within c r d small shifts skills = omega (arith, sum_within (shift_count c) most_staffing_of_shift of_shift (λ s h. shift s))
   where
     missing_at : ℕ → ℕ → ℕ
-    missing_at s k = 30 * ((need c d s k).greatest - cover r d s k)
+    missing_at s k = staffing_weight * ((need c d s k).greatest - cover r d s k)
 
     of_shift : ℕ → ℕ
     of_shift s = sum_below (skill_count c) (missing_at s)
 
-    skill : (s k : ℕ) → missing_at s k ≤ 29970
+    skill : (s k : ℕ) → missing_at s k ≤ most_staffing_of_place
     skill s k = omega (arith, (small.needs d s k).greatest)
 
-    shift : (s : ℕ) → of_shift s ≤ 239760
-    shift s = omega (arith, sum_within (skill_count c) 29970 (missing_at s) (λ k h. skill s k))
+    shift : (s : ℕ) → of_shift s ≤ most_staffing_of_shift
+    shift s = omega (arith, sum_within (skill_count c) most_staffing_of_place (missing_at s) (λ k h. skill s k))
 
-pub staffing-within : (c : Meaning) (r : Rows) → HasSmallNumbers c → shift_count c ≤ most_shifts → skill_count c ≤ most_skills → day_count c ≤ most_days → staffing c r ≤ 214824960
+pub staffing-within : (c : Meaning) (r : Rows) → HasSmallNumbers c → shift_count c ≤ most_shifts → skill_count c ≤ most_skills → day_count c ≤ most_days → staffing c r ≤ most_staffing
 staffing-within c r small shifts skills days =
-    omega (arith, sum_within (day_count c) 1918080 (staffing_of_day c r) (λ d h. staffing_of_day-within c r d small shifts skills))
+    omega (arith, sum_within (day_count c) most_staffing_of_day (staffing_of_day c r) (λ d h. staffing_of_day-within c r d small shifts skills))
 
--- ---- one nurse, on at most 112 days
+-- ---- one nurse
+
+-- the missing and the extra days of all runs of a kind
+abbrev most_run_faults : ℕ
+most_run_faults = most_small + (most_small + 1) * most_days
+
+-- the points of working days, of all shifts and of days off
+abbrev most_working : ℕ
+most_working = working_run_weight * most_run_faults
+
+abbrev most_shift : ℕ
+most_shift = shift_run_weight * most_run_faults
+
+abbrev most_free : ℕ
+most_free = free_run_weight * most_run_faults
+
+abbrev most_requests : ℕ
+most_requests = request_weight * most_days
+
+abbrev most_split : ℕ
+most_split = split_weight * most_weeks
+
+-- the assignments that are missing, and those that are extra with the history's
+abbrev most_totals : ℕ
+most_totals = assignment_weight * most_small + assignment_weight * (most_small + most_days)
+
+abbrev most_weekends : ℕ
+most_weekends = weekend_weight * (most_small + most_weeks)
 
 module _ (c : Meaning) (n : ℕ) (days : Days) (small : HasSmallNumbers c) (few : length days ≤ most_days) where
-  -- 30 * (999 + 1000 * 112)
-  pub working_runs-within : working_runs c n days ≤ 3389970
+  pub working_runs-within : working_runs c n days ≤ most_working
   working_runs-within =
       omega (arith, all_runs_within (contract_of c n).working (worked_before (past_of c n).border) (works days) (length days) (small.contracts n).working)
 
-  pub free_runs-within : free_runs c n days ≤ 3389970
+  pub free_runs-within : free_runs c n days ≤ most_free
   free_runs-within = omega (arith, all_runs_within (contract_of c n).free (free_before (past_of c n).border) (is_off days) (length days) (small.contracts n).free)
 
-  -- 15 * (999 + 1000 * 112), for all shifts
-  pub shift_runs-within : shift_runs c n days ≤ 1694985
+  pub shift_runs-within : shift_runs c n days ≤ most_shift
   shift_runs-within = omega (arith, all_shifts_within (shift_count c) (run_of_shift c) (past_of c n).border days small.runs)
 
-  -- 10 a day
-  pub undesired-within : undesired c n days ≤ 1120
+  pub undesired-within : undesired c n days ≤ most_requests
   undesired-within =
-      omega (arith, sum_within (length days) 10 (λ d. if is_undesired c n d (shift_on days d) then 10 else 0) (λ d h. where_within (is_undesired c n d (shift_on days d)) 10 10 (omega arith)))
+      omega (arith, sum_within (length days) request_weight (λ d. if is_undesired c n d (shift_on days d) then request_weight else 0) (λ d h. where_within (is_undesired c n d (shift_on days d)) request_weight request_weight (omega arith)))
 
-  -- 30 for each of 16 weekends
-  pub split-within : split c n days ≤ 480
+  pub split-within : split c n days ≤ most_split
   split-within =
       let count : split_weekends days ≤ weekends_ended days = count_within (weekends_ended days) (λ v. one_alone (works days (saturday v)) (works days (saturday v + 1))) in
-      where_within (contract_of c n).whole_weekends (30 * split_weekends days) 480 (omega arith)
+      where_within (contract_of c n).whole_weekends (split_weight * split_weekends days) most_split (omega arith)
 
-  -- 20 for each of 999 that are missing, and of 999 + 112 that are extra
-  pub totals-within : totals c n days ≤ 42200
+  pub totals-within : totals c n days ≤ most_totals
   totals-within =
       let worked : days_worked days ≤ length days = count_within (length days) (works days) in
       omega (arith, (small.contracts n).total.least, (small.past n).assignments)
 
-  -- 30 for each of 999 + 16
-  pub weekends_above-within : weekends_above c n days ≤ 30450
+  pub weekends_above-within : weekends_above c n days ≤ most_weekends
   weekends_above-within =
       let count : worked_weekends days ≤ weekends_begun days = count_within (weekends_begun days) (λ v. works days (saturday v) || works days (saturday v + 1)) in
       omega (arith, (small.past n).weekends)
@@ -75,15 +107,15 @@ module _ (c : Meaning) (n : ℕ) (days : Days) (small : HasSmallNumbers c) (few 
 over_nurses-within : (c : Meaning) (r : Rows) (rule : ℕ → Days → ℕ) (m : ℕ) → ((n : ℕ) (days : Days) → length days ≤ most_days → rule n days ≤ m) → ((n : ℕ) → n < nurse_count c → length (days_of_nurse r n) ≤ most_days) → over_nurses c r rule ≤ nurse_count c * m
 over_nurses-within c r rule m each few = sum_within (nurse_count c) m (λ n. rule n (days_of_nurse r n)) (λ n h. each n (days_of_nurse r n) (few n h))
 
--- 214,824,960 and 8,549,175 for each of 200 nurses are 1,924,659,960
-pub penalty-within : (c : Meaning) (r : Rows) → HasSmallNumbers c → shift_count c ≤ most_shifts → skill_count c ≤ most_skills → week_count c ≤ most_weeks → nurse_count c ≤ most_nurses → fits c r ≡ true → total_cost (costs_of c r) < 2147483648
+-- in numbers 214,824,960, and 8,549,175 for each of 200 nurses: 1,924,659,960
+pub penalty-within : (c : Meaning) (r : Rows) → HasSmallNumbers c → shift_count c ≤ most_shifts → skill_count c ≤ most_skills → week_count c ≤ most_weeks → nurse_count c ≤ most_nurses → fits c r ≡ true → total_cost (costs_of c r) < penalty_room
 unfolding costs_of
 penalty-within c r small shifts skills weeks nurses fit =
     let few : (n : ℕ) → n < nurse_count c → length (days_of_nurse r n) ≤ most_days = λ n h. omega (arith, days_of_nurse-length c r n fit h) in
-    let runs = over_nurses-within c r (λ n days. working_runs c n days + shift_runs c n days) 5084955 (λ n days d. omega (arith, working_runs-within c n days small d, shift_runs-within c n days small d)) few in
-    let free = over_nurses-within c r (free_runs c) 3389970 (λ n days d. free_runs-within c n days small d) few in
-    let wishes = over_nurses-within c r (undesired c) 1120 (λ n days d. undesired-within c n days small d) few in
-    let splits = over_nurses-within c r (split c) 480 (λ n days d. split-within c n days small d) few in
-    let total = over_nurses-within c r (totals c) 42200 (λ n days d. totals-within c n days small d) few in
-    let weekends = over_nurses-within c r (weekends_above c) 30450 (λ n days d. weekends_above-within c n days small d) few in
+    let runs = over_nurses-within c r (λ n days. working_runs c n days + shift_runs c n days) (most_working + most_shift) (λ n days d. omega (arith, working_runs-within c n days small d, shift_runs-within c n days small d)) few in
+    let free = over_nurses-within c r (free_runs c) most_free (λ n days d. free_runs-within c n days small d) few in
+    let wishes = over_nurses-within c r (undesired c) most_requests (λ n days d. undesired-within c n days small d) few in
+    let splits = over_nurses-within c r (split c) most_split (λ n days d. split-within c n days small d) few in
+    let total = over_nurses-within c r (totals c) most_totals (λ n days d. totals-within c n days small d) few in
+    let weekends = over_nurses-within c r (weekends_above c) most_weekends (λ n days d. weekends_above-within c n days small d) few in
     omega (arith, staffing-within c r small shifts skills (omega arith), runs, free, wishes, splits, total, weekends)

@@ -21,6 +21,8 @@ pub mod HardRules
 pub mod Runs
 pub mod Kinds
 pub mod DayLaw
+pub mod Weights
+pub mod Room
 pub mod Penalties
 pub mod Prefix
 pub mod Rows

@@ -10,11 +10,12 @@ use Rattle.roster_instance.specs.Days.{Days, shift_on, works, is_off, has_shift,
 use Rattle.roster_instance.specs.Meaning.{Meaning, day_count, shift_count, skill_count, nurse_count, run_of_shift, past_of, contract_of, need, is_wished_off}
 use Rattle.roster_instance.specs.Rosters.{Rows, days_of_nurse, cover}
 use Rattle.roster_case.specs.Runs.{run_faults}
+use Rattle.roster_case.specs.Weights.{staffing_weight, working_run_weight, shift_run_weight, free_run_weight, request_weight, split_weight, assignment_weight, weekend_weight}
 
--- ---- staffing: 30 for each nurse missing to the optimum of a day, shift and skill
+-- ---- staffing: points for each nurse missing to the optimum of a day, shift and skill
 
 abbrev pub staffing_of_place : Meaning → Rows → ℕ → ℕ → ℕ → ℕ
-staffing_of_place c r d s k = 30 * ((need c d s k).greatest - cover r d s k)
+staffing_of_place c r d s k = staffing_weight * ((need c d s k).greatest - cover r d s k)
 
 abbrev pub staffing_of_day : Meaning → Rows → ℕ → ℕ
 staffing_of_day c r d = sum_below (shift_count c) (λ s. sum_below (skill_count c) (staffing_of_place c r d s))
@@ -36,22 +37,22 @@ abbrev pub shift_run_before : ℕ → Border → ℕ
 shift_run_before s (Free n) = 0
 shift_run_before s (Working t own all) = if t.0 == s then own else 0
 
--- 30 for each missing or extra day of a run of working days
+-- points for each missing or extra day of a run of working days
 abbrev pub working_runs : Meaning → ℕ → Days → ℕ
-working_runs c n days = 30 * run_faults (contract_of c n).working (worked_before (past_of c n).border) (works days) (length days)
+working_runs c n days = working_run_weight * run_faults (contract_of c n).working (worked_before (past_of c n).border) (works days) (length days)
 
--- 15 for each missing or extra day of a run of one shift
+-- points for each missing or extra day of a run of one shift
 abbrev pub runs_of_shift : Meaning → ℕ → Days → ℕ → ℕ
-runs_of_shift c n days s = 15 * run_faults (run_of_shift c s) (shift_run_before s (past_of c n).border) (has_shift s days) (length days)
+runs_of_shift c n days s = shift_run_weight * run_faults (run_of_shift c s) (shift_run_before s (past_of c n).border) (has_shift s days) (length days)
 
 abbrev pub shift_runs : Meaning → ℕ → Days → ℕ
 shift_runs c n days = sum_below (shift_count c) (runs_of_shift c n days)
 
--- 30 for each missing or extra day of a run of days off
+-- points for each missing or extra day of a run of days off
 abbrev pub free_runs : Meaning → ℕ → Days → ℕ
-free_runs c n days = 30 * run_faults (contract_of c n).free (free_before (past_of c n).border) (is_off days) (length days)
+free_runs c n days = free_run_weight * run_faults (contract_of c n).free (free_before (past_of c n).border) (is_off days) (length days)
 
--- ---- wishes: 10 for each assignment to an undesired shift, once, however many requests name it
+-- ---- wishes: points for each assignment to an undesired shift, once, however many requests name it
 
 -- a request names the shift, if one is worked
 abbrev pub is_undesired : Meaning → ℕ → ℕ → Option Shift → Bool
@@ -60,16 +61,16 @@ is_undesired c n d (Some s) = is_wished_off c n d s.0
 
 -- what a day with this shift, or with none, costs
 abbrev pub off_request_on : Meaning → ℕ → ℕ → Option Shift → ℕ
-off_request_on c n d shift = if is_undesired c n d shift then 10 else 0
+off_request_on c n d shift = if is_undesired c n d shift then request_weight else 0
 
 abbrev pub undesired : Meaning → ℕ → Days → ℕ
 undesired c n days = sum_below (length days) (λ d. off_request_on c n d (shift_on days d))
 
 -- ---- weekends and totals
 
--- 30 for each weekend of which exactly one day is worked, where the contract wants whole weekends
+-- points for each weekend of which exactly one day is worked, where the contract wants whole weekends
 abbrev pub split : Meaning → ℕ → Days → ℕ
-split c n days = if (contract_of c n).whole_weekends then 30 * split_weekends days else 0
+split c n days = if (contract_of c n).whole_weekends then split_weight * split_weekends days else 0
 
 -- the assignments and the worked weekends, with the history's
 abbrev pub total_of : Meaning → ℕ → Days → ℕ
@@ -78,19 +79,19 @@ total_of c n days = (past_of c n).assignments + days_worked days
 abbrev pub weekends_of : Meaning → ℕ → Days → ℕ
 weekends_of c n days = (past_of c n).weekends + worked_weekends days
 
--- 20 for each assignment missing to the least total, and for each above the greatest
+-- points for each assignment missing to the least total, and for each above the greatest
 abbrev pub missing : Meaning → ℕ → ℕ → ℕ
-missing c n total = 20 * ((contract_of c n).total.least - total)
+missing c n total = assignment_weight * ((contract_of c n).total.least - total)
 
 abbrev pub extra : Meaning → ℕ → ℕ → ℕ
-extra c n total = 20 * (total - (contract_of c n).total.greatest)
+extra c n total = assignment_weight * (total - (contract_of c n).total.greatest)
 
 abbrev pub totals : Meaning → ℕ → Days → ℕ
 totals c n days = missing c n (total_of c n days) + extra c n (total_of c n days)
 
--- 30 for each worked weekend above the greatest number
+-- points for each worked weekend above the greatest number
 abbrev pub weekends_above : Meaning → ℕ → Days → ℕ
-weekends_above c n days = 30 * (weekends_of c n days - (contract_of c n).weekends)
+weekends_above c n days = weekend_weight * (weekends_of c n days - (contract_of c n).weekends)
 
 -- ---- the sums
 

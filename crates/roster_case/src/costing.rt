@@ -2,6 +2,7 @@
 
 ghost use Rattle.std.specs.Prelude.{◌≡◌, ◌<◌, ◌≤◌, true};
 ghost use Rattle.roster_case.specs.Penalties.{costs_of, total_cost};
+ghost use Rattle.roster_case.specs.Room.{most_staffing, penalty_room};
 ghost use Rattle.roster_instance.specs.Rosters.{fits};
 
 use crate::penalties::Costs;
@@ -16,10 +17,10 @@ pub fn costs(case: &Case, roster: &Roster) -> Costs
     requires { fits case.now roster.now ≡ true }
     ensures costs { result ≡ costs_of case.now roster.now }
 
-    // No sum comes near the end of its numbers: the penalty is below 2^31, and the part of staffing at most 30 points for each
-    // of 999 nurses for 8 shifts with 8 skills on 112 days.
-    ensures within { total_cost result < 2147483648 }
-    ensures staffing { result.s1 ≤ 214824960 }
+    // No sum comes near the end of its numbers: the penalty is below 2^31, and the part of staffing is at most that of as
+    // many missing nurses as a pair can want, for each shift and skill on each day.
+    ensures within { total_cost result < penalty_room }
+    ensures staffing { result.s1 ≤ most_staffing }
 {
     case.keeps_limits();
     by_rule(case, roster)

@@ -10,6 +10,7 @@ mod rows;
 mod runs;
 mod staffing;
 mod weekends;
+pub mod weights;
 
 pub use costing::costs;
 pub use fault::HardFault;

@@ -7,7 +7,9 @@ ghost use Rattle.roster_instance.specs.Limits.{most_days};
 ghost use Rattle.roster_case.specs.Kinds.{is_of};
 ghost use Rattle.roster_case.specs.Penalties.{free_before, free_runs, shift_run_before, shift_runs, runs_of_shift, worked_before, working_runs};
 ghost use Rattle.roster_case.specs.Runs.{run_faults};
+ghost use Rattle.roster_case.specs.Weights.{shift_run_weight};
 
+use crate::weights::{FREE_RUN, SHIFT_RUN, WORKING_RUN};
 use roster_instance::{Border, Case, Choice, Limits, Shift};
 
 /// A kind of days that runs are made of.
@@ -18,7 +20,7 @@ pub(crate) enum Kind {
     Of(Shift),
 }
 
-/// 30 points for each missing or extra day of a run of working days.
+/// The points for each missing or extra day of a run of working days.
 pub(crate) fn working_runs(case: &Case, nurse: usize, row: &[Choice]) -> u64
     requires { length row.now ≤ most_days }
     ensures cost { result ≡ working_runs case.now nurse (days_of row.now) }
@@ -26,10 +28,10 @@ pub(crate) fn working_runs(case: &Case, nurse: usize, row: &[Choice]) -> u64
 {
     let before = worked_before(case.past(nurse).border);
     let limits = case.contract_rules(nurse).working;
-    30 * run_faults(limits, before, row, Kind::Working)
+    WORKING_RUN as u64 * run_faults(limits, before, row, Kind::Working)
 }
 
-/// 30 points for each missing or extra day of a run of days off.
+/// The points for each missing or extra day of a run of days off.
 pub(crate) fn free_runs(case: &Case, nurse: usize, row: &[Choice]) -> u64
     requires { length row.now ≤ most_days }
     ensures cost { result ≡ free_runs case.now nurse (days_of row.now) }
@@ -37,10 +39,10 @@ pub(crate) fn free_runs(case: &Case, nurse: usize, row: &[Choice]) -> u64
 {
     let before = free_before(case.past(nurse).border);
     let limits = case.contract_rules(nurse).free;
-    30 * run_faults(limits, before, row, Kind::Free)
+    FREE_RUN as u64 * run_faults(limits, before, row, Kind::Free)
 }
 
-/// The same of all shifts, 15 points for each day.
+/// The same of the runs of all shifts.
 #[tactic(auto, using(crate::proofs::CountLemmas::sum_more))]
 pub(crate) fn shift_runs(case: &Case, nurse: usize, row: &[Choice]) -> u64
     requires { length row.now ≤ most_days }
@@ -54,15 +56,15 @@ pub(crate) fn shift_runs(case: &Case, nurse: usize, row: &[Choice]) -> u64
     cost
 }
 
-/// 15 points for each missing or extra day of a run of one shift.
+/// The points for each missing or extra day of a run of one shift.
 fn runs_of_shift(case: &Case, nurse: usize, row: &[Choice], shift: Shift) -> u64
     requires { length row.now ≤ most_days }
     ensures cost { result ≡ runs_of_shift case.now nurse (days_of row.now) shift.0 }
-    ensures within { result ≤ 268435456 }
+    ensures within { result ≤ shift_run_weight * 65536 * most_days }
 {
     let before = shift_run_before(shift, case.past(nurse).border);
     let limits = case.run_of_shift(shift);
-    15 * run_faults(limits, before, row, Kind::Of(shift))
+    SHIFT_RUN as u64 * run_faults(limits, before, row, Kind::Of(shift))
 }
 
 // ---- how many days of a kind stand in a row right before the first Monday

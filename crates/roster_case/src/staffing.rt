@@ -7,9 +7,10 @@ ghost use Rattle.roster_instance.specs.Meaning.{shift_count, skill_count};
 ghost use Rattle.roster_case.specs.Penalties.{staffing, staffing_of_day};
 ghost use Rattle.roster_instance.specs.Rosters.{fits};
 
+use crate::weights::STAFFING;
 use roster_instance::{Case, Choice, Roster, Shift, Skill, choice_on};
 
-/// 30 points for each nurse missing to the optimum of a day, shift and skill.
+/// The points for each nurse missing to the optimum of a day, shift and skill.
 #[tactic(auto, using(crate::proofs::CountLemmas::sum_more))]
 pub(crate) fn staffing(case: &Case, roster: &Roster) -> u64
     requires { fits case.now roster.now ≡ true }
@@ -37,7 +38,7 @@ fn staffing_of_day(case: &Case, roster: &Roster, day: u16) -> u64
         for skill in 0..skills {
             let need = case.need(day, Shift(shift), Skill(skill));
             let have = covers[place(Shift(shift), Skill(skill))];
-            cost += 30 * need.greatest.saturating_sub(have) as u64;
+            cost += STAFFING as u64 * need.greatest.saturating_sub(have) as u64;
         }
     }
     cost

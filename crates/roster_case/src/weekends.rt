@@ -7,9 +7,10 @@ ghost use Rattle.roster_instance.specs.Limits.{most_days, most_weeks};
 ghost use Rattle.roster_instance.specs.Meaning.{nurse_count};
 ghost use Rattle.roster_case.specs.Penalties.{extra, is_undesired, missing, split, totals, undesired, weekends_above};
 
+use crate::weights::{ASSIGNMENT, REQUEST, SPLIT, WEEKEND};
 use roster_instance::{Case, Choice, Shift};
 
-/// 10 points for each day with a shift that a request names.
+/// The points for each day with a shift that a request names.
 pub(crate) fn undesired(case: &Case, nurse: usize, row: &[Choice]) -> u64
     requires nurse { nurse < nurse_count case.now }
     requires days { length row.now ≤ most_days }
@@ -19,7 +20,7 @@ pub(crate) fn undesired(case: &Case, nurse: usize, row: &[Choice]) -> u64
     let mut cost = 0;
     for (day, choice) in row.iter().enumerate() {
         if is_undesired(case, nurse, day as u16, choice.shift()) {
-            cost += 10;
+            cost += REQUEST as u64;
         }
     }
     cost
@@ -35,7 +36,7 @@ fn is_undesired(case: &Case, nurse: usize, day: u16, shift: Option<Shift>) -> bo
     }
 }
 
-/// 30 points for each weekend of which exactly one day is worked, where the contract wants whole weekends.
+/// The points for each weekend of which exactly one day is worked, where the contract wants whole weekends.
 pub(crate) fn split(case: &Case, nurse: usize, row: &[Choice], weeks: u16) -> u64
     requires days { length row.now ≡ 7 * weeks }
     requires weeks { weeks ≤ most_weeks }
@@ -45,10 +46,10 @@ pub(crate) fn split(case: &Case, nurse: usize, row: &[Choice], weeks: u16) -> u6
     if !case.contract_rules(nurse).whole_weekends {
         return 0;
     }
-    30 * split_weekends(row, weeks)
+    SPLIT as u64 * split_weekends(row, weeks)
 }
 
-/// 20 points for each assignment below the least or above the greatest total, the history's counted in.
+/// The points for each assignment below the least or above the greatest total, the history's counted in.
 pub(crate) fn totals(case: &Case, nurse: usize, row: &[Choice]) -> u64
     requires { length row.now ≤ most_days }
     ensures cost { result ≡ totals case.now nurse (days_of row.now) }
@@ -58,10 +59,10 @@ pub(crate) fn totals(case: &Case, nurse: usize, row: &[Choice]) -> u64
     let limits = case.contract_rules(nurse).total;
     let missing = (limits.least as u64).saturating_sub(total);
     let extra = total.saturating_sub(limits.greatest as u64);
-    20 * missing + 20 * extra
+    ASSIGNMENT as u64 * missing + ASSIGNMENT as u64 * extra
 }
 
-/// 30 points for each worked weekend above the greatest number, the history's counted in.
+/// The points for each worked weekend above the greatest number, the history's counted in.
 pub(crate) fn weekends_above(case: &Case, nurse: usize, row: &[Choice], weeks: u16) -> u64
     requires days { length row.now ≡ 7 * weeks }
     requires weeks { weeks ≤ most_weeks }
@@ -69,7 +70,7 @@ pub(crate) fn weekends_above(case: &Case, nurse: usize, row: &[Choice], weeks: u
     ensures within { result ≤ 4294967296 }
 {
     let weekends = case.past(nurse).weekends as u64 + worked_weekends(row, weeks);
-    30 * weekends.saturating_sub(case.contract_rules(nurse).weekends as u64)
+    WEEKEND as u64 * weekends.saturating_sub(case.contract_rules(nurse).weekends as u64)
 }
 
 // ---- counts

@@ -8,7 +8,7 @@ use Rattle.roster_instance.specs.declared.rules.Limits.{Limits}
 use Rattle.roster_instance.specs.Faults.{fault_if, first_of}
 use Rattle.roster_instance.specs.Meaning.{Meaning, contract_of, no_limits, shift_count}
 use Rattle.roster_instance.specs.Refusals.{state_fault}
-use Rattle.roster_instance.specs.Limits.{most_states}
+use Rattle.roster_instance.specs.Limits.{most_small, most_states}
 use Rattle.roster_instance.specs.Sizes.{greatest_of, state_count, cap}
 use Rattle.roster_instance.specs.Small.{AreSmall}
 
@@ -17,7 +17,7 @@ greatest_of-push [] n = omega arith
 greatest_of-push (m ∷ ms) n = ap (max m) (greatest_of-push ms n) ∙ omega arith
 
 -- of small numbers the greatest cap is small
-pub greatest_cap-small : (runs : List Limits) → ((s : ℕ) → AreSmall (get_or runs s no_limits)) → greatest_of (map cap runs) ≤ 999
+pub greatest_cap-small : (runs : List Limits) → ((s : ℕ) → AreSmall (get_or runs s no_limits)) → greatest_of (map cap runs) ≤ most_small
 greatest_cap-small [] small = omega arith
 greatest_cap-small (run ∷ runs) small =
     let own = small 0 in

@@ -1,35 +1,37 @@
--- The numbers of an instance are small: each that stands in a pair, a contract or a history line is from 0 to 999 (the
--- format; the range is our profile). The bounds on penalties rest on it.
+-- The numbers of an instance are small: each that stands in a pair, a contract or a history line is from 0 to the greatest
+-- small number (the format; the range is our profile). The bounds on penalties rest on it.
 use Rattle.std.specs.Prelude.{ℕ, ◌≤◌}
 use Rattle.roster_instance.specs.declared.rules.Border.{Border}
 use Rattle.roster_instance.specs.declared.rules.Border.TheVariants.{Free, Working}
 use Rattle.roster_instance.specs.declared.rules.ContractRules.{ContractRules}
 use Rattle.roster_instance.specs.declared.rules.Limits.{Limits}
 use Rattle.roster_instance.specs.declared.rules.Past.{Past}
+use Rattle.roster_instance.specs.Limits.{most_small}
+use Rattle.roster_instance.specs.Limits.{most_small}
 use Rattle.roster_instance.specs.Meaning.{Meaning, contract_of, need, past_of, run_of_shift}
 
 -- both numbers of a pair
 pub record AreSmall (l : Limits) : Type 0 where
-  pub least : l.least ≤ 999
-  pub greatest : l.greatest ≤ 999
+  pub least : l.least ≤ most_small
+  pub greatest : l.greatest ≤ most_small
 
 -- the numbers of a contract
 pub record HasSmallRules (r : ContractRules) : Type 0 where
   pub total : AreSmall r.total
   pub working : AreSmall r.working
   pub free : AreSmall r.free
-  pub weekends : r.weekends ≤ 999
+  pub weekends : r.weekends ≤ most_small
 
 -- the runs before day 0
 abbrev pub IsSmallBorder : Border → Type 0
-IsSmallBorder (Free n) = n ≤ 999
-IsSmallBorder (Working s own all) = (own ≤ 999) × (all ≤ 999)
+IsSmallBorder (Free n) = n ≤ most_small
+IsSmallBorder (Working s own all) = (own ≤ most_small) × (all ≤ most_small)
 
 -- the numbers of a history line
 pub record IsSmallPast (p : Past) : Type 0 where
   pub border : IsSmallBorder p.border
-  pub assignments : p.assignments ≤ 999
-  pub weekends : p.weekends ≤ 999
+  pub assignments : p.assignments ≤ most_small
+  pub weekends : p.weekends ≤ most_small
 
 -- all numbers of a case
 pub record HasSmallNumbers (c : Meaning) : Type 0 where

@@ -1,6 +1,6 @@
 //! The case: what an instance says, apart from the roster.
 
-ghost use Rattle.std.specs.Prelude.{◌≡◌, ◌≢◌, ◌*◌, ◌<◌, ◌≤◌, ℕ, List, [], Some, IfOk, IfErr, IfSome, OnOk, flat_map, length, map, slice_index_or};
+ghost use Rattle.std.specs.Prelude.{◌≡◌, ◌≢◌, ◌+◌, ◌*◌, ◌<◌, ◌≤◌, ℕ, List, [], Some, IfOk, IfErr, IfSome, OnOk, flat_map, length, map, slice_index_or};
 ghost use Rattle.std.specs.List.{enumerate_from};
 ghost use Rattle.roster_bundle.specs.SmallNumbers.{SaysSmallNumbers};
 ghost use Rattle.roster_bundle.specs.declared.bundle.Nurse.{Nurse};
@@ -8,7 +8,7 @@ ghost use Rattle.roster_instance.specs.CaseParts.{case_of, faults_behind, HasFew
 ghost use Rattle.roster_instance.specs.Bundles.{meaning_of, past_meant, week_meant};
 ghost use Rattle.roster_instance.specs.Checking.{IsFirst};
 ghost use Rattle.roster_instance.specs.Faults.{first_of};
-ghost use Rattle.roster_instance.specs.Limits.{most_days, most_nurses, most_shifts, most_skills, most_states, most_weeks};
+ghost use Rattle.roster_instance.specs.Limits.{most_days, most_nurses, most_shifts, most_skills, most_small, most_states, most_weeks};
 ghost use Rattle.roster_instance.specs.Meaning.{contract_of, day_count, is_wished_off, last_shift, need, nurse_at, nurse_count, nurse_name, past_of, run_of_shift, shift_count, skill_count, week_count, forbids};
 ghost use Rattle.roster_instance.specs.Names.{find_name};
 ghost use Rattle.roster_instance.specs.Refusals.{case_faults, state_fault};
@@ -325,7 +325,7 @@ impl Case {
     /// The greatest cap of the runs of the shifts, at most 999.
     pub fn greatest_cap(&self) -> u16
         ensures cap { result ≡ greatest_of (map cap self.now.runs) }
-        ensures small { result ≤ 999 }
+        ensures small { result ≤ most_small }
     {
         greatest_cap(&self.scenario.runs)
     }
@@ -343,7 +343,7 @@ impl Case {
     #[tactic(auto, unfolding(crate::specs::Sizes::choice_count))]
     pub fn choice_count(&self, nurse: usize) -> u32
         ensures count { result ≡ choice_count self.now nurse }
-        ensures within { result ≤ 65 }
+        ensures within { result ≤ 1 + most_shifts * most_skills }
     {
         let skills = self.skills_of(nurse).len() as u32;
         1 + self.shifts() as u32 * skills

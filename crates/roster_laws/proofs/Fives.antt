@@ -4,6 +4,7 @@ use Rattle.roster_case.specs.Counting.{sum_below}
 use Rattle.roster_case.specs.Days.{Days, split_weekends}
 use Rattle.roster_case.specs.Meaning.{Meaning, contract_of, day_count, nurse_count, shift_count, skill_count}
 use Rattle.roster_case.specs.Penalties.{costs_of, free_runs, is_undesired, over_nurses, penalty, runs_of_shift, shift_runs, split, staffing, staffing_of_day, staffing_of_place, totals, undesired, weekends_above, working_runs}
+use Rattle.roster_case.specs.Weights.{staffing_weight, working_run_weight, shift_run_weight, free_run_weight, request_weight, split_weight, assignment_weight, weekend_weight}
 use Rattle.roster_case.specs.Rosters.{Rows, days_of_nurse}
 
 abbrev pub IsFive : ℕ → Type 0
@@ -26,39 +27,48 @@ where_is : (b : Bool) (n : ℕ) → IsFive n → IsFive (if b then n else 0)
 where_is true n e = e
 where_is false n e = refl
 
-by_10 : (n : ℕ) → IsFive (10 * n)
-by_10 n = omega arith
+by_staffing : (n : ℕ) → IsFive (staffing_weight * n)
+by_staffing n = omega arith
 
-by_15 : (n : ℕ) → IsFive (15 * n)
-by_15 n = omega arith
+by_working_run : (n : ℕ) → IsFive (working_run_weight * n)
+by_working_run n = omega arith
 
-by_20 : (n : ℕ) → IsFive (20 * n)
-by_20 n = omega arith
+by_shift_run : (n : ℕ) → IsFive (shift_run_weight * n)
+by_shift_run n = omega arith
 
-by_30 : (n : ℕ) → IsFive (30 * n)
-by_30 n = omega arith
+by_free_run : (n : ℕ) → IsFive (free_run_weight * n)
+by_free_run n = omega arith
+
+by_split : (n : ℕ) → IsFive (split_weight * n)
+by_split n = omega arith
+
+by_assignment : (n : ℕ) → IsFive (assignment_weight * n)
+by_assignment n = omega arith
+
+by_weekend : (n : ℕ) → IsFive (weekend_weight * n)
+by_weekend n = omega arith
 
 module _ (c : Meaning) where
   staffing_is : (r : Rows) → IsFive (staffing c r)
-  staffing_is r = sum_is (day_count c) (staffing_of_day c r) (λ d. sum_is (shift_count c) _ (λ s. sum_is (skill_count c) (staffing_of_place c r d s) (λ k. by_30 _)))
+  staffing_is r = sum_is (day_count c) (staffing_of_day c r) (λ d. sum_is (shift_count c) _ (λ s. sum_is (skill_count c) (staffing_of_place c r d s) (λ k. by_staffing _)))
 
   runs_are : (n : ℕ) (days : Days) → IsFive (working_runs c n days + shift_runs c n days)
-  runs_are n days = plus (working_runs c n days) (shift_runs c n days) (by_30 _) (sum_is (shift_count c) (runs_of_shift c n days) (λ s. by_15 _))
+  runs_are n days = plus (working_runs c n days) (shift_runs c n days) (by_working_run _) (sum_is (shift_count c) (runs_of_shift c n days) (λ s. by_shift_run _))
 
   requests_are : (n : ℕ) (days : Days) → IsFive (undesired c n days)
-  requests_are n days = sum_is _ _ (λ d. where_is (is_undesired c n d _) 10 refl)
+  requests_are n days = sum_is _ _ (λ d. where_is (is_undesired c n d _) request_weight refl)
 
   split_is : (n : ℕ) (days : Days) → IsFive (split c n days)
-  split_is n days = where_is (contract_of c n).whole_weekends (30 * split_weekends days) (by_30 (split_weekends days))
+  split_is n days = where_is (contract_of c n).whole_weekends (split_weight * split_weekends days) (by_split (split_weekends days))
 
   totals_are : (n : ℕ) (days : Days) → IsFive (totals c n days)
-  totals_are n days = plus _ _ (by_20 _) (by_20 _)
+  totals_are n days = plus _ _ (by_assignment _) (by_assignment _)
 
   free_is : (n : ℕ) (days : Days) → IsFive (free_runs c n days)
-  free_is n days = by_30 _
+  free_is n days = by_free_run _
 
   weekends_are : (n : ℕ) (days : Days) → IsFive (weekends_above c n days)
-  weekends_are n days = by_30 _
+  weekends_are n days = by_weekend _
 
   over_nurses_is : (r : Rows) (rule : ℕ → Days → ℕ) → ((n : ℕ) (days : Days) → IsFive (rule n days)) → IsFive (over_nurses c r rule)
   over_nurses_is r rule each = sum_is (nurse_count c) (λ n. rule n (days_of_nurse r n)) (λ n. each n (days_of_nurse r n))

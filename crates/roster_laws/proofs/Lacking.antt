@@ -6,6 +6,7 @@ use Rattle.roster_case.specs.declared.Shift.{Shift}
 use Rattle.roster_case.specs.declared.Skill.{Skill}
 use Rattle.roster_case.specs.Counting.{all_below, one_if, sum_below}
 use Rattle.roster_case.specs.Meaning.{Meaning, shift_count, skill_count}
+use Rattle.roster_case.specs.Weights.{staffing_weight}
 use Rattle.roster_case.proofs.RunSums.{sum_same}
 use Rattle.roster_laws.specs.Staffing.{lacking, meets, minimum, optimum, staffing_by, with_choice}
 use Rattle.roster_laws.proofs.Below.{sum_at}
@@ -27,7 +28,7 @@ and_not : (b : Bool) → (b && false) ≡ false
 and_not true = refl
 and_not false = refl
 
-scaled : (n : ℕ) (f : ℕ → ℕ) → sum_below n (λ k. 30 * f k) ≡ 30 * sum_below n f
+scaled : (n : ℕ) (f : ℕ → ℕ) → sum_below n (λ k. staffing_weight * f k) ≡ staffing_weight * sum_below n f
 scaled zero f = refl
 scaled (suc n) f = omega (arith, scaled n f)
 
@@ -44,7 +45,7 @@ all_none zero f p each = refl
 all_none (suc n) f p each = sum_none (sum_below n f) (f n) ∙ ap₂ (λ a b. a && b) (all_none n f p each) (each n)
 
 module _ (c : Meaning) where
-  pub staffing-lacking : (d : ℕ) (have : ℕ → ℕ → ℕ) → staffing_by c d have ≡ 30 * lacking c (optimum c d) have
+  pub staffing-lacking : (d : ℕ) (have : ℕ → ℕ → ℕ) → staffing_by c d have ≡ staffing_weight * lacking c (optimum c d) have
   staffing-lacking d have =
       (λ i. sum_below (shift_count c) (λ s. scaled (skill_count c) (λ k. optimum c d s k - have s k) i)) ∙ scaled (shift_count c) (λ s. sum_below (skill_count c) (λ k. optimum c d s k - have s k))
 

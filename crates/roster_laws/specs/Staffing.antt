@@ -5,6 +5,7 @@ use Rattle.roster_case.specs.declared.Choice.TheVariants.{Work}
 use Rattle.roster_case.specs.Choices.{same_choice}
 use Rattle.roster_case.specs.Counting.{all_below, one_if, sum_below}
 use Rattle.roster_case.specs.Meaning.{Meaning, need, shift_at, shift_count, skill_at, skill_count}
+use Rattle.roster_case.specs.Weights.{staffing_weight}
 
 -- one nurse more, with this choice
 abbrev pub with_choice : (ℕ → ℕ → ℕ) → Choice → ℕ → ℕ → ℕ
@@ -19,7 +20,7 @@ optimum c d s k = (need c d s k).greatest
 
 -- what the missing nurses of a day cost, and whether no minimum is missed
 abbrev pub staffing_by : Meaning → ℕ → (ℕ → ℕ → ℕ) → ℕ
-staffing_by c d have = sum_below (shift_count c) (λ s. sum_below (skill_count c) (λ k. 30 * (optimum c d s k - have s k)))
+staffing_by c d have = sum_below (shift_count c) (λ s. sum_below (skill_count c) (λ k. staffing_weight * (optimum c d s k - have s k)))
 
 abbrev pub meets : Meaning → ℕ → (ℕ → ℕ → ℕ) → Bool
 meets c d have = all_below (shift_count c) (λ s. all_below (skill_count c) (λ k. not (nat_lt (have s k) (minimum c d s k))))

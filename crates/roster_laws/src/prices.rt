@@ -11,6 +11,7 @@ ghost use Rattle.roster_case.specs.Meaning.{Meaning, day_count, nurse_count, shi
 ghost use Rattle.roster_case.specs.Penalties.{over_nurses, own_cost, penalty, staffing, undesired};
 ghost use Rattle.roster_case.specs.Rosters.{Row, Rows, choice_on, cover, with_row};
 ghost use Rattle.roster_case.specs.Rows.{penalty_with};
+ghost use Rattle.roster_case.specs.Weights.{staffing_weight};
 ghost use Rattle.roster_laws.specs.OneRow.{is_offered_row, keeps_by_parts, others, prices, rest_of};
 ghost use Rattle.roster_laws.specs.Staffing.{lacking, meets, minimum, optimum, staffing_by, with_choice};
 
@@ -34,10 +35,10 @@ pub fn one_row_replaced()
     ensures keeps { (c : Meaning) (r : Rows) → keeps_hard c r ≡ true → (n : ℕ) → n < length r → n < nurse_count c → (row : Row) → keeps_hard c (with_row r n row) ≡ is_offered_row c r n row (day_count c) }
 {}
 
-/// A day's staffing costs 30 for each nurse that is lacking to the optimum, its minimums are met where none is lacking to them,
+/// A day's staffing costs the same for each nurse that is lacking to the optimum, its minimums are met where none is lacking to them,
 /// and a nurse more takes one off what is lacking to a number that isn't reached, where the nurse works.
 pub fn staffing_by_what_is_lacking()
-    ensures staffing { (c : Meaning) (d : ℕ) (have : ℕ → ℕ → ℕ) → staffing_by c d have ≡ 30 * lacking c (optimum c d) have }
+    ensures staffing { (c : Meaning) (d : ℕ) (have : ℕ → ℕ → ℕ) → staffing_by c d have ≡ staffing_weight * lacking c (optimum c d) have }
     ensures minimums { (c : Meaning) (d : ℕ) (have : ℕ → ℕ → ℕ) → meets c d have ≡ (lacking c (minimum c d) have == 0) }
     ensures off { (c : Meaning) (want have : ℕ → ℕ → ℕ) → lacking c want (with_choice have Off) ≡ lacking c want have }
     ensures work { (c : Meaning) (want have : ℕ → ℕ → ℕ) (shift : Shift) (skill : Skill) → shift.0 < shift_count c → skill.0 < skill_count c → lacking c want (with_choice have (Work shift skill)) + one_if (nat_lt (have shift.0 skill.0) (want shift.0 skill.0)) ≡ lacking c want have }

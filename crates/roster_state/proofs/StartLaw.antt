@@ -6,10 +6,11 @@ use Rattle.roster_case.specs.Days.{works, is_off, has_shift, split_weekends}
 use Rattle.roster_case.specs.Meaning.{Meaning, contract_of, past_of, run_of_shift, shift_count}
 use Rattle.roster_case.specs.Penalties.{free_before, runs_of_shift, shift_run_before, split, worked_before}
 use Rattle.roster_case.specs.Prefix.{due}
+use Rattle.roster_case.specs.Weights.{assignment_weight, split_weight, weekend_weight}
 use Rattle.roster_case.proofs.RunLaw.{no_faults}
 use Rattle.roster_case.proofs.RunSums.{sum_zero}
 
-pub due_at_first : (c : Meaning) (n : ℕ) → due c n [] ≡ 20 * ((past_of c n).assignments - (contract_of c n).total.greatest) + 30 * ((past_of c n).weekends - (contract_of c n).weekends)
+pub due_at_first : (c : Meaning) (n : ℕ) → due c n [] ≡ assignment_weight * ((past_of c n).assignments - (contract_of c n).total.greatest) + weekend_weight * ((past_of c n).weekends - (contract_of c n).weekends)
 unfolding due
 due_at_first c n =
     let r : ContractRules = contract_of c n in
@@ -20,6 +21,6 @@ due_at_first c n =
     let splits : split c n [] ≡ 0 = none_split r.whole_weekends in
     omega (arith, working, free, shifts, splits)
   where
-    none_split : (q : Bool) → (if q then 30 * split_weekends [] else 0) ≡ 0
+    none_split : (q : Bool) → (if q then split_weight * split_weekends [] else 0) ≡ 0
     none_split true = refl
     none_split false = refl

@@ -1,17 +1,20 @@
 -- A step costs little, where the numbers of an instance are small: one run of working days or of days off ends and the other
 -- begins, the run of one shift ends and that of another goes on, and the rest counts once at most.
-use Rattle.std.proofs.Common.{refl, arith, ℕ, ◌+◌, ◌-◌, ◌*◌, ◌≤◌, Bool, true, false, not, nat_le, nat_lt, if◌then◌else◌, Option, Some, None, is_some}
+use Rattle.std.proofs.Common.{refl, arith, ℕ, ◌+◌, ◌-◌, ◌*◌, ◌≤◌, Bool, true, false, not, max, nat_le, nat_lt, if◌then◌else◌, Option, Some, None, is_some}
 use Rattle.roster_case.specs.declared.Shift.{Shift}
 use Rattle.roster_case.specs.declared.Limits.{Limits}
 use Rattle.roster_case.specs.Counting.{one_if, sum_below}
 use Rattle.roster_case.specs.DayLaw.{is_saturday, is_sunday, splits_more, weekends_more}
 use Rattle.roster_case.specs.Days.{is_shift, one_alone}
+use Rattle.roster_case.specs.Limits.{most_small}
 use Rattle.roster_case.specs.Meaning.{Meaning, contract_of, run_of_shift, shift_count}
 use Rattle.roster_case.specs.Prefix.{Summary}
 use Rattle.roster_case.specs.RunLaw.{day_faults}
 use Rattle.roster_case.specs.Small.{AreSmall, HasSmallNumbers}
+use Rattle.roster_case.specs.Weights.{working_run_weight, shift_run_weight, free_run_weight, split_weight, assignment_weight, weekend_weight}
 use Rattle.roster_case.proofs.RunBounds.{sum_both, sum_compared, sum_of_one, where_within}
 use Rattle.roster_case.proofs.RunSums.{sum_zero}
+use Rattle.roster_state.specs.Room.{most_of_step}
 use Rattle.roster_state.specs.Step.{free_more, shift_more, shifts_more, split_more, step_cost, total_more, weekend_more, working_more}
 use Rattle.roster_state.proofs.SumLaw.{one_at_most, weekends_at_most}
 
@@ -21,11 +24,14 @@ use Rattle.roster_state.proofs.SumLaw.{one_at_most, weekends_at_most}
 goes_on : (l : Limits) (run : ℕ) → day_faults l run true ≤ 1
 goes_on l run = one_at_most (nat_lt l.greatest (run + 1))
 
-ends : (l : Limits) (run : ℕ) → AreSmall l → day_faults l run false ≤ 999
-ends l run small = where_within (nat_lt 0 run) (l.least - run) 999 (omega (arith, small.least))
+ends : (l : Limits) (run : ℕ) → AreSmall l → day_faults l run false ≤ most_small
+ends l run small = where_within (nat_lt 0 run) (l.least - run) most_small (omega (arith, small.least))
+
+abbrev most_of_runs : ℕ
+most_of_runs = max working_run_weight free_run_weight * (most_small + 1)
 
 -- where w and f are the limits of working days and of days off
-two_runs : (w f : Limits) (run : ℕ) (works before : Bool) → AreSmall w → AreSmall f → 30 * day_faults w (if before then run else 0) works + 30 * day_faults f (if before then 0 else run) (not works) ≤ 30000
+two_runs : (w f : Limits) (run : ℕ) (works before : Bool) → AreSmall w → AreSmall f → working_run_weight * day_faults w (if before then run else 0) works + free_run_weight * day_faults f (if before then 0 else run) (not works) ≤ most_of_runs
 two_runs w f run true true small_w small_f = omega (arith, goes_on w run)
 two_runs w f run true false small_w small_f = omega (arith, goes_on w 0, ends f run small_f)
 two_runs w f run false true small_w small_f = omega (arith, ends w run small_w, goes_on f 0)
@@ -33,7 +39,7 @@ two_runs w f run false false small_w small_f = omega (arith, goes_on f run)
 
 -- ---- the shifts
 
-one_shift : (l : Limits) (run : ℕ) (last now : Bool) → AreSmall l → 15 * day_faults l (if last then run else 0) now ≤ (if last then 14985 else 0) + (if now then 15 else 0)
+one_shift : (l : Limits) (run : ℕ) (last now : Bool) → AreSmall l → shift_run_weight * day_faults l (if last then run else 0) now ≤ (if last then shift_run_weight * most_small else 0) + (if now then shift_run_weight else 0)
 one_shift l run true true small = omega (arith, goes_on l run)
 one_shift l run true false small = omega (arith, ends l run small)
 one_shift l run false true small = omega (arith, goes_on l 0)
@@ -50,30 +56,29 @@ splits_at_most true b x = one_at_most (one_alone b x)
 splits_at_most false b x = omega arith
 
 module _ (c : Meaning) (n : ℕ) (s : Summary) (shift : Option Shift) where
-  pub runs_more_within : HasSmallNumbers c → working_more c n s shift + free_more c n s shift ≤ 30000
+  pub runs_more_within : HasSmallNumbers c → working_more c n s shift + free_more c n s shift ≤ most_of_runs
   runs_more_within small = two_runs (contract_of c n).working (contract_of c n).free s.run (is_some shift) (is_some s.last) (small.contracts n).working (small.contracts n).free
 
-  -- 15 * 999 + 15
-  pub shifts_more_within : HasSmallNumbers c → shifts_more c s shift ≤ 15000
+  pub shifts_more_within : HasSmallNumbers c → shifts_more c s shift ≤ shift_run_weight * (most_small + 1)
   shifts_more_within small =
-      let was : ℕ → ℕ = λ t. if is_shift t s.last then 14985 else 0 in
-      let is : ℕ → ℕ = λ t. if is_shift t shift then 15 else 0 in
+      let was : ℕ → ℕ = λ t. if is_shift t s.last then shift_run_weight * most_small else 0 in
+      let is : ℕ → ℕ = λ t. if is_shift t shift then shift_run_weight else 0 in
       let each : shifts_more c s shift ≤ sum_below (shift_count c) (λ t. was t + is t) =
       sum_compared (shift_count c) (shift_more c s shift) (λ t. was t + is t) (λ t. one_shift (run_of_shift c t) s.shift_run (is_shift t s.last) (is_shift t shift) (small.runs t)) in
-      omega (arith, each, sum_both (shift_count c) was is, sum_where_shift (shift_count c) 14985 s.last, sum_where_shift (shift_count c) 15 shift)
+      omega (arith, each, sum_both (shift_count c) was is, sum_where_shift (shift_count c) (shift_run_weight * most_small) s.last, sum_where_shift (shift_count c) shift_run_weight shift)
 
-  pub total_more_within : total_more c n s shift ≤ 20
-  total_more_within = where_within (nat_le (contract_of c n).total.greatest s.assignments) (20 * one_if (is_some shift)) 20 (omega (arith, one_at_most (is_some shift)))
+  pub total_more_within : total_more c n s shift ≤ assignment_weight
+  total_more_within = where_within (nat_le (contract_of c n).total.greatest s.assignments) (assignment_weight * one_if (is_some shift)) assignment_weight (omega (arith, one_at_most (is_some shift)))
 
-  pub split_more_within : (day : ℕ) → split_more c n day s shift ≤ 30
+  pub split_more_within : (day : ℕ) → split_more c n day s shift ≤ split_weight
   split_more_within day =
-      where_within (contract_of c n).whole_weekends (30 * splits_more day (is_some s.last) (is_some shift)) 30 (omega (arith, splits_at_most (is_sunday day) (is_some s.last) (is_some shift)))
+      where_within (contract_of c n).whole_weekends (split_weight * splits_more day (is_some s.last) (is_some shift)) split_weight (omega (arith, splits_at_most (is_sunday day) (is_some s.last) (is_some shift)))
 
-  pub weekend_more_within : (day : ℕ) → weekend_more c n day s shift ≤ 30
+  pub weekend_more_within : (day : ℕ) → weekend_more c n day s shift ≤ weekend_weight
   weekend_more_within day =
-      where_within (nat_le (contract_of c n).weekends s.weekends) (30 * weekends_more day (is_some s.last) (is_some shift)) 30 (omega (arith, weekends_at_most (is_saturday day) (is_sunday day) (is_some s.last) (is_some shift)))
+      where_within (nat_le (contract_of c n).weekends s.weekends) (weekend_weight * weekends_more day (is_some s.last) (is_some shift)) weekend_weight (omega (arith, weekends_at_most (is_saturday day) (is_sunday day) (is_some s.last) (is_some shift)))
 
-pub step_within : (c : Meaning) (n day : ℕ) (s : Summary) (shift : Option Shift) → HasSmallNumbers c → step_cost c n day s shift ≤ 45200
+pub step_within : (c : Meaning) (n day : ℕ) (s : Summary) (shift : Option Shift) → HasSmallNumbers c → step_cost c n day s shift ≤ most_of_step
 unfolding step_cost
 step_within c n day s shift small =
     omega (arith, runs_more_within c n s shift small, shifts_more_within c n s shift small, split_more_within c n s shift day, total_more_within c n s shift, weekend_more_within c n s shift day)

@@ -13,6 +13,7 @@ use Rattle.roster_case.specs.Penalties.{extra, free_before, free_runs, missing, 
 use Rattle.roster_case.specs.Prefix.{Summary, due, last_of, run_of, shift_run_of, summary_of}
 use Rattle.roster_case.specs.Sizes.{cap}
 use Rattle.roster_case.specs.RunLaw.{day_faults}
+use Rattle.roster_case.specs.Weights.{assignment_weight, split_weight, weekend_weight}
 use Rattle.roster_case.proofs.DayMore.{length_more, shift_of_it}
 use Rattle.roster_case.proofs.RowLaw.{row_faults, row_grown}
 use Rattle.roster_case.proofs.RunBounds.{sum_both}
@@ -112,7 +113,7 @@ module _ (c : Meaning) (n : ℕ) (days : Days) (shift : Option Shift) where
       ∙ sum_both (shift_count c) (runs_of_shift c n days) (shift_more c (summary_of c n days) shift)
 
   -- where the contract wants whole weekends
-  split_by : (q : Bool) → (if q then 30 * split_weekends (days ++ shift ∷ []) else 0) ≡ (if q then 30 * split_weekends days else 0) + (if q then 30 * splits_more (length days) (is_some (last_of c n days)) (is_some shift) else 0)
+  split_by : (q : Bool) → (if q then split_weight * split_weekends (days ++ shift ∷ []) else 0) ≡ (if q then split_weight * split_weekends days else 0) + (if q then split_weight * splits_more (length days) (is_some (last_of c n days)) (is_some shift) else 0)
   split_by true = omega (arith, splits_rise c n days shift)
   split_by false = refl
 
@@ -145,7 +146,7 @@ module _ (c : Meaning) (n : ℕ) (days : Days) (shift : Option Shift) where
   total_rise =
       let l : Limits = (contract_of c n).total in
       let more : total_of c n (days ++ shift ∷ []) ≡ total_of c n days + one_if (is_some shift) = omega (arith, worked_grow days shift) in
-      ap (λ t. extra c n t) more ∙ above 20 l.greatest (cap l) (total_of c n days) (one_if (is_some shift)) (omega arith) (cases_lt (total_of c n days) l.greatest) (one_at_most (is_some shift))
+      ap (λ t. extra c n t) more ∙ above assignment_weight l.greatest (cap l) (total_of c n days) (one_if (is_some shift)) (omega arith) (cases_lt (total_of c n days) l.greatest) (one_at_most (is_some shift))
 
   weekend_rise : weekends_above c n (days ++ shift ∷ []) ≡ weekends_above c n days + weekend_more c n (length days) (summary_of c n days) shift
   unfolding summary_of
@@ -153,8 +154,8 @@ module _ (c : Meaning) (n : ℕ) (days : Days) (shift : Option Shift) where
       let m : ℕ = (contract_of c n).weekends in
       let x : ℕ = weekends_more (length days) (is_some (last_of c n days)) (is_some shift) in
       let more : weekends_of c n (days ++ shift ∷ []) ≡ weekends_of c n days + x = omega (arith, weekends_rise c n days shift) in
-      ap (λ t. 30 * (t - m)) more
-      ∙ above 30 m m (weekends_of c n days) x (omega arith) (cases_lt (weekends_of c n days) m) (weekends_at_most (is_saturday (length days)) (is_sunday (length days)) (is_some (last_of c n days)) (is_some shift))
+      ap (λ t. weekend_weight * (t - m)) more
+      ∙ above weekend_weight m m (weekends_of c n days) x (omega arith) (cases_lt (weekends_of c n days) m) (weekends_at_most (is_saturday (length days)) (is_sunday (length days)) (is_some (last_of c n days)) (is_some shift))
 
   pub owed_more : due c n (days ++ shift ∷ []) ≡ due c n days + step_cost c n (length days) (summary_of c n days) shift
   unfolding due step_cost

@@ -4,7 +4,7 @@ use Rattle.std.specs.Prelude.{ℕ, ◌+◌, ◌-◌, ◌*◌, ◌/◌, ◌%◌, 
 use Rattle.roster_case.specs.declared.Shift.{Shift}
 use Rattle.roster_case.specs.Meaning.{Meaning, contract_of, shift_at, shift_count}
 use Rattle.roster_case.specs.Prefix.{Summary}
-use Rattle.roster_case.specs.Limits.{most_states}
+use Rattle.roster_case.specs.Limits.{most_shifts, most_small, most_states}
 use Rattle.roster_case.specs.Sizes.{greatest_of, cap}
 
 -- how many values each of the five numbers has
@@ -64,12 +64,12 @@ pub record IsWithin (most size : ℕ) : Type 0 where
   pub some : 0 < size
   pub few : size ≤ most
 
--- what the sizes of every nurse keep, since the numbers of a case are at most 999: nine values at most for the last shift and
--- 1,000 for each other number, and together not more states than the search takes
+-- what the sizes of every nurse keep, since the numbers of a case are small: a value for each shift and one more for the last
+-- shift, those from 0 to the greatest small number for each other, and together not more states than the search takes
 pub record KeepLimits (z : Sizes) : Type 0 where
-  pub last : IsWithin 9 z.last
-  pub run : IsWithin 1000 z.run
-  pub shift_run : IsWithin 1000 z.shift_run
-  pub assignments : IsWithin 1000 z.assignments
-  pub weekends : IsWithin 1000 z.weekends
+  pub last : IsWithin (most_shifts + 1) z.last
+  pub run : IsWithin (most_small + 1) z.run
+  pub shift_run : IsWithin (most_small + 1) z.shift_run
+  pub assignments : IsWithin (most_small + 1) z.assignments
+  pub weekends : IsWithin (most_small + 1) z.weekends
   pub states : product z ≤ most_states

@@ -12,6 +12,7 @@ use Rattle.roster_case.specs.Penalties.{missing}
 use Rattle.roster_case.specs.Prefix.{Summary}
 use Rattle.roster_case.specs.Sizes.{cap}
 use Rattle.roster_case.specs.RunLaw.{day_faults}
+use Rattle.roster_case.specs.Weights.{working_run_weight, shift_run_weight, free_run_weight, split_weight, assignment_weight, weekend_weight}
 
 -- ---- the runs that are open
 
@@ -26,16 +27,16 @@ run_of s t = if is_shift t s.last then s.shift_run else 0
 
 -- ---- what one day more costs
 
--- 30 for each missing or extra day of the runs of working days and of days off
+-- points for each missing or extra day of the runs of working days and of days off
 abbrev pub working_more : Meaning → ℕ → Summary → Option Shift → ℕ
-working_more c n s shift = 30 * day_faults (contract_of c n).working (working_run s) (is_some shift)
+working_more c n s shift = working_run_weight * day_faults (contract_of c n).working (working_run s) (is_some shift)
 
 abbrev pub free_more : Meaning → ℕ → Summary → Option Shift → ℕ
-free_more c n s shift = 30 * day_faults (contract_of c n).free (free_run s) (not (is_some shift))
+free_more c n s shift = free_run_weight * day_faults (contract_of c n).free (free_run s) (not (is_some shift))
 
--- 15 for each missing or extra day of the runs of the shifts
+-- points for each missing or extra day of the runs of the shifts
 abbrev pub shift_more : Meaning → Summary → Option Shift → ℕ → ℕ
-shift_more c s shift t = 15 * day_faults (run_of_shift c t) (run_of s t) (is_shift t shift)
+shift_more c s shift t = shift_run_weight * day_faults (run_of_shift c t) (run_of s t) (is_shift t shift)
 
 abbrev pub shifts_more : Meaning → Summary → Option Shift → ℕ
 shifts_more c s shift = sum_below (shift_count c) (shift_more c s shift)
@@ -49,17 +50,17 @@ abbrev pub worked : (ℕ → Limits) → Option Shift → ℕ → Option Shift �
 worked runs last run None = 0
 worked runs last run (Some u) = day_faults (runs u.0) (if is_shift u.0 last then run else 0) true
 
--- 30 for a weekend that this day splits, where the contract wants whole weekends
+-- points for a weekend that this day splits, where the contract wants whole weekends
 abbrev pub split_more : Meaning → ℕ → ℕ → Summary → Option Shift → ℕ
-split_more c n day s shift = if (contract_of c n).whole_weekends then 30 * splits_more day (is_some s.last) (is_some shift) else 0
+split_more c n day s shift = if (contract_of c n).whole_weekends then split_weight * splits_more day (is_some s.last) (is_some shift) else 0
 
--- 20 for an assignment above the greatest total
+-- points for an assignment above the greatest total
 abbrev pub total_more : Meaning → ℕ → Summary → Option Shift → ℕ
-total_more c n s shift = if nat_le (contract_of c n).total.greatest s.assignments then 20 * one_if (is_some shift) else 0
+total_more c n s shift = if nat_le (contract_of c n).total.greatest s.assignments then assignment_weight * one_if (is_some shift) else 0
 
--- 30 for a worked weekend above the greatest number
+-- points for a worked weekend above the greatest number
 abbrev pub weekend_more : Meaning → ℕ → ℕ → Summary → Option Shift → ℕ
-weekend_more c n day s shift = if nat_le (contract_of c n).weekends s.weekends then 30 * weekends_more day (is_some s.last) (is_some shift) else 0
+weekend_more c n day s shift = if nat_le (contract_of c n).weekends s.weekends then weekend_weight * weekends_more day (is_some s.last) (is_some shift) else 0
 
 unfoldable pub step_cost : Meaning → ℕ → ℕ → Summary → Option Shift → ℕ
 step_cost c n day s shift = working_more c n s shift + free_more c n s shift + shifts_more c s shift + split_more c n day s shift + total_more c n s shift + weekend_more c n day s shift
@@ -87,7 +88,7 @@ next_of c n day s shift = record {
 abbrev pub step_of : Meaning → ℕ → ℕ → Summary → Option Shift → Option (Summary × ℕ)
 step_of c n day s shift = if forbids c.successions s.last shift then None else Some (next_of c n day s shift, step_cost c n day s shift)
 
--- 20 for each assignment missing to the least total, at the end
+-- points for each assignment missing to the least total, at the end
 abbrev pub end_cost_of : Meaning → ℕ → Summary → ℕ
 end_cost_of c n s = missing c n s.assignments
 

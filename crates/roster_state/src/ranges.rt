@@ -1,6 +1,7 @@
 //! The ranges of the five numbers of a state.
 
 ghost use Rattle.std.specs.Prelude.{◌≡◌, ◌<◌, ◌≤◌};
+ghost use Rattle.roster_case.specs.Limits.{most_states};
 ghost use Rattle.roster_case.specs.Meaning.{nurse_count};
 ghost use Rattle.roster_case.specs.Sizes.{state_count};
 ghost use Rattle.roster_state.specs.Codes.{product, sizes_of};
@@ -56,7 +57,7 @@ impl Ranges {
     pub fn product(&self) -> u32
         ensures product { result ≡ product self.now }
         ensures some { 0 < result }
-        ensures within { result ≤ 1048576 }
+        ensures within { result ≤ most_states }
     {
         self.last * self.run * self.shift_run * self.assignments * self.weekends
     }

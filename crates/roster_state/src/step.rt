@@ -1,6 +1,6 @@
 //! One day more: what it costs, and the state behind it.
 
-ghost use Rattle.std.specs.Prelude.{◌≡◌, ◌↔◌, ◌+◌, ◌<◌, ◌≤◌, ◌++◌, ◌∷◌, [], true, false, length, IfSome, IsNone, None, Some, if◌then◌else◌, is_some, min};
+ghost use Rattle.std.specs.Prelude.{◌≡◌, ◌↔◌, ◌+◌, ◌*◌, ◌<◌, ◌≤◌, ◌++◌, ◌∷◌, [], true, false, length, IfSome, IsNone, None, Some, if◌then◌else◌, is_some, min};
 ghost use Rattle.roster_case.specs.Days.{Days};
 ghost use Rattle.roster_case.specs.Meaning.{contract_of, day_count, nurse_count, past_of, run_of_shift, shift_count, forbids};
 ghost use Rattle.roster_case.specs.Penalties.{own_cost};
@@ -9,21 +9,24 @@ ghost use Rattle.roster_case.specs.Small.{IsSmallPast};
 ghost use Rattle.roster_case.specs.Prefix.{due, summary_of};
 ghost use Rattle.roster_case.specs.Sizes.{cap};
 ghost use Rattle.roster_state.specs.Codes.{fits, sizes_of};
+ghost use Rattle.roster_case.specs.Weights.{assignment_weight, free_run_weight, shift_run_weight, split_weight, weekend_weight, working_run_weight};
+ghost use Rattle.roster_state.specs.Room.{most_at_end, most_at_start, most_of_step};
 ghost use Rattle.roster_state.specs.Step.{end_cost_of, ended, free_more, free_run, next_of, run_of, shifts_more, split_more, step_cost, step_of, total_more, weekend_more, worked, working_more, working_run};
 
 use crate::meter::Meter;
 use crate::state::State;
+use roster_case::weights::{ASSIGNMENT, FREE_RUN, SHIFT_RUN, SPLIT, WEEKEND, WORKING_RUN};
 use roster_case::{Border, Case, Limits, Past, Shift};
 use std::cmp::min;
 
-/// The state before day 0, and what the history's totals cost already: 20 for each assignment and 30 for each worked
+/// The state before day 0, and what the history's totals cost already: points for each assignment and each worked
 /// weekend above the greatest number.
 pub fn start(case: &Case, nurse: usize) -> (State, u32)
     requires { nurse < nurse_count case.now }
     ensures state { result.0 ≡ summary_of case.now nurse [] }
     ensures cost { result.1 ≡ due case.now nurse [] }
     ensures fits { fits (sizes_of case.now nurse) result.0 ≡ true }
-    ensures within { result.1 ≤ 49950 }
+    ensures within { result.1 ≤ most_at_start }
 {
     let past = case.past(nurse);
     (
@@ -57,7 +60,7 @@ pub fn extend(
 
     // From any state that fits the next one fits, and the step costs little.
     ensures next_fits { IfSome result (λ step. fits (sizes_of case.now nurse) step.0 ≡ true) }
-    ensures within { IfSome result (λ step. step.1 ≤ 45200) }
+    ensures within { IfSome result (λ step. step.1 ≤ most_of_step) }
 {
     meter.add_one();
     case.keeps_limits();
@@ -87,7 +90,7 @@ pub fn after(
     Some(next_of(case, nurse, day, state, shift))
 }
 
-/// What the days cost in the end, beside the steps: 20 for each assignment missing to the least total.
+/// What the days cost in the end, beside the steps: points for each assignment missing to the least total.
 pub fn end_cost(case: &Case, nurse: usize, state: State) -> u32
     requires nurse { nurse < nurse_count case.now }
     requires fits { fits (sizes_of case.now nurse) state ≡ true }
@@ -95,7 +98,7 @@ pub fn end_cost(case: &Case, nurse: usize, state: State) -> u32
 
     // From the summary of all days it closes what is owed to the nurse's own cost.
     ensures closes { (days : Days) → state ≡ summary_of case.now nurse days → own_cost case.now nurse days ≡ due case.now nurse days + result }
-    ensures within { result ≤ 19980 }
+    ensures within { result ≤ most_at_end }
 {
     missing(case, nurse, state)
 }
@@ -129,21 +132,21 @@ fn start_cost(case: &Case, nurse: usize, past: Past) -> u32
     requires past { past ≡ past_of case.now nurse }
     requires small { IsSmallPast past }
     ensures cost { result ≡ due case.now nurse [] }
-    ensures within { result ≤ 49950 }
+    ensures within { result ≤ most_at_start }
 {
     let rules = case.contract_rules(nurse);
     let assignments = past.assignments.saturating_sub(rules.total.greatest) as u32;
     let weekends = past.weekends.saturating_sub(rules.weekends) as u32;
-    20 * assignments + 30 * weekends
+    ASSIGNMENT * assignments + WEEKEND * weekends
 }
 
-/// 20 points for each assignment missing to the least total.
+/// The points for each assignment missing to the least total.
 fn missing(case: &Case, nurse: usize, state: State) -> u32
     ensures cost { result ≡ end_cost_of case.now nurse state }
-    ensures within { result ≤ 19980 }
+    ensures within { result ≤ most_at_end }
 {
     let total = case.contract_rules(nurse).total;
-    20 * total.least.saturating_sub(state.assignments) as u32
+    ASSIGNMENT * total.least.saturating_sub(state.assignments) as u32
 }
 
 // ---- a step
@@ -184,61 +187,61 @@ fn step_cost(case: &Case, nurse: usize, day: u16, state: State, shift: Option<Sh
         + weekend_more(case, nurse, day, state, shift)
 }
 
-/// 30 points for each missing or extra day of the runs of working days and of days off.
+/// The points for each missing or extra day of the runs of working days and of days off.
 fn runs_more(case: &Case, nurse: usize, state: State, shift: Option<Shift>) -> u32
     ensures cost { result ≡ working_more case.now nurse state shift + free_more case.now nurse state shift }
-    ensures within { result ≤ 3932160 }
+    ensures within { result ≤ 65536 * (working_run_weight + free_run_weight) }
 {
     let rules = case.contract_rules(nurse);
     let works = shift.is_some();
     let working = rules.working.day_faults(working_run(state), works);
     let free = rules.free.day_faults(free_run(state), !works);
-    30 * working + 30 * free
+    WORKING_RUN * working + FREE_RUN * free
 }
 
-/// 30 points for a weekend that the day splits, where the contract wants whole weekends.
+/// The points for a weekend that the day splits, where the contract wants whole weekends.
 fn split_more(case: &Case, nurse: usize, day: u16, state: State, shift: Option<Shift>) -> u32
     ensures cost { result ≡ split_more case.now nurse day state shift }
-    ensures within { result ≤ 30 }
+    ensures within { result ≤ split_weight }
 {
     if !case.contract_rules(nurse).whole_weekends {
         return 0;
     }
-    30 * splits_more(day, state.last, shift)
+    SPLIT * splits_more(day, state.last, shift)
 }
 
-/// 20 points for an assignment above the greatest total.
+/// The points for an assignment above the greatest total.
 fn total_more(case: &Case, nurse: usize, state: State, shift: Option<Shift>) -> u32
     ensures cost { result ≡ total_more case.now nurse state shift }
-    ensures within { result ≤ 20 }
+    ensures within { result ≤ assignment_weight }
 {
     if state.assignments < case.contract_rules(nurse).total.greatest {
         return 0;
     }
-    20 * shift.is_some() as u32
+    ASSIGNMENT * shift.is_some() as u32
 }
 
-/// 30 points for a worked weekend above the greatest number.
+/// The points for a worked weekend above the greatest number.
 fn weekend_more(case: &Case, nurse: usize, day: u16, state: State, shift: Option<Shift>) -> u32
     ensures cost { result ≡ weekend_more case.now nurse day state shift }
-    ensures within { result ≤ 30 }
+    ensures within { result ≤ weekend_weight }
 {
     if state.weekends < case.contract_rules(nurse).weekends {
         return 0;
     }
-    30 * weekends_more(day, state.last, shift)
+    WEEKEND * weekends_more(day, state.last, shift)
 }
 
-/// 15 points for each missing or extra day of the runs of the shifts: that of the last shift may end, that of this one goes on or
-/// begins, and no other is open.
+/// The points for each missing or extra day of the runs of the shifts: that of the last shift may end, that of this one goes
+/// on or begins, and no other is open.
 #[tactic(auto, using(crate::proofs::ShiftLaw::shifts_by_two))]
 fn shifts_more(case: &Case, state: State, shift: Option<Shift>) -> u32
     requires last { IfSome state.last (λ s. s.0 < shift_count case.now) }
     requires shift { IfSome shift (λ s. s.0 < shift_count case.now) }
     ensures cost { result ≡ shifts_more case.now state shift }
-    ensures within { result ≤ 1966080 }
+    ensures within { result ≤ 2 * 65536 * shift_run_weight }
 {
-    15 * ended(case, state, shift) + 15 * worked(case, state, shift)
+    SHIFT_RUN * ended(case, state, shift) + SHIFT_RUN * worked(case, state, shift)
 }
 
 /// What the run of the last shift misses, where it ends.

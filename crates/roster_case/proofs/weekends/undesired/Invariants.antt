@@ -3,10 +3,11 @@ use Rattle.roster_instance.specs.Choices.{days_of}
 use Rattle.roster_instance.specs.Counting.{sum_below}
 use Rattle.roster_instance.specs.Days.{shift_on}
 use Rattle.roster_case.specs.Penalties.{is_undesired}
+use Rattle.roster_case.specs.Weights.{request_weight}
 use Rattle.roster_case.proofs.weekends.undesired.Given as goal
 
 abbrev pub invariant-loop-day : goal.invariant-loop-day
 invariant-loop-day l = record {
-  cost_is : l.cost ≡ sum_below l.day (λ d. if is_undesired l.case l.nurse d (shift_on (days_of l.row) d) then 10 else 0);
-  within : l.cost ≤ 10 * l.day;
+  cost_is : l.cost ≡ sum_below l.day (λ d. if is_undesired l.case l.nurse d (shift_on (days_of l.row) d) then request_weight else 0);
+  within : l.cost ≤ request_weight * l.day;
 }

@@ -1,0 +1,34 @@
+-- The weights of the soft rules (INRC-II): the penalty points for each that is missing or too many.
+use Rattle.std.specs.Prelude.{ℕ}
+
+-- a nurse missing to the optimum of a day, shift and skill
+abbrev pub staffing_weight : ℕ
+staffing_weight = 30
+
+-- a missing or extra day of a run of working days
+abbrev pub working_run_weight : ℕ
+working_run_weight = 30
+
+-- a missing or extra day of a run of one shift
+abbrev pub shift_run_weight : ℕ
+shift_run_weight = 15
+
+-- a missing or extra day of a run of days off
+abbrev pub free_run_weight : ℕ
+free_run_weight = 30
+
+-- an assignment to a shift that a request names
+abbrev pub request_weight : ℕ
+request_weight = 10
+
+-- a weekend of which exactly one day is worked
+abbrev pub split_weight : ℕ
+split_weight = 30
+
+-- an assignment missing to the least total, or above the greatest
+abbrev pub assignment_weight : ℕ
+assignment_weight = 20
+
+-- a worked weekend above the greatest number
+abbrev pub weekend_weight : ℕ
+weekend_weight = 30

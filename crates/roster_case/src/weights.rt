@@ -1,0 +1,25 @@
+//! The weights of the soft rules, in penalty points. A roster's penalty is stated by those of `specs/Weights.antt`.
+
+/// For each nurse missing to the optimum of a day, shift and skill.
+pub const STAFFING: u32 = 30;
+
+/// For each missing or extra day of a run of working days.
+pub const WORKING_RUN: u32 = 30;
+
+/// For each missing or extra day of a run of one shift.
+pub const SHIFT_RUN: u32 = 15;
+
+/// For each missing or extra day of a run of days off.
+pub const FREE_RUN: u32 = 30;
+
+/// For each assignment to a shift that a request names.
+pub const REQUEST: u32 = 10;
+
+/// For each weekend of which exactly one day is worked.
+pub const SPLIT: u32 = 30;
+
+/// For each assignment missing to the least total, or above the greatest.
+pub const ASSIGNMENT: u32 = 20;
+
+/// For each worked weekend above the greatest number.
+pub const WEEKEND: u32 = 30;
