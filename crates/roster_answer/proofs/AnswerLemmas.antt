@@ -1,5 +1,5 @@
 -- Which fault a failing reader or writer gives, and what a bundle means.
-use Rattle.std.proofs.Common.{◌≡◌, ◌≢◌, ◌⊎◌, ◌∙◌, ◌∷◌, [], ◌<◌, ℕ, Err, List, Option, Result, Ok, ap, ap₂, arith, get_or, inl, inr, length, lit<, map, nat_lt, refl, subst, sym, true, zero, suc}
+use Rattle.std.proofs.Common.{◌≡◌, ◌≢◌, ◌⊎◌, ◌∙◌, ◌∷◌, [], ◌<◌, ℕ, Err, List, Option, None, Some, Result, Ok, ap, ap₂, arith, get_or, inl, inr, length, lit<, map, nat_lt, refl, subst, sym, true, zero, suc}
 use Rattle.std.specs.Prelude.{Contains, IfErr, IfSome, IsErrOf, OnOk}
 use Rattle.std.proofs.lemmas.Bool.{ltb-true}
 use Rattle.std.proofs.lemmas.List.{length-map}
@@ -20,7 +20,7 @@ use Rattle.roster_case.specs.Rosters.{Rows}
 use Rattle.roster_case.specs.declared.CaseFault.{CaseFault}
 use Rattle.roster_case.specs.declared.CaseFault.TheVariants as case
 use Rattle.roster_case.proofs.Sections.{IsFirst-behind}
-use Rattle.roster_answer.specs.Answer.{Answers, IsUnread, RefusesBytes, Says, StopsOutput, StopsReport, answered_text, breaches, breaches_of, report_of, roster_of}
+use Rattle.roster_answer.specs.Answer.{Answers, Input, IsUnread, Output, Says, StopsOutput, StopsReport, answered_text, breaches, breaches_of, report_of, roster_of}
 use Rattle.roster_answer.specs.Lines.{IsFirstBreach, Text, status_of}
 use Rattle.roster_answer.specs.declared.fault.Fault.{Fault}
 use Rattle.roster_answer.specs.declared.fault.Fault.TheVariants as fault
@@ -79,9 +79,9 @@ status_listed fault.Output = (2, lit< tt, refl)
 
 -- ---- an input that was not read to its end
 
-module _ {R : Type 0} (A : Type 0) (remaining : R → Option (List ℕ)) (old new : Watched R) where
-  pub unread : (f : TextFault) → IsReadFault f → new.failures ≡ counted old.failures (is_read_failure {A = A} (Err f)) → (IsErrOf {T = A} (Err f) text.TooLong → IfSome (remaining old.inner) (λ given. most_bytes < length given))
-      → IsUnread remaining old new (fault.Text f)
+module _ {R : Type 0} (A : Type 0) (input : Input R) where
+  pub unread : (f : TextFault) → IsReadFault f → input.after.failures ≡ counted input.before.failures (is_read_failure {A = A} (Err f))
+      → (IsErrOf {T = A} (Err f) text.TooLong → IfSome (input.remaining input.before.inner) (λ given. most_bytes < length given)) → IsUnread input (fault.Text f)
   unread text.Memory is failures long = failures
   unread text.ReadFailed is failures long = failures
   unread text.TooLong is failures long = (failures, long refl)
@@ -91,7 +91,7 @@ module _ {R : Type 0} (A : Type 0) (remaining : R → Option (List ℕ)) (old ne
 
 -- ---- an instance, once it is read
 
-module _ {W : Type 0} (contents : W → Option (List ℕ)) (command : Command) (source : Text) (i : Instance) (old new : Watched W) (says : Says source i) where
+module _ {W : Type 0} (output : Output W) (command : Command) (source : Text) (i : Instance) (says : Says source i) where
   rows_meant : i.roster ≡ roster_of source i.bundle
   rows_meant = says.roster ∙ ap (λ m. rows_of source m i.bundle) says.case
 
@@ -101,38 +101,36 @@ module _ {W : Type 0} (contents : W → Option (List ℕ)) (command : Command) (
   report_meant : report_of command i.case i.roster ≡ answered_text command source i.bundle
   report_meant = ap₂ (report_of command) says.case rows_meant
 
-  pub answers : {X : Type 0} (result : Result X Fault) → OnOk result (breaches_of command i.case i.roster ≡ []) → OnOk result (Writes contents old new (report_of command i.case i.roster))
-      → OnOk result (Answers contents command source old new)
+  pub answers : {X : Type 0} (result : Result X Fault) → OnOk result (breaches_of command i.case i.roster ≡ [])
+      → OnOk result (Writes output.contents output.before output.after (report_of command i.case i.roster)) → OnOk result (Answers output command source None)
   answers (Ok x) kept written = record {
     bundle = i.bundle;
     spelled = says.spelled;
-    taken = says.taken;
-    kept = sym breaches_meant ∙ kept;
-    written = subst (Writes contents old new) report_meant written;
+    ends = record { taken = says.taken; kept = sym breaches_meant ∙ kept };
+    left = subst (Writes output.contents output.before output.after) report_meant written;
   }
   answers (Err f) kept written = tt
 
-  refuses_for : (f : Fault) → StopsReport contents (breaches_of command i.case i.roster) (report_of command i.case i.roster) source i.bundle old new f → RefusesBytes contents command source old new f
+  refuses_for : (f : Fault) → StopsReport output.contents (breaches_of command i.case i.roster) (report_of command i.case i.roster) source i.bundle output.before output.after f
+      → Answers output command source (Some f)
   refuses_for (fault.Text f) h = absurd h
   refuses_for (fault.Case f nurse) h = absurd h
-  refuses_for (fault.Hard f names) h = (
-    record {
-      bundle = i.bundle;
-      spelled = says.spelled;
-      refused = (says.taken, subst (λ broken. IsFirstBreach source i.bundle broken (fault.Hard f names)) breaches_meant h.0);
-    },
-    h.1,
-  )
+  refuses_for (fault.Hard f names) h = record {
+    bundle = i.bundle;
+    spelled = says.spelled;
+    ends = record { taken = says.taken; breach = subst (λ broken. IsFirstBreach source i.bundle broken (fault.Hard f names)) breaches_meant h.0 };
+    left = h.1;
+  }
   refuses_for fault.Output h = record {
     bundle = i.bundle;
     spelled = says.spelled;
-    taken = says.taken;
-    kept = sym breaches_meant ∙ h.0;
-    stopped = subst (Stops contents old new) report_meant h.1;
+    ends = record { taken = says.taken; kept = sym breaches_meant ∙ h.0 };
+    left = subst (Stops output.contents output.before output.after) report_meant h.1;
   }
 
-  pub refuses : {X : Type 0} (result : Result X Fault) → IfErr result (StopsReport contents (breaches_of command i.case i.roster) (report_of command i.case i.roster) source i.bundle old new)
-      → IfErr result (RefusesBytes contents command source old new)
+  pub refuses : {X : Type 0} (result : Result X Fault)
+      → IfErr result (StopsReport output.contents (breaches_of command i.case i.roster) (report_of command i.case i.roster) source i.bundle output.before output.after)
+      → IfErr result (λ f. Answers output command source (Some f))
   refuses (Ok x) stopped = tt
   refuses (Err f) stopped = refuses_for f stopped
 

@@ -1,5 +1,5 @@
 -- What a run answers.
-use Rattle.std.specs.Prelude.{◌≡◌, ◌≢◌, ℕ, ◌<◌, ◌≤◌, ◌⊎◌, true, List, [], IfSome, Option, Some, length}
+use Rattle.std.specs.Prelude.{◌≡◌, ◌≢◌, ℕ, ◌<◌, ◌≤◌, ◌⊎◌, true, List, [], IfSome, Option, None, Some, length}
 use Rattle.std.specs.Io.KnownBytes.{IsAtEnd}
 use Rattle.roster_text.specs.FirstFault.{IsFirstFault}
 use Rattle.roster_text.specs.Grammar.{Spells}
@@ -32,14 +32,40 @@ use Rattle.roster_words.specs.declared.request.Command.TheVariants as command
 abbrev pub Logs : {W : Type 0} → (W → Option (List ℕ)) → Watched W → Watched W → Text → Type 0
 Logs contents old new line = Writes contents old new line ⊎ Stops contents old new line
 
--- ---- the input
+-- ---- the devices of a run
+
+-- an input before and behind a run; `remaining` is what a reader has left
+pub record Input (R : Type 0) : Type 0 where
+  pub remaining : R → Option Text
+  pub before : Watched R
+  pub after : Watched R
+
+-- an output before and behind a run; `contents` is what a writer holds
+pub record Output (W : Type 0) : Type 0 where
+  pub contents : W → Option Text
+  pub before : Watched W
+  pub after : Watched W
 
 -- these are all bytes of the reader, and no read failed
-pub record ReadsAll {R : Type 0} (remaining : R → Option (List ℕ)) (old new : Watched R) (bytes : Text) : Type 0 where
-  pub all : IfSome (remaining old.inner) (λ given. bytes ≡ given)
-  pub end : IsAtEnd (remaining new.inner)
+pub record ReadsAll {R : Type 0} (input : Input R) (bytes : Text) : Type 0 where
+  pub all : IfSome (input.remaining input.before.inner) (λ given. bytes ≡ given)
+  pub end : IsAtEnd (input.remaining input.after.inner)
   pub kept : length bytes ≤ most_bytes
-  pub failures : new.failures ≡ old.failures
+  pub failures : input.after.failures ≡ input.before.failures
+
+-- how a run ends: it is done, or it stops for a fault
+abbrev pub Outcome : Type 0
+Outcome = Option Fault
+
+-- what a run leaves of its text: all, where it is done; some, where the output failed; else none
+abbrev pub Leaves : {W : Type 0} → Output W → Text → Outcome → Type 0
+Leaves output text None = Writes output.contents output.before output.after text
+Leaves output text (Some fault.Output) = Stops output.contents output.before output.after text
+Leaves output text (Some (fault.Text f)) = output.after ≡ output.before
+Leaves output text (Some (fault.Case f nurse)) = output.after ≡ output.before
+Leaves output text (Some (fault.Hard f names)) = output.after ≡ output.before
+
+-- ---- the bytes
 
 -- the bytes spell the bundle
 abbrev pub SpellsBundle : Text → Bundle → Type 0
@@ -96,39 +122,43 @@ pub record IsRefusedFor (bytes : Text) (b : Bundle) (f : CaseFault) (nurse : Tex
   pub first : f ≢ Memory → first_of (all_faults bytes b) ≡ Some f
   pub nurse_is : nurse ≡ nurse_of bytes b f
 
+-- nothing in it is refused
+pub record IsTaken (command : Command) (bytes : Text) (b : Bundle) : Type 0 where
+  pub taken : all_faults bytes b ≡ []
+  pub kept : breaches command bytes b ≡ []
+
 -- nothing else is refused, and this is its first breach
-abbrev pub IsBreachedBy : Command → Text → Bundle → HardFault → BreachNames → Type 0
-IsBreachedBy command bytes b f names = (all_faults bytes b ≡ []) × IsFirstBreach bytes b (breaches command bytes b) (fault.Hard f names)
+pub record IsBreachedBy (command : Command) (bytes : Text) (b : Bundle) (f : HardFault) (names : BreachNames) : Type 0 where
+  pub taken : all_faults bytes b ≡ []
+  pub breach : IsFirstBreach bytes b (breaches command bytes b) (fault.Hard f names)
+
+-- how a command ends for it
+abbrev pub IsOutcomeFor : Command → Text → Bundle → Outcome → Type 0
+IsOutcomeFor command bytes b None = IsTaken command bytes b
+IsOutcomeFor command bytes b (Some fault.Output) = IsTaken command bytes b
+IsOutcomeFor command bytes b (Some (fault.Case f nurse)) = IsRefusedFor bytes b f nurse.now
+IsOutcomeFor command bytes b (Some (fault.Hard f names)) = IsBreachedBy command bytes b f names
+IsOutcomeFor command bytes b (Some (fault.Text f)) = ⊥
 
 -- ---- a command, from the bytes
 
--- the bytes spell a bundle in which nothing is refused, and the answer is written
-pub record Answers {W : Type 0} (contents : W → Option (List ℕ)) (command : Command) (bytes : Text) (old new : Watched W) : Type 0 where
+-- the bytes spell a bundle, for which the command ends so, with what it writes
+pub record AnswersBundle {W : Type 0} (output : Output W) (command : Command) (bytes : Text) (outcome : Outcome) : Type 0 where
   pub bundle : Bundle
   pub spelled : SpellsBundle bytes bundle
-  pub taken : all_faults bytes bundle ≡ []
-  pub kept : breaches command bytes bundle ≡ []
-  pub written : Writes contents old new (answered_text command bytes bundle)
+  pub ends : IsOutcomeFor command bytes bundle outcome
+  pub left : Leaves output (answered_text command bytes bundle) outcome
 
--- the same, but a write failed inside what was to be written
-pub record AnswersPart {W : Type 0} (contents : W → Option (List ℕ)) (command : Command) (bytes : Text) (old new : Watched W) : Type 0 where
-  pub bundle : Bundle
-  pub spelled : SpellsBundle bytes bundle
-  pub taken : all_faults bytes bundle ≡ []
-  pub kept : breaches command bytes bundle ≡ []
-  pub stopped : Stops contents old new (answered_text command bytes bundle)
+-- the command ends so for the bytes
+abbrev pub Answers : {W : Type 0} → Output W → Command → Text → Outcome → Type 0
+Answers output command bytes (Some (fault.Text f)) = HasFault bytes f × (output.after ≡ output.before)
+Answers output command bytes outcome = AnswersBundle output command bytes outcome
 
 -- the bytes spell a bundle whose case or solutions have this fault first
 pub record HasCaseFault (bytes : Text) (f : CaseFault) (nurse : Text) : Type 0 where
   pub bundle : Bundle
   pub spelled : SpellsBundle bytes bundle
   pub refused : IsRefusedFor bytes bundle f nurse
-
--- the bytes spell a bundle in which nothing else is refused, and whose roster has this breach first
-pub record HasBreach (command : Command) (bytes : Text) (f : HardFault) (names : BreachNames) : Type 0 where
-  pub bundle : Bundle
-  pub spelled : SpellsBundle bytes bundle
-  pub refused : IsBreachedBy command bytes bundle f names
 
 -- the bytes spell the bundle of the instance, in which nothing is refused, and it has its case and its roster
 pub record Says (bytes : Text) (instance : Instance) : Type 0 where
@@ -144,35 +174,22 @@ StopsReading bytes (fault.Text f) = HasFault bytes f
 StopsReading bytes (fault.Case f nurse) = HasCaseFault bytes f nurse.now
 StopsReading bytes _ = ⊥
 
--- why a command is not answered in full, and what is written then
-abbrev pub RefusesBytes : {W : Type 0} → (W → Option (List ℕ)) → Command → Text → Watched W → Watched W → Fault → Type 0
-RefusesBytes contents command bytes old new (fault.Text f) = HasFault bytes f × (new ≡ old)
-RefusesBytes contents command bytes old new (fault.Case f nurse) = HasCaseFault bytes f nurse.now × (new ≡ old)
-RefusesBytes contents command bytes old new (fault.Hard f names) = HasBreach command bytes f names × (new ≡ old)
-RefusesBytes contents command bytes old new fault.Output = AnswersPart contents command bytes old new
-
 -- ---- from the reader
 
--- the input was read, and is answered
-pub record ReadsAndAnswers {R Out : Type 0} (remaining : R → Option (List ℕ)) (contents : Out → Option (List ℕ)) (command : Command) (input input_after : Watched R) (output output_after : Watched Out) : Type 0 where
+-- the input was read, and the command ends so for its bytes
+pub record ReadsAndAnswers {R W : Type 0} (input : Input R) (output : Output W) (command : Command) (outcome : Outcome) : Type 0 where
   pub bytes : Text
-  pub read : ReadsAll remaining input input_after bytes
-  pub answers : Answers contents command bytes output output_after
-
--- the input was read, and is refused
-pub record ReadsAndRefuses {R Out : Type 0} (remaining : R → Option (List ℕ)) (contents : Out → Option (List ℕ)) (command : Command) (input input_after : Watched R) (output output_after : Watched Out) (f : Fault) : Type 0 where
-  pub bytes : Text
-  pub read : ReadsAll remaining input input_after bytes
-  pub refuses : RefusesBytes contents command bytes output output_after f
+  pub read : ReadsAll input bytes
+  pub answers : Answers output command bytes outcome
 
 -- the input was not read to its end
-abbrev pub IsUnread : {R : Type 0} → (R → Option (List ℕ)) → Watched R → Watched R → Fault → Type 0
-IsUnread remaining input input_after (fault.Text text.Memory) = input_after.failures ≡ input.failures
-IsUnread remaining input input_after (fault.Text text.ReadFailed) = input_after.failures ≡ one_more input.failures
-IsUnread remaining input input_after (fault.Text text.TooLong) = (input_after.failures ≡ input.failures) × IfSome (remaining input.inner) (λ given. most_bytes < length given)
-IsUnread remaining input input_after _ = ⊥
+abbrev pub IsUnread : {R : Type 0} → Input R → Fault → Type 0
+IsUnread input (fault.Text text.Memory) = input.after.failures ≡ input.before.failures
+IsUnread input (fault.Text text.ReadFailed) = input.after.failures ≡ one_more input.before.failures
+IsUnread input (fault.Text text.TooLong) = (input.after.failures ≡ input.before.failures) × IfSome (input.remaining input.before.inner) (λ given. most_bytes < length given)
+IsUnread input _ = ⊥
 
 -- why the command stopped
-abbrev pub Refuses : {R Out : Type 0} → (R → Option (List ℕ)) → (Out → Option (List ℕ)) → Command → Watched R → Watched R → Watched Out → Watched Out → Fault → Type 0
-Refuses remaining contents command input input_after output output_after f =
-    (IsUnread remaining input input_after f × (output_after ≡ output)) ⊎ ReadsAndRefuses remaining contents command input input_after output output_after f
+abbrev pub Refuses : {R W : Type 0} → Input R → Output W → Command → Fault → Type 0
+Refuses input output command f =
+    (IsUnread input f × (output.after ≡ output.before)) ⊎ ReadsAndAnswers input output command (Some f)

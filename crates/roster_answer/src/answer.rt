@@ -1,8 +1,8 @@
 //! A command, from the bytes of its input to its output, its log and its status.
 
-ghost use Rattle.std.specs.Prelude.{◌≡◌, ◌≢◌, ◌⊎◌, ℕ, OnOk, IfErr, Contains, [], ◌∷◌, codes};
+ghost use Rattle.std.specs.Prelude.{◌≡◌, ◌≢◌, ◌⊎◌, ℕ, OnOk, IfErr, Some, None, Contains, [], ◌∷◌, codes};
 ghost use Rattle.roster_text.specs.Io.{one_more};
-ghost use Rattle.roster_answer.specs.Answer.{Answers, Logs, ReadsAndAnswers, Refuses, RefusesBytes};
+ghost use Rattle.roster_answer.specs.Answer.{Answers, Logs, ReadsAndAnswers, Refuses};
 ghost use Rattle.roster_answer.specs.Lines.{fault_line, status_of};
 
 use crate::commands::report;
@@ -26,12 +26,14 @@ pub fn run<R: Read, Out: Write, Log: Write>(
     ensures status { Contains (0 ∷ 1 ∷ 3 ∷ 4 ∷ []) result }
 
     // What is answered, where nothing is refused.
-    ensures done { result ≡ 0 → ReadsAndAnswers R.remaining Out.contents request.now.command input.old input.new output.old output.new }
+    ensures done { result ≡ 0 → ReadsAndAnswers (record { remaining = R.remaining; before = input.old; after = input.new })
+        (record { contents = Out.contents; before = output.old; after = output.new }) request.now.command None }
     ensures silent { result ≡ 0 → log.new ≡ log.old }
 
     // Else there is a fault, with its status and its line.
     ensures refused { (result ≡ 0 → ⊥) → (fault : Fault) × (result ≡ status_of fault)
-        × Refuses R.remaining Out.contents request.now.command input.old input.new output.old output.new fault
+        × Refuses (record { remaining = R.remaining; before = input.old; after = input.new })
+        (record { contents = Out.contents; before = output.old; after = output.new }) request.now.command fault
         × Logs Log.contents log.old log.new (fault_line fault) }
 
     // A read or an output write that fails is told so, and status 3 comes from nothing else.
@@ -52,10 +54,12 @@ fn answer<R: Read, Out: Write, Log: Write>(
     output: &mut Watch<Out>,
     log: &mut Watch<Log>,
 ) -> u8
-    ensures done { result ≡ 0 → ReadsAndAnswers R.remaining Out.contents command.now input.old input.new output.old output.new }
+    ensures done { result ≡ 0 → ReadsAndAnswers (record { remaining = R.remaining; before = input.old; after = input.new })
+        (record { contents = Out.contents; before = output.old; after = output.new }) command.now None }
     ensures silent { result ≡ 0 → log.new ≡ log.old }
     ensures refused { (result ≡ 0 → ⊥) → (fault : Fault) × (result ≡ status_of fault)
-        × Refuses R.remaining Out.contents command.now input.old input.new output.old output.new fault
+        × Refuses (record { remaining = R.remaining; before = input.old; after = input.new })
+        (record { contents = Out.contents; before = output.old; after = output.new }) command.now fault
         × Logs Log.contents log.old log.new (fault_line fault) }
 {
     let source = match read_all(alloc, input) {
@@ -75,8 +79,8 @@ fn answer_bytes<'a, Out: Write>(
     source: &'a [u8],
     output: &mut Watch<Out>,
 ) -> Result<(), Fault<'a>>
-    ensures ok { OnOk result (Answers Out.contents command.now source.now output.old output.new) }
-    ensures err { IfErr result (RefusesBytes Out.contents command.now source.now output.old output.new) }
+    ensures ok { OnOk result (Answers (record { contents = Out.contents; before = output.old; after = output.new }) command.now source.now None) }
+    ensures err { IfErr result (λ fault. Answers (record { contents = Out.contents; before = output.old; after = output.new }) command.now source.now (Some fault)) }
 {
     let instance = read_instance(alloc, source)?;
     report(command, source, &instance, output)

@@ -27,11 +27,49 @@ impl<R> Model for Joined<R> {
 }
 
 impl<R> Joined<R> {
+    ghost use Rattle.std.specs.Prelude.{◌<◌, drop, length};
+    ghost use Rattle.roster_cli.specs.JoinedBytes.{IsFirstRead, JoinsRead};
+
     /// Joins the readers in their order.
     pub fn new(readers: Vec<R>) -> Self
         ensures { result ≡ readers.items }
     {
         Joined { readers, done: 0 }
+    }
+
+    // These two take the reader's call as an argument, so that their contracts can say whose answer a read gives.
+
+    /// Reads from the first reader that is left, and passes over it where it is at its end.
+    fn read_with<F: FnOnce(&mut R, &mut [u8]) -> io::Result<usize>>(
+        &mut self,
+        buf: &mut [u8],
+        read: F,
+    ) -> io::Result<usize>
+        requires { F.IsAlwaysCallable read }
+        ensures { JoinsRead F.FnOnce read self.old buf.old result self.new buf.new }
+    {
+        if self.done == self.readers.len() || buf.is_empty() {
+            return Ok(0);
+        }
+        let taken = self.read_first(buf, read)?;
+        if taken > 0 {
+            return Ok(taken);
+        }
+        self.done += 1;
+        buf[0] = b'\n';
+        Ok(1)
+    }
+
+    fn read_first<F: FnOnce(&mut R, &mut [u8]) -> io::Result<usize>>(
+        &mut self,
+        buf: &mut [u8],
+        read: F,
+    ) -> io::Result<usize>
+        requires callable { F.IsAlwaysCallable read }
+        requires left { 0 < length self.old }
+        ensures { IsFirstRead F.FnOnce read self.old buf.old result self.new buf.new }
+    {
+        read(&mut self.readers[self.done], buf)
     }
 }
 
@@ -49,15 +87,6 @@ impl<R: Read> Read for Joined<R> {
         // Only a reader's fault is one, and it passes over no reader.
         ensures fault { OnErr result ((0 < length self.old) × (length self.new ≡ length self.old)) }
     {
-        if self.done == self.readers.len() || buf.is_empty() {
-            return Ok(0);
-        }
-        let taken = self.readers[self.done].read(buf)?;
-        if taken > 0 {
-            return Ok(taken);
-        }
-        self.done += 1;
-        buf[0] = b'\n';
-        Ok(1)
+        self.read_with(buf, R::read)
     }
 }

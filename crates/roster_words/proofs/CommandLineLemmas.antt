@@ -1,13 +1,13 @@
 -- What clap's definition of the command line makes of words that have no fault.
-use Rattle.std.proofs.Common.{◌≡◌, ◌≢◌, ◌∙◌, ◌&&◌, ◌||◌, ℕ, Bool, cond, true, false, not, refl, sym, ap, subst, List, [], ◌∷◌, Option, Some, None, is_some, codes, inl, inr, ◌⊎◌, true≢false}
-use Rattle.std.specs.Prelude.{IsSomeAnd, option_map, slice_get}
+use Rattle.std.proofs.Common.{◌≡◌, ◌≢◌, ◌∙◌, ◌&&◌, ◌||◌, ℕ, Bool, cond, true, false, not, refl, sym, ap, subst, List, [], ◌∷◌, ◌++◌, length, take, get_or, Option, Some, None, is_some, codes, inl, inr, ◌⊎◌, true≢false}
+use Rattle.std.specs.Prelude.{IsSomeAnd, find, option_map}
 use Rattle.std.specs.List.{fold, list_any}
 use Rattle.std.specs.Str.{bytes_eq}
 use Rattle.std.proofs.lemmas.Slice.Eq.{bytes_eq-Decides}
 use Rattle.clap.specs.Kinds.{IsAmong, Kinds, check_kinds, or_else}
-use Rattle.clap.specs.Walk.{Held, Names, Outcome, Row, Rule, Step, Text, Waiting, Walk, after_flag, after_step, arg_by_index, done, finished, idle, long_or_other, next, nothing_held, option, plain, plain_word, positional, refused, settled, short_or_plain, stop_after, subcommand, subcommand_met, subcommand_or_other, trailing, value, waits, walk, walk_from, walked, to_positional, long_met, arg_by_long, bundle}
+use Rattle.clap.specs.Walk.{answers_to, Held, Names, Outcome, Row, Rule, Step, Text, Waiting, Walk, after_flag, after_step, arg_by_index, done, finished, idle, long_or_other, next, nothing_held, option, plain, plain_word, positional, refused, settled, short_or_plain, stop_after, subcommand, subcommand_met, subcommand_or_other, trailing, value, waits, walk, walk_from, walked, to_positional, long_met, arg_by_long, bundle}
 use Rattle.clap.specs.Lexer.{long_of, short_of}
-use Rattle.clap.specs.Simple.{Shape, argument_words, built, entered, names_of, rows_at}
+use Rattle.clap.specs.Simple.{Shape, argument_words, built, entered, help_shape, label_of, names_of, rows_at}
 use Rattle.clap.specs.Faults.{check_fault, defaults_fault, entered_fault, fault_of, other_fault, settle_fault, step_fault, walk_fault}
 use Rattle.clap.specs.Facts.{explicit_source}
 use Rattle.clap.specs.Takes.{is_given}
@@ -15,7 +15,7 @@ use Rattle.clap.specs.Words.{subcommand_of, takes}
 use Rattle.clap.specs.declared.error.kind.ErrorKind.{ErrorKind}
 use Rattle.clap.specs.declared.error.kind.ErrorKind.TheVariants as kind
 use Rattle.clap.proofs.WalkLemmas.{walk_stopped}
-use Rattle.roster_words.specs.CommandLine.{IsName, IsRefused, Refuses, TellsKind, is_help, program}
+use Rattle.roster_words.specs.CommandLine.{IsNameOf, IsRefused, Refuses, TellsKind, commands, is_help, program}
 use Rattle.roster_words.specs.declared.request.CliFault.{CliFault}
 use Rattle.roster_words.specs.declared.request.CliFault.TheVariants as fault
 
@@ -120,32 +120,57 @@ module _ (s : Shape) (names : Names) (offers : s.disable_help_subcommand ≡ fal
 
 -- ---- a command is met
 
--- the command that is entered, by whether its name is `show`, `cost`, `sizes` or `help`
-abbrev by_names : Bool → Bool → Bool → Bool → List Text → Option (Text × List Row)
-by_names shows costs sizes helps rest =
-    option_map (λ s. rows_at s rest)
-    (cond (shows || false) (slice_get (built program).subs 0)
-    (cond (costs || false) (slice_get (built program).subs 1) (cond (sizes || false) (slice_get (built program).subs 2) (cond (helps || false) (slice_get (built program).subs 3) None))))
+-- the one of these commands that a word names
+abbrev named : Text → List Shape → Option Shape
+named word = find (λ (s : Shape). answers_to word (label_of s))
+
+abbrev with_rows : List Text → Option Shape → Option (Text × List Row)
+with_rows rest = option_map (λ (s : Shape). rows_at s rest)
+
+IsSomeAnd-weaker : {A : Type 0} (o : Option A) (P Q : A → Type 0) → ((x : A) → P x → Q x) → IsSomeAnd o P → IsSomeAnd o Q
+IsSomeAnd-weaker None P Q f h = absurd h
+IsSomeAnd-weaker (Some x) P Q f h = f x h
+
+met_none : (last : Shape) (rest : List Text) (is_last : Bool) → is_last ≡ false → is_some (with_rows rest (cond is_last (Some last) None)) ≡ true
+    → IsSomeAnd (with_rows rest (cond is_last (Some last) None)) (λ met. ⊥)
+met_none last rest true other e = absurd (true≢false other)
+met_none last rest false other e = absurd (true≢false (sym e))
+
+met_first : (s : Shape) (subs : List Shape) (rest : List Text) (others : Option Shape) (is_first : Bool)
+    → (is_some (with_rows rest others) ≡ true → IsSomeAnd (with_rows rest others) (λ met. IsNameOf subs met.0))
+    → is_some (with_rows rest (cond is_first (Some s) others)) ≡ true → IsSomeAnd (with_rows rest (cond is_first (Some s) others)) (λ met. IsNameOf (s ∷ subs) met.0)
+met_first s subs rest others true later e = inl refl
+met_first s subs rest others false later e = IsSomeAnd-weaker (with_rows rest others) (λ met. IsNameOf subs met.0) (λ met. IsNameOf (s ∷ subs) met.0) (λ met h. inr h) (later e)
+
+-- where a command was met, and not the last, it is one of those before
+met_before : (subs : List Shape) (last : Shape) (word : Text) (rest : List Text) → answers_to word (label_of last) ≡ false
+    → is_some (with_rows rest (named word (subs ++ last ∷ []))) ≡ true → IsSomeAnd (with_rows rest (named word (subs ++ last ∷ []))) (λ met. IsNameOf subs met.0)
+met_before [] last word rest other e = met_none last rest (answers_to word (label_of last)) other e
+met_before (s ∷ subs) last word rest other e =
+    met_first s subs rest (named word (subs ++ last ∷ [])) (answers_to word (label_of s)) (met_before subs last word rest other) e
+
+or_false : (b : Bool) → b ≡ false → (b || false) ≡ false
+or_false true e = e
+or_false false e = refl
+
+is_false : (b : Bool) → (b ≡ true → ⊥) → b ≡ false
+is_false true h = absurd (h refl)
+is_false false h = refl
+
+-- clap puts `help` behind the program's commands
+abbrev all_subs : List Shape
+all_subs = (built program).subs
 
 -- where a command was met that is not `help`, it is one of the program's
 met_command : (stop : Option (Text × List Text)) → ((p : Text × List Text) → stop ≡ Some p → bytes_eq p.0 (codes "help") ≡ false)
-    → is_some (entered (built program) stop) ≡ true → IsSomeAnd (entered (built program) stop) (λ met. IsName met.0)
+    → is_some (entered (built program) stop) ≡ true → IsSomeAnd (entered (built program) stop) (λ met. IsNameOf commands met.0)
 met_command None other e = absurd (true≢false (sym e))
-met_command (Some p) other e = go (bytes_eq (codes "show") p.0) (bytes_eq (codes "cost") p.0) (bytes_eq (codes "sizes") p.0) (bytes_eq (codes "help") p.0) refl e
-  where
-    names_help : bytes_eq (codes "help") p.0 ≡ true → ⊥
-    names_help h = true≢false (ap (λ n. bytes_eq n (codes "help")) ((bytes_eq-Decides (codes "help") p.0).0 h) ∙ other p refl)
-
-    go : (shows costs sizes helps : Bool) → bytes_eq (codes "help") p.0 ≡ helps → is_some (by_names shows costs sizes helps p.1) ≡ true
-        → IsSomeAnd (by_names shows costs sizes helps p.1) (λ met. IsName met.0)
-    go true costs sizes helps is e = inl refl
-    go false true sizes helps is e = inr (inl refl)
-    go false false true helps is e = inr (inr refl)
-    go false false false true is e = absurd (names_help is)
-    go false false false false is e = absurd (true≢false (sym e))
+met_command (Some p) other e =
+    let names_help : bytes_eq (codes "help") p.0 ≡ true → ⊥ = λ h. true≢false (ap (λ n. bytes_eq n (codes "help")) ((bytes_eq-Decides (codes "help") p.0).0 h) ∙ other p refl) in
+    met_before (take (length commands) all_subs) (get_or all_subs (length commands) help_shape) p.0 p.1 (or_false (bytes_eq (codes "help") p.0) (is_false _ names_help)) e
 
 -- words without a fault name a command
-pub meets_command : (words : List Text) → fault_of program words ≡ [] → IsSomeAnd (subcommand_of program words) (λ met. IsName met.0)
+pub meets_command : (words : List Text) → fault_of program words ≡ [] → IsSomeAnd (subcommand_of program words) (λ met. IsNameOf commands met.0)
 meets_command words none =
     let top = (built program).top in
     let names = names_of (built program) in
@@ -171,10 +196,6 @@ among : (p : ErrorKind → Bool) (k : ErrorKind) (kinds : Kinds) → IsAmong k k
 among p k [] h e = elim h [ ]
 among p k (x ∷ xs) (inl same) e = ap (λ b. b || list_any p xs) (ap p (sym same) ∙ e)
 among p k (x ∷ xs) (inr later) e = ap (λ b. p x || b) (among p k xs later e) ∙ or_true (p x)
-
-is_false : (b : Bool) → (b ≡ true → ⊥) → b ≡ false
-is_false true h = absurd (h refl)
-is_false false h = refl
 
 refused_by : (p : ErrorKind → Bool) (words : List Text) (k : ErrorKind) → k ≢ kind.OutOfMemory → p k ≡ true → (takes program words ≡ true → k ≡ kind.OutOfMemory)
     → (k ≡ kind.OutOfMemory) ⊎ IsAmong k (fault_of program words) → IsRefused p words

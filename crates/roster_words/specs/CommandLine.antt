@@ -1,8 +1,8 @@
 -- What the words of a command line ask for, by clap's reading of them.
-use Rattle.std.specs.Prelude.{◌≡◌, ◌≢◌, ◌⊎◌, Bool, true, false, not, List, [], map, Option, Some, unwrap_or, option_map, codes, string_bytes}
-use Rattle.std.specs.List.{list_any}
+use Rattle.std.specs.Prelude.{◌≡◌, ◌≢◌, ◌⊎◌, Bool, true, false, not, List, [], ◌∷◌, map, Option, Some, unwrap_or, option_map, codes, string_bytes}
+use Rattle.std.specs.List.{fold, list_any}
 use Rattle.clap.specs.Lexer.{usize_max}
-use Rattle.clap.specs.Words.{App, Row, Rule, Text, all_of, fault_of, new_app, new_rule, subcommand_of, takes, with_rule, with_subcommand}
+use Rattle.clap.specs.Words.{App, Row, Rule, Shape, Text, all_of, fault_of, new_app, new_rule, subcommand_of, takes, with_rule, with_subcommand}
 use Rattle.clap.specs.declared.builder.action.ArgAction.TheVariants as action
 use Rattle.clap.specs.declared.error.kind.ErrorKind.{ErrorKind}
 use Rattle.clap.specs.declared.error.kind.ErrorKind.TheVariants as kind
@@ -30,9 +30,13 @@ bare = record {
   subs = [];
 }
 
+-- the commands, in the order of the help
+abbrev pub commands : List Shape
+commands = map (λ name. (command_of name).top) (codes "show" ∷ codes "cost" ∷ codes "sizes" ∷ [])
+
 -- the program's definition for clap
 abbrev pub program : App
-program = with_subcommand (with_subcommand (with_subcommand bare (command_of (codes "show")).top) (command_of (codes "cost")).top) (command_of (codes "sizes")).top
+program = fold with_subcommand bare commands
 
 -- a command's name
 abbrev pub name_of : Command → Text
@@ -40,25 +44,31 @@ name_of command.Show = codes "show"
 name_of command.Cost = codes "cost"
 name_of command.Sizes = codes "sizes"
 
--- it is the name of a command
-abbrev pub IsName : Text → Type 0
-IsName name = (name ≡ name_of command.Show) ⊎ (name ≡ name_of command.Cost) ⊎ (name ≡ name_of command.Sizes)
+-- it is the name of one of these commands
+abbrev pub IsNameOf : List Shape → Text → Type 0
+IsNameOf [] name = ⊥
+IsNameOf (first ∷ rest) name = (name ≡ first.name) ⊎ IsNameOf rest name
 
 -- the files among the matches of a command
 abbrev pub files_in : List Row → List Text
 files_in rows = unwrap_or (all_of (codes "FILE") rows) []
 
+-- what is asked for: a command, by its name, and files
+pub record Asked : Type 0 where
+  pub name : Text
+  pub files : List Text
+
 -- the name and the files of the command that was met
-abbrev pub named_files : Option (Text × List Row) → Option (Text × List Text)
-named_files = option_map (λ met. (met.0, files_in met.1))
+abbrev pub asked_in : Option (Text × List Row) → Option Asked
+asked_in = option_map (λ met. record { name = met.0; files = files_in met.1 })
 
 -- the command's name and the files that clap's matches give for the words
-abbrev pub asked_of : List Text → Option (Text × List Text)
-asked_of words = named_files (subcommand_of program words)
+abbrev pub asked_of : List Text → Option Asked
+asked_of words = asked_in (subcommand_of program words)
 
 -- a request as a command's name and files
-abbrev pub request_view : Request → Text × List Text
-request_view r = (name_of r.command, map string_bytes r.files.items)
+abbrev pub request_view : Request → Asked
+request_view r = record { name = name_of r.command; files = map string_bytes r.files.items }
 
 -- help or the version was asked for
 abbrev pub is_help : ErrorKind → Bool

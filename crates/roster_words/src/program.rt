@@ -1,7 +1,7 @@
 //! The command line of the program, as `clap` reads it.
 
 ghost use Rattle.std.specs.Prelude.{◌≡◌, IfOk};
-ghost use Rattle.clap.specs.Words.{app_of};
+ghost use Rattle.clap.specs.Words.{app_of, with_subcommand};
 ghost use Rattle.roster_words.specs.CommandLine.{command_of, program};
 
 use crate::texts::{ABOUT, COST, COST_HELP, EXAMPLES, SHOW, SHOW_HELP, SIZES, SIZES_HELP, TEXTS};
@@ -15,18 +15,28 @@ pub(crate) const FILES: &str = "FILE";
 pub(crate) fn program<'a>(alloc: Global) -> Result<Command<'a>, AllocError>
     ensures { IfOk result (λ c. app_of c ≡ program) }
 {
-    let show = files_command(alloc, "show", SHOW, SHOW_HELP)?;
-    let cost = files_command(alloc, "cost", COST, COST_HELP)?;
-    let sizes = files_command(alloc, "sizes", SIZES, SIZES_HELP)?;
-    Command::new(alloc, "roster")
+    let bare = Command::new(alloc, "roster")
         .version("1.0.0")
         .about(ABOUT)
         .after_help(EXAMPLES)
         .subcommand_required(true)
-        .arg_required_else_help(true)
-        .subcommand(show)?
-        .subcommand(cost)?
-        .subcommand(sizes)
+        .arg_required_else_help(true);
+    let with_show = with_files_command(alloc, bare, "show", SHOW, SHOW_HELP)?;
+    let with_cost = with_files_command(alloc, with_show, "cost", COST, COST_HELP)?;
+    with_files_command(alloc, with_cost, "sizes", SIZES, SIZES_HELP)
+}
+
+/// A program with one more command that reads files.
+fn with_files_command<'a>(
+    alloc: Global,
+    program: Command<'a>,
+    name: &'a str,
+    about: &'a str,
+    help: &'a str,
+) -> Result<Command<'a>, AllocError>
+    ensures { IfOk result (λ c. app_of c ≡ with_subcommand (app_of program.entry) (command_of name.now).top) }
+{
+    program.subcommand(files_command(alloc, name, about, help)?)
 }
 
 /// A command that reads files, with what its help says.

@@ -2,7 +2,7 @@
 
 ghost use Rattle.std.specs.Prelude.{◌≡◌, ◌≢◌, [], Some, IfOk, IfErr, OnOk, IsSomeAnd, map, string_bytes};
 ghost use Rattle.clap.specs.Words.{fault_of, found_of, kind_of, rows_of, subcommand_rows_of};
-ghost use Rattle.roster_words.specs.CommandLine.{HasText, IsName, Refuses, TellsKind, asked_of, files_in, named_files, program, request_view};
+ghost use Rattle.roster_words.specs.CommandLine.{HasText, IsNameOf, Refuses, TellsKind, asked_in, asked_of, commands, files_in, program, request_view};
 
 use crate::program::{FILES, program};
 use crate::request::{CliFault, Command, Request};
@@ -27,8 +27,8 @@ pub fn request_of<S: AsStr>(alloc: Global, words: &[S]) -> Result<Request, CliFa
 }
 
 fn request_in(alloc: Global, matches: &ArgMatches<'_>) -> Result<Request, CliFault>
-    requires { IsSomeAnd (subcommand_rows_of matches.now) (λ met. IsName met.0) }
-    ensures request { IfOk result (λ r. named_files (subcommand_rows_of matches.now) ≡ Some (request_view r)) }
+    requires { IsSomeAnd (subcommand_rows_of matches.now) (λ met. IsNameOf commands met.0) }
+    ensures request { IfOk result (λ r. asked_in (subcommand_rows_of matches.now) ≡ Some (request_view r)) }
     ensures memory { IfErr result (λ e. e ≡ CliFault.Memory) }
 {
     let (command, given) = match matches.subcommand() {

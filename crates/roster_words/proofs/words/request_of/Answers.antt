@@ -1,7 +1,7 @@
 use Rattle.std.proofs.Common.{◌≡◌, ◌∙◌, ap, map, refl, subst, sym, true, Result, Ok, Err}
 use Rattle.std.specs.Prelude.{IsSomeAnd, OnOk}
 use Rattle.clap.specs.Words.{App, HasKind, fault_of, is_simple, is_simple_and_free, kind_of, subcommand_of, takes}
-use Rattle.roster_words.specs.CommandLine.{IsName, program}
+use Rattle.roster_words.specs.CommandLine.{IsNameOf, commands, program}
 use Rattle.roster_words.proofs.CommandLineLemmas.{meets_command, refuses}
 use Rattle.roster_words.proofs.words.request_of.Goals as goal
 
@@ -20,7 +20,7 @@ request_in-requires g c =
     let words = map g.S.AsStr.text c.args.words.now in
     let none = c.in-Ok.ensures.kinds (ap is_simple_and_free c.in_ok-program.ensures ∙ free) in
     let met = (c.in-Ok.ensures.matches (ap is_simple c.in_ok-program.ensures ∙ simple)).1 ∙ ap (λ (a : App). subcommand_of a words) c.in_ok-program.ensures in
-    subst (λ rows. IsSomeAnd rows (λ m. IsName m.0)) (sym met) (meets_command words (ap (λ (a : App). fault_of a words) (sym c.in_ok-program.ensures) ∙ none))
+    subst (λ rows. IsSomeAnd rows (λ m. IsNameOf commands m.0)) (sym met) (meets_command words (ap (λ (a : App). fault_of a words) (sym c.in_ok-program.ensures) ∙ none))
 
 pub returns-in-Ok-clause-faultless : goal.returns-in-Ok-clause-faultless
 returns-in-Ok-clause-faultless g c =

@@ -1,16 +1,12 @@
-use Rattle.std.proofs.Common.{rules, ◌≡◌, ◌<◌, subst, arith, length, codes, take}
-use Rattle.std.proofs.Math.ListN.{set}
-use Rattle.std.specs.Io.KnownBytes.{Consumes}
-use Rattle.roster_cli.proofs.JoinedLemmas.{first_byte, reader_ends}
+use Rattle.std.proofs.Common.{rules}
+use Rattle.roster_cli.proofs.JoinedLemmas.{joined}
 use Rattle.roster_cli.proofs.joined.JoinedRead.read.Goals as goal
 
+pub returns-clause-bound : goal.returns-clause-bound
+returns-clause-bound g c = (joined _ _ g.R.Read.remaining (λ reader left bytes filled result one. (search rules, search rules)) _ _ _ _ _ c.read_with.ensures).bound
+
 pub returns-clause-bytes : goal.returns-clause-bytes
-returns-clause-bytes g c =
-    let readers = c.self.inside.readers.items in
-    let within : c.self.inside.done < length readers = omega (arith, c.self.inside.readers.ok.0, c.self.invariant, c.len.ensures) in
-    let none : c.in_ok-taken.taken ≡ 0 = omega arith in
-    let room : 0 < length c.read.new.buf = search rules in
-    let lf : take 1 (set c.read.new.buf 0 10) ≡ codes "\n" = first_byte c.read.new.buf 10 room in
-    let taken = subst (λ n. Consumes (g.R.Read.remaining c.index_mut.result.now) (g.R.Read.remaining c.read.new.self) (take n c.read.new.buf)) none c.in_ok-taken.ensures.bytes.0 in
-    let ended = c.in_ok-taken.ensures.bytes.1 none room in
-    (rw (← c.self.view_is) (reader_ends g.R.Read.remaining readers c.self.inside.done c.index_mut.result.now c.read.new.self _ within c.index_mut.ensures.value lf taken ended), λ one some. absurd (omega arith))
+returns-clause-bytes g c = (joined _ _ g.R.Read.remaining (λ reader left bytes filled result one. (search rules, search rules)) _ _ _ _ _ c.read_with.ensures).bytes
+
+pub returns-clause-fault : goal.returns-clause-fault
+returns-clause-fault g c = (joined _ _ g.R.Read.remaining (λ reader left bytes filled result one. (search rules, search rules)) _ _ _ _ _ c.read_with.ensures).fault
