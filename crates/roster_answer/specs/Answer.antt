@@ -10,12 +10,12 @@ use Rattle.roster_text.specs.declared.Bundle.{Bundle}
 use Rattle.roster_text.specs.declared.fault.TextFault.{TextFault}
 use Rattle.roster_text.specs.declared.fault.TextFault.TheVariants as text
 use Rattle.roster_case.specs.Bundles.{meaning_of, rows_of}
-use Rattle.roster_case.specs.Faults.{first_of}
+use Rattle.roster_case.specs.Faults.{first_fault}
 use Rattle.roster_case.specs.HardRules.{hard_faults}
 use Rattle.roster_case.specs.Meaning.{Meaning}
 use Rattle.roster_case.specs.Penalties.{costs_of}
 use Rattle.roster_case.specs.Refusals.{all_faults}
-use Rattle.roster_case.specs.Rosters.{Rows, fits}
+use Rattle.roster_case.specs.Rosters.{Rows, fits_case}
 use Rattle.roster_case.specs.Shown.{weeks_text}
 use Rattle.roster_case.specs.declared.CaseFault.{CaseFault}
 use Rattle.roster_case.specs.declared.CaseFault.TheVariants.{Memory}
@@ -119,7 +119,7 @@ breaches command bytes b = breaches_of command (meaning_of bytes b) (roster_of b
 
 -- the first fault of its case and its solutions, want of memory aside, with the name of the nurse of which it speaks
 pub record IsRefusedFor (bytes : Text) (b : Bundle) (f : CaseFault) (nurse : Text) : Type 0 where
-  pub first : f ≢ Memory → first_of (all_faults bytes b) ≡ Some f
+  pub first : f ≢ Memory → first_fault (all_faults bytes b) ≡ Some f
   pub nurse_is : nurse ≡ nurse_of bytes b f
 
 -- nothing in it is refused
@@ -166,7 +166,7 @@ pub record Says (bytes : Text) (instance : Instance) : Type 0 where
   pub taken : all_faults bytes instance.bundle ≡ []
   pub case : instance.case ≡ meaning_of bytes instance.bundle
   pub roster : instance.roster ≡ rows_of bytes instance.case instance.bundle
-  pub fitting : fits instance.case instance.roster ≡ true
+  pub fitting : fits_case instance.case instance.roster ≡ true
 
 -- why the bytes are refused by every command
 abbrev pub StopsReading : Text → Fault → Type 0

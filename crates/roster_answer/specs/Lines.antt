@@ -8,7 +8,7 @@ use Rattle.roster_text.specs.Words.{what_text}
 use Rattle.roster_text.specs.declared.Bundle.{Bundle}
 use Rattle.roster_text.specs.declared.fault.TextFault.{TextFault}
 use Rattle.roster_text.specs.declared.fault.TextFault.TheVariants as text
-use Rattle.roster_case.specs.Faults.{first_of}
+use Rattle.roster_case.specs.Faults.{first_fault}
 use Rattle.roster_case.specs.Meaning.{Meaning, day_count, nurse_count, nurse_name}
 use Rattle.roster_case.specs.Names.{nurse_names, shift_names, skill_names}
 use Rattle.roster_case.specs.Penalties.{total_cost}
@@ -80,7 +80,7 @@ hard_line (H4 number day) names = nurse_day_line (codes "H4") (day / 7) (weekday
 
 -- the fault is the first of these breaches, with its names
 abbrev pub IsFirstBreach : Text → Bundle → List HardFault → Fault → Type 0
-IsFirstBreach source b faults (fault.Hard f names) = (first_of faults ≡ Some f) × AreNamesOf source b f names
+IsFirstBreach source b faults (fault.Hard f names) = (first_fault faults ≡ Some f) × AreNamesOf source b f names
 IsFirstBreach source b faults _ = ⊥
 
 -- the line of a fault

@@ -4,7 +4,7 @@ ghost use Rattle.std.specs.Prelude.{◌≡◌, true, [], OnOk, IfErr};
 ghost use Rattle.roster_text.specs.Io.{Writes};
 ghost use Rattle.roster_case.specs.HardRules.{hard_faults};
 ghost use Rattle.roster_case.specs.Penalties.{costs_of};
-ghost use Rattle.roster_case.specs.Rosters.{fits};
+ghost use Rattle.roster_case.specs.Rosters.{fits_case};
 ghost use Rattle.roster_case.specs.Shown.{weeks_text};
 ghost use Rattle.roster_answer.specs.Answer.{StopsOutput, StopsReport, breaches_of, report_of};
 ghost use Rattle.roster_answer.specs.Lines.{costs_text, sizes_text};
@@ -26,7 +26,7 @@ pub(crate) fn report<'a, Out: Write>(
     instance: &Instance,
     output: &mut Watch<Out>,
 ) -> Result<(), Fault<'a>>
-    requires { fits instance.now.case instance.now.roster ≡ true }
+    requires { fits_case instance.now.case instance.now.roster ≡ true }
     ensures kept { OnOk result (breaches_of command.now instance.now.case instance.now.roster ≡ []) }
     ensures ok { OnOk result (Writes Out.contents output.old output.new (report_of command.now instance.now.case instance.now.roster)) }
     ensures err { IfErr result (StopsReport Out.contents (breaches_of command.now instance.now.case instance.now.roster)
@@ -49,7 +49,7 @@ fn show<'a, Out: Write>(
     roster: &Roster,
     output: &mut Watch<Out>,
 ) -> Result<(), Fault<'a>>
-    requires { fits case.now roster.now ≡ true }
+    requires { fits_case case.now roster.now ≡ true }
     ensures ok { OnOk result (Writes Out.contents output.old output.new (weeks_text case.now roster.now)) }
     ensures err { IfErr result (StopsOutput Out.contents output.old output.new (weeks_text case.now roster.now)) }
 {
@@ -63,7 +63,7 @@ fn cost<'a, Out: Write>(
     roster: &Roster,
     output: &mut Watch<Out>,
 ) -> Result<(), Fault<'a>>
-    requires { fits case.now roster.now ≡ true }
+    requires { fits_case case.now roster.now ≡ true }
     ensures kept { OnOk result (hard_faults case.now roster.now ≡ []) }
     ensures ok { OnOk result (Writes Out.contents output.old output.new (costs_text (costs_of case.now roster.now))) }
     ensures err { IfErr result (StopsReport Out.contents (hard_faults case.now roster.now)

@@ -5,7 +5,7 @@ ghost use Rattle.roster_text.specs.Io.{StopsIn, Writes};
 ghost use Rattle.roster_case.specs.HardRules.{hard_faults};
 ghost use Rattle.roster_case.specs.Penalties.{total_cost};
 ghost use Rattle.roster_case.specs.Room.{penalty_room};
-ghost use Rattle.roster_case.specs.Rosters.{fits};
+ghost use Rattle.roster_case.specs.Rosters.{fits_case};
 ghost use Rattle.roster_answer.specs.Lines.{IsFirstBreach, costs_text};
 
 use crate::fault::Fault;
@@ -21,7 +21,7 @@ pub(crate) fn keep_hard_rules<'a>(
     case: &Case,
     roster: &Roster,
 ) -> Result<(), Fault<'a>>
-    requires { fits case.now roster.now ≡ true }
+    requires { fits_case case.now roster.now ≡ true }
     ensures kept { OnOk result (hard_faults case.now roster.now ≡ []) }
     ensures breach { IfErr result (IsFirstBreach source.now bundle.now (hard_faults case.now roster.now)) }
 {

@@ -2,9 +2,9 @@
 
 ghost use Rattle.std.specs.Prelude.{◌≡◌, ◌≢◌, true, [], Some, OnOk, IfOk, IfErr};
 ghost use Rattle.roster_case.specs.Bundles.{meaning_of, rows_of};
-ghost use Rattle.roster_case.specs.Faults.{first_of};
+ghost use Rattle.roster_case.specs.Faults.{first_fault};
 ghost use Rattle.roster_case.specs.Refusals.{all_faults};
-ghost use Rattle.roster_case.specs.Rosters.{fits};
+ghost use Rattle.roster_case.specs.Rosters.{fits_case};
 ghost use Rattle.roster_answer.specs.Answer.{HasFault, Says, SpellsBundle, StopsReading};
 
 use crate::fault::Fault;
@@ -64,9 +64,9 @@ fn roster_of(alloc: Global, source: &[u8], bundle: &Bundle) -> Result<(Case, Ros
     requires { SpellsBundle source.now bundle.now }
     ensures case { IfOk result (λ r. r.0 ≡ meaning_of source.now bundle.now) }
     ensures roster { IfOk result (λ r. r.1 ≡ rows_of source.now r.0 bundle.now) }
-    ensures fitting { IfOk result (λ r. fits r.0 r.1 ≡ true) }
+    ensures fitting { IfOk result (λ r. fits_case r.0 r.1 ≡ true) }
     ensures taken { OnOk result (all_faults source.now bundle.now ≡ []) }
-    ensures refused { IfErr result (λ f. f ≢ CaseFault.Memory → first_of (all_faults source.now bundle.now) ≡ Some f) }
+    ensures refused { IfErr result (λ f. f ≢ CaseFault.Memory → first_fault (all_faults source.now bundle.now) ≡ Some f) }
 {
     let case = Case::from_bundle(alloc, bundle, source)?;
     let roster = Roster::from_bundle(alloc, &case, bundle, source)?;

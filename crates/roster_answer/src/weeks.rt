@@ -4,7 +4,7 @@ ghost use Rattle.std.specs.Prelude.{◌≡◌, ◌<◌, ◌++◌, [], OnOk, OnEr
 ghost use Rattle.roster_text.specs.Canonical.{canonical};
 ghost use Rattle.roster_text.specs.Io.{Stops, Writes};
 ghost use Rattle.roster_case.specs.Meaning.{week_count};
-ghost use Rattle.roster_case.specs.Rosters.{fits};
+ghost use Rattle.roster_case.specs.Rosters.{fits_case};
 ghost use Rattle.roster_case.specs.Shown.{shown_week, weeks_text};
 
 use roster_case::{Case, Roster, WeekView};
@@ -17,7 +17,7 @@ pub(crate) fn write_weeks<W: Write>(
     case: &Case,
     roster: &Roster,
 ) -> Result<(), WriteFault>
-    requires { fits case.now roster.now ≡ true }
+    requires { fits_case case.now roster.now ≡ true }
     ensures ok { OnOk result (Writes W.contents output.old output.new (weeks_text case.now roster.now)) }
     ensures err { OnErr result (Stops W.contents output.old output.new (weeks_text case.now roster.now)) }
 {
@@ -34,7 +34,7 @@ fn write_week<W: Write>(
     roster: &Roster,
     week: u16,
 ) -> Result<(), WriteFault>
-    requires fitting { fits case.now roster.now ≡ true }
+    requires fitting { fits_case case.now roster.now ≡ true }
     requires within { week < week_count case.now }
     ensures ok { OnOk result (Writes W.contents output.old output.new ((if nat_lt 0 week then codes "\n" else []) ++ canonical (shown_week case.now roster.now week))) }
     ensures err { OnErr result (Stops W.contents output.old output.new ((if nat_lt 0 week then codes "\n" else []) ++ canonical (shown_week case.now roster.now week))) }

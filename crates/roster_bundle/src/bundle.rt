@@ -212,7 +212,7 @@ pub struct Requirement {
     pub days: WeekPairs,
 }
 
-/// A nurse's wish to have a day free of a shift; the shift may be the word `Any`.
+/// An off request: a nurse asks for a day free of a shift; the shift may be the word `Any`.
 #[derive(Clone, Copy)]
 pub struct OffRequest {
     pub nurse: Token,

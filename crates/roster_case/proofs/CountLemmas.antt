@@ -4,8 +4,8 @@ use Rattle.std.proofs.Math.ListN.{get_or-map}
 use Rattle.roster_instance.specs.Choices.{days_of, shift_of}
 use Rattle.roster_instance.specs.Counting.{sum_below}
 use Rattle.roster_instance.specs.Days.{shift_on}
-use Rattle.roster_instance.specs.RunLaw.{day_faults}
-use Rattle.roster_case.specs.Runs.{open_run, run_faults}
+use Rattle.roster_instance.specs.RunLaw.{day_violations}
+use Rattle.roster_case.specs.Runs.{open_run, run_violations}
 use Rattle.roster_instance.specs.Rosters.{Row, choice_on}
 use Rattle.roster_instance.specs.declared.Choice.TheVariants.{Off}
 use Rattle.roster_instance.specs.declared.Shift.{Shift}
@@ -28,7 +28,7 @@ module _ (b : ℕ) (p : ℕ → Bool) (d run : ℕ) (of_kind : Bool) (run_is : r
       let one : suc d ≡ d + 1 = omega arith in
       is ∙ (λ i. if kind_is i then run_is i + 1 else 0) ∙ sym (law.grown b p d) ∙ ap (open_run b p) one
 
-  pub faults_more : (l : Limits) (faults day : ℕ) → faults ≡ run_faults l b p d → day ≡ day_faults l run of_kind → faults + day ≡ run_faults l b p (d + 1)
-  faults_more l faults day faults_are day_is =
+  pub violations_more : (l : Limits) (violations day : ℕ) → violations ≡ run_violations l b p d → day ≡ day_violations l run of_kind → violations + day ≡ run_violations l b p (d + 1)
+  violations_more l violations day violations_are day_is =
       let one : suc d ≡ d + 1 = omega arith in
-      (λ i. faults_are i + day_is i) ∙ (λ i. run_faults l b p d + day_faults l (run_is i) (kind_is i)) ∙ sym (law.faults l b p d) ∙ ap (run_faults l b p) one
+      (λ i. violations_are i + day_is i) ∙ (λ i. run_violations l b p d + day_violations l (run_is i) (kind_is i)) ∙ sym (law.violations l b p d) ∙ ap (run_violations l b p) one

@@ -3,7 +3,7 @@ use Rattle.std.proofs.Common.{◌≡◌, refl, ap, subst, arith, ℕ, ◌<◌, �
 use Rattle.std.specs.List.{All}
 use Rattle.std.proofs.lemmas.Bool.{ltb-true, ltb-false, lt-ltb, le-ltb}
 use Rattle.std.proofs.lemmas.List.Elements.{All-cons, All-nil, All-head, All-tail, All-append}
-use Rattle.roster_case.specs.Rows.{IsFirstLeast, cheaper_of, first_least}
+use Rattle.roster_case.specs.AllowedRows.{IsFirstLeast, cheaper_of, first_least}
 
 -- the first member is the answer
 at_first : {A : Type 0} (cost : A → ℕ) (x : A) (xs : List A) → All (λ y. cost x ≤ cost y) xs → IsFirstLeast cost (x ∷ xs) x

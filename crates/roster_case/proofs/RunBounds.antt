@@ -1,4 +1,4 @@
--- How many faults the runs of a row can have, where the numbers of an instance are small: for each day of the kind one more
+-- How many violations the runs of a row can have, where the numbers of an instance are small: for each day of the kind one more
 -- than the greatest small number. So the runs of all shifts together have no more than those of one, since a day has one
 -- shift at most.
 use Rattle.std.proofs.Common.{◌≡◌, refl, arith, ℕ, zero, suc, ◌+◌, ◌-◌, ◌*◌, ◌<◌, ◌≤◌, Bool, true, false, nat_lt, ◌==◌, mul-add, length, if◌then◌else◌, Option, Some, None}
@@ -12,10 +12,10 @@ use Rattle.roster_instance.specs.Days.{Days, shift_on, is_shift, has_shift}
 use Rattle.roster_instance.specs.Limits.{most_small}
 use Rattle.roster_case.specs.Penalties.{shift_run_before}
 use Rattle.roster_case.specs.Weights.{shift_run_weight}
-use Rattle.roster_instance.specs.RunLaw.{day_faults}
-use Rattle.roster_case.specs.Runs.{run_faults, open_run}
+use Rattle.roster_instance.specs.RunLaw.{day_violations}
+use Rattle.roster_case.specs.Runs.{run_violations, open_run}
 use Rattle.roster_instance.specs.Small.{AreSmall}
-use Rattle.roster_case.proofs.RunLaw.{no_faults, border, faults, grown}
+use Rattle.roster_case.proofs.RunLaw.{no_violations, border, violations, grown}
 use Rattle.roster_case.proofs.RunSums.{sum_zero}
 
 -- ---- sums
@@ -66,7 +66,7 @@ abbrev debt : ℕ → ℕ
 debt run = if nat_lt 0 run then most_small else 0
 
 -- a day of the kind is one extra day at most, and may begin a debt; another day pays no more than the debt
-day_within : (l : Limits) (run : ℕ) (q : Bool) → AreSmall l → day_faults l run q + debt (if q then run + 1 else 0) ≤ debt run + (most_small + 1) * one_if q
+day_within : (l : Limits) (run : ℕ) (q : Bool) → AreSmall l → day_violations l run q + debt (if q then run + 1 else 0) ≤ debt run + (most_small + 1) * one_if q
 day_within l run true small =
     let one : one_if (nat_lt l.greatest (run + 1)) ≤ 1 = where_within (nat_lt l.greatest (run + 1)) 1 1 (omega arith) in
     let new : debt (run + 1) ≤ most_small = where_within (nat_lt 0 (run + 1)) most_small most_small (omega arith) in
@@ -77,17 +77,17 @@ day_within l run false small = by (nat_lt 0 run)
     by true = omega (arith, small.least)
     by false = omega arith
 
-runs_and_debt : (l : Limits) (b : ℕ) (p : ℕ → Bool) (d : ℕ) → AreSmall l → run_faults l b p d + debt (open_run b p d) ≤ debt b + (most_small + 1) * count_below d p
-runs_and_debt l b p zero small = rw (border b p) (omega (arith, no_faults l b p))
+runs_and_debt : (l : Limits) (b : ℕ) (p : ℕ → Bool) (d : ℕ) → AreSmall l → run_violations l b p d + debt (open_run b p d) ≤ debt b + (most_small + 1) * count_below d p
+runs_and_debt l b p zero small = rw (border b p) (omega (arith, no_violations l b p))
 runs_and_debt l b p (suc d) small =
     let before = runs_and_debt l b p d small in
     let day = day_within l (open_run b p d) (p d) small in
-    rw (grown b p d) (omega (arith, faults l b p d, before, day))
+    rw (grown b p d) (omega (arith, violations l b p d, before, day))
 
-runs_within : (l : Limits) (b : ℕ) (p : ℕ → Bool) (d : ℕ) → AreSmall l → run_faults l b p d ≤ debt b + (most_small + 1) * count_below d p
+runs_within : (l : Limits) (b : ℕ) (p : ℕ → Bool) (d : ℕ) → AreSmall l → run_violations l b p d ≤ debt b + (most_small + 1) * count_below d p
 runs_within l b p d small = omega (arith, runs_and_debt l b p d small)
 
-pub all_runs_within : (l : Limits) (b : ℕ) (p : ℕ → Bool) (d : ℕ) → AreSmall l → run_faults l b p d ≤ most_small + (most_small + 1) * d
+pub all_runs_within : (l : Limits) (b : ℕ) (p : ℕ → Bool) (d : ℕ) → AreSmall l → run_violations l b p d ≤ most_small + (most_small + 1) * d
 all_runs_within l b p d small =
     let before : debt b ≤ most_small = where_within (nat_lt 0 b) most_small most_small (omega arith) in
     omega (arith, runs_within l b p d small, count_within d p)
@@ -112,11 +112,11 @@ debts_within n (Free k) = omega (arith, sum_zero n (λ s. debt 0) (λ s h. refl)
 debts_within n (Working t own all) =
     omega (arith, sum_compared n (λ s. debt (if t.0 == s then own else 0)) (λ s. if t.0 == s then most_small else 0) (λ s. debt_of_one (t.0 == s) own), sum_of_one n t.0 most_small)
 
-pub all_shifts_within : (n : ℕ) (limits : ℕ → Limits) (before : Border) (days : Days) → ((s : ℕ) → AreSmall (limits s)) → sum_below n (λ s. shift_run_weight * run_faults (limits s) (shift_run_before s before) (has_shift s days) (length days)) ≤ shift_run_weight * (most_small + (most_small + 1) * length days)
+pub all_shifts_within : (n : ℕ) (limits : ℕ → Limits) (before : Border) (days : Days) → ((s : ℕ) → AreSmall (limits s)) → sum_below n (λ s. shift_run_weight * run_violations (limits s) (shift_run_before s before) (has_shift s days) (length days)) ≤ shift_run_weight * (most_small + (most_small + 1) * length days)
 all_shifts_within n limits before days small =
     let owes : ℕ → ℕ = λ s. debt (shift_run_before s before) in
     let has : ℕ → ℕ = λ s. count_below (length days) (has_shift s days) in
-    let faults_of : ℕ → ℕ = λ s. run_faults (limits s) (shift_run_before s before) (has_shift s days) (length days) in
-    let each : sum_below n faults_of ≤ sum_below n (λ s. owes s + (most_small + 1) * has s) =
-    sum_compared n faults_of (λ s. owes s + (most_small + 1) * has s) (λ s. runs_within (limits s) (shift_run_before s before) (has_shift s days) (length days) (small s)) in
-    omega (arith, sum_times n shift_run_weight faults_of, each, sum_both n owes (λ s. (most_small + 1) * has s), sum_times n (most_small + 1) has, debts_within n before, shift_days_within n days (length days))
+    let violations_of : ℕ → ℕ = λ s. run_violations (limits s) (shift_run_before s before) (has_shift s days) (length days) in
+    let each : sum_below n violations_of ≤ sum_below n (λ s. owes s + (most_small + 1) * has s) =
+    sum_compared n violations_of (λ s. owes s + (most_small + 1) * has s) (λ s. runs_within (limits s) (shift_run_before s before) (has_shift s days) (length days) (small s)) in
+    omega (arith, sum_times n shift_run_weight violations_of, each, sum_both n owes (λ s. (most_small + 1) * has s), sum_times n (most_small + 1) has, debts_within n before, shift_days_within n days (length days))

@@ -1,10 +1,10 @@
--- How the faults of runs and the open run grow by one day: only the last two days count otherwise than they did.
+-- How the violations of runs and the open run grow by one day: only the last two days count otherwise than they did.
 use Rattle.std.proofs.Common.{◌≡◌, refl, ap, ◌∙◌, arith, ℕ, zero, suc, ◌+◌, ◌-◌, ◌<◌, ◌≤◌, Bool, true, false, not, ◌&&◌, nat_lt, nat_le, ◌==◌, if◌then◌else◌}
 use Rattle.std.proofs.lemmas.Bool.{lt-ltb, le-ltb, le-leb, lt-leb, eq-eqb, ne_eqb}
 use Rattle.roster_instance.specs.declared.Limits.{Limits}
 use Rattle.roster_instance.specs.Counting.{sum_below, one_if}
-use Rattle.roster_instance.specs.RunLaw.{day_faults}
-use Rattle.roster_case.specs.Runs.{place, over, under, border_under, run_faults, open_run}
+use Rattle.roster_instance.specs.RunLaw.{day_violations}
+use Rattle.roster_case.specs.Runs.{place, over, under, border_under, run_violations, open_run}
 use Rattle.roster_case.proofs.RunSums.{sum_same, sum_zero, start, start_within, ends, by_last}
 
 -- ---- the open run
@@ -51,23 +51,23 @@ grown b p (suc m) =
     ∙ grown_by (p (suc m)) (place b (start p (suc m)) (suc m)) (open_run b p (suc m) + 1)
     (place_next b (start p m) m (p m) (start_within p m) ∙ omega (arith, open_after b p m))
 
--- ---- the faults
+-- ---- the violations
 
 -- what a run that ends on day j owes
 abbrev owed : Limits → ℕ → (ℕ → Bool) → ℕ → ℕ → ℕ
 owed l b p d j = if ends p d j then over l b (start p j) j + under l b d (start p j) j else 0
 
-faults_by_last : (l : Limits) (b : ℕ) (p : ℕ → Bool) (d : ℕ) → run_faults l b p d ≡ sum_below d (owed l b p d) + border_under l b p d
-unfolding run_faults
-faults_by_last l b p d = rw (by_last p d (λ i j. over l b i j + under l b d i j))
+violations_by_last : (l : Limits) (b : ℕ) (p : ℕ → Bool) (d : ℕ) → run_violations l b p d ≡ sum_below d (owed l b p d) + border_under l b p d
+unfolding run_violations
+violations_by_last l b p d = rw (by_last p d (λ i j. over l b i j + under l b d i j))
 
 no_day : (a c : Bool) (x : ℕ) → 0 + (if a && false && c then x else 0) ≡ 0
 no_day true c x = refl
 no_day false c x = refl
 
-pub no_faults : (l : Limits) (b : ℕ) (p : ℕ → Bool) → run_faults l b p 0 ≡ 0
-unfolding run_faults
-no_faults l b p = no_day (nat_lt 0 b) (not (p 0)) (l.least - b)
+pub no_violations : (l : Limits) (b : ℕ) (p : ℕ → Bool) → run_violations l b p 0 ≡ 0
+unfolding run_violations
+no_violations l b p = no_day (nat_lt 0 b) (not (p 0)) (l.least - b)
 
 -- a day before the last counts as it did
 owed_before : (l : Limits) (b : ℕ) (p : ℕ → Bool) (m j : ℕ) → j < m → owed l b p (suc (suc m)) j ≡ owed l b p (suc m) j
@@ -104,13 +104,13 @@ over_next l b s m true h = over_grows l b s m h
 over_next l b s m false h = over_at_first l b m ∙ omega arith
 
 -- both last days together, where x is what the run of the day before has too much, and n its length
-last_two : (l : Limits) (x n : ℕ) (q r : Bool) → 0 < n → (if q && not r then x + (l.least - n) else 0) + (if r then (if q then x else 0) + one_if (nat_lt l.greatest ((if q then n else 0) + 1)) else 0) ≡ (if q then x else 0) + day_faults l (if q then n else 0) r
+last_two : (l : Limits) (x n : ℕ) (q r : Bool) → 0 < n → (if q && not r then x + (l.least - n) else 0) + (if r then (if q then x else 0) + one_if (nat_lt l.greatest ((if q then n else 0) + 1)) else 0) ≡ (if q then x else 0) + day_violations l (if q then n else 0) r
 last_two l x n true true h = omega arith
 last_two l x n true false h = rw (lt-ltb 0 n h) (omega arith)
 last_two l x n false true h = omega arith
 last_two l x n false false h = refl
 
-sum_grows : (l : Limits) (b : ℕ) (p : ℕ → Bool) (m : ℕ) → sum_below (suc (suc m)) (owed l b p (suc (suc m))) ≡ sum_below (suc m) (owed l b p (suc m)) + day_faults l (open_run b p (suc m)) (p (suc m))
+sum_grows : (l : Limits) (b : ℕ) (p : ℕ → Bool) (m : ℕ) → sum_below (suc (suc m)) (owed l b p (suc (suc m))) ≡ sum_below (suc m) (owed l b p (suc m)) + day_violations l (open_run b p (suc m)) (p (suc m))
 sum_grows l b p m =
     let s : ℕ = start p m in
     let n : ℕ = place b s m in
@@ -136,19 +136,19 @@ border_by true false x = refl
 border_by false true x = refl
 border_by false false x = refl
 
-first_day : (l : Limits) (b x : ℕ) (r : Bool) → x ≡ one_if (nat_lt l.greatest (b + 1)) → (if r then x else 0) + (if r then 0 else (if nat_lt 0 b then l.least - b else 0)) ≡ day_faults l b r
+first_day : (l : Limits) (b x : ℕ) (r : Bool) → x ≡ one_if (nat_lt l.greatest (b + 1)) → (if r then x else 0) + (if r then 0 else (if nat_lt 0 b then l.least - b else 0)) ≡ day_violations l b r
 first_day l b x true e = omega arith
 first_day l b x false e = omega arith
 
-faults_of_day_0 : (l : Limits) (b : ℕ) (p : ℕ → Bool) → run_faults l b p 1 ≡ day_faults l b (p 0)
-faults_of_day_0 l b p =
+violations_of_day_0 : (l : Limits) (b : ℕ) (p : ℕ → Bool) → run_violations l b p 1 ≡ day_violations l b (p 0)
+violations_of_day_0 l b p =
     let was : owed l b p 1 0 ≡ (if p 0 then over l b 0 0 else 0) = at_last 0 (over l b 0 0) (l.least - place b 0 0) (p 0) (p 1) in
     let here : border_under l b p 1 ≡ (if p 0 then 0 else (if nat_lt 0 b then l.least - b else 0)) = border_by (nat_lt 0 b) (p 0) (l.least - b) in
-    let both : (if p 0 then over l b 0 0 else 0) + (if p 0 then 0 else (if nat_lt 0 b then l.least - b else 0)) ≡ day_faults l b (p 0) = first_day l b (over l b 0 0) (p 0) (over_on_day_0 l b) in
-    omega (arith, faults_by_last l b p 1, was, here, both)
+    let both : (if p 0 then over l b 0 0 else 0) + (if p 0 then 0 else (if nat_lt 0 b then l.least - b else 0)) ≡ day_violations l b (p 0) = first_day l b (over l b 0 0) (p 0) (over_on_day_0 l b) in
+    omega (arith, violations_by_last l b p 1, was, here, both)
 
-pub faults : (l : Limits) (b : ℕ) (p : ℕ → Bool) (d : ℕ) → run_faults l b p (suc d) ≡ run_faults l b p d + day_faults l (open_run b p d) (p d)
-faults l b p zero = rw (border b p) (omega (arith, faults_of_day_0 l b p, no_faults l b p))
-faults l b p (suc m) =
+pub violations : (l : Limits) (b : ℕ) (p : ℕ → Bool) (d : ℕ) → run_violations l b p (suc d) ≡ run_violations l b p d + day_violations l (open_run b p d) (p d)
+violations l b p zero = rw (border b p) (omega (arith, violations_of_day_0 l b p, no_violations l b p))
+violations l b p (suc m) =
     let same : border_under l b p (suc (suc m)) ≡ border_under l b p (suc m) = rw (lt-ltb 0 (suc m) (omega arith), lt-ltb 0 (suc (suc m)) (omega arith)) in
-    omega (arith, faults_by_last l b p (suc (suc m)), faults_by_last l b p (suc m), sum_grows l b p m, same)
+    omega (arith, violations_by_last l b p (suc (suc m)), violations_by_last l b p (suc m), sum_grows l b p m, same)

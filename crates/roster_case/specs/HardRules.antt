@@ -13,7 +13,7 @@ use Rattle.roster_case.specs.declared.fault.HardFault.TheVariants.{H2, H3, H4}
 use Rattle.roster_instance.specs.Counting.{all_below}
 use Rattle.roster_instance.specs.Days.{Days, shift_on}
 use Rattle.roster_instance.specs.Faults.{fault_if, below, is_none_of}
-use Rattle.roster_instance.specs.Meaning.{Meaning, day_count, forbids, shift_count, skill_count, nurse_count, shift_at, skill_at, nurse_at, past_of, need, last_shift}
+use Rattle.roster_instance.specs.Meaning.{Meaning, day_count, forbids, shift_count, skill_count, nurse_count, shift_at, skill_at, nurse_at, past_of, last_shift, minimum}
 use Rattle.roster_instance.specs.Rosters.{Row, Rows, choice_on, row_of, days_of_nurse, cover}
 
 -- the shift before a day: on day 0 the history's last
@@ -43,7 +43,7 @@ keeps_skills c n row m = all_below m (is_able_on c n row)
 
 abbrev pub staffing_fault : Meaning → Rows → ℕ → ℕ → ℕ → List HardFault
 staffing_fault c r d s k =
-    fault_if (nat_lt (cover r d s k) (need c d s k).least) (H2 d (shift_at s) (skill_at k) (cover r d s k) (need c d s k).least)
+    fault_if (nat_lt (cover r d s k) (minimum c d s k)) (H2 d (shift_at s) (skill_at k) (cover r d s k) (minimum c d s k))
 
 abbrev pub staffing_faults : Meaning → Rows → List HardFault
 staffing_faults c r = below (day_count c) (λ d. below (shift_count c) (λ s. below (skill_count c) (λ k. staffing_fault c r d s k)))

@@ -25,5 +25,5 @@ pub mod Weights
 pub mod Room
 pub mod Penalties
 pub mod Prefix
-pub mod Rows
+pub mod AllowedRows
 pub mod Improver

@@ -6,12 +6,12 @@ use Rattle.roster_instance.specs.Days.{Days, works, is_off, has_shift}
 use Rattle.roster_case.specs.HardRules.{shift_before}
 use Rattle.roster_instance.specs.Meaning.{Meaning, run_of_shift, past_of, contract_of, last_shift}
 use Rattle.roster_instance.specs.Sizes.{cap}
-use Rattle.roster_case.specs.Penalties.{free_before, worked_before, shift_run_before, working_runs, shift_runs, free_runs, split, total_of, weekends_of, extra, weekends_above}
+use Rattle.roster_case.specs.Penalties.{free_before, worked_before, shift_run_before, working_run_cost, shift_run_cost, free_run_cost, split_cost, total_of, weekends_of, extra_cost, weekends_cost}
 use Rattle.roster_case.specs.Runs.{open_run}
 
 -- a nurse's own cost so far, without the missing assignments: the last of these days is the horizon
 unfoldable pub due : Meaning → ℕ → Days → ℕ
-due c n days = working_runs c n days + shift_runs c n days + free_runs c n days + split c n days + extra c n (total_of c n days) + weekends_above c n days
+due c n days = working_run_cost c n days + shift_run_cost c n days + free_run_cost c n days + split_cost c n days + extra_cost c n (total_of c n days) + weekends_cost c n days
 
 -- the last shift, the run of working or free days that ends these days, the run of that shift, the assignments and the
 -- worked weekends with the history's, each up to its cap
@@ -26,9 +26,9 @@ pub record Summary : Type 0 where
 abbrev pub last_of : Meaning → ℕ → Days → Option Shift
 last_of c n days = shift_before (last_shift (past_of c n).border) days (length days)
 
-abbrev pub run_of : Meaning → ℕ → Days → Option Shift → ℕ
-run_of c n days None = min (open_run (free_before (past_of c n).border) (is_off days) (length days)) (cap (contract_of c n).free)
-run_of c n days (Some s) = min (open_run (worked_before (past_of c n).border) (works days) (length days)) (cap (contract_of c n).working)
+abbrev pub last_run_of : Meaning → ℕ → Days → Option Shift → ℕ
+last_run_of c n days None = min (open_run (free_before (past_of c n).border) (is_off days) (length days)) (cap (contract_of c n).free)
+last_run_of c n days (Some s) = min (open_run (worked_before (past_of c n).border) (works days) (length days)) (cap (contract_of c n).working)
 
 abbrev pub shift_run_of : Meaning → ℕ → Days → Option Shift → ℕ
 shift_run_of c n days None = 0
@@ -37,7 +37,7 @@ shift_run_of c n days (Some s) = min (open_run (shift_run_before s.0 (past_of c 
 unfoldable pub summary_of : Meaning → ℕ → Days → Summary
 summary_of c n days = record {
   last = last_of c n days;
-  run = run_of c n days (last_of c n days);
+  run = last_run_of c n days (last_of c n days);
   shift_run = shift_run_of c n days (last_of c n days);
   assignments = min (total_of c n days) (cap (contract_of c n).total);
   weekends = min (weekends_of c n days) (contract_of c n).weekends;

@@ -34,8 +34,8 @@ abbrev pub border_under : Limits → ℕ → (ℕ → Bool) → ℕ → ℕ
 border_under l b p d = if nat_lt 0 b && nat_lt 0 d && not (p 0) then l.least - b else 0
 
 -- the missing and the extra days of all runs
-unfoldable pub run_faults : Limits → ℕ → (ℕ → Bool) → ℕ → ℕ
-run_faults l b p d = sum_over_runs p d (λ i j. over l b i j + under l b d i j) + border_under l b p d
+unfoldable pub run_violations : Limits → ℕ → (ℕ → Bool) → ℕ → ℕ
+run_violations l b p d = sum_over_runs p d (λ i j. over l b i j + under l b d i j) + border_under l b p d
 
 -- the length of the run that is open at the end, 0 where there is none
 unfoldable pub open_run : ℕ → (ℕ → Bool) → ℕ → ℕ

@@ -17,9 +17,9 @@ shift_run_weight = 15
 abbrev pub free_run_weight : ℕ
 free_run_weight = 30
 
--- an assignment to a shift that a request names
-abbrev pub request_weight : ℕ
-request_weight = 10
+-- an assignment to a shift that an off request names
+abbrev pub off_request_weight : ℕ
+off_request_weight = 10
 
 -- a weekend of which exactly one day is worked
 abbrev pub split_weight : ℕ

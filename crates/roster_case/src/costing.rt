@@ -3,18 +3,18 @@
 ghost use Rattle.std.specs.Prelude.{◌≡◌, ◌<◌, ◌≤◌, true};
 ghost use Rattle.roster_case.specs.Penalties.{costs_of, total_cost};
 ghost use Rattle.roster_case.specs.Room.{most_staffing, penalty_room};
-ghost use Rattle.roster_instance.specs.Rosters.{fits};
+ghost use Rattle.roster_instance.specs.Rosters.{fits_case};
 
 use crate::penalties::Costs;
-use crate::runs::{free_runs, shift_runs, working_runs};
-use crate::staffing::staffing;
-use crate::weekends::{split, totals, undesired, weekends_above};
+use crate::runs::{free_run_cost, shift_run_cost, working_run_cost};
+use crate::staffing::staffing_cost;
+use crate::weekends::{off_request_cost, split_cost, totals_cost, weekends_cost};
 use roster_instance::{Case, Roster};
 
 /// What a roster costs by each soft rule. The hard rules are not asked for. Each row, and the nurses of each day, are gone
 /// through once for each count, whatever runs there are.
 pub fn costs(case: &Case, roster: &Roster) -> Costs
-    requires { fits case.now roster.now ≡ true }
+    requires { fits_case case.now roster.now ≡ true }
     ensures costs { result ≡ costs_of case.now roster.now }
 
     // No sum comes near the end of its numbers: the penalty is below 2^31, and the part of staffing is at most that of as
@@ -28,22 +28,22 @@ pub fn costs(case: &Case, roster: &Roster) -> Costs
 
 #[tactic(auto, using(crate::proofs::CountLemmas::sum_more), unfolding(crate::specs::Penalties::costs_of))]
 fn by_rule(case: &Case, roster: &Roster) -> Costs
-    requires { fits case.now roster.now ≡ true }
+    requires { fits_case case.now roster.now ≡ true }
     ensures { result ≡ costs_of case.now roster.now }
 {
     let weeks = case.weeks();
     let mut costs = Costs {
-        s1: staffing(case, roster),
+        s1: staffing_cost(case, roster),
         ..Costs::default()
     };
     for nurse in 0..case.nurses() {
         let row = roster.row(nurse);
-        costs.s2 += working_runs(case, nurse, row) + shift_runs(case, nurse, row);
-        costs.s3 += free_runs(case, nurse, row);
-        costs.s4 += undesired(case, nurse, row);
-        costs.s5 += split(case, nurse, row, weeks);
-        costs.s6 += totals(case, nurse, row);
-        costs.s7 += weekends_above(case, nurse, row, weeks);
+        costs.s2 += working_run_cost(case, nurse, row) + shift_run_cost(case, nurse, row);
+        costs.s3 += free_run_cost(case, nurse, row);
+        costs.s4 += off_request_cost(case, nurse, row);
+        costs.s5 += split_cost(case, nurse, row, weeks);
+        costs.s6 += totals_cost(case, nurse, row);
+        costs.s7 += weekends_cost(case, nurse, row, weeks);
     }
     costs
 }

@@ -2,20 +2,20 @@
 
 ghost use Rattle.std.specs.Prelude.{◌≡◌, ◌==◌, ◌<◌, true, Option};
 ghost use Rattle.std.specs.List.{list_any};
-ghost use Rattle.roster_instance.specs.Faults.{below, first_of};
+ghost use Rattle.roster_instance.specs.Faults.{below, first_fault};
 ghost use Rattle.roster_case.specs.HardRules.{hard_faults, is_able, shift_before, skill_fault, skill_faults, staffing_fault, staffing_faults, succession_fault, succession_faults};
 ghost use Rattle.roster_instance.specs.Meaning.{day_count, last_shift, nurse_at, nurse_count, past_of, shift_at, shift_count, skill_at, skill_count, forbids};
-ghost use Rattle.roster_instance.specs.Rosters.{choice_on, cover, days_of_nurse, fits, row_of};
+ghost use Rattle.roster_instance.specs.Rosters.{choice_on, cover, days_of_nurse, fits_case, row_of};
 
 use crate::fault::HardFault;
 use roster_instance::{Border, Case, Choice, Roster, Shift, Skill};
 
 /// The first breach of the hard rules: first too few nurses, by day, shift and skill; then forbidden successions, by nurse and
 /// day; then skills that a nurse lacks, by nurse and day. None where the roster keeps them all.
-#[tactic(auto, using(crate::proofs::HardLemmas::first_of_both), unfolding(crate::specs::HardRules::hard_faults))]
+#[tactic(auto, using(crate::proofs::HardLemmas::first_fault_of_both), unfolding(crate::specs::HardRules::hard_faults))]
 pub fn first_hard(case: &Case, roster: &Roster) -> Option<HardFault>
-    requires { fits case.now roster.now ≡ true }
-    ensures { result ≡ first_of (hard_faults case.now roster.now) }
+    requires { fits_case case.now roster.now ≡ true }
+    ensures { result ≡ first_fault (hard_faults case.now roster.now) }
 {
     match first_understaffed(case, roster) {
         Some(fault) => Some(fault),
@@ -30,8 +30,8 @@ pub fn first_hard(case: &Case, roster: &Roster) -> Option<HardFault>
 
 #[tactic(auto, using(crate::proofs::HardLemmas::below_more))]
 fn first_understaffed(case: &Case, roster: &Roster) -> Option<HardFault>
-    requires { fits case.now roster.now ≡ true }
-    ensures { result ≡ first_of (staffing_faults case.now roster.now) }
+    requires { fits_case case.now roster.now ≡ true }
+    ensures { result ≡ first_fault (staffing_faults case.now roster.now) }
 {
     for day in 0..case.days() {
         if let Some(fault) = understaffed_on(case, roster, day) {
@@ -43,8 +43,8 @@ fn first_understaffed(case: &Case, roster: &Roster) -> Option<HardFault>
 
 #[tactic(auto, using(crate::proofs::HardLemmas::below_more))]
 fn understaffed_on(case: &Case, roster: &Roster, day: u16) -> Option<HardFault>
-    requires { fits case.now roster.now ≡ true }
-    ensures { result ≡ first_of (below (shift_count case.now) (λ s. below (skill_count case.now) (λ k. staffing_fault case.now roster.now day s k))) }
+    requires { fits_case case.now roster.now ≡ true }
+    ensures { result ≡ first_fault (below (shift_count case.now) (λ s. below (skill_count case.now) (λ k. staffing_fault case.now roster.now day s k))) }
 {
     for shift in 0..case.shifts() {
         if let Some(fault) = understaffed_shift(case, roster, day, Shift(shift)) {
@@ -56,8 +56,8 @@ fn understaffed_on(case: &Case, roster: &Roster, day: u16) -> Option<HardFault>
 
 #[tactic(auto, using(crate::proofs::HardLemmas::below_more))]
 fn understaffed_shift(case: &Case, roster: &Roster, day: u16, shift: Shift) -> Option<HardFault>
-    requires { fits case.now roster.now ≡ true }
-    ensures { result ≡ first_of (below (skill_count case.now) (λ k. staffing_fault case.now roster.now day shift.0 k)) }
+    requires { fits_case case.now roster.now ≡ true }
+    ensures { result ≡ first_fault (below (skill_count case.now) (λ k. staffing_fault case.now roster.now day shift.0 k)) }
 {
     for skill in 0..case.skills() {
         if let Some(fault) = understaffed(case, roster, day, shift, Skill(skill)) {
@@ -74,8 +74,8 @@ fn understaffed(
     shift: Shift,
     skill: Skill,
 ) -> Option<HardFault>
-    requires { fits case.now roster.now ≡ true }
-    ensures { result ≡ first_of (staffing_fault case.now roster.now day shift.0 skill.0) }
+    requires { fits_case case.now roster.now ≡ true }
+    ensures { result ≡ first_fault (staffing_fault case.now roster.now day shift.0 skill.0) }
 {
     let need = case.need(day, shift, skill).least;
     let have = roster.cover(day, shift, skill);
@@ -95,8 +95,8 @@ fn understaffed(
 
 #[tactic(auto, using(crate::proofs::HardLemmas::below_more))]
 fn first_succession(case: &Case, roster: &Roster) -> Option<HardFault>
-    requires { fits case.now roster.now ≡ true }
-    ensures { result ≡ first_of (succession_faults case.now roster.now) }
+    requires { fits_case case.now roster.now ≡ true }
+    ensures { result ≡ first_fault (succession_faults case.now roster.now) }
 {
     for nurse in 0..case.nurses() {
         if let Some(fault) = succession_of(case, roster, nurse) {
@@ -108,9 +108,9 @@ fn first_succession(case: &Case, roster: &Roster) -> Option<HardFault>
 
 /// The first forbidden succession of a nurse, the history's last shift included.
 fn succession_of(case: &Case, roster: &Roster, nurse: usize) -> Option<HardFault>
-    requires fitting { fits case.now roster.now ≡ true }
+    requires fitting { fits_case case.now roster.now ≡ true }
     requires within { nurse < nurse_count case.now }
-    ensures { result ≡ first_of (below (day_count case.now) (λ d. succession_fault case.now roster.now nurse d)) }
+    ensures { result ≡ first_fault (below (day_count case.now) (λ d. succession_fault case.now roster.now nurse d)) }
 {
     let row = roster.row(nurse);
     let mut last = last_shift(case.past(nurse).border);
@@ -129,7 +129,7 @@ fn last_shift(border: Border) -> Option<Shift>
 {
     match border {
         Border::Free(_) => None,
-        Border::Working(shift, _, _) => Some(shift),
+        Border::Working { shift, .. } => Some(shift),
     }
 }
 
@@ -137,8 +137,8 @@ fn last_shift(border: Border) -> Option<Shift>
 
 #[tactic(auto, using(crate::proofs::HardLemmas::below_more))]
 fn first_unskilled(case: &Case, roster: &Roster) -> Option<HardFault>
-    requires { fits case.now roster.now ≡ true }
-    ensures { result ≡ first_of (skill_faults case.now roster.now) }
+    requires { fits_case case.now roster.now ≡ true }
+    ensures { result ≡ first_fault (skill_faults case.now roster.now) }
 {
     for nurse in 0..case.nurses() {
         if let Some(fault) = unskilled_of(case, roster, nurse) {
@@ -150,9 +150,9 @@ fn first_unskilled(case: &Case, roster: &Roster) -> Option<HardFault>
 
 #[tactic(auto, using(crate::proofs::HardLemmas::below_more))]
 fn unskilled_of(case: &Case, roster: &Roster, nurse: usize) -> Option<HardFault>
-    requires fitting { fits case.now roster.now ≡ true }
+    requires fitting { fits_case case.now roster.now ≡ true }
     requires within { nurse < nurse_count case.now }
-    ensures { result ≡ first_of (below (day_count case.now) (λ d. skill_fault case.now roster.now nurse d)) }
+    ensures { result ≡ first_fault (below (day_count case.now) (λ d. skill_fault case.now roster.now nurse d)) }
 {
     let row = roster.row(nurse);
     let skills = case.skills_of(nurse);

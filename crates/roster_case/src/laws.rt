@@ -4,23 +4,23 @@ ghost use Rattle.std.specs.Prelude.{◌≡◌, ℕ, suc, ◌+◌, ◌-◌, Bool,
 ghost use Rattle.roster_instance.specs.Counting.{one_if};
 ghost use Rattle.roster_case.specs.DayLaw.{splits_more, weekends_more};
 ghost use Rattle.roster_instance.specs.Days.{Days, days_worked, shift_on, split_weekends, worked_weekends, works};
-ghost use Rattle.roster_instance.specs.RunLaw.{day_faults};
-ghost use Rattle.roster_case.specs.Runs.{open_run, run_faults};
+ghost use Rattle.roster_instance.specs.RunLaw.{day_violations};
+ghost use Rattle.roster_case.specs.Runs.{open_run, run_violations};
 ghost use Rattle.roster_instance.specs.declared.Shift.{Shift};
 ghost use Rattle.roster_instance.specs.declared.Limits.{Limits};
 
-/// The faults of the runs of a kind of days, and the run that is open, after one day more. They begin with no fault and
+/// The violations of the runs of a kind of days, and the run that is open, after one day more. They begin with none and
 /// with the run of the border.
 pub fn runs_grow_by_a_day()
-    ensures no_faults { (l : Limits) (b : ℕ) (p : ℕ → Bool) → run_faults l b p 0 ≡ 0 }
+    ensures no_violations { (l : Limits) (b : ℕ) (p : ℕ → Bool) → run_violations l b p 0 ≡ 0 }
     ensures border { (b : ℕ) (p : ℕ → Bool) → open_run b p 0 ≡ b }
-    ensures faults { (l : Limits) (b : ℕ) (p : ℕ → Bool) (d : ℕ) → run_faults l b p (suc d) ≡ run_faults l b p d + day_faults l (open_run b p d) (p d) }
+    ensures violations { (l : Limits) (b : ℕ) (p : ℕ → Bool) (d : ℕ) → run_violations l b p (suc d) ≡ run_violations l b p d + day_violations l (open_run b p d) (p d) }
     ensures open { (b : ℕ) (p : ℕ → Bool) (d : ℕ) → open_run b p (suc d) ≡ (if p d then open_run b p d + 1 else 0) }
 {}
 
 /// The same of a row with one day more, where the kind is a test of the day's shift.
 pub fn runs_of_a_row_grow_by_a_day()
-    ensures faults { (l : Limits) (b : ℕ) (t : Option Shift → Bool) (days : Days) (c : Option Shift) → run_faults l b (λ k. t (shift_on (days ++ c ∷ []) k)) (length (days ++ c ∷ [])) ≡ run_faults l b (λ k. t (shift_on days k)) (length days) + day_faults l (open_run b (λ k. t (shift_on days k)) (length days)) (t c) }
+    ensures violations { (l : Limits) (b : ℕ) (t : Option Shift → Bool) (days : Days) (c : Option Shift) → run_violations l b (λ k. t (shift_on (days ++ c ∷ []) k)) (length (days ++ c ∷ [])) ≡ run_violations l b (λ k. t (shift_on days k)) (length days) + day_violations l (open_run b (λ k. t (shift_on days k)) (length days)) (t c) }
     ensures open { (b : ℕ) (t : Option Shift → Bool) (days : Days) (c : Option Shift) → open_run b (λ k. t (shift_on (days ++ c ∷ []) k)) (length (days ++ c ∷ [])) ≡ (if t c then open_run b (λ k. t (shift_on days k)) (length days) + 1 else 0) }
 {}
 

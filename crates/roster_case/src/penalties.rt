@@ -4,7 +4,7 @@ ghost use Rattle.std.specs.Prelude.{◌≡◌, min};
 ghost use Rattle.roster_case.specs.Penalties.{total_cost};
 
 /// What each soft rule costs, in penalty points, weights included: staffing below the optimum, runs of work and of shifts,
-/// runs of days off, undesired shifts, split weekends, totals of assignments, worked weekends.
+/// runs of days off, off requests, split weekends, totals of assignments, worked weekends.
 #[derive(Clone, Copy, Debug, Default, PartialEq, Eq)]
 pub struct Costs {
     pub s1: u64,

@@ -2,7 +2,7 @@
 
 ghost use Rattle.std.specs.Prelude.{◌≡◌, ℕ, List};
 ghost use Rattle.roster_instance.specs.Rosters.{Row};
-ghost use Rattle.roster_case.specs.Rows.{IsFirstLeast, first_least};
+ghost use Rattle.roster_case.specs.AllowedRows.{IsFirstLeast, first_least};
 
 /// The first of the least rows is one row at most, and it is the one that `first_least` gives.
 pub fn one_first_least_row()

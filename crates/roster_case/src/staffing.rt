@@ -4,31 +4,31 @@ ghost use Rattle.std.specs.Prelude.{◌≡◌, ◌+◌, ◌*◌, ◌<◌, ◌≤
 ghost use Rattle.roster_case.specs.Covers.{AreCovers};
 ghost use Rattle.roster_instance.specs.Limits.{most_days, most_shifts, most_skills};
 ghost use Rattle.roster_instance.specs.Meaning.{shift_count, skill_count};
-ghost use Rattle.roster_case.specs.Penalties.{staffing, staffing_of_day};
-ghost use Rattle.roster_instance.specs.Rosters.{fits};
+ghost use Rattle.roster_case.specs.Penalties.{staffing_cost, staffing_cost_of_day};
+ghost use Rattle.roster_instance.specs.Rosters.{fits_case};
 
 use crate::weights::STAFFING;
 use roster_instance::{Case, Choice, Roster, Shift, Skill, choice_on};
 
 /// The points for each nurse missing to the optimum of a day, shift and skill.
 #[tactic(auto, using(crate::proofs::CountLemmas::sum_more))]
-pub(crate) fn staffing(case: &Case, roster: &Roster) -> u64
-    requires { fits case.now roster.now ≡ true }
-    ensures cost { result ≡ staffing case.now roster.now }
+pub(crate) fn staffing_cost(case: &Case, roster: &Roster) -> u64
+    requires { fits_case case.now roster.now ≡ true }
+    ensures cost { result ≡ staffing_cost case.now roster.now }
     ensures within { result ≤ most_days * 134217728 }
 {
     let mut cost = 0;
     for day in 0..case.days() {
-        cost += staffing_of_day(case, roster, day);
+        cost += staffing_cost_of_day(case, roster, day);
     }
     cost
 }
 
 /// The same of a day, whose nurses are counted once.
 #[tactic(auto, using(crate::proofs::CountLemmas::sum_more))]
-fn staffing_of_day(case: &Case, roster: &Roster, day: u16) -> u64
-    requires { fits case.now roster.now ≡ true }
-    ensures cost { result ≡ staffing_of_day case.now roster.now day }
+fn staffing_cost_of_day(case: &Case, roster: &Roster, day: u16) -> u64
+    requires { fits_case case.now roster.now ≡ true }
+    ensures cost { result ≡ staffing_cost_of_day case.now roster.now day }
     ensures within { result ≤ 134217728 }
 {
     let (shifts, skills) = (case.shifts(), case.skills());
@@ -36,9 +36,9 @@ fn staffing_of_day(case: &Case, roster: &Roster, day: u16) -> u64
     let mut cost = 0;
     for shift in 0..shifts {
         for skill in 0..skills {
-            let need = case.need(day, Shift(shift), Skill(skill));
+            let optimum = case.need(day, Shift(shift), Skill(skill)).greatest;
             let have = covers[place(Shift(shift), Skill(skill))];
-            cost += STAFFING as u64 * need.greatest.saturating_sub(have) as u64;
+            cost += STAFFING as u64 * optimum.saturating_sub(have) as u64;
         }
     }
     cost
@@ -46,7 +46,7 @@ fn staffing_of_day(case: &Case, roster: &Roster, day: u16) -> u64
 
 /// How many nurses work each shift with each skill on a day, each at its place.
 fn covers(case: &Case, roster: &Roster, day: u16) -> [u16; 64]
-    requires fitting { fits case.now roster.now ≡ true }
+    requires fitting { fits_case case.now roster.now ≡ true }
     requires shifts { shift_count case.now ≤ most_shifts }
     requires skills { skill_count case.now ≤ most_skills }
     ensures { AreCovers roster.now day result }

@@ -1,46 +1,46 @@
-//! The worked days and the weekends of a row, and the requests against it.
+//! The worked days and the weekends of a row, and the off requests against it.
 
 ghost use Rattle.std.specs.Prelude.{◌≡◌, ◌*◌, ◌<◌, ◌≤◌, length};
 ghost use Rattle.roster_instance.specs.Choices.{days_of};
 ghost use Rattle.roster_instance.specs.Days.{days_worked, one_alone, split_weekends, worked_weekends, works};
 ghost use Rattle.roster_instance.specs.Limits.{most_days, most_weeks};
 ghost use Rattle.roster_instance.specs.Meaning.{nurse_count};
-ghost use Rattle.roster_case.specs.Penalties.{extra, is_undesired, missing, split, totals, undesired, weekends_above};
+ghost use Rattle.roster_case.specs.Penalties.{breaks_off_request, extra_cost, missing_cost, off_request_cost, split_cost, totals_cost, weekends_cost};
 
-use crate::weights::{ASSIGNMENT, REQUEST, SPLIT, WEEKEND};
+use crate::weights::{ASSIGNMENT, OFF_REQUEST, SPLIT, WEEKEND};
 use roster_instance::{Case, Choice, Shift};
 
-/// The points for each day with a shift that a request names.
-pub(crate) fn undesired(case: &Case, nurse: usize, row: &[Choice]) -> u64
+/// The points for each day with a shift that an off request names.
+pub(crate) fn off_request_cost(case: &Case, nurse: usize, row: &[Choice]) -> u64
     requires nurse { nurse < nurse_count case.now }
     requires days { length row.now ≤ most_days }
-    ensures cost { result ≡ undesired case.now nurse (days_of row.now) }
+    ensures cost { result ≡ off_request_cost case.now nurse (days_of row.now) }
     ensures within { result ≤ 4294967296 }
 {
     let mut cost = 0;
     for (day, choice) in row.iter().enumerate() {
-        if is_undesired(case, nurse, day as u16, choice.shift()) {
-            cost += REQUEST as u64;
+        if breaks_off_request(case, nurse, day as u16, choice.shift()) {
+            cost += OFF_REQUEST as u64;
         }
     }
     cost
 }
 
-fn is_undesired(case: &Case, nurse: usize, day: u16, shift: Option<Shift>) -> bool
+fn breaks_off_request(case: &Case, nurse: usize, day: u16, shift: Option<Shift>) -> bool
     requires { nurse < nurse_count case.now }
-    ensures { result ≡ is_undesired case.now nurse day shift }
+    ensures { result ≡ breaks_off_request case.now nurse day shift }
 {
     match shift {
-        Some(shift) => case.is_wished_off(nurse, day, shift),
+        Some(shift) => case.has_off_request(nurse, day, shift),
         None => false,
     }
 }
 
 /// The points for each weekend of which exactly one day is worked, where the contract wants whole weekends.
-pub(crate) fn split(case: &Case, nurse: usize, row: &[Choice], weeks: u16) -> u64
+pub(crate) fn split_cost(case: &Case, nurse: usize, row: &[Choice], weeks: u16) -> u64
     requires days { length row.now ≡ 7 * weeks }
     requires weeks { weeks ≤ most_weeks }
-    ensures cost { result ≡ split case.now nurse (days_of row.now) }
+    ensures cost { result ≡ split_cost case.now nurse (days_of row.now) }
     ensures within { result ≤ 4294967296 }
 {
     if !case.contract_rules(nurse).whole_weekends {
@@ -50,9 +50,9 @@ pub(crate) fn split(case: &Case, nurse: usize, row: &[Choice], weeks: u16) -> u6
 }
 
 /// The points for each assignment below the least or above the greatest total, the history's counted in.
-pub(crate) fn totals(case: &Case, nurse: usize, row: &[Choice]) -> u64
+pub(crate) fn totals_cost(case: &Case, nurse: usize, row: &[Choice]) -> u64
     requires { length row.now ≤ most_days }
-    ensures cost { result ≡ totals case.now nurse (days_of row.now) }
+    ensures cost { result ≡ totals_cost case.now nurse (days_of row.now) }
     ensures within { result ≤ 4294967296 }
 {
     let total = case.past(nurse).assignments as u64 + days_worked(row);
@@ -63,10 +63,10 @@ pub(crate) fn totals(case: &Case, nurse: usize, row: &[Choice]) -> u64
 }
 
 /// The points for each worked weekend above the greatest number, the history's counted in.
-pub(crate) fn weekends_above(case: &Case, nurse: usize, row: &[Choice], weeks: u16) -> u64
+pub(crate) fn weekends_cost(case: &Case, nurse: usize, row: &[Choice], weeks: u16) -> u64
     requires days { length row.now ≡ 7 * weeks }
     requires weeks { weeks ≤ most_weeks }
-    ensures cost { result ≡ weekends_above case.now nurse (days_of row.now) }
+    ensures cost { result ≡ weekends_cost case.now nurse (days_of row.now) }
     ensures within { result ≤ 4294967296 }
 {
     let weekends = case.past(nurse).weekends as u64 + worked_weekends(row, weeks);

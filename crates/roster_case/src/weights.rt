@@ -12,8 +12,8 @@ pub const SHIFT_RUN: u32 = 15;
 /// For each missing or extra day of a run of days off.
 pub const FREE_RUN: u32 = 30;
 
-/// For each assignment to a shift that a request names.
-pub const REQUEST: u32 = 10;
+/// For each assignment to a shift that an off request names.
+pub const OFF_REQUEST: u32 = 10;
 
 /// For each weekend of which exactly one day is worked.
 pub const SPLIT: u32 = 30;

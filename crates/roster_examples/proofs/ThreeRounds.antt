@@ -7,8 +7,8 @@ use Rattle.roster_case.specs.Meaning.{Meaning}
 use Rattle.roster_examples.specs.Mini.{all_free, ann, bob, early_but, early_on, mini_of_one_shift}
 use Rattle.roster_case.specs.Penalties.{costs_of, penalty}
 use Rattle.roster_case.specs.Rosters.{Rows}
-use Rattle.roster_case.specs.Rows.{best_row}
-use Rattle.roster_case.specs.Runs.{run_faults}
+use Rattle.roster_case.specs.AllowedRows.{best_row}
+use Rattle.roster_case.specs.Runs.{run_violations}
 
 -- a round that changed something
 goes_on : (c : Meaning) (best : BestRows) (k m : ℕ) (r next : Rows) → round c best r ≡ next → same_rows next r ≡ false → entries_from c best k (suc m) r ≡ round_log c best k r ++ entries_from c best (k + 1) m next
@@ -37,27 +37,27 @@ abbrev last : Rows
 last = early_on (0 ∷ 2 ∷ 3 ∷ 4 ∷ []) ∷ early_on (1 ∷ 5 ∷ 6 ∷ []) ∷ []
 
 first : round mini_of_one_shift best all_free ≡ with_bob
-unfolding round step penalty costs_of run_faults hard_faults all_rows
+unfolding round step penalty costs_of run_violations hard_faults all_rows
 first = refl
 
 second : round mini_of_one_shift best with_bob ≡ last
-unfolding round step penalty costs_of run_faults hard_faults all_rows
+unfolding round step penalty costs_of run_violations hard_faults all_rows
 second = refl
 
 third : round mini_of_one_shift best last ≡ last
-unfolding round step penalty costs_of run_faults hard_faults all_rows
+unfolding round step penalty costs_of run_violations hard_faults all_rows
 third = refl
 
 first_log : round_log mini_of_one_shift best 1 all_free ≡ entry (changed 1 ann) with_ann ∷ entry (changed 1 bob) with_bob ∷ entry (round_done 1) with_bob ∷ []
-unfolding round step penalty costs_of run_faults hard_faults all_rows
+unfolding round step penalty costs_of run_violations hard_faults all_rows
 first_log = refl
 
 second_log : round_log mini_of_one_shift best 2 with_bob ≡ entry (changed 2 ann) last ∷ entry (round_done 2) last ∷ []
-unfolding round step penalty costs_of run_faults hard_faults all_rows
+unfolding round step penalty costs_of run_violations hard_faults all_rows
 second_log = refl
 
 third_log : round_log mini_of_one_shift best 3 last ≡ entry (round_done 3) last ∷ []
-unfolding round step penalty costs_of run_faults hard_faults all_rows
+unfolding round step penalty costs_of run_violations hard_faults all_rows
 third_log = refl
 
 settles : (c : Meaning) (best : BestRows) (k m : ℕ) (r : Rows) → round c best r ≡ r → same_rows r r ≡ true → entries_from c best k (suc m) r ≡ round_log c best k r ++ entry settled r ∷ []

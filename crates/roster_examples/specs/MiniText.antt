@@ -8,7 +8,7 @@ use Rattle.roster_case.specs.declared.Costs.{Costs}
 use Rattle.roster_case.specs.declared.CaseFault.{CaseFault}
 use Rattle.roster_case.specs.declared.HardFault.{HardFault}
 use Rattle.roster_case.specs.Bundles.{meaning_of, rows_of}
-use Rattle.roster_case.specs.Faults.{first_of}
+use Rattle.roster_case.specs.Faults.{first_fault}
 use Rattle.roster_case.specs.HardRules.{hard_faults}
 use Rattle.roster_case.specs.Meaning.{Meaning, nurse_count}
 use Rattle.roster_case.specs.Penalties.{costs_of, total_cost}
@@ -79,7 +79,7 @@ solved count assignments lines = line 41 (codes "ASSIGNMENTS = " ++ count) lines
 abbrev pub early_lines : List ℕ → List (List ℕ) → Lines
 early_lines nurse days = map (λ day. nurse ++ codes " " ++ day ++ codes " Early Nurse") days
 
--- two weeks of the instance, with this request in the second, and these assignments in the solutions of the first and the second
+-- two weeks of the instance, with this off request in the second, and these assignments in the solutions of the first and the second
 abbrev pub two_weeks : List ℕ → List ℕ → List ℕ → Lines
 two_weeks request first second =
     take 29 (line 3 (codes "WEEKS = 2") mini_lines)
@@ -112,7 +112,7 @@ refusals_in lines = said all_faults (text_of_lines lines)
 -- the first refusal, if any
 abbrev pub first_in : {A : Type 0} → Option (List A) → Option A
 first_in None = None
-first_in (Some faults) = first_of faults
+first_in (Some faults) = first_fault faults
 
 abbrev pub refusal_in : Lines → Option CaseFault
 refusal_in lines = first_in (refusals_in lines)
@@ -127,8 +127,8 @@ abbrev pub total_in : Lines → Option ℕ
 total_in lines = option_map total_cost (costs_in lines)
 
 -- of each nurse the number of states and of choices
-abbrev pub sizes_of : Meaning → List (ℕ × ℕ)
-sizes_of c = map (λ n. (state_count c n, choice_count c n)) (range_with_len 0 (nurse_count c))
+abbrev pub all_sizes : Meaning → List (ℕ × ℕ)
+all_sizes c = map (λ n. (state_count c n, choice_count c n)) (range_with_len 0 (nurse_count c))
 
 abbrev pub sizes_in : Lines → Option (List (ℕ × ℕ))
-sizes_in lines = option_map sizes_of (case_in lines)
+sizes_in lines = option_map all_sizes (case_in lines)

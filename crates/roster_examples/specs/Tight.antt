@@ -13,7 +13,7 @@ abbrev pub needing : List ℕ → Meaning
 needing days = record mini_of_one_shift {
   weeks = record {
     needs = Some (map (λ d. limits (if is_among days d then 1 else 0) 1) (range_with_len 0 7)) ∷ replicate 63 None;
-    wishes = replicate 14 (replicate 8 false);
+    off_requests = replicate 14 (replicate 8 false);
   } ∷ [];
 }
 

@@ -1,5 +1,5 @@
 //! Worked examples: what the definitions say of a small instance and of texts that differ from it in a few lines.
-#![tactic(auto, unfolding(roster_bundle::specs::Token::tokens_from, roster_bundle::specs::Token::token_at, roster_bundle::specs::Token::begins_at, roster_bundle::specs::Token::end_from, roster_bundle::specs::Token::is_separator, roster_bundle::specs::Token::is_mark, roster_bundle::specs::Token::is_word_byte, roster_bundle::specs::Token::follows_word_byte, roster_bundle::specs::Token::line_feeds, roster_text::specs::Reading::bundle_at, roster_text::specs::Reading::title_at, roster_text::specs::Reading::scenario_at, roster_text::specs::Reading::section_at, roster_text::specs::Reading::listed_at, roster_text::specs::Reading::times_at, roster_text::specs::Reading::shift_type_at, roster_text::specs::Reading::pair_at, roster_text::specs::Reading::until_with, roster_text::specs::Reading::succession_at, roster_text::specs::Reading::names_at, roster_text::specs::Reading::contract_at, roster_text::specs::Reading::nurse_at, roster_text::specs::Reading::history_at, roster_text::specs::Reading::nurse_history_at, roster_text::specs::Reading::week_data_at, roster_text::specs::Reading::requirement_at, roster_text::specs::Reading::week_pairs_at, roster_text::specs::Reading::solution_at, roster_text::specs::Reading::assignment_at, roster_text::specs::Reading::off_request_at, roster_instance::specs::Tables::table_of, roster_instance::specs::Bundles::wishes_meant, roster_instance::specs::Bundles::meaning_of, roster_instance::specs::Bundles::rows_of, roster_instance::specs::Refusals::case_faults, roster_instance::specs::Refusals::roster_faults, roster_instance::specs::Sizes::state_count, roster_instance::specs::Sizes::choice_count, roster_case::specs::HardRules::hard_faults, roster_case::specs::Penalties::costs_of, roster_case::specs::Penalties::penalty, roster_case::specs::Runs::run_faults, roster_case::specs::Runs::open_run, roster_instance::specs::Choices::all_rows, roster_case::specs::Prefix::due, roster_case::specs::Prefix::summary_of, roster_case::specs::Penalties::own_cost, roster_case::specs::Improver::log_of))]
+#![tactic(auto, unfolding(roster_bundle::specs::Token::tokens_from, roster_bundle::specs::Token::token_at, roster_bundle::specs::Token::begins_at, roster_bundle::specs::Token::end_from, roster_bundle::specs::Token::is_separator, roster_bundle::specs::Token::is_mark, roster_bundle::specs::Token::is_word_byte, roster_bundle::specs::Token::follows_word_byte, roster_bundle::specs::Token::line_feeds, roster_text::specs::Reading::bundle_at, roster_text::specs::Reading::title_at, roster_text::specs::Reading::scenario_at, roster_text::specs::Reading::section_at, roster_text::specs::Reading::listed_at, roster_text::specs::Reading::times_at, roster_text::specs::Reading::shift_type_at, roster_text::specs::Reading::pair_at, roster_text::specs::Reading::until_with, roster_text::specs::Reading::succession_at, roster_text::specs::Reading::names_at, roster_text::specs::Reading::contract_at, roster_text::specs::Reading::nurse_at, roster_text::specs::Reading::history_at, roster_text::specs::Reading::nurse_history_at, roster_text::specs::Reading::week_data_at, roster_text::specs::Reading::requirement_at, roster_text::specs::Reading::week_pairs_at, roster_text::specs::Reading::solution_at, roster_text::specs::Reading::assignment_at, roster_text::specs::Reading::off_request_at, roster_instance::specs::Tables::table_of, roster_instance::specs::Bundles::off_requests_meant, roster_instance::specs::Bundles::meaning_of, roster_instance::specs::Bundles::rows_of, roster_instance::specs::Refusals::case_faults, roster_instance::specs::Refusals::roster_faults, roster_instance::specs::Sizes::state_count, roster_instance::specs::Sizes::choice_count, roster_case::specs::HardRules::hard_faults, roster_case::specs::Penalties::costs_of, roster_case::specs::Penalties::penalty, roster_case::specs::Runs::run_violations, roster_case::specs::Runs::open_run, roster_instance::specs::Choices::all_rows, roster_case::specs::Prefix::due, roster_case::specs::Prefix::summary_of, roster_case::specs::Penalties::own_cost, roster_case::specs::Improver::log_of))]
 
 ghost use Rattle.std.specs.Prelude.{◌≡◌, ℕ, ◌++◌, [], ◌∷◌, codes, flat_map, map, replicate, take, true, false};
 ghost use Rattle.roster_case.specs.declared.CaseFault.{CaseFault};
@@ -11,9 +11,9 @@ ghost use Rattle.roster_examples.specs.MiniText.{mini_lines, two_weeks, line, li
 ghost use Rattle.roster_case.specs.Meaning.{shift_at, skill_at};
 ghost use Rattle.roster_case.specs.Penalties.{penalty, own_cost};
 ghost use Rattle.roster_case.specs.Prefix.{due, summary_of};
-ghost use Rattle.roster_case.specs.Rosters.{fits};
-ghost use Rattle.roster_case.specs.Rows.{best_row, first_least, penalty_with};
-ghost use Rattle.roster_case.specs.Runs.{run_faults, open_run};
+ghost use Rattle.roster_case.specs.Rosters.{fits_case};
+ghost use Rattle.roster_case.specs.AllowedRows.{best_row, first_least, penalty_with};
+ghost use Rattle.roster_case.specs.Runs.{run_violations, open_run};
 ghost use Rattle.roster_case.specs.Sizes.{state_count, choice_count};
 
 /// The text of the small instance means that instance, and nothing is refused in it.
@@ -21,7 +21,7 @@ pub fn text_of_the_small_instance()
     ensures case { case_in mini_lines ≡ Some mini }
     ensures roster { roster_in mini_lines ≡ Some all_free }
     ensures taken { refusals_in mini_lines ≡ Some [] }
-    ensures fitting { fits mini all_free ≡ true }
+    ensures fitting { fits_case mini all_free ≡ true }
 {}
 
 /// Refusals, each after one change of the text.
@@ -60,14 +60,14 @@ pub fn penalties_with_runs_that_the_history_began()
     ensures without_a_shift { costs_in (line 27 (codes "Ann 0 0 None 4 4 1") mini_lines) ≡ Some (costs 210 0 180 0 0 80 0) }
 {}
 
-/// A least above its greatest, the totals of the history, and a shift that two requests name.
-pub fn penalties_of_contracts_and_requests()
+/// A least above its greatest, the totals of the history, and a shift that two off requests name.
+pub fn penalties_of_contracts_and_off_requests()
     ensures least_above_greatest { costs_in (line 17 (codes "Full (2,5) (4,3) (1,5) 1 1") (solved (codes "6") (early_lines (codes "Ann") (codes "Mon" ∷ codes "Tue" ∷ codes "Thu" ∷ codes "Fri" ∷ codes "Sat" ∷ codes "Sun" ∷ [])) mini_lines)) ≡ Some (costs 30 90 90 0 0 60 0) }
     ensures totals_of_the_history { costs_in (line 27 (codes "Ann 9 3 None 0 0 1") (line 28 (codes "Bob 9 3 None 0 0 1") mini_lines)) ≡ Some (costs 210 0 180 0 0 160 120) }
-    ensures requests_and_a_split_weekend { costs_in (line 36 (codes "SHIFT_OFF_REQUESTS = 2 Ann Any Sat Ann Early Sat") (solved (codes "1") (codes "Ann Sat Early Nurse" ∷ []) mini_lines)) ≡ Some (costs 180 0 120 10 30 60 0) }
+    ensures off_requests_and_a_split_weekend { costs_in (line 36 (codes "SHIFT_OFF_REQUESTS = 2 Ann Any Sat Ann Early Sat") (solved (codes "1") (codes "Ann Sat Early Nurse" ∷ []) mini_lines)) ≡ Some (costs 180 0 120 10 30 60 0) }
 {}
 
-/// Days, requests and assignments of a second week.
+/// Days, off requests and assignments of a second week.
 pub fn two_weeks_of_the_small_instance()
     ensures empty { costs_in (two_weeks (codes "0") (codes "0") (codes "0")) ≡ Some (costs 420 0 600 0 0 80 0) }
     ensures second_saturday { costs_in (two_weeks (codes "1 Bob Any Sat") (codes "0") (codes "1 Bob Sat Early Nurse")) ≡ Some (costs 390 0 540 10 30 60 0) }
@@ -88,15 +88,15 @@ pub fn totals_of_better_rosters()
 {}
 
 /// What single runs owe.
-pub fn faults_of_runs()
-    ensures two_short_and_one_long { run_faults (limits 4 3) 0 (is_among (0 ∷ 1 ∷ 3 ∷ 4 ∷ 5 ∷ 6 ∷ [])) 7 ≡ 3 }
-    ensures open_at_the_end { run_faults (limits 4 5) 0 (is_among (6 ∷ [])) 7 ≡ 0 }
-    ensures ended_a_day_before { run_faults (limits 4 5) 0 (is_among (5 ∷ [])) 7 ≡ 3 }
-    ensures ended_before_monday { run_faults (limits 3 5) 1 (λ d. false) 7 ≡ 2 }
-    ensures only_the_day_of_the_horizon { run_faults (limits 1 5) 7 (is_among (0 ∷ [])) 7 ≡ 1 }
-    ensures sixteen_weeks { run_faults (limits 1 5) 1 (λ d. true) 112 ≡ 108 }
+pub fn violations_of_runs()
+    ensures two_short_and_one_long { run_violations (limits 4 3) 0 (is_among (0 ∷ 1 ∷ 3 ∷ 4 ∷ 5 ∷ 6 ∷ [])) 7 ≡ 3 }
+    ensures open_at_the_end { run_violations (limits 4 5) 0 (is_among (6 ∷ [])) 7 ≡ 0 }
+    ensures ended_a_day_before { run_violations (limits 4 5) 0 (is_among (5 ∷ [])) 7 ≡ 3 }
+    ensures ended_before_monday { run_violations (limits 3 5) 1 (λ d. false) 7 ≡ 2 }
+    ensures only_the_day_of_the_horizon { run_violations (limits 1 5) 7 (is_among (0 ∷ [])) 7 ≡ 1 }
+    ensures sixteen_weeks { run_violations (limits 1 5) 1 (λ d. true) 112 ≡ 108 }
     ensures open_run_with_its_border { open_run 1 (λ d. true) 7 ≡ 8 }
-    ensures none_without_days { run_faults (limits 4 5) 2 (λ d. false) 0 ≡ 0 }
+    ensures none_without_days { run_violations (limits 4 5) 2 (λ d. false) 0 ≡ 0 }
 {}
 
 /// States and choices of each nurse.

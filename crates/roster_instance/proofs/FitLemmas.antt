@@ -12,9 +12,9 @@ use Rattle.roster_instance.specs.declared.choice.Choice.{Choice}
 use Rattle.roster_instance.specs.declared.choice.Choice.TheVariants.{Off}
 use Rattle.roster_instance.specs.Bundles.{choice_meant, place_of_line, row_meant, rows_of, solution_meant, work_meant}
 use Rattle.roster_instance.specs.Meaning.{Meaning, day_count, nurse_count, shift_count, skill_count, week_count}
-use Rattle.roster_instance.specs.Names.{found, number_of}
+use Rattle.roster_instance.specs.Names.{found, name_number}
 use Rattle.roster_instance.specs.Refusals.{roster_faults, solution_faults}
-use Rattle.roster_instance.specs.Rosters.{fits, is_choice_of, is_row_of}
+use Rattle.roster_instance.specs.Rosters.{fits_case, is_choice_of, is_row_of}
 use Rattle.roster_instance.specs.Tables.{item_at, table_of}
 use Rattle.roster_instance.proofs.NameLemmas.{found-within}
 
@@ -28,8 +28,8 @@ get_or_of_map P f d [] i none each = none
 get_or_of_map P f d (x ∷ xs) zero none each = each x
 get_or_of_map P f d (x ∷ xs) (suc i) none each = get_or_of_map P f d xs i none each
 
-pub number_of-within : (source : List ℕ) (names : List (List ℕ)) (t : Token) → 0 < length names → number_of source names t < length names
-number_of-within source names t some = go (found source names t) refl
+pub name_number-within : (source : List ℕ) (names : List (List ℕ)) (t : Token) → 0 < length names → name_number source names t < length names
+name_number-within source names t some = go (found source names t) refl
   where
     go : (o : Option ℕ) → found source names t ≡ o → unwrap_or o 0 < length names
     go None is = some
@@ -46,8 +46,8 @@ module _ (source : List ℕ) (c : Meaning) (some_shifts : 0 < shift_count c) (so
   line_fits : (o : Option Assignment) → IsOfCase (option_map (work_meant source c.shift_names c.skill_names) o)
   line_fits None = refl
   line_fits (Some a) = ap₂ (λ x y. x && y)
-      (lt-ltb (number_of source c.shift_names a.shift) (shift_count c) (number_of-within source c.shift_names a.shift some_shifts))
-      (lt-ltb (number_of source c.skill_names a.skill) (skill_count c) (number_of-within source c.skill_names a.skill some_skills))
+      (lt-ltb (name_number source c.shift_names a.shift) (shift_count c) (name_number-within source c.shift_names a.shift some_shifts))
+      (lt-ltb (name_number source c.skill_names a.skill) (skill_count c) (name_number-within source c.skill_names a.skill some_skills))
 
   cell_fits : (s : Solution) (k : ℕ) → IsOfCase (get_or (table s) k None)
   unfolding table_of
@@ -66,7 +66,7 @@ module _ (source : List ℕ) (c : Meaning) (some_shifts : 0 < shift_count c) (so
       ap₂ (λ a b. a && b) (eq-eqb (length (row_meant tables n)) (day_count c) days)
       (all_of_map (is_choice_of c) (choice_meant tables n) (range_with_len 0 (7 * length tables)) (choice_of_case solutions n))
 
-  pub rows-fit : (b : Bundle) → length b.solutions ≡ week_count c → fits c (rows_of source c b) ≡ true
+  pub rows-fit : (b : Bundle) → length b.solutions ≡ week_count c → fits_case c (rows_of source c b) ≡ true
   unfolding rows_of
   rows-fit b weeks =
       let tables = map table b.solutions in

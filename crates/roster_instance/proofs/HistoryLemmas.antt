@@ -4,7 +4,7 @@ use Rattle.std.proofs.Math.ListN.{set}
 use Rattle.std.specs.List.{list_any}
 use Rattle.roster_bundle.specs.declared.bundle.NurseHistory.{NurseHistory}
 use Rattle.roster_instance.specs.Bundles.{Names, line_meant, past_meant}
-use Rattle.roster_instance.specs.Faults.{fault_if, first_of}
+use Rattle.roster_instance.specs.Faults.{fault_if, first_fault}
 use Rattle.roster_instance.specs.Names.{found, same_name}
 use Rattle.roster_instance.specs.Refusals.{history_line_faults, unknown_unless}
 use Rattle.roster_instance.specs.declared.fault.CaseFault.{CaseFault}
@@ -30,8 +30,8 @@ module _ (source : List ℕ) (nurses shifts : Names) (earlier : List NurseHistor
       (found-no_fault source nurses h.nurse n nurse) (sym line-taken ∙ taken)
 
   -- the nurse has a line already
-  pub line-repeated : is_some (get_or past n None) ≡ true → first_of (history_line_faults source nurses shifts earlier h) ≡ Some (HistoryNurses h.nurse.line)
-  line-repeated taken = ap first_of (line-faults true taken)
+  pub line-repeated : is_some (get_or past n None) ≡ true → first_fault (history_line_faults source nurses shifts earlier h) ≡ Some (HistoryNurses h.nurse.line)
+  line-repeated taken = ap first_fault (line-faults true taken)
 
   -- the line is the nurse's first
   pub line-new : is_some (get_or past n None) ≡ false → history_line_faults source nurses shifts earlier h ≡ unknown_unless source (codes "None") shifts h.last_shift

@@ -7,7 +7,7 @@ mod SizeLemmas
 pub mod TableSteps
 pub mod WeekTableLemmas
 pub mod HistoryLemmas
-pub mod WishLemmas
+pub mod OffRequestLemmas
 pub mod FlagLemmas
 pub mod ScenarioLemmas
 mod CaseLemmas

@@ -12,7 +12,7 @@ use Rattle.roster_instance.specs.declared.choice.Choice.TheVariants.{Work}
 use Rattle.roster_instance.specs.declared.fault.CaseFault.{CaseFault}
 use Rattle.roster_instance.specs.declared.fault.CaseFault.TheVariants.{H1}
 use Rattle.roster_instance.specs.Bundles.{place_of_line, work_meant}
-use Rattle.roster_instance.specs.Faults.{fault_if, first_of}
+use Rattle.roster_instance.specs.Faults.{fault_if, first_fault}
 use Rattle.roster_instance.specs.Meaning.{shift_at, skill_at}
 use Rattle.roster_instance.specs.Names.{found, same_name}
 use Rattle.roster_instance.specs.Refusals.{assignment_faults, unknown_fault}
@@ -58,8 +58,8 @@ module _ (source : Text) (nurses shifts skills : List Text) (week : ℕ) (a : As
       ap₂ (λ (fs gs : List CaseFault). fs ++ gs) known
       (ap₂ (λ c m. fault_if c (H1 m (7 * week + weekday a.day))) (any ∙ is) (found-number source nurses a.nurse n nurse_is) ∙ ap (λ day. fault_if b (H1 n (7 * week + day))) (sym day_is))
 
-  pub line_taken : is_some (get_or lines (7 * n + w) None) ≡ true → first_of (assignment_faults source nurses shifts skills week earlier a) ≡ Some (H1 n (7 * week + w))
-  line_taken taken = ap first_of (line_faults true taken)
+  pub line_taken : is_some (get_or lines (7 * n + w) None) ≡ true → first_fault (assignment_faults source nurses shifts skills week earlier a) ≡ Some (H1 n (7 * week + w))
+  line_taken taken = ap first_fault (line_faults true taken)
 
   pub line_free : is_some (get_or lines (7 * n + w) None) ≡ false → assignment_faults source nurses shifts skills week earlier a ≡ []
   line_free free = line_faults false free

@@ -10,7 +10,7 @@ use Rattle.std.proofs.lemmas.List.Quantifiers.{position-Some}
 use Rattle.std.proofs.lemmas.Slice.Eq.{bytes_eq-Decides}
 use Rattle.roster_bundle.specs.Token.{text_of}
 use Rattle.roster_bundle.specs.declared.token.Token.{Token}
-use Rattle.roster_instance.specs.Names.{find_name, found, has_number, is_known, names_of, number_of, same_name}
+use Rattle.roster_instance.specs.Names.{find_name, found, has_number, is_known, name_number, names_of, same_name}
 use Rattle.roster_instance.specs.Refusals.{repeated_fault, unknown_fault}
 use Rattle.roster_instance.specs.Faults.{fault_if}
 use Rattle.roster_instance.specs.Tables.{is_at}
@@ -132,7 +132,7 @@ module _ (source : Text) (names : List Text) (t : Token) (n : ℕ) (is : found s
   pub found-known : is_known source names t ≡ true
   found-known = ap is_some is
 
-  pub found-number : number_of source names t ≡ n
+  pub found-number : name_number source names t ≡ n
   found-number = ap (λ o. unwrap_or o 0) is
 
   pub found-has_number : (k : ℕ) → has_number source names k t ≡ (n == k)

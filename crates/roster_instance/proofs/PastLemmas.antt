@@ -12,7 +12,7 @@ use Rattle.roster_instance.specs.CaseParts.{HasKnownPast, case_of}
 use Rattle.roster_instance.specs.Meaning.{WeekFacts, last_shift, no_past}
 use Rattle.roster_instance.specs.Names.{found, reads}
 use Rattle.roster_instance.specs.Tables.{item_at, table_of}
-use Rattle.roster_instance.proofs.FitLemmas.{get_or_of_map, number_of-within}
+use Rattle.roster_instance.proofs.FitLemmas.{get_or_of_map, name_number-within}
 
 module _ (source : List ℕ) (shifts : Names) (some : 0 < length shifts) where
   -- the last shift, if there is one, is one of these
@@ -28,7 +28,7 @@ module _ (source : List ℕ) (shifts : Names) (some : 0 < length shifts) where
     where
       go : (b : Bool) → IsKnown (cond b (Free h.free_run) (Working (shift_named source shifts h.last_shift) h.shift_run h.working_run))
       go true = tt
-      go false = number_of-within source shifts h.last_shift some
+      go false = name_number-within source shifts h.last_shift some
 
   line_known : (line : Option NurseHistory) → IsKnownCell (option_map (line_meant source shifts) line)
   line_known None = tt

@@ -7,7 +7,7 @@ use Rattle.std.proofs.lemmas.List.Sums.{AllPass-from_list_all}
 use Rattle.std.specs.List.{list_all}
 use Rattle.roster_instance.specs.Choices.{shift_of}
 use Rattle.roster_instance.specs.Meaning.{Meaning, day_count, nurse_count, shift_count, skill_count}
-use Rattle.roster_instance.specs.Rosters.{Rows, choice_on, days_of_nurse, fits, is_choice_of, is_row_of, row_of}
+use Rattle.roster_instance.specs.Rosters.{Rows, choice_on, days_of_nurse, fits_case, is_choice_of, is_row_of, row_of}
 use Rattle.roster_instance.specs.declared.choice.Choice.TheVariants.{Off, Work}
 use Rattle.roster_instance.specs.declared.choice.Shift.{Shift}
 use Rattle.roster_instance.specs.declared.choice.Skill.{Skill}
@@ -18,7 +18,7 @@ all_or p [] i d all none = none
 all_or p (x ∷ xs) zero d all none = (and_parts (p x) (list_all p xs) all).0
 all_or p (x ∷ xs) (suc i) d all none = all_or p xs i d (and_parts (p x) (list_all p xs) all).1 none
 
-module _ (c : Meaning) (r : Rows) (n : ℕ) (fit : fits c r ≡ true) (within : n < nurse_count c) where
+module _ (c : Meaning) (r : Rows) (n : ℕ) (fit : fits_case c r ≡ true) (within : n < nurse_count c) where
   -- each nurse has a row
   pub has_row : n < length r
   has_row = omega (arith, eqb-true (length r) (nurse_count c) (and_parts (length r == nurse_count c) (list_all (is_row_of c) r) fit).0)

@@ -6,24 +6,24 @@ use Rattle.std.specs.Result.{IsErrAnd}
 use Rattle.std.proofs.lemmas.Result.{err_from_is_err_and}
 use Rattle.std.proofs.lemmas.List.{append-nil, drop_more, length-take-le, length_push, take-append-drop, take_more}
 use Rattle.roster_instance.specs.Checking.{IsFirst}
-use Rattle.roster_instance.specs.Faults.{each, each_after, first_of}
+use Rattle.roster_instance.specs.Faults.{each, each_after, first_fault}
 use Rattle.roster_instance.specs.declared.fault.CaseFault.{CaseFault}
 use Rattle.roster_instance.specs.declared.fault.CaseFault.TheVariants.{Memory}
 
 -- ---- the first of two lists of faults
 
-pub first-front : {F : Type 0} (xs ys : List F) (f : F) → first_of xs ≡ Some f → first_of (xs ++ ys) ≡ Some f
+pub first-front : {F : Type 0} (xs ys : List F) (f : F) → first_fault xs ≡ Some f → first_fault (xs ++ ys) ≡ Some f
 first-front [] ys f e = absurd (cc)
 first-front (x ∷ xs) ys f e = e
 
-pub first-behind : {F : Type 0} (xs ys : List F) (f : F) → xs ≡ [] → first_of ys ≡ Some f → first_of (xs ++ ys) ≡ Some f
-first-behind xs ys f none e = ap (λ zs. first_of (zs ++ ys)) none ∙ e
+pub first-behind : {F : Type 0} (xs ys : List F) (f : F) → xs ≡ [] → first_fault ys ≡ Some f → first_fault (xs ++ ys) ≡ Some f
+first-behind xs ys f none e = ap (λ zs. first_fault (zs ++ ys)) none ∙ e
 
 pub both_none : {F : Type 0} (xs ys : List F) → xs ≡ [] → ys ≡ [] → xs ++ ys ≡ []
 both_none xs ys none none_behind = ap₂ (λ fs gs. fs ++ gs) none none_behind
 
-pub alone-first : {F : Type 0} (xs : List F) (f : F) → xs ≡ f ∷ [] → first_of xs ≡ Some f
-alone-first xs f e = ap first_of e
+pub alone-first : {F : Type 0} (xs : List F) (f : F) → xs ≡ f ∷ [] → first_fault xs ≡ Some f
+alone-first xs f e = ap first_fault e
 
 pub IsFirst-front : (xs ys : List CaseFault) (f : CaseFault) → IsFirst xs f → IsFirst (xs ++ ys) f
 IsFirst-front xs ys f first other = first-front xs ys f (first other)
@@ -72,11 +72,11 @@ module _ {A F : Type 0} (faults : List A → A → List F) where
   each-more_none xs x so_far none = each-push xs x ∙ both_none (each faults xs) (faults xs x) so_far none
 
   -- the first fault of an item behind items without any
-  pub each-first : (xs : List A) (i : ℕ) (d : A) (f : F) → i < length xs → each faults (take i xs) ≡ [] → first_of (faults (take i xs) (get_or xs i d)) ≡ Some f → first_of (each faults xs) ≡ Some f
+  pub each-first : (xs : List A) (i : ℕ) (d : A) (f : F) → i < length xs → each faults (take i xs) ≡ [] → first_fault (faults (take i xs) (get_or xs i d)) ≡ Some f → first_fault (each faults xs) ≡ Some f
   each-first xs i d f within so_far first =
       let own = faults (take i xs) (get_or xs i d) in
       let rest = each_after faults (take i xs ++ get_or xs i d ∷ []) (drop (i + 1) xs) in
-      ap first_of (each-at xs i d within) ∙ first-behind (each faults (take i xs)) (own ++ rest) f so_far (first-front own rest f first)
+      ap first_fault (each-at xs i d within) ∙ first-behind (each faults (take i xs)) (own ++ rest) f so_far (first-front own rest f first)
 
 pub IsFirst-each : {A : Type 0} (faults : List A → A → List CaseFault) (xs : List A) (i : ℕ) (d : A) (f : CaseFault) → i < length xs → each faults (take i xs) ≡ []
     → IsFirst (faults (take i xs) (get_or xs i d)) f → IsFirst (each faults xs) f

@@ -5,7 +5,7 @@ use Rattle.std.proofs.lemmas.Nat.{mul-le}
 use Rattle.roster_bundle.specs.declared.bundle.Nurse.{Nurse}
 use Rattle.roster_instance.specs.declared.fault.CaseFault.TheVariants.{TooManyStates}
 use Rattle.roster_instance.specs.declared.rules.Limits.{Limits}
-use Rattle.roster_instance.specs.Faults.{fault_if, first_of}
+use Rattle.roster_instance.specs.Faults.{fault_if, first_fault}
 use Rattle.roster_instance.specs.Meaning.{Meaning, contract_of, no_limits, shift_count}
 use Rattle.roster_instance.specs.Refusals.{state_fault}
 use Rattle.roster_instance.specs.Limits.{most_small, most_states}
@@ -47,8 +47,8 @@ module _ (c : Meaning) (number : ℕ) (nurse : Nurse) (states : ℕ) (is : state
   fault_by : (b : Bool) → nat_lt most_states states ≡ b → state_fault c (number, nurse) ≡ fault_if b (TooManyStates number nurse.name)
   fault_by b h = ap (λ b. fault_if b (TooManyStates number nurse.name)) (ap (nat_lt most_states) (sym is) ∙ h)
 
-  pub too_many : most_states < states → first_of (state_fault c (number, nurse)) ≡ Some (TooManyStates number nurse.name)
-  too_many h = ap first_of (fault_by true (lt-ltb most_states states h))
+  pub too_many : most_states < states → first_fault (state_fault c (number, nurse)) ≡ Some (TooManyStates number nurse.name)
+  too_many h = ap first_fault (fault_by true (lt-ltb most_states states h))
 
   pub few_enough : states ≤ most_states → state_fault c (number, nurse) ≡ []
   few_enough h = fault_by false (le-ltb most_states states h)

@@ -5,7 +5,7 @@ use Rattle.std.proofs.Math.ListN.{set}
 use Rattle.std.specs.List.{list_any}
 use Rattle.roster_bundle.specs.declared.bundle.Requirement.{Requirement}
 use Rattle.roster_instance.specs.Bundles.{Names, limits_of_week, needs_meant, place_of_need}
-use Rattle.roster_instance.specs.Faults.{fault_if, first_of}
+use Rattle.roster_instance.specs.Faults.{fault_if, first_fault}
 use Rattle.roster_instance.specs.Names.{found, same_name}
 use Rattle.roster_instance.specs.Refusals.{requirement_faults, unknown_fault}
 use Rattle.roster_instance.specs.declared.fault.CaseFault.{CaseFault}
@@ -42,8 +42,8 @@ module _ (source : List ℕ) (shifts skills : Names) (few_shifts : length shifts
       (found-no_fault source skills q.skill k skill) (sym need-taken ∙ taken)
 
   -- a line has the shift and the skill already
-  pub need-repeated : is_some (get_or lines (8 * s + k) None) ≡ true → first_of (requirement_faults source shifts skills earlier q) ≡ Some (RepeatedRequirement q.skill.line)
-  need-repeated taken = ap first_of (need-faults true taken)
+  pub need-repeated : is_some (get_or lines (8 * s + k) None) ≡ true → first_fault (requirement_faults source shifts skills earlier q) ≡ Some (RepeatedRequirement q.skill.line)
+  need-repeated taken = ap first_fault (need-faults true taken)
 
   -- the line is their first
   pub need-new : is_some (get_or lines (8 * s + k) None) ≡ false → requirement_faults source shifts skills earlier q ≡ []

@@ -28,7 +28,7 @@ use Rattle.roster_instance.specs.declared.rules.ContractRules.{ContractRules}
 use Rattle.roster_instance.specs.declared.rules.Limits.{Limits}
 use Rattle.roster_instance.specs.declared.rules.Past.{Past}
 use Rattle.roster_instance.specs.Meaning.{Meaning, NurseFacts, WeekFacts, nurse_count, shift_at, skill_at}
-use Rattle.roster_instance.specs.Names.{reads, skill_names, shift_names, contract_names, nurse_names, found, number_of, has_number}
+use Rattle.roster_instance.specs.Names.{reads, skill_names, shift_names, contract_names, nurse_names, found, name_number, has_number}
 use Rattle.roster_instance.specs.Rosters.{Row, Rows}
 use Rattle.roster_instance.specs.Tables.{is_at, table_of}
 
@@ -46,10 +46,10 @@ abbrev pub limits_of_week : WeekPairs → List Limits
 limits_of_week w = map limits_of (w.monday ∷ w.tuesday ∷ w.wednesday ∷ w.thursday ∷ w.friday ∷ w.saturday ∷ w.sunday ∷ [])
 
 abbrev pub shift_named : List ℕ → Names → Token → Shift
-shift_named source shifts t = shift_at (number_of source shifts t)
+shift_named source shifts t = shift_at (name_number source shifts t)
 
 abbrev pub skill_named : List ℕ → Names → Token → Skill
-skill_named source skills t = skill_at (number_of source skills t)
+skill_named source skills t = skill_at (name_number source skills t)
 
 -- ---- shifts, contracts, nurses
 
@@ -71,7 +71,7 @@ contract_meant c = record {
 }
 
 abbrev pub nurse_meant : List ℕ → Names → Names → Nurse → NurseFacts
-nurse_meant source contracts skills n = record { contract = number_of source contracts n.contract; skills = map (skill_named source skills) n.skills }
+nurse_meant source contracts skills n = record { contract = name_number source contracts n.contract; skills = map (skill_named source skills) n.skills }
 
 -- ---- the history
 
@@ -99,22 +99,22 @@ abbrev pub needs_meant : List ℕ → Names → Names → List Requirement → L
 needs_meant source shifts skills qs = table_of (place_of_need source shifts skills) (λ (q : Requirement). limits_of_week q.days) 64 qs
 
 -- the place of a nurse and weekday
-abbrev pub place_of_wish : List ℕ → Names → OffRequest → Option ℕ
-place_of_wish source nurses q = option_map (λ n. 7 * n + weekday q.day) (found source nurses q.nurse)
+abbrev pub place_of_off_request : List ℕ → Names → OffRequest → Option ℕ
+place_of_off_request source nurses q = option_map (λ n. 7 * n + weekday q.day) (found source nurses q.nurse)
 
--- the request names this shift; `Any` names each
-abbrev pub wishes_off : List ℕ → Names → ℕ → OffRequest → Bool
-wishes_off source shifts s q = reads source (codes "Any") q.shift || has_number source shifts s q.shift
+-- the off request names this shift; `Any` names each
+abbrev pub off_request_names : List ℕ → Names → ℕ → OffRequest → Bool
+off_request_names source shifts s q = reads source (codes "Any") q.shift || has_number source shifts s q.shift
 
--- for each place, and each shift number, whether a request names that shift
-unfoldable pub wishes_meant : List ℕ → Names → Names → List OffRequest → List (List Bool)
-wishes_meant source nurses shifts qs =
-    map (λ p. map (λ s. list_any (λ q. is_at p (place_of_wish source nurses q) && wishes_off source shifts s q) qs) (range_with_len 0 8)) (range_with_len 0 (7 * length nurses))
+-- for each place, and each shift number, whether an off request names that shift
+unfoldable pub off_requests_meant : List ℕ → Names → Names → List OffRequest → List (List Bool)
+off_requests_meant source nurses shifts qs =
+    map (λ p. map (λ s. list_any (λ q. is_at p (place_of_off_request source nurses q) && off_request_names source shifts s q) qs) (range_with_len 0 8)) (range_with_len 0 (7 * length nurses))
 
 abbrev pub week_meant : List ℕ → Names → Names → Names → WeekData → WeekFacts
 week_meant source shifts skills nurses w = record {
   needs = needs_meant source shifts skills w.requirements;
-  wishes = wishes_meant source nurses shifts w.off_requests.items;
+  off_requests = off_requests_meant source nurses shifts w.off_requests.items;
 }
 
 -- ---- the case

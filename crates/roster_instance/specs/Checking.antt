@@ -3,8 +3,8 @@
 use Rattle.std.specs.Prelude.{◌≡◌, ◌≢◌, List, Some}
 use Rattle.roster_instance.specs.declared.fault.CaseFault.{CaseFault}
 use Rattle.roster_instance.specs.declared.fault.CaseFault.TheVariants.{Memory}
-use Rattle.roster_instance.specs.Faults.{first_of}
+use Rattle.roster_instance.specs.Faults.{first_fault}
 
 -- a fault that is not want of memory is the first of these
 abbrev pub IsFirst : List CaseFault → CaseFault → Type 0
-IsFirst faults f = f ≢ Memory → first_of faults ≡ Some f
+IsFirst faults f = f ≢ Memory → first_fault faults ≡ Some f

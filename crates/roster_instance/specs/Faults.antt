@@ -18,9 +18,9 @@ each_after faults earlier (x ∷ xs) = faults earlier x ++ each_after faults (ea
 abbrev pub each : {A F : Type 0} → (List A → A → List F) → List A → List F
 each faults xs = each_after faults [] xs
 
-abbrev pub first_of : {F : Type 0} → List F → Option F
-first_of [] = None
-first_of (f ∷ fs) = Some f
+abbrev pub first_fault : {F : Type 0} → List F → Option F
+first_fault [] = None
+first_fault (f ∷ fs) = Some f
 
 abbrev pub is_none_of : {F : Type 0} → List F → Bool
 is_none_of [] = true

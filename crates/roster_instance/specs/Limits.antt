@@ -1,6 +1,6 @@
 -- The limits of an instance (our profile; eight skills, eight shifts and the number of states keep the search small).
 use Rattle.std.specs.Prelude.{ℕ, ◌*◌}
-pub use Rattle.roster_text.specs.Limits.{most_small}
+pub use Rattle.roster_bundle.specs.Limits.{most_small}
 
 -- the most weeks, and their days
 abbrev pub most_weeks : ℕ

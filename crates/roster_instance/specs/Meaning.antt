@@ -16,10 +16,10 @@ pub record NurseFacts : Type 0 where
   pub skills : List Skill
 
 -- a week: at place 8 s + k the requirements of shift s and skill k from Monday to Sunday, where a line has them; at place
--- 7 n + w, for each shift, whether a request names it for nurse n on weekday w
+-- 7 n + w, for each shift, whether an off request names it for nurse n on weekday w
 pub record WeekFacts : Type 0 where
   pub needs : List (Option (List Limits))
-  pub wishes : List (List Bool)
+  pub off_requests : List (List Bool)
 
 -- `runs` has the days in a row of each shift; `successions`, for each shift that has such a line, which shifts may not
 -- follow; `past` what stands in the history of each nurse
@@ -74,7 +74,7 @@ abbrev pub no_past : Past
 no_past = record { border = Free 0; assignments = 0; weekends = 0 }
 
 abbrev pub no_week : WeekFacts
-no_week = record { needs = []; wishes = [] }
+no_week = record { needs = []; off_requests = [] }
 
 -- how many days in a row a shift is to be worked
 abbrev pub run_of_shift : Meaning → ℕ → Limits
@@ -102,9 +102,15 @@ week_of c d = slice_index_or c.weeks (d / 7) no_week
 abbrev pub need : Meaning → ℕ → ℕ → ℕ → Limits
 need c d s k = option_map_or (λ week. slice_index_or week (d % 7) no_limits) (slice_index_or (week_of c d).needs (8 * s + k) None) no_limits
 
--- a request names this nurse, day and shift
-abbrev pub is_wished_off : Meaning → ℕ → ℕ → ℕ → Bool
-is_wished_off c n d s = slice_index_or (slice_index_or (week_of c d).wishes (7 * n + d % 7) []) s false
+abbrev pub minimum : Meaning → ℕ → ℕ → ℕ → ℕ
+minimum c d s k = (need c d s k).least
+
+abbrev pub optimum : Meaning → ℕ → ℕ → ℕ → ℕ
+optimum c d s k = (need c d s k).greatest
+
+-- an off request names this nurse, day and shift
+abbrev pub has_off_request : Meaning → ℕ → ℕ → ℕ → Bool
+has_off_request c n d s = slice_index_or (slice_index_or (week_of c d).off_requests (7 * n + d % 7) []) s false
 
 -- ---- the history (profile: of a line whose last shift is `None` only the days off count, else only the two other runs)
 

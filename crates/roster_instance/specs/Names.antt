@@ -45,8 +45,8 @@ abbrev pub is_known : List ℕ → List (List ℕ) → Token → Bool
 is_known source names t = is_some (found source names t)
 
 -- the number of a name, 0 where it is unknown
-abbrev pub number_of : List ℕ → List (List ℕ) → Token → ℕ
-number_of source names t = unwrap_or (found source names t) 0
+abbrev pub name_number : List ℕ → List (List ℕ) → Token → ℕ
+name_number source names t = unwrap_or (found source names t) 0
 
 -- it is the name with this number
 abbrev pub has_number : List ℕ → List (List ℕ) → ℕ → Token → Bool

@@ -23,7 +23,7 @@ use Rattle.roster_bundle.specs.Weekdays.{weekday}
 use Rattle.roster_instance.specs.Bundles.{Names, meaning_of}
 use Rattle.roster_instance.specs.Faults.{fault_if, each}
 use Rattle.roster_instance.specs.Meaning.{Meaning}
-use Rattle.roster_instance.specs.Names.{same_name, reads, skill_names, shift_names, contract_names, nurse_names, is_known, number_of}
+use Rattle.roster_instance.specs.Names.{same_name, reads, skill_names, shift_names, contract_names, nurse_names, is_known, name_number}
 use Rattle.roster_instance.specs.Limits.{most_contracts, most_nurses, most_shifts, most_skills, most_states, most_weeks}
 use Rattle.roster_instance.specs.Sizes.{state_count}
 
@@ -118,14 +118,14 @@ requirement_faults source shifts skills earlier q =
     ++ unknown_fault source skills q.skill
     ++ fault_if (list_any (λ (e : Requirement). same_name source q.shift e.shift && same_name source q.skill e.skill) earlier) (RepeatedRequirement q.skill.line)
 
-abbrev pub request_faults : List ℕ → Names → Names → OffRequest → List CaseFault
-request_faults source nurses shifts q = unknown_fault source nurses q.nurse ++ unknown_unless source (codes "Any") shifts q.shift
+abbrev pub off_request_faults : List ℕ → Names → Names → OffRequest → List CaseFault
+off_request_faults source nurses shifts q = unknown_fault source nurses q.nurse ++ unknown_unless source (codes "Any") shifts q.shift
 
 abbrev pub week_faults : List ℕ → List ℕ → Names → Names → Names → WeekData → List CaseFault
 week_faults source name shifts skills nurses w =
     instance_fault source name w.scenario
     ++ each (requirement_faults source shifts skills) w.requirements
-    ++ flat_map (request_faults source nurses shifts) w.off_requests.items
+    ++ flat_map (off_request_faults source nurses shifts) w.off_requests.items
 
 -- ---- the states: for the first nurse whose search would need too many
 
@@ -149,7 +149,7 @@ assignment_faults source nurses shifts skills i earlier a =
     ++ unknown_fault source shifts a.shift
     ++ unknown_fault source skills a.skill
     ++ fault_if (list_any (λ (e : Assignment). same_name source a.nurse e.nurse && (weekday a.day == weekday e.day)) earlier)
-    (H1 (number_of source nurses a.nurse) (7 * i + weekday a.day))
+    (H1 (name_number source nurses a.nurse) (7 * i + weekday a.day))
 
 abbrev pub solution_faults : List ℕ → List ℕ → Names → Names → Names → ℕ × Solution → List CaseFault
 solution_faults source name nurses shifts skills s =

@@ -40,5 +40,5 @@ is_choice_of c (Work s k) = nat_lt s.0 (shift_count c) && nat_lt k.0 (skill_coun
 abbrev pub is_row_of : Meaning → Row → Bool
 is_row_of c row = (length row == day_count c) && list_all (is_choice_of c) row
 
-abbrev pub fits : Meaning → Rows → Bool
-fits c r = (length r == nurse_count c) && list_all (is_row_of c) r
+abbrev pub fits_case : Meaning → Rows → Bool
+fits_case c r = (length r == nurse_count c) && list_all (is_row_of c) r

@@ -7,9 +7,9 @@ ghost use Rattle.roster_bundle.specs.declared.bundle.Nurse.{Nurse};
 ghost use Rattle.roster_instance.specs.CaseParts.{case_of, faults_behind, HasFewStates, IsScenarioOf};
 ghost use Rattle.roster_instance.specs.Bundles.{meaning_of, past_meant, week_meant};
 ghost use Rattle.roster_instance.specs.Checking.{IsFirst};
-ghost use Rattle.roster_instance.specs.Faults.{first_of};
+ghost use Rattle.roster_instance.specs.Faults.{first_fault};
 ghost use Rattle.roster_instance.specs.Limits.{most_days, most_nurses, most_shifts, most_skills, most_small, most_states, most_weeks};
-ghost use Rattle.roster_instance.specs.Meaning.{contract_of, day_count, is_wished_off, last_shift, need, nurse_at, nurse_count, nurse_name, past_of, run_of_shift, shift_count, skill_count, week_count, forbids};
+ghost use Rattle.roster_instance.specs.Meaning.{contract_of, day_count, has_off_request, last_shift, need, nurse_at, nurse_count, nurse_name, past_of, run_of_shift, shift_count, skill_count, week_count, forbids};
 ghost use Rattle.roster_instance.specs.Names.{find_name};
 ghost use Rattle.roster_instance.specs.Refusals.{case_faults, state_fault};
 ghost use Rattle.roster_instance.specs.Sizes.{choice_count, greatest_of, state_count, cap};
@@ -80,7 +80,7 @@ impl Case {
         ensures weeks { IfOk result (λ case. week_count case ≡ bundle.now.scenario.weeks.value) }
 
         // Else the answer is the first fault, memory apart.
-        ensures refused { IfErr result (λ f. f ≢ CaseFault.Memory → first_of (case_faults source.now bundle.now) ≡ Some f) }
+        ensures refused { IfErr result (λ f. f ≢ CaseFault.Memory → first_fault (case_faults source.now bundle.now) ≡ Some f) }
     {
         let scenario = Scenario::from_bundle(alloc, bundle, source)?;
         let told = read_told(alloc, source, bundle, &scenario)?;
@@ -259,13 +259,13 @@ impl Case {
         }
     }
 
-    /// Whether a request names a nurse, a day and a shift of the case; one with `Any` names every shift.
-    pub fn is_wished_off(&self, nurse: usize, day: u16, shift: Shift) -> bool
+    /// Whether an off request names a nurse, a day and a shift of the case; one with `Any` names every shift.
+    pub fn has_off_request(&self, nurse: usize, day: u16, shift: Shift) -> bool
         requires { nurse < nurse_count self.now }
-        ensures { result ≡ is_wished_off self.now nurse day shift.0 }
+        ensures { result ≡ has_off_request self.now nurse day shift.0 }
     {
         match self.weeks.get(day as usize / 7) {
-            Some(week) => week.wishes(7 * nurse + day as usize % 7, shift.0 as usize),
+            Some(week) => week.has_off_request(7 * nurse + day as usize % 7, shift.0 as usize),
             None => false,
         }
     }

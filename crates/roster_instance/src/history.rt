@@ -60,7 +60,11 @@ fn border_of(source: &[u8], shifts: &Names, line: &NurseHistory) -> Result<Borde
         return Ok(Border::Free(line.free_run));
     }
     let shift = shifts.number(source, line.last_shift)?;
-    Ok(Border::Working(Shift(shift as u8), line.shift_run, line.working_run))
+    Ok(Border::Working {
+        shift: Shift(shift as u8),
+        shift_run: line.shift_run,
+        working_run: line.working_run,
+    })
 }
 
 /// A part names the scenario that it belongs to.

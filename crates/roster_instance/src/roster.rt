@@ -6,11 +6,11 @@ ghost use Rattle.roster_bundle.specs.declared.bundle.Assignment.{Assignment};
 ghost use Rattle.roster_bundle.specs.declared.bundle.Solution.{Solution};
 ghost use Rattle.roster_instance.specs.Bundles.{place_of_line, row_meant, rows_of, solution_meant, work_meant};
 ghost use Rattle.roster_instance.specs.Checking.{IsFirst};
-ghost use Rattle.roster_instance.specs.Faults.{each, first_of};
+ghost use Rattle.roster_instance.specs.Faults.{each, first_fault};
 ghost use Rattle.roster_instance.specs.Limits.{most_nurses, most_weeks};
 ghost use Rattle.roster_instance.specs.Meaning.{nurse_count, week_count};
 ghost use Rattle.roster_instance.specs.Refusals.{assignment_faults, roster_faults, solution_faults};
-ghost use Rattle.roster_instance.specs.Rosters.{choice_on, cover, fits, is_choice_of, is_row_of, row_of};
+ghost use Rattle.roster_instance.specs.Rosters.{choice_on, cover, fits_case, is_choice_of, is_row_of, row_of};
 ghost use Rattle.roster_instance.specs.Tables.{table_of};
 
 use crate::case::Case;
@@ -64,11 +64,11 @@ impl Roster {
 
         // What is taken has no fault, fits the case, and says what the solutions say.
         ensures meant { IfOk result (λ roster. roster ≡ rows_of source.now case.now bundle.now) }
-        ensures fitting { IfOk result (λ roster. fits case.now roster ≡ true) }
+        ensures fitting { IfOk result (λ roster. fits_case case.now roster ≡ true) }
         ensures taken { OnOk result (roster_faults source.now case.now bundle.now ≡ []) }
 
         // Else the answer is the first fault, memory apart.
-        ensures refused { IfErr result (λ f. f ≢ CaseFault.Memory → first_of (roster_faults source.now case.now bundle.now) ≡ Some f) }
+        ensures refused { IfErr result (λ f. f ≢ CaseFault.Memory → first_fault (roster_faults source.now case.now bundle.now) ≡ Some f) }
     {
         let tables = tables_of(alloc, source, case.scenario(), bundle.solutions.as_slice())?;
         let rows = rows_of(alloc, &tables, case.nurses())?;
@@ -107,7 +107,7 @@ impl Roster {
 
     /// Whether there are as many nurses and days as in the case, and its shifts and skills alone.
     pub fn fits(&self, case: &Case) -> bool
-        ensures { result ≡ fits case.now self.now }
+        ensures { result ≡ fits_case case.now self.now }
     {
         self.rows.len() == case.nurses() && all_fit(case, &self.rows)
     }

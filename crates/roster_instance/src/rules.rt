@@ -2,7 +2,7 @@
 
 ghost use Rattle.std.specs.Prelude.{◌≡◌, ◌≤◌};
 ghost use Rattle.roster_instance.specs.Sizes.{cap};
-ghost use Rattle.roster_instance.specs.RunLaw.{day_faults};
+ghost use Rattle.roster_instance.specs.RunLaw.{day_violations};
 
 use crate::choice::Shift;
 use std::cmp::max;
@@ -25,8 +25,8 @@ impl Limits {
 
     /// What a day adds to the missing and the extra days of the runs of a kind, behind a run of so many days: one extra day
     /// where it is of the kind and the run is full, and what the run misses where it ends.
-    pub fn day_faults(self, run: u32, of_kind: bool) -> u32
-        ensures faults { result ≡ day_faults self run of_kind }
+    pub fn day_violations(self, run: u32, of_kind: bool) -> u32
+        ensures violations { result ≡ day_violations self run of_kind }
         ensures within { result ≤ 65536 }
     {
         if of_kind {
@@ -56,7 +56,11 @@ pub enum Border {
     /// That many days off.
     Free(u16),
     /// The last shift, the days in a row with that shift, and the working days in a row.
-    Working(Shift, u16, u16),
+    Working {
+        shift: Shift,
+        shift_run: u16,
+        working_run: u16,
+    },
 }
 
 /// What a nurse did before the first Monday: the run that stands there, the assignments and the worked weekends.

@@ -2,7 +2,7 @@
 
 ghost use Rattle.std.specs.Prelude.{◌≡◌, ◌<◌, true};
 ghost use Rattle.roster_instance.specs.Meaning.{week_count};
-ghost use Rattle.roster_instance.specs.Rosters.{fits};
+ghost use Rattle.roster_instance.specs.Rosters.{fits_case};
 
 use crate::case::Case;
 use crate::choice::Choice;
@@ -21,20 +21,20 @@ pub struct WeekView<'a> {
 impl<'a> Model for WeekView<'a> {
     ghost use Rattle.std.specs.Prelude.{◌≡◌, ◌<◌, true};
     ghost use Rattle.roster_instance.specs.Meaning.{week_count};
-    ghost use Rattle.roster_instance.specs.Rosters.{fits};
+    ghost use Rattle.roster_instance.specs.Rosters.{fits_case};
     ghost use Rattle.roster_instance.specs.Shown.{WeekOf};
 
     ghost Value = { WeekOf };
 
     ghost view = { λ v. record { case = v.case.now; roster = v.roster.now; week = v.week } };
 
-    ghost invariant = { λ v. (fits v.case.now v.roster.now ≡ true) × (v.week < week_count v.case.now) };
+    ghost invariant = { λ v. (fits_case v.case.now v.roster.now ≡ true) × (v.week < week_count v.case.now) };
 }
 
 impl<'a> WeekView<'a> {
     /// The week with this number, from 0.
     pub fn of(case: &'a Case, roster: &'a Roster, week: u16) -> WeekView<'a>
-        requires fitting { fits case.now roster.now ≡ true }
+        requires fitting { fits_case case.now roster.now ≡ true }
         requires within { week < week_count case.now }
         ensures { result ≡ record { case = case.now; roster = roster.now; week = week } }
     {

@@ -1,14 +1,14 @@
-//! The data of the weeks: requirements and requests.
+//! The data of the weeks: requirements and off requests.
 
 ghost use Rattle.std.specs.Prelude.{◌≡◌, ◌*◌, ◌<◌, ℕ, List, [], IfOk, IfErr, OnOk, codes, false, flat_map, length, map, replicate, slice_index_or, slice_set, true};
 ghost use Rattle.std.specs.Option.{option_map_or};
 ghost use Rattle.roster_bundle.specs.Weekdays.{weekday};
 ghost use Rattle.roster_bundle.specs.declared.bundle.WeekData.{WeekData};
-ghost use Rattle.roster_instance.specs.Bundles.{limits_of_week, needs_meant, week_meant, wishes_meant};
+ghost use Rattle.roster_instance.specs.Bundles.{limits_of_week, needs_meant, off_requests_meant, week_meant};
 ghost use Rattle.roster_instance.specs.Checking.{IsFirst};
 ghost use Rattle.roster_instance.specs.Faults.{each};
 ghost use Rattle.roster_instance.specs.Meaning.{no_limits};
-ghost use Rattle.roster_instance.specs.Refusals.{request_faults, requirement_faults, week_faults};
+ghost use Rattle.roster_instance.specs.Refusals.{off_request_faults, requirement_faults, week_faults};
 
 use crate::fault::CaseFault;
 use crate::history::check_instance;
@@ -20,11 +20,11 @@ use roster_bundle::{Day, OffRequest, Requirement, WeekData, WeekPairs};
 use std::alloc::{AllocError, Global};
 use std::marker::Model;
 
-/// A week: what each shift and skill needs, and which shifts each nurse wishes to be free of on each weekday.
+/// A week: what each shift and skill needs, and which shifts the off requests of each nurse name on each weekday.
 #[derive(Drop)]
 pub(crate) struct Week {
     needs: Table<[Limits; 7]>,
-    wishes: Vec<[bool; 8]>,
+    off_requests: Vec<[bool; 8]>,
 }
 
 impl Model for Week {
@@ -32,7 +32,7 @@ impl Model for Week {
 
     ghost Value = { WeekFacts };
 
-    ghost view = { λ w. record { needs = w.needs; wishes = w.wishes.items } };
+    ghost view = { λ w. record { needs = w.needs; off_requests = w.off_requests.items } };
 }
 
 impl Week {
@@ -49,13 +49,13 @@ impl Week {
         }
     }
 
-    /// Whether a request names a shift at a place.
-    pub(crate) fn wishes(&self, place: usize, shift: usize) -> bool
-        ensures { result ≡ slice_index_or (slice_index_or self.now.wishes place []) shift false }
+    /// Whether an off request names a shift at a place.
+    pub(crate) fn has_off_request(&self, place: usize, shift: usize) -> bool
+        ensures { result ≡ slice_index_or (slice_index_or self.now.off_requests place []) shift false }
     {
-        match self.wishes.get(place) {
+        match self.off_requests.get(place) {
             Some(shifts) => match shifts.get(shift) {
-                Some(wished) => *wished,
+                Some(requested) => *requested,
                 None => false,
             },
             None => false,
@@ -144,83 +144,83 @@ fn needs_of(
     Ok(section.lines)
 }
 
-// ---- requests
+// ---- off requests
 
 #[derive(Drop)]
-struct RequestSection<'a> {
+struct OffRequestSection<'a> {
     source: &'a [u8],
     scenario: &'a Scenario,
-    wishes: Vec<[bool; 8]>,
+    off_requests: Vec<[bool; 8]>,
 }
 
-impl<'a> Section<OffRequest> for RequestSection<'a> {
+impl<'a> Section<OffRequest> for OffRequestSection<'a> {
     ghost About = { List ℕ × List (List ℕ) × List (List ℕ) };
 
     ghost about = { λ s. (s.source.now, s.scenario.now.nurses, s.scenario.now.shifts) };
 
-    ghost faults = { λ a earlier q. request_faults a.0 a.1 a.2 q };
+    ghost faults = { λ a earlier q. off_request_faults a.0 a.1 a.2 q };
 
-    ghost built = { λ s earlier. s.wishes.items ≡ wishes_meant s.source.now s.scenario.now.nurses s.scenario.now.shifts earlier };
+    ghost built = { λ s earlier. s.off_requests.items ≡ off_requests_meant s.source.now s.scenario.now.nurses s.scenario.now.shifts earlier };
 
     fn add(&mut self, request: &OffRequest) -> Result<(), CaseFault> {
         let nurse = self.scenario.nurses.number(self.source, request.nurse)?;
         let place = 7 * nurse + weekday(request.day);
         if request.shift.text(self.source) == b"Any".as_slice() {
-            wish_all(&mut self.wishes, place);
+            request_all_off(&mut self.off_requests, place);
         } else {
             let shift = self.scenario.shifts.number(self.source, request.shift)?;
-            wish(&mut self.wishes, place, shift);
+            request_off(&mut self.off_requests, place, shift);
         }
         Ok(())
     }
 }
 
 /// Marks all shifts of a place.
-fn wish_all(wishes: &mut [[bool; 8]], place: usize)
-    ensures { wishes.new ≡ slice_set wishes.old place (replicate 8 true) }
+fn request_all_off(off_requests: &mut [[bool; 8]], place: usize)
+    ensures { off_requests.new ≡ slice_set off_requests.old place (replicate 8 true) }
 {
-    if place < wishes.len() {
-        wishes[place] = [true; 8];
+    if place < off_requests.len() {
+        off_requests[place] = [true; 8];
     }
 }
 
 /// Marks a shift of a place.
-fn wish(wishes: &mut [[bool; 8]], place: usize, shift: usize)
-    ensures { wishes.new ≡ slice_set wishes.old place (slice_set (slice_index_or wishes.old place []) shift true) }
+fn request_off(off_requests: &mut [[bool; 8]], place: usize, shift: usize)
+    ensures { off_requests.new ≡ slice_set off_requests.old place (slice_set (slice_index_or off_requests.old place []) shift true) }
 {
-    if place < wishes.len() && shift < 8 {
-        wishes[place][shift] = true;
+    if place < off_requests.len() && shift < 8 {
+        off_requests[place][shift] = true;
     }
 }
 
-/// So many places at which nothing is wished.
-fn no_wishes(alloc: Global, places: usize) -> Result<Vec<[bool; 8]>, AllocError>
-    ensures { IfOk result (λ wishes. wishes.items ≡ replicate places (replicate 8 false)) }
+/// So many places without an off request.
+fn no_off_requests(alloc: Global, places: usize) -> Result<Vec<[bool; 8]>, AllocError>
+    ensures { IfOk result (λ off_requests. off_requests.items ≡ replicate places (replicate 8 false)) }
 {
-    let mut wishes = Vec::with_capacity(alloc, places)?;
+    let mut off_requests = Vec::with_capacity(alloc, places)?;
     for _ in 0..places {
-        wishes.push([false; 8])?;
+        off_requests.push([false; 8])?;
     }
-    Ok(wishes)
+    Ok(off_requests)
 }
 
-fn wishes_of(
+fn off_requests_of(
     alloc: Global,
     source: &[u8],
     scenario: &Scenario,
     requests: &[OffRequest],
 ) -> Result<Vec<[bool; 8]>, CaseFault>
-    ensures meant { IfOk result (λ wishes. wishes.items ≡ wishes_meant source.now scenario.now.nurses scenario.now.shifts requests.now) }
-    ensures none { OnOk result (flat_map (request_faults source.now scenario.now.nurses scenario.now.shifts) requests.now ≡ []) }
-    ensures first { IfErr result (IsFirst (flat_map (request_faults source.now scenario.now.nurses scenario.now.shifts) requests.now)) }
+    ensures meant { IfOk result (λ off_requests. off_requests.items ≡ off_requests_meant source.now scenario.now.nurses scenario.now.shifts requests.now) }
+    ensures none { OnOk result (flat_map (off_request_faults source.now scenario.now.nurses scenario.now.shifts) requests.now ≡ []) }
+    ensures first { IfErr result (IsFirst (flat_map (off_request_faults source.now scenario.now.nurses scenario.now.shifts) requests.now)) }
 {
-    let mut section = RequestSection {
+    let mut section = OffRequestSection {
         source,
         scenario,
-        wishes: no_wishes(alloc, 7 * scenario.nurses.len())?,
+        off_requests: no_off_requests(alloc, 7 * scenario.nurses.len())?,
     };
     add_all(&mut section, requests)?;
-    Ok(section.wishes)
+    Ok(section.off_requests)
 }
 
 // ---- weeks
@@ -250,13 +250,16 @@ impl<'a> Section<WeekData> for WeekSection<'a> {
             self.scenario,
             week.requirements.as_slice(),
         )?;
-        let wishes = wishes_of(
+        let off_requests = off_requests_of(
             self.alloc,
             self.source,
             self.scenario,
             week.off_requests.items.as_slice(),
         )?;
-        self.weeks.push(Week { needs, wishes })?;
+        self.weeks.push(Week {
+            needs,
+            off_requests,
+        })?;
         Ok(())
     }
 }

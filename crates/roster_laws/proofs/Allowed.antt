@@ -7,8 +7,8 @@ use Rattle.std.proofs.lemmas.List.Elements.{All-cons, All-contains, All-contains
 use Rattle.roster_case.specs.Choices.{all_choices, all_rows}
 use Rattle.roster_case.specs.HardRules.{keeps_hard}
 use Rattle.roster_case.specs.Meaning.{Meaning, day_count, nurse_count}
-use Rattle.roster_case.specs.Rosters.{Row, Rows, fits, is_row_of, row_of, with_row}
-use Rattle.roster_case.specs.Rows.{allowed_rows, best_row, first_least, penalty_with, row_keeps}
+use Rattle.roster_case.specs.Rosters.{Row, Rows, fits_case, is_row_of, row_of, with_row}
+use Rattle.roster_case.specs.AllowedRows.{allowed_rows, best_row, first_least, penalty_with, row_keeps}
 use Rattle.roster_case.proofs.RosterFacts.{row_fits}
 use Rattle.roster_laws.proofs.AllRows.{member_is_row, row_is_member}
 
@@ -60,7 +60,7 @@ module _ (c : Meaning) (r : Rows) (n : ℕ) where
       let parts = and_parts (is_row_of c row) (keeps row) both in
       member_is_kept keeps rows row (row_is_member c row parts.0) parts.1
 
-  module _ (fitting : fits c r ≡ true) (kept : keeps_hard c r ≡ true) (inside : n < nurse_count c) where
+  module _ (fitting : fits_case c r ≡ true) (kept : keeps_hard c r ≡ true) (inside : n < nurse_count c) where
     pub present_allowed : Contains (allowed_rows c r n) (row_of r n)
     present_allowed = keeps_allowed (row_of r n) (and_from (is_row_of c (row_of r n)) (keeps_hard c (with_row r n (row_of r n))) (row_fits c r n fitting inside) (ap (keeps_hard c) (set-get_or r n []) ∙ kept))
 

@@ -3,8 +3,8 @@ use Rattle.std.proofs.Common.{◌≡◌, ◌+◌, ◌*◌, ◌%◌, ℕ, zero, s
 use Rattle.roster_case.specs.Counting.{sum_below}
 use Rattle.roster_case.specs.Days.{Days, split_weekends}
 use Rattle.roster_case.specs.Meaning.{Meaning, contract_of, day_count, nurse_count, shift_count, skill_count}
-use Rattle.roster_case.specs.Penalties.{costs_of, free_runs, is_undesired, over_nurses, penalty, runs_of_shift, shift_runs, split, staffing, staffing_of_day, staffing_of_place, totals, undesired, weekends_above, working_runs}
-use Rattle.roster_case.specs.Weights.{staffing_weight, working_run_weight, shift_run_weight, free_run_weight, request_weight, split_weight, assignment_weight, weekend_weight}
+use Rattle.roster_case.specs.Penalties.{breaks_off_request, costs_of, free_run_cost, off_request_cost, over_nurses, penalty, run_cost_of_shift, shift_run_cost, split_cost, staffing_cost, staffing_cost_of_day, staffing_cost_of_place, totals_cost, weekends_cost, working_run_cost}
+use Rattle.roster_case.specs.Weights.{staffing_weight, working_run_weight, shift_run_weight, free_run_weight, off_request_weight, split_weight, assignment_weight, weekend_weight}
 use Rattle.roster_case.specs.Rosters.{Rows, days_of_nurse}
 
 abbrev pub IsFive : ℕ → Type 0
@@ -49,25 +49,25 @@ by_weekend : (n : ℕ) → IsFive (weekend_weight * n)
 by_weekend n = omega arith
 
 module _ (c : Meaning) where
-  staffing_is : (r : Rows) → IsFive (staffing c r)
-  staffing_is r = sum_is (day_count c) (staffing_of_day c r) (λ d. sum_is (shift_count c) _ (λ s. sum_is (skill_count c) (staffing_of_place c r d s) (λ k. by_staffing _)))
+  staffing_is : (r : Rows) → IsFive (staffing_cost c r)
+  staffing_is r = sum_is (day_count c) (staffing_cost_of_day c r) (λ d. sum_is (shift_count c) _ (λ s. sum_is (skill_count c) (staffing_cost_of_place c r d s) (λ k. by_staffing _)))
 
-  runs_are : (n : ℕ) (days : Days) → IsFive (working_runs c n days + shift_runs c n days)
-  runs_are n days = plus (working_runs c n days) (shift_runs c n days) (by_working_run _) (sum_is (shift_count c) (runs_of_shift c n days) (λ s. by_shift_run _))
+  runs_are : (n : ℕ) (days : Days) → IsFive (working_run_cost c n days + shift_run_cost c n days)
+  runs_are n days = plus (working_run_cost c n days) (shift_run_cost c n days) (by_working_run _) (sum_is (shift_count c) (run_cost_of_shift c n days) (λ s. by_shift_run _))
 
-  requests_are : (n : ℕ) (days : Days) → IsFive (undesired c n days)
-  requests_are n days = sum_is _ _ (λ d. where_is (is_undesired c n d _) request_weight refl)
+  off_requests_are : (n : ℕ) (days : Days) → IsFive (off_request_cost c n days)
+  off_requests_are n days = sum_is _ _ (λ d. where_is (breaks_off_request c n d _) off_request_weight refl)
 
-  split_is : (n : ℕ) (days : Days) → IsFive (split c n days)
+  split_is : (n : ℕ) (days : Days) → IsFive (split_cost c n days)
   split_is n days = where_is (contract_of c n).whole_weekends (split_weight * split_weekends days) (by_split (split_weekends days))
 
-  totals_are : (n : ℕ) (days : Days) → IsFive (totals c n days)
+  totals_are : (n : ℕ) (days : Days) → IsFive (totals_cost c n days)
   totals_are n days = plus _ _ (by_assignment _) (by_assignment _)
 
-  free_is : (n : ℕ) (days : Days) → IsFive (free_runs c n days)
+  free_is : (n : ℕ) (days : Days) → IsFive (free_run_cost c n days)
   free_is n days = by_free_run _
 
-  weekends_are : (n : ℕ) (days : Days) → IsFive (weekends_above c n days)
+  weekends_are : (n : ℕ) (days : Days) → IsFive (weekends_cost c n days)
   weekends_are n days = by_weekend _
 
   over_nurses_is : (r : Rows) (rule : ℕ → Days → ℕ) → ((n : ℕ) (days : Days) → IsFive (rule n days)) → IsFive (over_nurses c r rule)
@@ -76,9 +76,9 @@ module _ (c : Meaning) where
   pub penalty_is : (r : Rows) → IsFive (penalty c r)
   unfolding penalty costs_of
   penalty_is r =
-      let runs = plus _ _ (staffing_is r) (over_nurses_is r (λ n days. working_runs c n days + shift_runs c n days) runs_are) in
-      let free = plus _ _ runs (over_nurses_is r (free_runs c) free_is) in
-      let requests = plus _ _ free (over_nurses_is r (undesired c) requests_are) in
-      let weekends = plus _ _ requests (over_nurses_is r (split c) split_is) in
-      let assignments = plus _ _ weekends (over_nurses_is r (totals c) totals_are) in
-      plus _ _ assignments (over_nurses_is r (weekends_above c) weekends_are)
+      let runs = plus _ _ (staffing_is r) (over_nurses_is r (λ n days. working_run_cost c n days + shift_run_cost c n days) runs_are) in
+      let free = plus _ _ runs (over_nurses_is r (free_run_cost c) free_is) in
+      let requests = plus _ _ free (over_nurses_is r (off_request_cost c) off_requests_are) in
+      let weekends = plus _ _ requests (over_nurses_is r (split_cost c) split_is) in
+      let assignments = plus _ _ weekends (over_nurses_is r (totals_cost c) totals_are) in
+      plus _ _ assignments (over_nurses_is r (weekends_cost c) weekends_are)

@@ -6,7 +6,7 @@ use Rattle.roster_case.specs.Choices.{days_of}
 use Rattle.roster_case.specs.Counting.{all_below}
 use Rattle.roster_case.specs.Faults.{below, fault_if, is_none_of}
 use Rattle.roster_case.specs.HardRules.{breaks_succession, hard_faults, is_able_on, keeps_hard, keeps_skills, keeps_successions, skill_faults, staffing_faults, succession_faults}
-use Rattle.roster_case.specs.Meaning.{Meaning, day_count, nurse_count, shift_count, skill_count, need}
+use Rattle.roster_case.specs.Meaning.{Meaning, day_count, nurse_count, shift_count, skill_count, minimum}
 use Rattle.roster_case.specs.Rosters.{Row, Rows, choice_on, cover, days_of_nurse, row_of, with_row}
 use Rattle.roster_laws.specs.OneRow.{is_offered, is_offered_row, keeps_by_parts, others}
 use Rattle.roster_laws.specs.Staffing.{meets, with_choice}
@@ -43,7 +43,7 @@ keeps_hard-parts c r =
     ∙ ap₂ (λ a b. a && b) (none_of_both (staffing_faults c r) (succession_faults c r) ∙ ap₂ (λ a b. a && b) minimums successions) skills
   where
     minimums : is_none_of (staffing_faults c r) ≡ all_below (day_count c) (λ d. meets c d (cover r d))
-    minimums = none_below (day_count c) _ _ (λ d. none_below (shift_count c) _ _ (λ s. none_below (skill_count c) _ _ (λ k. none_where_not (nat_lt (cover r d s k) (need c d s k).least) _)))
+    minimums = none_below (day_count c) _ _ (λ d. none_below (shift_count c) _ _ (λ s. none_below (skill_count c) _ _ (λ k. none_where_not (nat_lt (cover r d s k) (minimum c d s k)) _)))
 
     successions : is_none_of (succession_faults c r) ≡ all_below (nurse_count c) (λ n. keeps_successions c n (days_of_nurse r n) (day_count c))
     successions = none_below (nurse_count c) _ _ (λ n. none_below (day_count c) _ _ (λ d. none_where_not _ _))

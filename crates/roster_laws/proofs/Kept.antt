@@ -8,8 +8,8 @@ use Rattle.roster_case.specs.HardRules.{keeps_hard}
 use Rattle.roster_case.specs.Improver.{BestRows, Entry, changed, changes, entries_from, entry, log_of, round, round_done, round_log, run, same_rows, settled, started, step, step_with, stopped}
 use Rattle.roster_case.specs.Meaning.{Meaning, nurse_count}
 use Rattle.roster_case.specs.Penalties.{penalty}
-use Rattle.roster_case.specs.Rosters.{Row, Rows, fits, is_row_of, with_row}
-use Rattle.roster_case.specs.Rows.{allowed_rows, best_row, penalty_with, row_keeps}
+use Rattle.roster_case.specs.Rosters.{Row, Rows, fits_case, is_row_of, with_row}
+use Rattle.roster_case.specs.AllowedRows.{allowed_rows, best_row, penalty_with, row_keeps}
 use Rattle.roster_case.proofs.FirstLeast.{found}
 use Rattle.roster_laws.proofs.Allowed.{allowed_keeps}
 use Rattle.roster_laws.proofs.Runs.{entries-goes_on, entries-settled, run-goes_on, run-settled, run-stopped}
@@ -69,9 +69,9 @@ module _ (c : Meaning) (best : BestRows) (P : Rows → Type 0) (steps : (r : Row
 -- ---- the best row keeps the roster fitting, and the hard rules
 
 abbrev pub IsKept : Meaning → Rows → Type 0
-IsKept c r = (fits c r ≡ true) × (keeps_hard c r ≡ true)
+IsKept c r = (fits_case c r ≡ true) × (keeps_hard c r ≡ true)
 
-fits-with_row : (c : Meaning) (r : Rows) (n : ℕ) (row : Row) → fits c r ≡ true → is_row_of c row ≡ true → fits c (with_row r n row) ≡ true
+fits-with_row : (c : Meaning) (r : Rows) (n : ℕ) (row : Row) → fits_case c r ≡ true → is_row_of c row ≡ true → fits_case c (with_row r n row) ≡ true
 fits-with_row c r n row fitting is =
     let parts = and_parts (length r == nurse_count c) (list_all (is_row_of c) r) fitting in
     let same : length (with_row r n row) ≡ nurse_count c = length-set r n row ∙ eqb-true (length r) (nurse_count c) parts.0 in

@@ -5,10 +5,10 @@ use Rattle.roster_case.specs.declared.Choice.TheVariants.{Off, Work}
 use Rattle.roster_case.specs.declared.Shift.{Shift}
 use Rattle.roster_case.specs.declared.Skill.{Skill}
 use Rattle.roster_case.specs.Counting.{all_below, one_if, sum_below}
-use Rattle.roster_case.specs.Meaning.{Meaning, shift_count, skill_count}
+use Rattle.roster_case.specs.Meaning.{Meaning, minimum, optimum, shift_count, skill_count}
 use Rattle.roster_case.specs.Weights.{staffing_weight}
 use Rattle.roster_case.proofs.RunSums.{sum_same}
-use Rattle.roster_laws.specs.Staffing.{lacking, meets, minimum, optimum, staffing_by, with_choice}
+use Rattle.roster_laws.specs.Staffing.{lacking, meets, staffing_cost_by, with_choice}
 use Rattle.roster_laws.proofs.Below.{sum_at}
 
 sum_changed : (m n : ℕ) (f g : ℕ → ℕ) → n < m → ((k : ℕ) → (k ≡ n → ⊥) → f k ≡ g k) → sum_below m f + g n ≡ sum_below m g + f n
@@ -45,7 +45,7 @@ all_none zero f p each = refl
 all_none (suc n) f p each = sum_none (sum_below n f) (f n) ∙ ap₂ (λ a b. a && b) (all_none n f p each) (each n)
 
 module _ (c : Meaning) where
-  pub staffing-lacking : (d : ℕ) (have : ℕ → ℕ → ℕ) → staffing_by c d have ≡ staffing_weight * lacking c (optimum c d) have
+  pub staffing-lacking : (d : ℕ) (have : ℕ → ℕ → ℕ) → staffing_cost_by c d have ≡ staffing_weight * lacking c (optimum c d) have
   staffing-lacking d have =
       (λ i. sum_below (shift_count c) (λ s. scaled (skill_count c) (λ k. optimum c d s k - have s k) i)) ∙ scaled (shift_count c) (λ s. sum_below (skill_count c) (λ k. optimum c d s k - have s k))
 

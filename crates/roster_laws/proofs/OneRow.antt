@@ -7,10 +7,10 @@ use Rattle.roster_case.specs.declared.Choice.TheVariants.{Off, Work}
 use Rattle.roster_case.specs.Choices.{days_of, same_choice, shift_of}
 use Rattle.roster_case.specs.Counting.{sum_below, one_if}
 use Rattle.roster_case.specs.Meaning.{Meaning, day_count, nurse_count, shift_at, skill_at}
-use Rattle.roster_case.specs.Penalties.{costs_of, free_runs, off_request_on, over_nurses, own_cost, penalty, shift_runs, split, staffing, totals, undesired, weekends_above, working_runs}
+use Rattle.roster_case.specs.Penalties.{costs_of, free_run_cost, off_request_cost, off_request_cost_on, over_nurses, own_cost, penalty, shift_run_cost, split_cost, staffing_cost, totals_cost, weekends_cost, working_run_cost}
 use Rattle.roster_case.specs.Rosters.{Row, Rows, choice_on, cover, days_of_nurse, row_of, with_row}
 use Rattle.roster_laws.specs.OneRow.{nurse_cost, others, prices, rest_of}
-use Rattle.roster_laws.specs.Staffing.{staffing_by, with_choice}
+use Rattle.roster_laws.specs.Staffing.{staffing_cost_by, with_choice}
 use Rattle.roster_laws.proofs.Below.{sum_at, sum_both}
 
 -- ---- the penalty is the staffing and each nurse's cost
@@ -19,13 +19,13 @@ regroup : (m : ℕ) (w s f u p t e : ℕ → ℕ) → sum_below m (λ n. w n + s
 regroup zero w s f u p t e = refl
 regroup (suc m) w s f u p t e = omega (arith, regroup m w s f u p t e)
 
-pub penalty-parts : (c : Meaning) (r : Rows) → penalty c r ≡ staffing c r + over_nurses c r (nurse_cost c)
+pub penalty-parts : (c : Meaning) (r : Rows) → penalty c r ≡ staffing_cost c r + over_nurses c r (nurse_cost c)
 unfolding penalty costs_of own_cost
 penalty-parts c r =
     omega (
       arith,
-      regroup (nurse_count c) (λ n. working_runs c n (days_of_nurse r n)) (λ n. shift_runs c n (days_of_nurse r n)) (λ n. free_runs c n (days_of_nurse r n)) (λ n. undesired c n (days_of_nurse r n))
-          (λ n. split c n (days_of_nurse r n)) (λ n. totals c n (days_of_nurse r n)) (λ n. weekends_above c n (days_of_nurse r n)),
+      regroup (nurse_count c) (λ n. working_run_cost c n (days_of_nurse r n)) (λ n. shift_run_cost c n (days_of_nurse r n)) (λ n. free_run_cost c n (days_of_nurse r n)) (λ n. off_request_cost c n (days_of_nurse r n))
+          (λ n. split_cost c n (days_of_nurse r n)) (λ n. totals_cost c n (days_of_nurse r n)) (λ n. weekends_cost c n (days_of_nurse r n)),
     )
 
 -- ---- one row replaced
@@ -47,15 +47,15 @@ module _ (r : Rows) (n : ℕ) (within : n < length r) (row : Row) where
       sum_at (nurse_count c) n (λ k. nurse_cost c k (days_of_nurse (with_row r n row) k)) (λ k. nurse_cost c k (days_of_nurse r k)) inside (λ k e. ap (λ own. nurse_cost c k (days_of own)) (other_row k e))
       ∙ ap (λ own. rest_of c r n + nurse_cost c n (days_of own)) own_row
 
-  pub prices-with_row : (c : Meaning) → length row ≡ day_count c → prices c r n row ≡ staffing c (with_row r n row) + undesired c n (days_of row)
+  pub prices-with_row : (c : Meaning) → length row ≡ day_count c → prices c r n row ≡ staffing_cost c (with_row r n row) + off_request_cost c n (days_of row)
   prices-with_row c days =
-      let staff : ℕ → ℕ = λ d. staffing_by c d (with_choice (others r n d) (choice_on row d)) in
-      let wish : ℕ → ℕ = λ d. off_request_on c n d (shift_of (choice_on row d)) in
-      let staffed : staffing c (with_row r n row) ≡ sum_below (length row) staff =
-      λ i. sum_below (sym days i) (λ d. staffing_by c d (λ s k. cover-with_row d s k i)) in
-      let wished : undesired c n (days_of row) ≡ sum_below (length row) wish =
-      λ i. sum_below (length-map row shift_of i) (λ d. off_request_on c n d (get_or-map shift_of row d Off i)) in
-      omega (arith, sum_both (length row) staff wish, staffed, wished)
+      let staff : ℕ → ℕ = λ d. staffing_cost_by c d (with_choice (others r n d) (choice_on row d)) in
+      let requests : ℕ → ℕ = λ d. off_request_cost_on c n d (shift_of (choice_on row d)) in
+      let staffed : staffing_cost c (with_row r n row) ≡ sum_below (length row) staff =
+      λ i. sum_below (sym days i) (λ d. staffing_cost_by c d (λ s k. cover-with_row d s k i)) in
+      let requested : off_request_cost c n (days_of row) ≡ sum_below (length row) requests =
+      λ i. sum_below (length-map row shift_of i) (λ d. off_request_cost_on c n d (get_or-map shift_of row d Off i)) in
+      omega (arith, sum_both (length row) staff requests, staffed, requested)
 
   pub penalty-with_row : (c : Meaning) → n < nurse_count c → length row ≡ day_count c → penalty c (with_row r n row) ≡ rest_of c r n + own_cost c n (days_of row) + prices c r n row
   penalty-with_row c inside days = omega (arith, penalty-parts c (with_row r n row), nurses-with_row c inside, prices-with_row c days)

@@ -7,7 +7,7 @@ use Rattle.roster_case.specs.Improver.{BestRows, if_cheaper, same_rows, step, st
 use Rattle.roster_case.specs.Meaning.{Meaning}
 use Rattle.roster_case.specs.Penalties.{penalty}
 use Rattle.roster_case.specs.Rosters.{Row, Rows, with_row}
-use Rattle.roster_case.specs.Rows.{IsBestRow, allowed_rows, best_row, first_least, penalty_with}
+use Rattle.roster_case.specs.AllowedRows.{IsBestRow, allowed_rows, best_row, first_least, penalty_with}
 use Rattle.roster_case.proofs.FirstLeast.{found, only}
 use Rattle.roster_laws.proofs.Fives.{penalty_is}
 use Rattle.roster_laws.proofs.SameRows.{same_rows_is, same_rows_self}

@@ -6,15 +6,15 @@ use Rattle.roster_case.specs.Counting.{all_below, sum_below}
 use Rattle.roster_case.specs.Days.{Days}
 use Rattle.roster_case.specs.HardRules.{breaks_succession, is_able, keeps_skills, keeps_successions}
 use Rattle.roster_case.specs.Meaning.{Meaning, day_count, nurse_at, nurse_count}
-use Rattle.roster_case.specs.Penalties.{off_request_on, own_cost, undesired}
+use Rattle.roster_case.specs.Penalties.{off_request_cost, off_request_cost_on, own_cost}
 use Rattle.roster_case.specs.Rosters.{Row, Rows, choice_on, cover, days_of_nurse, row_of, with_row}
-use Rattle.roster_laws.specs.Staffing.{meets, staffing_by, with_choice}
+use Rattle.roster_laws.specs.Staffing.{meets, staffing_cost_by, with_choice}
 
 -- ---- the penalty
 
 -- all that a nurse's row costs, apart from staffing
 abbrev pub nurse_cost : Meaning → ℕ → Days → ℕ
-nurse_cost c n days = own_cost c n days + undesired c n days
+nurse_cost c n days = own_cost c n days + off_request_cost c n days
 
 -- what the rows of all other nurses cost
 abbrev pub rest_of : Meaning → Rows → ℕ → ℕ
@@ -24,9 +24,9 @@ rest_of c r n = sum_below (nurse_count c) (λ m. if m == n then 0 else nurse_cos
 abbrev pub others : Rows → ℕ → ℕ → ℕ → ℕ → ℕ
 others r n d s k = cover (with_row r n []) d s k
 
--- the price of a choice on a day: that day's staffing with it, and the nurse's own requests
+-- the price of a choice on a day: that day's staffing with it, and the nurse's own off requests
 abbrev pub price : Meaning → Rows → ℕ → ℕ → Choice → ℕ
-price c r n d choice = staffing_by c d (with_choice (others r n d) choice) + off_request_on c n d (shift_of choice)
+price c r n d choice = staffing_cost_by c d (with_choice (others r n d) choice) + off_request_cost_on c n d (shift_of choice)
 
 abbrev pub prices : Meaning → Rows → ℕ → Row → ℕ
 prices c r n row = sum_below (length row) (λ d. price c r n d (choice_on row d))

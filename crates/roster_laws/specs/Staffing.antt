@@ -4,23 +4,16 @@ use Rattle.roster_case.specs.declared.Choice.{Choice}
 use Rattle.roster_case.specs.declared.Choice.TheVariants.{Work}
 use Rattle.roster_case.specs.Choices.{same_choice}
 use Rattle.roster_case.specs.Counting.{all_below, one_if, sum_below}
-use Rattle.roster_case.specs.Meaning.{Meaning, need, shift_at, shift_count, skill_at, skill_count}
+use Rattle.roster_case.specs.Meaning.{Meaning, minimum, optimum, shift_at, shift_count, skill_at, skill_count}
 use Rattle.roster_case.specs.Weights.{staffing_weight}
 
 -- one nurse more, with this choice
 abbrev pub with_choice : (ℕ → ℕ → ℕ) → Choice → ℕ → ℕ → ℕ
 with_choice have choice s k = have s k + one_if (same_choice choice (Work (shift_at s) (skill_at k)))
 
--- how many nurses are wanted on a day, at least and at best
-abbrev pub minimum : Meaning → ℕ → ℕ → ℕ → ℕ
-minimum c d s k = (need c d s k).least
-
-abbrev pub optimum : Meaning → ℕ → ℕ → ℕ → ℕ
-optimum c d s k = (need c d s k).greatest
-
 -- what the missing nurses of a day cost, and whether no minimum is missed
-abbrev pub staffing_by : Meaning → ℕ → (ℕ → ℕ → ℕ) → ℕ
-staffing_by c d have = sum_below (shift_count c) (λ s. sum_below (skill_count c) (λ k. staffing_weight * (optimum c d s k - have s k)))
+abbrev pub staffing_cost_by : Meaning → ℕ → (ℕ → ℕ → ℕ) → ℕ
+staffing_cost_by c d have = sum_below (shift_count c) (λ s. sum_below (skill_count c) (λ k. staffing_weight * (optimum c d s k - have s k)))
 
 abbrev pub meets : Meaning → ℕ → (ℕ → ℕ → ℕ) → Bool
 meets c d have = all_below (shift_count c) (λ s. all_below (skill_count c) (λ k. not (nat_lt (have s k) (minimum c d s k))))

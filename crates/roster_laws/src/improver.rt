@@ -5,8 +5,8 @@ ghost use Rattle.roster_case.specs.HardRules.{keeps_hard};
 ghost use Rattle.roster_case.specs.Improver.{BestRows, entry, log_of, round, run, same_rows, step};
 ghost use Rattle.roster_case.specs.Meaning.{Meaning, nurse_count};
 ghost use Rattle.roster_case.specs.Penalties.{penalty};
-ghost use Rattle.roster_case.specs.Rosters.{Row, Rows, fits, with_row};
-ghost use Rattle.roster_case.specs.Rows.{IsBestRow, allowed_rows, best_row, penalty_with};
+ghost use Rattle.roster_case.specs.Rosters.{Row, Rows, fits_case, with_row};
+ghost use Rattle.roster_case.specs.AllowedRows.{IsBestRow, allowed_rows, best_row, penalty_with};
 ghost use Rattle.roster_laws.specs.Logs.{Descends, EndsWith, changes_in, ending, outcome_of, rounds_in};
 
 /// Two rosters pass the test for the same rows just where they are one.
@@ -59,6 +59,6 @@ pub fn penalty_never_rises()
 
 /// From a roster that fits and keeps the hard rules, a run of best rows and each line of its log come to such rosters alone.
 pub fn runs_keep_the_hard_rules()
-    ensures log { (c : Meaning) (rounds : ℕ) (r : Rows) → fits c r ≡ true → keeps_hard c r ≡ true → All (λ e. (fits c e.roster ≡ true) × (keeps_hard c e.roster ≡ true)) (log_of c (best_row c) rounds r) }
-    ensures run { (c : Meaning) (rounds : ℕ) (r : Rows) → fits c r ≡ true → keeps_hard c r ≡ true → (fits c (run c (best_row c) rounds r).roster ≡ true) × (keeps_hard c (run c (best_row c) rounds r).roster ≡ true) }
+    ensures log { (c : Meaning) (rounds : ℕ) (r : Rows) → fits_case c r ≡ true → keeps_hard c r ≡ true → All (λ e. (fits_case c e.roster ≡ true) × (keeps_hard c e.roster ≡ true)) (log_of c (best_row c) rounds r) }
+    ensures run { (c : Meaning) (rounds : ℕ) (r : Rows) → fits_case c r ≡ true → keeps_hard c r ≡ true → (fits_case c (run c (best_row c) rounds r).roster ≡ true) × (keeps_hard c (run c (best_row c) rounds r).roster ≡ true) }
 {}

@@ -7,18 +7,18 @@ ghost use Rattle.roster_case.specs.declared.Skill.{Skill};
 ghost use Rattle.roster_case.specs.Choices.{days_of};
 ghost use Rattle.roster_case.specs.Counting.{one_if, sum_below};
 ghost use Rattle.roster_case.specs.HardRules.{keeps_hard};
-ghost use Rattle.roster_case.specs.Meaning.{Meaning, day_count, nurse_count, shift_count, skill_count};
-ghost use Rattle.roster_case.specs.Penalties.{over_nurses, own_cost, penalty, staffing, undesired};
+ghost use Rattle.roster_case.specs.Meaning.{Meaning, day_count, minimum, nurse_count, optimum, shift_count, skill_count};
+ghost use Rattle.roster_case.specs.Penalties.{off_request_cost, over_nurses, own_cost, penalty, staffing_cost};
 ghost use Rattle.roster_case.specs.Rosters.{Row, Rows, choice_on, cover, with_row};
-ghost use Rattle.roster_case.specs.Rows.{penalty_with};
+ghost use Rattle.roster_case.specs.AllowedRows.{penalty_with};
 ghost use Rattle.roster_case.specs.Weights.{staffing_weight};
 ghost use Rattle.roster_laws.specs.OneRow.{is_offered_row, keeps_by_parts, others, prices, rest_of};
-ghost use Rattle.roster_laws.specs.Staffing.{lacking, meets, minimum, optimum, staffing_by, with_choice};
+ghost use Rattle.roster_laws.specs.Staffing.{lacking, meets, staffing_cost_by, with_choice};
 
 /// The penalty is that of the staffing, day by day, and each nurse's own cost and off requests.
 pub fn penalty_by_parts()
-    ensures penalty { (c : Meaning) (r : Rows) → penalty c r ≡ staffing c r + over_nurses c r (λ n days. own_cost c n days + undesired c n days) }
-    ensures staffing { (c : Meaning) (r : Rows) → staffing c r ≡ sum_below (day_count c) (λ d. staffing_by c d (cover r d)) }
+    ensures penalty { (c : Meaning) (r : Rows) → penalty c r ≡ staffing_cost c r + over_nurses c r (λ n days. own_cost c n days + off_request_cost c n days) }
+    ensures staffing { (c : Meaning) (r : Rows) → staffing_cost c r ≡ sum_below (day_count c) (λ d. staffing_cost_by c d (cover r d)) }
 {}
 
 /// A roster keeps the hard rules just where no minimum is missed and each nurse's row keeps the successions and the skills.
@@ -38,7 +38,7 @@ pub fn one_row_replaced()
 /// A day's staffing costs the same for each nurse that is lacking to the optimum, its minimums are met where none is lacking to them,
 /// and a nurse more takes one off what is lacking to a number that isn't reached, where the nurse works.
 pub fn staffing_by_what_is_lacking()
-    ensures staffing { (c : Meaning) (d : ℕ) (have : ℕ → ℕ → ℕ) → staffing_by c d have ≡ staffing_weight * lacking c (optimum c d) have }
+    ensures staffing { (c : Meaning) (d : ℕ) (have : ℕ → ℕ → ℕ) → staffing_cost_by c d have ≡ staffing_weight * lacking c (optimum c d) have }
     ensures minimums { (c : Meaning) (d : ℕ) (have : ℕ → ℕ → ℕ) → meets c d have ≡ (lacking c (minimum c d) have == 0) }
     ensures off { (c : Meaning) (want have : ℕ → ℕ → ℕ) → lacking c want (with_choice have Off) ≡ lacking c want have }
     ensures work { (c : Meaning) (want have : ℕ → ℕ → ℕ) (shift : Shift) (skill : Skill) → shift.0 < shift_count c → skill.0 < skill_count c → lacking c want (with_choice have (Work shift skill)) + one_if (nat_lt (have shift.0 skill.0) (want shift.0 skill.0)) ≡ lacking c want have }

@@ -6,8 +6,8 @@ ghost use Rattle.roster_case.specs.Counting.{one_if};
 ghost use Rattle.roster_case.specs.HardRules.{keeps_hard};
 ghost use Rattle.roster_case.specs.Improver.{same_row};
 ghost use Rattle.roster_case.specs.Meaning.{Meaning, day_count, nurse_count};
-ghost use Rattle.roster_case.specs.Rosters.{Row, Rows, fits, is_row_of, row_of};
-ghost use Rattle.roster_case.specs.Rows.{allowed_rows, best_row, row_keeps};
+ghost use Rattle.roster_case.specs.Rosters.{Row, Rows, fits_case, is_row_of, row_of};
+ghost use Rattle.roster_case.specs.AllowedRows.{allowed_rows, best_row, row_keeps};
 ghost use Rattle.roster_laws.specs.RowOrder.{IsEarlier};
 
 /// All rows are just those of the case, each once, and in their order.
@@ -21,6 +21,6 @@ pub fn all_rows_are_the_rows_of_the_case()
 /// where the roster keeps them, so that there is a best row.
 pub fn allowed_rows_keep_the_hard_rules()
     ensures members { (c : Meaning) (r : Rows) (n : ℕ) (row : Row) → Contains (allowed_rows c r n) row ↔ (row_keeps c r n row ≡ true) }
-    ensures present { (c : Meaning) (r : Rows) (n : ℕ) → fits c r ≡ true → keeps_hard c r ≡ true → n < nurse_count c → Contains (allowed_rows c r n) (row_of r n) }
-    ensures best { (c : Meaning) (r : Rows) (n : ℕ) → fits c r ≡ true → keeps_hard c r ≡ true → n < nurse_count c → IsSome (best_row c r n) }
+    ensures present { (c : Meaning) (r : Rows) (n : ℕ) → fits_case c r ≡ true → keeps_hard c r ≡ true → n < nurse_count c → Contains (allowed_rows c r n) (row_of r n) }
+    ensures best { (c : Meaning) (r : Rows) (n : ℕ) → fits_case c r ≡ true → keeps_hard c r ≡ true → n < nurse_count c → IsSome (best_row c r n) }
 {}

@@ -7,7 +7,7 @@ use Rattle.roster_case.specs.Meaning.{Meaning, shift_at}
 use Rattle.roster_case.specs.Prefix.{Summary}
 use Rattle.roster_case.specs.Limits.{most_states}
 use Rattle.roster_case.specs.Sizes.{state_count}
-use Rattle.roster_state.specs.Codes.{KeepLimits, Sizes, code_of, fits, number_of, product, shift_numbered, sizes_of, state_at, state_numbered}
+use Rattle.roster_state.specs.Codes.{KeepLimits, Sizes, code_of, fits_sizes, product, shift_digit, shift_numbered, sizes_of, state_at, state_numbered}
 
 -- ---- sizes
 
@@ -32,41 +32,41 @@ digit-below q b d a front digit = subst (λ n. q * b + d < n) (mul_comm b a) (mu
 
 -- the digits of a state are below their sizes
 pub record Fits (z : Sizes) (s : Summary) : Type 0 where
-  pub last : number_of s.last < z.last
+  pub last : shift_digit s.last < z.last
   pub run : s.run < z.run
   pub shift_run : s.shift_run < z.shift_run
   pub assignments : s.assignments < z.assignments
   pub weekends : s.weekends < z.weekends
 
-pub fits-all : (z : Sizes) (s : Summary) → fits z s ≡ true → Fits z s
+pub fits-all : (z : Sizes) (s : Summary) → fits_sizes z s ≡ true → Fits z s
 fits-all z s h =
     let to_assignments = and_parts _ _ h in
     let to_shift_run = and_parts _ _ to_assignments.0 in
     let to_run = and_parts _ _ to_shift_run.0 in
     let to_last = and_parts _ _ to_run.0 in
     record {
-      last = ltb-true (number_of s.last) z.last to_last.0;
+      last = ltb-true (shift_digit s.last) z.last to_last.0;
       run = ltb-true s.run z.run to_last.1;
       shift_run = ltb-true s.shift_run z.shift_run to_run.1;
       assignments = ltb-true s.assignments z.assignments to_shift_run.1;
       weekends = ltb-true s.weekends z.weekends to_assignments.1;
     }
 
-pub all-fit : (z : Sizes) (s : Summary) → Fits z s → fits z s ≡ true
+pub all-fit : (z : Sizes) (s : Summary) → Fits z s → fits_sizes z s ≡ true
 all-fit z s f =
     and_from _ _
-    (and_from _ _ (and_from _ _ (and_from _ _ (lt-ltb (number_of s.last) z.last f.last) (lt-ltb s.run z.run f.run)) (lt-ltb s.shift_run z.shift_run f.shift_run)) (lt-ltb s.assignments z.assignments f.assignments))
+    (and_from _ _ (and_from _ _ (and_from _ _ (lt-ltb (shift_digit s.last) z.last f.last) (lt-ltb s.run z.run f.run)) (lt-ltb s.shift_run z.shift_run f.shift_run)) (lt-ltb s.assignments z.assignments f.assignments))
     (lt-ltb s.weekends z.weekends f.weekends)
 
 -- ---- the last shift as a number
 
-number_of-shift_numbered : (n : ℕ) → number_of (shift_numbered n) ≡ n
-number_of-shift_numbered zero = refl
-number_of-shift_numbered (suc n) = ap (λ b. number_of (cond b (Some (shift_at (suc n - 1))) None)) (lt-ltb 0 (suc n) (omega arith)) ∙ omega arith
+shift_digit-shift_numbered : (n : ℕ) → shift_digit (shift_numbered n) ≡ n
+shift_digit-shift_numbered zero = refl
+shift_digit-shift_numbered (suc n) = ap (λ b. shift_digit (cond b (Some (shift_at (suc n - 1))) None)) (lt-ltb 0 (suc n) (omega arith)) ∙ omega arith
 
-shift_numbered-number_of : (last : Option Shift) → shift_numbered (number_of last) ≡ last
-shift_numbered-number_of None = refl
-shift_numbered-number_of (Some s) =
+shift_numbered-shift_digit : (last : Option Shift) → shift_numbered (shift_digit last) ≡ last
+shift_numbered-shift_digit None = refl
+shift_numbered-shift_digit (Some s) =
     let back : s.0 + 1 - 1 ≡ s.0 = omega arith in
     ap (λ b. cond b (Some (shift_at (s.0 + 1 - 1))) None) (lt-ltb 0 (s.0 + 1) (omega arith)) ∙ ap (λ n. Some (shift_at n)) back
 
@@ -75,7 +75,7 @@ shift_numbered-number_of (Some s) =
 module _ (z : Sizes) (s : Summary) (f : Fits z s) where
   -- the number without its last digits, one more each time
   abbrev runs : ℕ
-  runs = number_of s.last * z.run + s.run
+  runs = shift_digit s.last * z.run + s.run
 
   abbrev shift_runs : ℕ
   shift_runs = runs * z.shift_run + s.shift_run
@@ -86,7 +86,7 @@ module _ (z : Sizes) (s : Summary) (f : Fits z s) where
   code-below : code_of z s < z.last * z.run * z.shift_run * z.weekends * z.assignments
   unfolding code_of
   code-below =
-      digit-below weekends z.assignments s.assignments _ (digit-below shift_runs z.weekends s.weekends _ (digit-below runs z.shift_run s.shift_run _ (digit-below (number_of s.last) z.run s.run z.last f.last f.run) f.shift_run) f.weekends) f.assignments
+      digit-below weekends z.assignments s.assignments _ (digit-below shift_runs z.weekends s.weekends _ (digit-below runs z.shift_run s.shift_run _ (digit-below (shift_digit s.last) z.run s.run z.last f.last f.run) f.shift_run) f.weekends) f.assignments
 
   code-within : code_of z s < product z
   code-within = subst (λ n. code_of z s < n) (mul_right_comm (z.last * z.run * z.shift_run) z.weekends z.assignments) code-below
@@ -97,9 +97,9 @@ module _ (z : Sizes) (s : Summary) (f : Fits z s) where
       let first : code_of z s / z.assignments ≡ weekends = div-mul-add weekends z.assignments s.assignments f.assignments in
       let second : code_of z s / z.assignments / z.weekends ≡ shift_runs = ap (λ n. n / z.weekends) first ∙ div-mul-add shift_runs z.weekends s.weekends f.weekends in
       let third : code_of z s / z.assignments / z.weekends / z.shift_run ≡ runs = ap (λ n. n / z.shift_run) second ∙ div-mul-add runs z.shift_run s.shift_run f.shift_run in
-      let fourth : code_of z s / z.assignments / z.weekends / z.shift_run / z.run ≡ number_of s.last = ap (λ n. n / z.run) third ∙ div-mul-add (number_of s.last) z.run s.run f.run in
-      let last_is = ap shift_numbered fourth ∙ shift_numbered-number_of s.last in
-      let run_is = ap (λ n. n % z.run) third ∙ mod-mul-add (number_of s.last) z.run s.run f.run in
+      let fourth : code_of z s / z.assignments / z.weekends / z.shift_run / z.run ≡ shift_digit s.last = ap (λ n. n / z.run) third ∙ div-mul-add (shift_digit s.last) z.run s.run f.run in
+      let last_is = ap shift_numbered fourth ∙ shift_numbered-shift_digit s.last in
+      let run_is = ap (λ n. n % z.run) third ∙ mod-mul-add (shift_digit s.last) z.run s.run f.run in
       let shift_run_is = ap (λ n. n % z.shift_run) second ∙ mod-mul-add runs z.shift_run s.shift_run f.shift_run in
       let weekends_is = ap (λ n. n % z.weekends) first ∙ mod-mul-add shift_runs z.weekends s.weekends f.weekends in
       let assignments_is = mod-mul-add weekends z.assignments s.assignments f.assignments in
@@ -121,7 +121,7 @@ one_code z s other f g same = sym (numbered z other g) ∙ ap (state_numbered z)
 
 -- ---- the number, as it is computed digit by digit
 
-module _ (z now : Sizes) (s state : Summary) (number : ℕ) (sizes : z ≡ now) (digits : s ≡ state) (last : number ≡ number_of s.last) where
+module _ (z now : Sizes) (s state : Summary) (number : ℕ) (sizes : z ≡ now) (digits : s ≡ state) (last : number ≡ shift_digit s.last) where
   abbrev to_weekends : ℕ
   to_weekends = ((number * z.run + s.run) * z.shift_run + s.shift_run) * z.weekends + s.weekends
 
@@ -132,14 +132,14 @@ module _ (z now : Sizes) (s state : Summary) (number : ℕ) (sizes : z ≡ now) 
   unfolding code_of
   code-is = ap (λ n. (((n * z.run + s.run) * z.shift_run + s.shift_run) * z.weekends + s.weekends) * z.assignments + s.assignments) last ∙ ap₂ code_of sizes digits
 
-  module _ (fit : fits now state ≡ true) where
+  module _ (fit : fits_sizes now state ≡ true) where
     there : Fits now state
     there = fits-all now state fit
 
     pub digits-within : all_digits < product now
     digits-within = subst (λ n. n < product now) (sym code-is) (code-within now state there)
 
-    pub digits-of_one : (other : Summary) → fits now other ≡ true → code_of now other ≡ all_digits → other ≡ state
+    pub digits-of_one : (other : Summary) → fits_sizes now other ≡ true → code_of now other ≡ all_digits → other ≡ state
     digits-of_one other fit_too same = one_code now state other there (fits-all now other fit_too) (same ∙ code-is)
 
     pub digits-back : state_at now all_digits ≡ Some state
@@ -169,7 +169,7 @@ module _ (z : Sizes) (code : ℕ) where
       ap (λ n. n * z.assignments + code % z.assignments)
       (ap (λ n. n * z.weekends + first % z.weekends)
       (ap (λ n. n * z.shift_run + second % z.shift_run)
-      (ap (λ n. n * z.run + third % z.run) (number_of-shift_numbered (third / z.run)) ∙ div-add-mod' third z.run)
+      (ap (λ n. n * z.run + third % z.run) (shift_digit-shift_numbered (third / z.run)) ∙ div-add-mod' third z.run)
       ∙ div-add-mod' second z.shift_run)
       ∙ div-add-mod' first z.weekends)
       ∙ div-add-mod' code z.assignments
@@ -181,10 +181,10 @@ module _ (z : Sizes) (code : ℕ) where
         div_below _ z.run z.last keep.run.some (div_below _ z.shift_run (z.last * z.run) keep.shift_run.some (div_below _ z.weekends (z.last * z.run * z.shift_run) keep.weekends.some
         (div_below code z.assignments (z.last * z.run * z.shift_run * z.weekends) keep.assignments.some all)))
 
-    numbered-fits : fits z (state_numbered z code) ≡ true
+    numbered-fits : fits_sizes z (state_numbered z code) ≡ true
     unfolding state_numbered
     numbered-fits = all-fit z (state_numbered z code) (record {
-      last = subst (λ n. n < z.last) (sym (number_of-shift_numbered _)) last-below;
+      last = subst (λ n. n < z.last) (sym (shift_digit-shift_numbered _)) last-below;
       run = mod_below _ z.run keep.run.some;
       shift_run = mod_below _ z.shift_run keep.shift_run.some;
       assignments = mod_below code z.assignments keep.assignments.some;
@@ -219,8 +219,8 @@ module _ (z now : Sizes) (code : ℕ) (last : Option Shift) (sizes : z ≡ now) 
   read-back = ap (code_of now) read-is ∙ code-numbered now code
 
   module _ (keep : KeepLimits z) (below : code < product now) where
-    pub read-fits : fits now read ≡ true
-    read-fits = ap (fits now) read-is ∙ numbered-fits now code (subst KeepLimits sizes keep) below
+    pub read-fits : fits_sizes now read ≡ true
+    read-fits = ap (fits_sizes now) read-is ∙ numbered-fits now code (subst KeepLimits sizes keep) below
 
     pub read-state : Some read ≡ state_at now code
     read-state = ap Some read-is ∙ sym (state_at-some now code (subst KeepLimits sizes keep) below)

@@ -11,9 +11,9 @@ use Rattle.roster_case.specs.Days.{Days, shift_on, is_shift, works, is_off, has_
 use Rattle.roster_case.specs.HardRules.{shift_before}
 use Rattle.roster_case.specs.Meaning.{Meaning, contract_of, last_shift, past_of, run_of_shift}
 use Rattle.roster_case.specs.Penalties.{free_before, worked_before, shift_run_before}
-use Rattle.roster_case.specs.Prefix.{last_of, run_of, shift_run_of, summary_of}
+use Rattle.roster_case.specs.Prefix.{last_of, last_run_of, shift_run_of, summary_of}
 use Rattle.roster_case.specs.Sizes.{cap}
-use Rattle.roster_case.specs.RunLaw.{day_faults}
+use Rattle.roster_case.specs.RunLaw.{day_violations}
 use Rattle.roster_case.specs.Runs.{open_run}
 use Rattle.roster_case.proofs.RunLaw.{border, grown}
 use Rattle.roster_state.specs.Step as step
@@ -35,7 +35,7 @@ missed_same l run (inr h) =
     let e : min run (cap l) ≡ run = omega arith in
     rw e
 
-pub capped : (l : Limits) (run : ℕ) (q : Bool) → day_faults l (min run (cap l)) q ≡ day_faults l run q
+pub capped : (l : Limits) (run : ℕ) (q : Bool) → day_violations l (min run (cap l)) q ≡ day_violations l run q
 capped l run true = extra_same l run (cases_lt l.greatest (run + 1))
 capped l run false = missed_same l run (cases_lt (cap l) run)
 
@@ -77,7 +77,7 @@ module _ (c : Meaning) (n : ℕ) (days : Days) where
   abbrev pub open_shift : ℕ → ℕ
   open_shift t = open_run (shift_run_before t (past_of c n).border) (has_shift t days) (length days)
 
-  working_by : (last : Option Shift) → last_of c n days ≡ last → (if is_some last then run_of c n days last else 0) ≡ min open_working (cap (contract_of c n).working)
+  working_by : (last : Option Shift) → last_of c n days ≡ last → (if is_some last then last_run_of c n days last else 0) ≡ min open_working (cap (contract_of c n).working)
   working_by None e =
       let none : open_working ≡ 0 = closed (worked_before (past_of c n).border) is_some (last_shift (past_of c n).border) days (length days) (worked_border (past_of c n).border) (ap (λ (o : Option Shift). is_some o) e) in
       omega (arith, none)
@@ -87,7 +87,7 @@ module _ (c : Meaning) (n : ℕ) (days : Days) where
   unfolding summary_of
   working_is = working_by (last_of c n days) refl
 
-  free_by : (last : Option Shift) → last_of c n days ≡ last → (if is_some last then 0 else run_of c n days last) ≡ min open_free (cap (contract_of c n).free)
+  free_by : (last : Option Shift) → last_of c n days ≡ last → (if is_some last then 0 else last_run_of c n days last) ≡ min open_free (cap (contract_of c n).free)
   free_by None e = refl
   free_by (Some s) e =
       let none : open_free ≡ 0 = closed (free_before (past_of c n).border) (λ o. not (is_some o)) (last_shift (past_of c n).border) days (length days) (free_border (past_of c n).border) (ap (λ (o : Option Shift). not (is_some o)) e) in
@@ -105,6 +105,6 @@ module _ (c : Meaning) (n : ℕ) (days : Days) where
   shift_by t (Some s) true i e = ap (λ u. min (open_shift u) (cap (run_of_shift c u))) (eqb-true s.0 t i)
   shift_by t last false i e = omega (arith, shift_closed t (ap (is_shift t) e ∙ i))
 
-  pub shift_is : (t : ℕ) → step.run_of (summary_of c n days) t ≡ min (open_shift t) (cap (run_of_shift c t))
+  pub shift_is : (t : ℕ) → step.open_shift_run (summary_of c n days) t ≡ min (open_shift t) (cap (run_of_shift c t))
   unfolding summary_of
   shift_is t = shift_by t (last_of c n days) (is_shift t (last_of c n days)) refl refl

@@ -8,7 +8,7 @@ use Rattle.roster_case.specs.Counting.{sum_below}
 use Rattle.roster_case.specs.Days.{is_shift}
 use Rattle.roster_case.specs.Meaning.{Meaning, run_of_shift, shift_count}
 use Rattle.roster_case.specs.Prefix.{Summary}
-use Rattle.roster_case.specs.RunLaw.{day_faults}
+use Rattle.roster_case.specs.RunLaw.{day_violations}
 use Rattle.roster_case.specs.Weights.{shift_run_weight}
 use Rattle.roster_case.proofs.RunSums.{sum_zero}
 use Rattle.roster_state.specs.Step.{ended, shifts_more, worked}
@@ -40,34 +40,34 @@ sum_two (suc n) t u f h l apart none =
 
 -- what the runs of one shift owe
 abbrev more : (ℕ → Limits) → Option Shift → ℕ → Option Shift → ℕ → ℕ
-more runs last run shift t = shift_run_weight * day_faults (runs t) (if is_shift t last then run else 0) (is_shift t shift)
+more runs last run shift t = shift_run_weight * day_violations (runs t) (if is_shift t last then run else 0) (is_shift t shift)
 
-no_more : (l : Limits) → shift_run_weight * day_faults l 0 false ≡ 0
+no_more : (l : Limits) → shift_run_weight * day_violations l 0 false ≡ 0
 no_more l = refl
 
 module _ (n : ℕ) (runs : ℕ → Limits) (run : ℕ) where
   -- the last shift is worked again, or another one
   again : (t u : Shift) → t.0 < n → u.0 < n → (t.0 ≡ u.0) ⊎ (t.0 ≢ u.0) → sum_below n (more runs (Some t) run (Some u)) ≡ shift_run_weight * ended runs (Some t) run (Some u) + shift_run_weight * worked runs (Some t) run (Some u)
   again t u h l (inl e) =
-      let is : more runs (Some t) run (Some u) u.0 ≡ shift_run_weight * day_faults (runs u.0) run true = rw (eq-eqb t.0 u.0 e, eq-eqb u.0 u.0 refl) in
+      let is : more runs (Some t) run (Some u) u.0 ≡ shift_run_weight * day_violations (runs u.0) run true = rw (eq-eqb t.0 u.0 e, eq-eqb u.0 u.0 refl) in
       let one = sum_one n u.0 (more runs (Some t) run (Some u)) l (λ k m g. rw (ne_eqb t.0 k (λ i. omega arith), ne_eqb u.0 k (λ i. omega arith))) in
       rw (eq-eqb t.0 u.0 e, eq-eqb u.0 t.0 (sym e)) (omega (arith, one, is))
   again t u h l (inr e) =
-      let was : more runs (Some t) run (Some u) t.0 ≡ shift_run_weight * day_faults (runs t.0) run false = rw (eq-eqb t.0 t.0 refl, ne_eqb u.0 t.0 (λ i. e (sym i))) in
-      let is : more runs (Some t) run (Some u) u.0 ≡ shift_run_weight * day_faults (runs u.0) 0 true = rw (ne_eqb t.0 u.0 e, eq-eqb u.0 u.0 refl) in
+      let was : more runs (Some t) run (Some u) t.0 ≡ shift_run_weight * day_violations (runs t.0) run false = rw (eq-eqb t.0 t.0 refl, ne_eqb u.0 t.0 (λ i. e (sym i))) in
+      let is : more runs (Some t) run (Some u) u.0 ≡ shift_run_weight * day_violations (runs u.0) 0 true = rw (ne_eqb t.0 u.0 e, eq-eqb u.0 u.0 refl) in
       let two = sum_two n t.0 u.0 (more runs (Some t) run (Some u)) h l e (λ k m g i. rw (ne_eqb t.0 k (λ j. g (sym j)), ne_eqb u.0 k (λ j. i (sym j)))) in
       rw (ne_eqb t.0 u.0 e, ne_eqb u.0 t.0 (λ i. e (sym i))) (omega (arith, two, was, is))
 
   by_two : (last shift : Option Shift) → IfSome last (λ t. t.0 < n) → IfSome shift (λ t. t.0 < n) → sum_below n (more runs last run shift) ≡ shift_run_weight * ended runs last run shift + shift_run_weight * worked runs last run shift
   by_two None None h l = sum_zero n (more runs None run None) (λ k m. refl)
   by_two None (Some u) h l =
-      let is : more runs None run (Some u) u.0 ≡ shift_run_weight * day_faults (runs u.0) 0 true = rw (eq-eqb u.0 u.0 refl) in
+      let is : more runs None run (Some u) u.0 ≡ shift_run_weight * day_violations (runs u.0) 0 true = rw (eq-eqb u.0 u.0 refl) in
       omega (arith, sum_one n u.0 (more runs None run (Some u)) l (λ k m g. rw (ne_eqb u.0 k (λ i. g (sym i)))), is)
   by_two (Some t) None h l =
-      let was : more runs (Some t) run None t.0 ≡ shift_run_weight * day_faults (runs t.0) run false = rw (eq-eqb t.0 t.0 refl) in
+      let was : more runs (Some t) run None t.0 ≡ shift_run_weight * day_violations (runs t.0) run false = rw (eq-eqb t.0 t.0 refl) in
       omega (arith, sum_one n t.0 (more runs (Some t) run None) h (λ k m g. rw (ne_eqb t.0 k (λ i. g (sym i)))), was)
   by_two (Some t) (Some u) h l = again t u h l (cases_eq t.0 u.0)
 
--- the points for each of two faults
+-- the points for each of two violations
 pub shifts_by_two : (c : Meaning) (s : Summary) (shift : Option Shift) → IfSome s.last (λ t. t.0 < shift_count c) → IfSome shift (λ t. t.0 < shift_count c) → shifts_more c s shift ≡ shift_run_weight * ended (run_of_shift c) s.last s.shift_run shift + shift_run_weight * worked (run_of_shift c) s.last s.shift_run shift
 shifts_by_two c s shift h l = by_two (shift_count c) (run_of_shift c) s.shift_run s.last shift h l

@@ -4,10 +4,10 @@ use Rattle.roster_case.specs.declared.Border.{Border}
 use Rattle.roster_case.specs.declared.ContractRules.{ContractRules}
 use Rattle.roster_case.specs.Days.{works, is_off, has_shift, split_weekends}
 use Rattle.roster_case.specs.Meaning.{Meaning, contract_of, past_of, run_of_shift, shift_count}
-use Rattle.roster_case.specs.Penalties.{free_before, runs_of_shift, shift_run_before, split, worked_before}
+use Rattle.roster_case.specs.Penalties.{free_before, run_cost_of_shift, shift_run_before, split_cost, worked_before}
 use Rattle.roster_case.specs.Prefix.{due}
 use Rattle.roster_case.specs.Weights.{assignment_weight, split_weight, weekend_weight}
-use Rattle.roster_case.proofs.RunLaw.{no_faults}
+use Rattle.roster_case.proofs.RunLaw.{no_violations}
 use Rattle.roster_case.proofs.RunSums.{sum_zero}
 
 pub due_at_first : (c : Meaning) (n : ℕ) → due c n [] ≡ assignment_weight * ((past_of c n).assignments - (contract_of c n).total.greatest) + weekend_weight * ((past_of c n).weekends - (contract_of c n).weekends)
@@ -15,10 +15,10 @@ unfolding due
 due_at_first c n =
     let r : ContractRules = contract_of c n in
     let b : Border = (past_of c n).border in
-    let working = no_faults r.working (worked_before b) (works []) in
-    let free = no_faults r.free (free_before b) (is_off []) in
-    let shifts = sum_zero (shift_count c) (runs_of_shift c n []) (λ t h. omega (arith, no_faults (run_of_shift c t) (shift_run_before t b) (has_shift t []))) in
-    let splits : split c n [] ≡ 0 = none_split r.whole_weekends in
+    let working = no_violations r.working (worked_before b) (works []) in
+    let free = no_violations r.free (free_before b) (is_off []) in
+    let shifts = sum_zero (shift_count c) (run_cost_of_shift c n []) (λ t h. omega (arith, no_violations (run_of_shift c t) (shift_run_before t b) (has_shift t []))) in
+    let splits : split_cost c n [] ≡ 0 = none_split r.whole_weekends in
     omega (arith, working, free, shifts, splits)
   where
     none_split : (q : Bool) → (if q then split_weight * split_weekends [] else 0) ≡ 0

@@ -9,7 +9,7 @@ use Rattle.roster_case.specs.Days.{is_shift, one_alone}
 use Rattle.roster_case.specs.Limits.{most_small}
 use Rattle.roster_case.specs.Meaning.{Meaning, contract_of, run_of_shift, shift_count}
 use Rattle.roster_case.specs.Prefix.{Summary}
-use Rattle.roster_case.specs.RunLaw.{day_faults}
+use Rattle.roster_case.specs.RunLaw.{day_violations}
 use Rattle.roster_case.specs.Small.{AreSmall, HasSmallNumbers}
 use Rattle.roster_case.specs.Weights.{working_run_weight, shift_run_weight, free_run_weight, split_weight, assignment_weight, weekend_weight}
 use Rattle.roster_case.proofs.RunBounds.{sum_both, sum_compared, sum_of_one, where_within}
@@ -21,17 +21,17 @@ use Rattle.roster_state.proofs.SumLaw.{one_at_most, weekends_at_most}
 -- ---- a run
 
 -- one that goes on has one extra day more at most, and one that ends misses its least at most
-goes_on : (l : Limits) (run : ℕ) → day_faults l run true ≤ 1
+goes_on : (l : Limits) (run : ℕ) → day_violations l run true ≤ 1
 goes_on l run = one_at_most (nat_lt l.greatest (run + 1))
 
-ends : (l : Limits) (run : ℕ) → AreSmall l → day_faults l run false ≤ most_small
+ends : (l : Limits) (run : ℕ) → AreSmall l → day_violations l run false ≤ most_small
 ends l run small = where_within (nat_lt 0 run) (l.least - run) most_small (omega (arith, small.least))
 
 abbrev most_of_runs : ℕ
 most_of_runs = max working_run_weight free_run_weight * (most_small + 1)
 
 -- where w and f are the limits of working days and of days off
-two_runs : (w f : Limits) (run : ℕ) (works before : Bool) → AreSmall w → AreSmall f → working_run_weight * day_faults w (if before then run else 0) works + free_run_weight * day_faults f (if before then 0 else run) (not works) ≤ most_of_runs
+two_runs : (w f : Limits) (run : ℕ) (works before : Bool) → AreSmall w → AreSmall f → working_run_weight * day_violations w (if before then run else 0) works + free_run_weight * day_violations f (if before then 0 else run) (not works) ≤ most_of_runs
 two_runs w f run true true small_w small_f = omega (arith, goes_on w run)
 two_runs w f run true false small_w small_f = omega (arith, goes_on w 0, ends f run small_f)
 two_runs w f run false true small_w small_f = omega (arith, ends w run small_w, goes_on f 0)
@@ -39,7 +39,7 @@ two_runs w f run false false small_w small_f = omega (arith, goes_on f run)
 
 -- ---- the shifts
 
-one_shift : (l : Limits) (run : ℕ) (last now : Bool) → AreSmall l → shift_run_weight * day_faults l (if last then run else 0) now ≤ (if last then shift_run_weight * most_small else 0) + (if now then shift_run_weight else 0)
+one_shift : (l : Limits) (run : ℕ) (last now : Bool) → AreSmall l → shift_run_weight * day_violations l (if last then run else 0) now ≤ (if last then shift_run_weight * most_small else 0) + (if now then shift_run_weight else 0)
 one_shift l run true true small = omega (arith, goes_on l run)
 one_shift l run true false small = omega (arith, ends l run small)
 one_shift l run false true small = omega (arith, goes_on l 0)

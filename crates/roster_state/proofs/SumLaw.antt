@@ -9,13 +9,13 @@ use Rattle.roster_case.specs.DayLaw.{is_saturday, is_sunday, splits_more, weeken
 use Rattle.roster_case.specs.Days.{Days, shift_on, is_shift, works, worked_weekends, split_weekends}
 use Rattle.roster_case.specs.HardRules.{shift_before}
 use Rattle.roster_case.specs.Meaning.{Meaning, contract_of, last_shift, past_of, run_of_shift, shift_count}
-use Rattle.roster_case.specs.Penalties.{extra, free_before, free_runs, missing, own_cost, runs_of_shift, shift_run_before, shift_runs, split, total_of, weekends_above, weekends_of, worked_before, working_runs}
-use Rattle.roster_case.specs.Prefix.{Summary, due, last_of, run_of, shift_run_of, summary_of}
+use Rattle.roster_case.specs.Penalties.{extra_cost, free_before, free_run_cost, missing_cost, own_cost, run_cost_of_shift, shift_run_before, shift_run_cost, split_cost, total_of, weekends_cost, weekends_of, worked_before, working_run_cost}
+use Rattle.roster_case.specs.Prefix.{Summary, due, last_of, last_run_of, shift_run_of, summary_of}
 use Rattle.roster_case.specs.Sizes.{cap}
-use Rattle.roster_case.specs.RunLaw.{day_faults}
+use Rattle.roster_case.specs.RunLaw.{day_violations}
 use Rattle.roster_case.specs.Weights.{assignment_weight, split_weight, weekend_weight}
 use Rattle.roster_case.proofs.DayMore.{length_more, shift_of_it}
-use Rattle.roster_case.proofs.RowLaw.{row_faults, row_grown}
+use Rattle.roster_case.proofs.RowLaw.{row_grown, row_violations}
 use Rattle.roster_case.proofs.RunBounds.{sum_both}
 use Rattle.roster_case.proofs.RunSums.{sum_same}
 use Rattle.roster_case.proofs.WeekendLaw.{splits_grow, weekends_grow, worked_grow}
@@ -51,7 +51,7 @@ module _ (c : Meaning) (n : ℕ) (days : Days) (shift : Option Shift) where
   splits_rise : split_weekends (days ++ shift ∷ []) ≡ split_weekends days + splits_more (length days) (is_some (last_of c n days)) (is_some shift)
   splits_rise = omega (arith, splits_grow days shift, splits_before (last_shift (past_of c n).border) days (length days) (is_some shift))
 
-run_next : (c : Meaning) (n : ℕ) (days : Days) (shift : Option Shift) → run_with c n (summary_of c n days) shift ≡ run_of c n (days ++ shift ∷ []) shift
+run_next : (c : Meaning) (n : ℕ) (days : Days) (shift : Option Shift) → run_with c n (summary_of c n days) shift ≡ last_run_of c n (days ++ shift ∷ []) shift
 run_next c n days None =
     let m : ℕ = cap (contract_of c n).free in
     longer _ (open_free c n days) m (free_is c n days) ∙ ap (λ x. min x m) (sym (row_grown (free_before (past_of c n).border) (λ o. not (is_some o)) days None))
@@ -75,7 +75,7 @@ unfolding next_of summary_of
 next_is c n days shift =
     let here : Option Shift = last_of c n (days ++ shift ∷ []) in
     let last : shift ≡ here = sym (last_more c n days shift) in
-    let run : run_with c n (summary_of c n days) shift ≡ run_of c n (days ++ shift ∷ []) here = run_next c n days shift ∙ ap (run_of c n (days ++ shift ∷ [])) last in
+    let run : run_with c n (summary_of c n days) shift ≡ last_run_of c n (days ++ shift ∷ []) here = run_next c n days shift ∙ ap (last_run_of c n (days ++ shift ∷ [])) last in
     let shift_run : shift_run_with c (summary_of c n days) shift ≡ shift_run_of c n (days ++ shift ∷ []) here = shift_run_next c n days shift ∙ ap (shift_run_of c n (days ++ shift ∷ [])) last in
     let assignments : min (min (total_of c n days) (cap (contract_of c n).total) + one_if (is_some shift)) (cap (contract_of c n).total) ≡ min (total_of c n (days ++ shift ∷ [])) (cap (contract_of c n).total) =
     omega (arith, worked_grow days shift) in
@@ -86,38 +86,38 @@ next_is c n days shift =
 -- ---- what is owed more
 
 module _ (c : Meaning) (n : ℕ) (days : Days) (shift : Option Shift) where
-  working_rise : working_runs c n (days ++ shift ∷ []) ≡ working_runs c n days + working_more c n (summary_of c n days) shift
+  working_rise : working_run_cost c n (days ++ shift ∷ []) ≡ working_run_cost c n days + working_more c n (summary_of c n days) shift
   working_rise =
       let l : Limits = (contract_of c n).working in
-      let faults = row_faults l (worked_before (past_of c n).border) is_some days shift in
-      let day = ap (λ x. day_faults l x (is_some shift)) (working_is c n days) ∙ capped l (open_working c n days) (is_some shift) in
-      omega (arith, faults, day)
+      let violations = row_violations l (worked_before (past_of c n).border) is_some days shift in
+      let day = ap (λ x. day_violations l x (is_some shift)) (working_is c n days) ∙ capped l (open_working c n days) (is_some shift) in
+      omega (arith, violations, day)
 
-  free_rise : free_runs c n (days ++ shift ∷ []) ≡ free_runs c n days + free_more c n (summary_of c n days) shift
+  free_rise : free_run_cost c n (days ++ shift ∷ []) ≡ free_run_cost c n days + free_more c n (summary_of c n days) shift
   free_rise =
       let l : Limits = (contract_of c n).free in
-      let faults = row_faults l (free_before (past_of c n).border) (λ o. not (is_some o)) days shift in
-      let day = ap (λ x. day_faults l x (not (is_some shift))) (free_is c n days) ∙ capped l (open_free c n days) (not (is_some shift)) in
-      omega (arith, faults, day)
+      let violations = row_violations l (free_before (past_of c n).border) (λ o. not (is_some o)) days shift in
+      let day = ap (λ x. day_violations l x (not (is_some shift))) (free_is c n days) ∙ capped l (open_free c n days) (not (is_some shift)) in
+      omega (arith, violations, day)
 
-  shift_rise : (t : ℕ) → runs_of_shift c n (days ++ shift ∷ []) t ≡ runs_of_shift c n days t + shift_more c (summary_of c n days) shift t
+  shift_rise : (t : ℕ) → run_cost_of_shift c n (days ++ shift ∷ []) t ≡ run_cost_of_shift c n days t + shift_more c (summary_of c n days) shift t
   shift_rise t =
       let l : Limits = run_of_shift c t in
-      let faults = row_faults l (shift_run_before t (past_of c n).border) (is_shift t) days shift in
-      let day = ap (λ x. day_faults l x (is_shift t shift)) (shift_is c n days t) ∙ capped l (open_shift c n days t) (is_shift t shift) in
-      omega (arith, faults, day)
+      let violations = row_violations l (shift_run_before t (past_of c n).border) (is_shift t) days shift in
+      let day = ap (λ x. day_violations l x (is_shift t shift)) (shift_is c n days t) ∙ capped l (open_shift c n days t) (is_shift t shift) in
+      omega (arith, violations, day)
 
-  shifts_rise : shift_runs c n (days ++ shift ∷ []) ≡ shift_runs c n days + shifts_more c (summary_of c n days) shift
+  shifts_rise : shift_run_cost c n (days ++ shift ∷ []) ≡ shift_run_cost c n days + shifts_more c (summary_of c n days) shift
   shifts_rise =
-      sum_same (shift_count c) (runs_of_shift c n (days ++ shift ∷ [])) (λ t. runs_of_shift c n days t + shift_more c (summary_of c n days) shift t) (λ t h. shift_rise t)
-      ∙ sum_both (shift_count c) (runs_of_shift c n days) (shift_more c (summary_of c n days) shift)
+      sum_same (shift_count c) (run_cost_of_shift c n (days ++ shift ∷ [])) (λ t. run_cost_of_shift c n days t + shift_more c (summary_of c n days) shift t) (λ t h. shift_rise t)
+      ∙ sum_both (shift_count c) (run_cost_of_shift c n days) (shift_more c (summary_of c n days) shift)
 
   -- where the contract wants whole weekends
   split_by : (q : Bool) → (if q then split_weight * split_weekends (days ++ shift ∷ []) else 0) ≡ (if q then split_weight * split_weekends days else 0) + (if q then split_weight * splits_more (length days) (is_some (last_of c n days)) (is_some shift) else 0)
   split_by true = omega (arith, splits_rise c n days shift)
   split_by false = refl
 
-  split_rise : split c n (days ++ shift ∷ []) ≡ split c n days + split_more c n (length days) (summary_of c n days) shift
+  split_rise : split_cost c n (days ++ shift ∷ []) ≡ split_cost c n days + split_more c n (length days) (summary_of c n days) shift
   unfolding summary_of
   split_rise = split_by (contract_of c n).whole_weekends
 
@@ -141,14 +141,14 @@ weekends_at_most false true b x = one_at_most (not b && x)
 weekends_at_most false false b x = omega arith
 
 module _ (c : Meaning) (n : ℕ) (days : Days) (shift : Option Shift) where
-  total_rise : extra c n (total_of c n (days ++ shift ∷ [])) ≡ extra c n (total_of c n days) + total_more c n (summary_of c n days) shift
+  total_rise : extra_cost c n (total_of c n (days ++ shift ∷ [])) ≡ extra_cost c n (total_of c n days) + total_more c n (summary_of c n days) shift
   unfolding summary_of
   total_rise =
       let l : Limits = (contract_of c n).total in
       let more : total_of c n (days ++ shift ∷ []) ≡ total_of c n days + one_if (is_some shift) = omega (arith, worked_grow days shift) in
-      ap (λ t. extra c n t) more ∙ above assignment_weight l.greatest (cap l) (total_of c n days) (one_if (is_some shift)) (omega arith) (cases_lt (total_of c n days) l.greatest) (one_at_most (is_some shift))
+      ap (λ t. extra_cost c n t) more ∙ above assignment_weight l.greatest (cap l) (total_of c n days) (one_if (is_some shift)) (omega arith) (cases_lt (total_of c n days) l.greatest) (one_at_most (is_some shift))
 
-  weekend_rise : weekends_above c n (days ++ shift ∷ []) ≡ weekends_above c n days + weekend_more c n (length days) (summary_of c n days) shift
+  weekend_rise : weekends_cost c n (days ++ shift ∷ []) ≡ weekends_cost c n days + weekend_more c n (length days) (summary_of c n days) shift
   unfolding summary_of
   weekend_rise =
       let m : ℕ = (contract_of c n).weekends in
@@ -167,7 +167,7 @@ module _ (c : Meaning) (n : ℕ) (days : Days) (shift : Option Shift) where
 pub closes : (c : Meaning) (n : ℕ) (days : Days) → own_cost c n days ≡ due c n days + end_cost_of c n (summary_of c n days)
 unfolding own_cost due summary_of
 closes c n days =
-    let e : missing c n (min (total_of c n days) (cap (contract_of c n).total)) ≡ missing c n (total_of c n days) = omega arith in
+    let e : missing_cost c n (min (total_of c n days) (cap (contract_of c n).total)) ≡ missing_cost c n (total_of c n days) = omega arith in
     omega (arith, e)
 
 -- ---- of any state that is the summary of some days

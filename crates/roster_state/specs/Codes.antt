@@ -30,20 +30,20 @@ abbrev pub product : Sizes → ℕ
 product z = z.last * z.run * z.shift_run * z.assignments * z.weekends
 
 -- the last shift as a number: 0 where there is none
-abbrev pub number_of : Option Shift → ℕ
-number_of None = 0
-number_of (Some s) = s.0 + 1
+abbrev pub shift_digit : Option Shift → ℕ
+shift_digit None = 0
+shift_digit (Some s) = s.0 + 1
 
 abbrev pub shift_numbered : ℕ → Option Shift
 shift_numbered n = if nat_lt 0 n then Some (shift_at (n - 1)) else None
 
 -- each number of the state is one of its values
-abbrev pub fits : Sizes → Summary → Bool
-fits z s = nat_lt (number_of s.last) z.last && nat_lt s.run z.run && nat_lt s.shift_run z.shift_run && nat_lt s.assignments z.assignments && nat_lt s.weekends z.weekends
+abbrev pub fits_sizes : Sizes → Summary → Bool
+fits_sizes z s = nat_lt (shift_digit s.last) z.last && nat_lt s.run z.run && nat_lt s.shift_run z.shift_run && nat_lt s.assignments z.assignments && nat_lt s.weekends z.weekends
 
 -- the number of a state
 unfoldable pub code_of : Sizes → Summary → ℕ
-code_of z s = (((number_of s.last * z.run + s.run) * z.shift_run + s.shift_run) * z.weekends + s.weekends) * z.assignments + s.assignments
+code_of z s = (((shift_digit s.last * z.run + s.run) * z.shift_run + s.shift_run) * z.weekends + s.weekends) * z.assignments + s.assignments
 
 -- the state whose numbers are the digits of a number
 unfoldable pub state_numbered : Sizes → ℕ → Summary

@@ -8,10 +8,10 @@ use Rattle.roster_case.specs.DayLaw.{splits_more, weekends_more}
 use Rattle.roster_case.specs.Days.{Days, is_shift}
 use Rattle.roster_case.specs.HardRules.{breaks_succession, keeps_successions}
 use Rattle.roster_case.specs.Meaning.{Meaning, contract_of, forbids, run_of_shift, shift_count}
-use Rattle.roster_case.specs.Penalties.{missing}
+use Rattle.roster_case.specs.Penalties.{missing_cost}
 use Rattle.roster_case.specs.Prefix.{Summary}
 use Rattle.roster_case.specs.Sizes.{cap}
-use Rattle.roster_case.specs.RunLaw.{day_faults}
+use Rattle.roster_case.specs.RunLaw.{day_violations}
 use Rattle.roster_case.specs.Weights.{working_run_weight, shift_run_weight, free_run_weight, split_weight, assignment_weight, weekend_weight}
 
 -- ---- the runs that are open
@@ -22,21 +22,21 @@ working_run s = if is_some s.last then s.run else 0
 abbrev pub free_run : Summary → ℕ
 free_run s = if is_some s.last then 0 else s.run
 
-abbrev pub run_of : Summary → ℕ → ℕ
-run_of s t = if is_shift t s.last then s.shift_run else 0
+abbrev pub open_shift_run : Summary → ℕ → ℕ
+open_shift_run s t = if is_shift t s.last then s.shift_run else 0
 
 -- ---- what one day more costs
 
 -- points for each missing or extra day of the runs of working days and of days off
 abbrev pub working_more : Meaning → ℕ → Summary → Option Shift → ℕ
-working_more c n s shift = working_run_weight * day_faults (contract_of c n).working (working_run s) (is_some shift)
+working_more c n s shift = working_run_weight * day_violations (contract_of c n).working (working_run s) (is_some shift)
 
 abbrev pub free_more : Meaning → ℕ → Summary → Option Shift → ℕ
-free_more c n s shift = free_run_weight * day_faults (contract_of c n).free (free_run s) (not (is_some shift))
+free_more c n s shift = free_run_weight * day_violations (contract_of c n).free (free_run s) (not (is_some shift))
 
 -- points for each missing or extra day of the runs of the shifts
 abbrev pub shift_more : Meaning → Summary → Option Shift → ℕ → ℕ
-shift_more c s shift t = shift_run_weight * day_faults (run_of_shift c t) (run_of s t) (is_shift t shift)
+shift_more c s shift t = shift_run_weight * day_violations (run_of_shift c t) (open_shift_run s t) (is_shift t shift)
 
 abbrev pub shifts_more : Meaning → Summary → Option Shift → ℕ
 shifts_more c s shift = sum_below (shift_count c) (shift_more c s shift)
@@ -44,11 +44,11 @@ shifts_more c s shift = sum_below (shift_count c) (shift_more c s shift)
 -- of all shifts two at most count there: the last one, whose run ends, and the worked one, which may be an extra day
 abbrev pub ended : (ℕ → Limits) → Option Shift → ℕ → Option Shift → ℕ
 ended runs None run shift = 0
-ended runs (Some t) run shift = if is_shift t.0 shift then 0 else day_faults (runs t.0) run false
+ended runs (Some t) run shift = if is_shift t.0 shift then 0 else day_violations (runs t.0) run false
 
 abbrev pub worked : (ℕ → Limits) → Option Shift → ℕ → Option Shift → ℕ
 worked runs last run None = 0
-worked runs last run (Some u) = day_faults (runs u.0) (if is_shift u.0 last then run else 0) true
+worked runs last run (Some u) = day_violations (runs u.0) (if is_shift u.0 last then run else 0) true
 
 -- points for a weekend that this day splits, where the contract wants whole weekends
 abbrev pub split_more : Meaning → ℕ → ℕ → Summary → Option Shift → ℕ
@@ -73,7 +73,7 @@ run_with c n s (Some t) = min (working_run s + 1) (cap (contract_of c n).working
 
 abbrev pub shift_run_with : Meaning → Summary → Option Shift → ℕ
 shift_run_with c s None = 0
-shift_run_with c s (Some t) = min (run_of s t.0 + 1) (cap (run_of_shift c t.0))
+shift_run_with c s (Some t) = min (open_shift_run s t.0 + 1) (cap (run_of_shift c t.0))
 
 unfoldable pub next_of : Meaning → ℕ → ℕ → Summary → Option Shift → Summary
 next_of c n day s shift = record {
@@ -90,7 +90,7 @@ step_of c n day s shift = if forbids c.successions s.last shift then None else S
 
 -- points for each assignment missing to the least total, at the end
 abbrev pub end_cost_of : Meaning → ℕ → Summary → ℕ
-end_cost_of c n s = missing c n s.assignments
+end_cost_of c n s = missing_cost c n s.assignments
 
 -- no shift of these days is forbidden by the one before it, the history's last included
 abbrev pub KeepsSuccessions : Meaning → ℕ → Days → Type 0

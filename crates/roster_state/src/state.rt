@@ -2,7 +2,7 @@
 
 ghost use Rattle.std.specs.Prelude.{◌≡◌, ◌↔◌, ◌<◌, ◌≤◌, true, IfSome, IsNone};
 ghost use Rattle.roster_case.specs.Prefix.{Summary};
-ghost use Rattle.roster_state.specs.Codes.{code_of, fits, number_of, product, shift_numbered, state_at};
+ghost use Rattle.roster_state.specs.Codes.{code_of, fits_sizes, product, shift_digit, shift_numbered, state_at};
 
 use crate::ranges::Ranges;
 use roster_case::Shift;
@@ -32,9 +32,9 @@ impl Model for State {
 impl State {
     /// Whether each number is one of its values.
     pub fn fits(&self, ranges: &Ranges) -> bool
-        ensures { result ≡ fits ranges.now self.now }
+        ensures { result ≡ fits_sizes ranges.now self.now }
     {
-        number_of(self.last) < ranges.last
+        shift_digit(self.last) < ranges.last
             && (self.run as u32) < ranges.run
             && (self.shift_run as u32) < ranges.shift_run
             && (self.assignments as u32) < ranges.assignments
@@ -44,15 +44,15 @@ impl State {
     /// The number of the state, below the product of the ranges. States that differ in their assignments alone have
     /// numbers beside one another.
     pub fn code(&self, ranges: &Ranges) -> u32
-        requires { fits ranges.now self.now ≡ true }
+        requires { fits_sizes ranges.now self.now ≡ true }
         ensures code { result ≡ code_of ranges.now self.now }
         ensures within { result < product ranges.now }
 
         // Each state that fits has a number of its own, and is read back from it.
-        ensures one { (other : Summary) → fits ranges.now other ≡ true → code_of ranges.now other ≡ result → other ≡ self.now }
+        ensures one { (other : Summary) → fits_sizes ranges.now other ≡ true → code_of ranges.now other ≡ result → other ≡ self.now }
         ensures back { state_at ranges.now result ≡ Some self.now }
     {
-        let run = number_of(self.last) * ranges.run + self.run as u32;
+        let run = shift_digit(self.last) * ranges.run + self.run as u32;
         let shift_run = run * ranges.shift_run + self.shift_run as u32;
         let weekends = shift_run * ranges.weekends + self.weekends as u32;
         weekends * ranges.assignments + self.assignments as u32
@@ -62,7 +62,7 @@ impl State {
     pub fn from_code(ranges: &Ranges, code: u32) -> Option<State>
         ensures state { result ≡ state_at ranges.now code }
         ensures none { IsNone result ↔ product ranges.now ≤ code }
-        ensures fits { IfSome result (λ state. fits ranges.now state ≡ true) }
+        ensures fits { IfSome result (λ state. fits_sizes ranges.now state ≡ true) }
         ensures back { IfSome result (λ state. code_of ranges.now state ≡ code) }
     {
         if code >= ranges.product() {
@@ -82,8 +82,8 @@ impl State {
 }
 
 /// The last shift as a number, 0 where there is none.
-fn number_of(last: Option<Shift>) -> u32
-    ensures number { result ≡ number_of last }
+fn shift_digit(last: Option<Shift>) -> u32
+    ensures number { result ≡ shift_digit last }
     ensures within { result ≤ 256 }
 {
     match last {

@@ -8,10 +8,10 @@ ghost use Rattle.roster_case.specs.DayLaw.{splits_more, weekends_more};
 ghost use Rattle.roster_case.specs.Small.{IsSmallPast};
 ghost use Rattle.roster_case.specs.Prefix.{due, summary_of};
 ghost use Rattle.roster_case.specs.Sizes.{cap};
-ghost use Rattle.roster_state.specs.Codes.{fits, sizes_of};
+ghost use Rattle.roster_state.specs.Codes.{fits_sizes, sizes_of};
 ghost use Rattle.roster_case.specs.Weights.{assignment_weight, free_run_weight, shift_run_weight, split_weight, weekend_weight, working_run_weight};
 ghost use Rattle.roster_state.specs.Room.{most_at_end, most_at_start, most_of_step};
-ghost use Rattle.roster_state.specs.Step.{end_cost_of, ended, free_more, free_run, next_of, run_of, shifts_more, split_more, step_cost, step_of, total_more, weekend_more, worked, working_more, working_run};
+ghost use Rattle.roster_state.specs.Step.{end_cost_of, ended, free_more, free_run, next_of, open_shift_run, shifts_more, split_more, step_cost, step_of, total_more, weekend_more, worked, working_more, working_run};
 
 use crate::meter::Meter;
 use crate::state::State;
@@ -25,7 +25,7 @@ pub fn start(case: &Case, nurse: usize) -> (State, u32)
     requires { nurse < nurse_count case.now }
     ensures state { result.0 ≡ summary_of case.now nurse [] }
     ensures cost { result.1 ≡ due case.now nurse [] }
-    ensures fits { fits (sizes_of case.now nurse) result.0 ≡ true }
+    ensures fits { fits_sizes (sizes_of case.now nurse) result.0 ≡ true }
     ensures within { result.1 ≤ most_at_start }
 {
     let past = case.past(nurse);
@@ -48,7 +48,7 @@ pub fn extend(
     requires nurse { nurse < nurse_count case.now }
     requires day { day < day_count case.now }
     requires shift { IfSome shift (λ s. s.0 < shift_count case.now) }
-    requires fits { fits (sizes_of case.now nurse) state ≡ true }
+    requires fits { fits_sizes (sizes_of case.now nurse) state ≡ true }
     requires room { meter.old < 18446744073709551615 }
     ensures counted { meter.new ≡ meter.old + 1 }
     ensures step { result ≡ step_of case.now nurse day state shift }
@@ -59,7 +59,7 @@ pub fn extend(
     ensures owed { IfSome result (λ step. (days : Days) → length days ≡ day → state ≡ summary_of case.now nurse days → due case.now nurse (days ++ shift ∷ []) ≡ due case.now nurse days + step.1) }
 
     // From any state that fits the next one fits, and the step costs little.
-    ensures next_fits { IfSome result (λ step. fits (sizes_of case.now nurse) step.0 ≡ true) }
+    ensures next_fits { IfSome result (λ step. fits_sizes (sizes_of case.now nurse) step.0 ≡ true) }
     ensures within { IfSome result (λ step. step.1 ≤ most_of_step) }
 {
     meter.add_one();
@@ -79,10 +79,10 @@ pub fn after(
     requires nurse { nurse < nurse_count case.now }
     requires day { day < day_count case.now }
     requires shift { IfSome shift (λ s. s.0 < shift_count case.now) }
-    requires fits { fits (sizes_of case.now nurse) state ≡ true }
+    requires fits { fits_sizes (sizes_of case.now nurse) state ≡ true }
     ensures state { result ≡ (if forbids case.now.successions state.last shift then None else Some (next_of case.now nurse day state shift)) }
     ensures summary { IfSome result (λ next. (days : Days) → length days ≡ day → state ≡ summary_of case.now nurse days → next ≡ summary_of case.now nurse (days ++ shift ∷ [])) }
-    ensures next_fits { IfSome result (λ next. fits (sizes_of case.now nurse) next ≡ true) }
+    ensures next_fits { IfSome result (λ next. fits_sizes (sizes_of case.now nurse) next ≡ true) }
 {
     if case.forbids_next(state.last, shift) {
         return None;
@@ -93,14 +93,14 @@ pub fn after(
 /// What the days cost in the end, beside the steps: points for each assignment missing to the least total.
 pub fn end_cost(case: &Case, nurse: usize, state: State) -> u32
     requires nurse { nurse < nurse_count case.now }
-    requires fits { fits (sizes_of case.now nurse) state ≡ true }
+    requires fits { fits_sizes (sizes_of case.now nurse) state ≡ true }
     ensures cost { result ≡ end_cost_of case.now nurse state }
 
     // From the summary of all days it closes what is owed to the nurse's own cost.
     ensures closes { (days : Days) → state ≡ summary_of case.now nurse days → own_cost case.now nurse days ≡ due case.now nurse days + result }
     ensures within { result ≤ most_at_end }
 {
-    missing(case, nurse, state)
+    missing_cost(case, nurse, state)
 }
 
 // ---- the start and the end
@@ -113,9 +113,13 @@ fn start_state(case: &Case, nurse: usize, past: Past) -> State
     let rules = case.contract_rules(nurse);
     let (last, run, shift_run) = match past.border {
         Border::Free(run) => (None, min(run, rules.free.cap()), 0),
-        Border::Working(shift, shift_run, run) => (
+        Border::Working {
+            shift,
+            shift_run,
+            working_run,
+        } => (
             Some(shift),
-            min(run, rules.working.cap()),
+            min(working_run, rules.working.cap()),
             min(shift_run, case.run_of_shift(shift).cap()),
         ),
     };
@@ -141,7 +145,7 @@ fn start_cost(case: &Case, nurse: usize, past: Past) -> u32
 }
 
 /// The points for each assignment missing to the least total.
-fn missing(case: &Case, nurse: usize, state: State) -> u32
+fn missing_cost(case: &Case, nurse: usize, state: State) -> u32
     ensures cost { result ≡ end_cost_of case.now nurse state }
     ensures within { result ≤ most_at_end }
 {
@@ -159,7 +163,7 @@ fn next_of(case: &Case, nurse: usize, day: u16, state: State, shift: Option<Shif
     let (run, shift_run) = match shift {
         Some(shift) => (
             longer(working_run(state), rules.working),
-            longer(run_of(state, shift), case.run_of_shift(shift)),
+            longer(open_shift_run(state, shift), case.run_of_shift(shift)),
         ),
         None => (longer(free_run(state), rules.free), 0),
     };
@@ -194,8 +198,8 @@ fn runs_more(case: &Case, nurse: usize, state: State, shift: Option<Shift>) -> u
 {
     let rules = case.contract_rules(nurse);
     let works = shift.is_some();
-    let working = rules.working.day_faults(working_run(state), works);
-    let free = rules.free.day_faults(free_run(state), !works);
+    let working = rules.working.day_violations(working_run(state), works);
+    let free = rules.free.day_violations(free_run(state), !works);
     WORKING_RUN * working + FREE_RUN * free
 }
 
@@ -246,13 +250,13 @@ fn shifts_more(case: &Case, state: State, shift: Option<Shift>) -> u32
 
 /// What the run of the last shift misses, where it ends.
 fn ended(case: &Case, state: State, shift: Option<Shift>) -> u32
-    ensures faults { result ≡ ended (run_of_shift case.now) state.last state.shift_run shift }
+    ensures violations { result ≡ ended (run_of_shift case.now) state.last state.shift_run shift }
     ensures within { result ≤ 65536 }
 {
     match state.last {
         Some(last) if shift != Some(last) => {
             case.run_of_shift(last)
-                .day_faults(state.shift_run as u32, false)
+                .day_violations(state.shift_run as u32, false)
         }
         _ => 0,
     }
@@ -260,13 +264,13 @@ fn ended(case: &Case, state: State, shift: Option<Shift>) -> u32
 
 /// 1 where the worked shift is an extra day of its run.
 fn worked(case: &Case, state: State, shift: Option<Shift>) -> u32
-    ensures faults { result ≡ worked (run_of_shift case.now) state.last state.shift_run shift }
+    ensures violations { result ≡ worked (run_of_shift case.now) state.last state.shift_run shift }
     ensures within { result ≤ 65536 }
 {
     match shift {
         Some(shift) => case
             .run_of_shift(shift)
-            .day_faults(run_of(state, shift), true),
+            .day_violations(open_shift_run(state, shift), true),
         None => 0,
     }
 }
@@ -293,8 +297,8 @@ fn free_run(state: State) -> u32
     }
 }
 
-fn run_of(state: State, shift: Shift) -> u32
-    ensures run { result ≡ run_of state shift.0 }
+fn open_shift_run(state: State, shift: Shift) -> u32
+    ensures run { result ≡ open_shift_run state shift.0 }
     ensures within { result ≤ 65535 }
 {
     match state.last {

@@ -8,6 +8,7 @@ mod devices_tests;
 #[cfg(test)]
 mod library_tests;
 #[cfg(test)]
+mod start_tests;
 #[cfg(test)]
 mod state_tests;
 #[cfg(test)]

@@ -1,7 +1,7 @@
 //! The states of nurses along the rows of worked instances.
 
 ghost use Rattle.std.specs.Prelude.{◌≡◌, true, IfOk};
-ghost use Rattle.roster_case.specs.Rosters.{fits};
+ghost use Rattle.roster_case.specs.Rosters.{fits_case};
 
 use crate::texts::mini_with;
 use roster_case::{Case, Roster, costs};
@@ -12,7 +12,7 @@ use std::test::Fail;
 
 /// The case and the roster of a text.
 fn read(alloc: Global, source: &[u8]) -> Result<(Case, Roster), Fail>
-    ensures { IfOk result (λ r. fits r.0 r.1 ≡ true) }
+    ensures { IfOk result (λ r. fits_case r.0 r.1 ≡ true) }
 {
     let tokens = tokens(alloc, source)?;
     let bundle = parse_bundle(alloc, source, &tokens)?;
@@ -23,7 +23,7 @@ fn read(alloc: Global, source: &[u8]) -> Result<(Case, Roster), Fail>
 
 /// What the rows cost their nurses, from day to day, and how many steps that took. None where a shift forbids the next.
 fn rows_cost(case: &mut Case, roster: &Roster) -> Option<(u64, u64)>
-    requires { fits case.old roster.now ≡ true }
+    requires { fits_case case.old roster.now ≡ true }
     ensures { case.new ≡ case.old }
 {
     case.keeps_limits();

@@ -2,7 +2,7 @@ use Rattle.std.proofs.Common.{◌≤◌, ◌<◌, arith, subst, sym}
 use Rattle.roster_case.specs.Penalties.{costs_of, total_cost}
 use Rattle.roster_case.specs.Room.{most_staffing, penalty_room}
 use Rattle.roster_case.specs.declared.penalties.Costs.{Costs}
-use Rattle.roster_case.proofs.Bounds.{penalty-within, staffing-within}
+use Rattle.roster_case.proofs.Bounds.{penalty-within, staffing_cost-within}
 use Rattle.roster_case.proofs.costing.costs.Goals as goal
 
 pub returns-clause-within : goal.returns-clause-within
@@ -14,4 +14,4 @@ pub returns-clause-staffing : goal.returns-clause-staffing
 unfolding costs_of
 returns-clause-staffing c =
     let keeps = c.keeps_limits.ensures in
-    subst (λ (k : Costs). k.s1 ≤ most_staffing) (sym c.by_rule.ensures) (staffing-within c.args.case.now c.args.roster.now keeps.small keeps.shifts keeps.skills (omega (arith, keeps.weeks)))
+    subst (λ (k : Costs). k.s1 ≤ most_staffing) (sym c.by_rule.ensures) (staffing_cost-within c.args.case.now c.args.roster.now keeps.small keeps.shifts keeps.skills (omega (arith, keeps.weeks)))

@@ -4,12 +4,12 @@ use Rattle.std.specs.List.{flat_map}
 use Rattle.roster_case.specs.Improver.{line_of}
 use Rattle.roster_examples.specs.Mini.{mini_of_one_shift}
 use Rattle.roster_case.specs.Penalties.{costs_of, penalty}
-use Rattle.roster_case.specs.Runs.{run_faults}
+use Rattle.roster_case.specs.Runs.{run_violations}
 use Rattle.roster_examples.proofs.ThreeRounds.{settled_log, settled_three, stopped_log, stopped_run}
 use Rattle.roster_examples.proofs.choosing.run_of_three_rounds.Goals as goal
 
 pub returns-clause-log : goal.returns-clause-log
-unfolding penalty costs_of run_faults digits
+unfolding penalty costs_of run_violations digits
 returns-clause-log c = ap (flat_map (line_of mini_of_one_shift)) settled_log ∙ refl
 
 pub returns-clause-settled : goal.returns-clause-settled
@@ -19,5 +19,5 @@ pub returns-clause-stopped : goal.returns-clause-stopped
 returns-clause-stopped c = stopped_run
 
 pub returns-clause-stopped_log : goal.returns-clause-stopped_log
-unfolding penalty costs_of run_faults digits
+unfolding penalty costs_of run_violations digits
 returns-clause-stopped_log c = ap (flat_map (line_of mini_of_one_shift)) stopped_log ∙ refl

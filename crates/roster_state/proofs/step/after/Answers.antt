@@ -1,6 +1,6 @@
 use Rattle.std.proofs.Common.{◌≡◌, subst, sym, true}
 use Rattle.roster_case.specs.Prefix.{Summary}
-use Rattle.roster_state.specs.Codes.{fits, sizes_of}
+use Rattle.roster_state.specs.Codes.{fits_sizes, sizes_of}
 use Rattle.roster_state.proofs.RangeLemmas.{next_fits}
 use Rattle.roster_state.proofs.SumLaw.{step_leads}
 use Rattle.roster_state.proofs.step.after.Goals as goal
@@ -10,4 +10,4 @@ returns-clause-summary c days long is = step_leads c.args.case.now c.args.nurse 
 
 pub returns-clause-next_fits : goal.returns-clause-next_fits
 returns-clause-next_fits c =
-    subst (λ (s : Summary). fits (sizes_of c.args.case.now c.args.nurse) s ≡ true) (sym c.next_of.ensures) (next_fits c.args.case.now c.args.nurse c.args.day c.args.state c.args.shift c.requires.shift)
+    subst (λ (s : Summary). fits_sizes (sizes_of c.args.case.now c.args.nurse) s ≡ true) (sym c.next_of.ensures) (next_fits c.args.case.now c.args.nurse c.args.day c.args.state c.args.shift c.requires.shift)

@@ -3,11 +3,11 @@ use Rattle.roster_case.specs.declared.Shift.{Shift}
 use Rattle.roster_case.specs.declared.Past.{Past}
 use Rattle.roster_case.specs.Meaning.{last_shift, shift_count}
 use Rattle.roster_case.specs.Prefix.{Summary}
-use Rattle.roster_state.specs.Codes.{fits, sizes_of}
+use Rattle.roster_state.specs.Codes.{fits_sizes, sizes_of}
 use Rattle.roster_state.proofs.RangeLemmas.{summary_fits}
 use Rattle.roster_state.proofs.step.start.Goals as goal
 
 pub returns-clause-fits : goal.returns-clause-fits
 returns-clause-fits c =
     let known = subst (λ (past : Past). IfSome (last_shift past.border) (λ (s : Shift). s.0 < shift_count c.args.case.now)) c.past-past.ensures.past c.past-past.ensures.known in
-    subst (λ (s : Summary). fits (sizes_of c.args.case.now c.args.nurse) s ≡ true) (sym c.start_state.ensures) (summary_fits c.args.case.now c.args.nurse [] known)
+    subst (λ (s : Summary). fits_sizes (sizes_of c.args.case.now c.args.nurse) s ≡ true) (sym c.start_state.ensures) (summary_fits c.args.case.now c.args.nurse [] known)

@@ -5,7 +5,7 @@ use Rattle.roster_instance.specs.declared.fault.CaseFault.{CaseFault}
 use Rattle.roster_instance.specs.Bundles.{row_meant, rows_of, solution_meant}
 use Rattle.roster_instance.specs.Checking.{IsFirst}
 use Rattle.roster_instance.specs.Refusals.{solution_faults}
-use Rattle.roster_instance.specs.Rosters.{fits}
+use Rattle.roster_instance.specs.Rosters.{fits_case}
 use Rattle.roster_instance.proofs.Sections.{IsFirst-through}
 use Rattle.roster_instance.proofs.FitLemmas.{faults_same, rows-fit, rows_same}
 use Rattle.roster_instance.proofs.roster.Roster.from_bundle.Goals as goal
@@ -38,7 +38,7 @@ returns-clause-fitting c =
     let are = c.scenario.ensures in
     let some_shifts : 0 < length c.args.case.now.shift_names = subst (λ names. 0 < length names) are.shifts s.counts.some_shifts in
     let some_skills : 0 < length c.args.case.now.skill_names = subst (λ names. 0 < length names) are.skills s.counts.some_skills in
-    ap (fits c.args.case.now) (rows_are c) ∙ rows-fit c.args.source.now c.args.case.now some_shifts some_skills c.args.bundle.now c.requires
+    ap (fits_case c.args.case.now) (rows_are c) ∙ rows-fit c.args.source.now c.args.case.now some_shifts some_skills c.args.bundle.now c.requires
 
 pub returns-clause-taken : goal.returns-clause-taken
 returns-clause-taken c =

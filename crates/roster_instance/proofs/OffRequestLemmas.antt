@@ -1,4 +1,4 @@
--- Wishes: for each place and each shift a flag, which is set where a request has this place and names the shift.
+-- Off requests: for each place and each shift a flag, which is set where one has this place and names the shift.
 use Rattle.std.proofs.Common.{◌≡◌, ◌≢◌, ◌∙◌, ◌⊎◌, ◌+◌, ◌*◌, ◌<◌, ◌++◌, ◌∷◌, ◌&&◌, ◌||◌, ◌==◌, ℕ, Bool, true, false, List, [], Option, Some, ap, arith, codes, get_or, inl, inr, length, map, refl, replicate, sym}
 use Rattle.std.proofs.Math.ListN.{set}
 use Rattle.std.specs.Prelude.{option_map}
@@ -9,7 +9,7 @@ use Rattle.std.proofs.lemmas.List.Folds.{list_any-append}
 use Rattle.std.proofs.lemmas.List.FromFn.{fill_by_all, get_or-map-range_with_len, length-map-range_with_len}
 use Rattle.roster_bundle.specs.declared.bundle.OffRequest.{OffRequest}
 use Rattle.roster_bundle.specs.Weekdays.{weekday}
-use Rattle.roster_instance.specs.Bundles.{Names, place_of_wish, wishes_meant, wishes_off}
+use Rattle.roster_instance.specs.Bundles.{Names, off_request_names, off_requests_meant, place_of_off_request}
 use Rattle.roster_instance.specs.Names.{found, has_number, reads}
 use Rattle.roster_instance.specs.Tables.{is_at}
 use Rattle.roster_instance.proofs.NameLemmas.{found-has_number, found-within}
@@ -90,34 +90,34 @@ module _ {A : Type 0} (place : A → Option ℕ) (says : ℕ → A → Bool) (m 
         (λ s other. flag-here s ∙ ap (λ b. flag xs p s || b) (one s ∙ is_at-other s n other) ∙ or_false (flag xs p s))))
         flags-elsewhere
 
--- ---- requests
+-- ---- off requests
 
--- no request yet
-pub no_requests : (source : List ℕ) (nurses shifts : Names) → wishes_meant source nurses shifts [] ≡ replicate (7 * length nurses) (replicate 8 false)
-unfolding wishes_meant
-no_requests source nurses shifts = flags-none (place_of_wish source nurses) (wishes_off source shifts) (7 * length nurses) 8
+-- none yet
+pub none-off-requested : (source : List ℕ) (nurses shifts : Names) → off_requests_meant source nurses shifts [] ≡ replicate (7 * length nurses) (replicate 8 false)
+unfolding off_requests_meant
+none-off-requested source nurses shifts = flags-none (place_of_off_request source nurses) (off_request_names source shifts) (7 * length nurses) 8
 
-module _ (source : List ℕ) (nurses shifts : Names) (earlier : List OffRequest) (wishes : List (List Bool)) (is : wishes ≡ wishes_meant source nurses shifts earlier)
+module _ (source : List ℕ) (nurses shifts : Names) (earlier : List OffRequest) (off_requests : List (List Bool)) (is : off_requests ≡ off_requests_meant source nurses shifts earlier)
     (q : OffRequest) (n : ℕ) (nurse : found source nurses q.nurse ≡ Some n) (w : ℕ) (day : w ≡ weekday q.day) (in_week : w < 7) where
-  place-is : place_of_wish source nurses q ≡ Some (7 * n + w)
+  place-is : place_of_off_request source nurses q ≡ Some (7 * n + w)
   place-is = ap (λ o. option_map (λ k. 7 * k + weekday q.day) o) nurse ∙ ap (λ d. Some (7 * n + d)) (sym day)
 
   place-within : 7 * n + w < 7 * length nurses
   place-within = omega (arith, found-within source nurses q.nurse n nurse)
 
-  -- the request names all shifts
-  pub all-wished : reads source (codes "Any") q.shift ≡ true → wishes_meant source nurses shifts (earlier ++ q ∷ []) ≡ set wishes (7 * n + w) (replicate 8 true)
-  unfolding wishes_meant
-  all-wished any =
-      flags-all (place_of_wish source nurses) (wishes_off source shifts) (7 * length nurses) 8 earlier q (7 * n + w) place-is place-within
+  -- the off request names all shifts
+  pub all-off-requested : reads source (codes "Any") q.shift ≡ true → off_requests_meant source nurses shifts (earlier ++ q ∷ []) ≡ set off_requests (7 * n + w) (replicate 8 true)
+  unfolding off_requests_meant
+  all-off-requested any =
+      flags-all (place_of_off_request source nurses) (off_request_names source shifts) (7 * length nurses) 8 earlier q (7 * n + w) place-is place-within
       (λ s. ap (λ b. b || has_number source shifts s q.shift) any)
       ∙ ap (λ rows. set rows (7 * n + w) (replicate 8 true)) (sym is)
 
-  -- the request names a shift
-  pub one-wished : reads source (codes "Any") q.shift ≡ false → (s : ℕ) → found source shifts q.shift ≡ Some s
-      → wishes_meant source nurses shifts (earlier ++ q ∷ []) ≡ set wishes (7 * n + w) (set (get_or wishes (7 * n + w) []) s true)
-  unfolding wishes_meant
-  one-wished other s shift =
-      flags-one (place_of_wish source nurses) (wishes_off source shifts) (7 * length nurses) 8 earlier q (7 * n + w) place-is place-within s
+  -- the off request names a shift
+  pub one-off-requested : reads source (codes "Any") q.shift ≡ false → (s : ℕ) → found source shifts q.shift ≡ Some s
+      → off_requests_meant source nurses shifts (earlier ++ q ∷ []) ≡ set off_requests (7 * n + w) (set (get_or off_requests (7 * n + w) []) s true)
+  unfolding off_requests_meant
+  one-off-requested other s shift =
+      flags-one (place_of_off_request source nurses) (off_request_names source shifts) (7 * length nurses) 8 earlier q (7 * n + w) place-is place-within s
       (λ k. ap (λ b. b || has_number source shifts k q.shift) other ∙ found-has_number source shifts q.shift s shift k)
       ∙ ap (λ rows. set rows (7 * n + w) (set (get_or rows (7 * n + w) []) s true)) (sym is)

@@ -1,22 +1,22 @@
 use Rattle.std.proofs.Common.{◌∙◌, ◌*◌, ap, false, replicate, sym}
 use Rattle.std.proofs.lemmas.Result.{err_from_is_err_and}
-use Rattle.roster_instance.specs.Refusals.{request_faults}
+use Rattle.roster_instance.specs.Refusals.{off_request_faults}
 use Rattle.roster_instance.proofs.Sections.{each-alike}
-use Rattle.roster_instance.proofs.WishLemmas.{no_requests}
-use Rattle.roster_instance.proofs.week.wishes_of.Goals as goal
+use Rattle.roster_instance.proofs.OffRequestLemmas.{none-off-requested}
+use Rattle.roster_instance.proofs.week.off_requests_of.Goals as goal
 
 pub add_all-requires : goal.add_all-requires
 add_all-requires c =
     let s = c.args.scenario.now in
-    c.in_ok-no_wishes.ensures ∙ ap (λ n. replicate (7 * n) (replicate 8 false)) c.len.ensures ∙ sym (no_requests c.args.source.now s.nurses s.shifts)
+    c.in_ok-no_off_requests.ensures ∙ ap (λ n. replicate (7 * n) (replicate 8 false)) c.len.ensures ∙ sym (none-off-requested c.args.source.now s.nurses s.shifts)
 
 pub returns-in_err-add_all-clause-first : goal.returns-in_err-add_all-clause-first
 returns-in_err-add_all-clause-first c =
     let s = c.args.scenario.now in
     let p = err_from_is_err_and c.from_residual-in_err-add_all.result c.from_residual-in_err-add_all.ensures.1 in
-    rw (p.1, p.2, ← each-alike (request_faults c.args.source.now s.nurses s.shifts) c.args.requests.now) c.in_err-add_all.ensures.first
+    rw (p.1, p.2, ← each-alike (off_request_faults c.args.source.now s.nurses s.shifts) c.args.requests.now) c.in_err-add_all.ensures.first
 
 pub returns-clause-none : goal.returns-clause-none
 returns-clause-none c =
     let s = c.args.scenario.now in
-    sym (each-alike (request_faults c.args.source.now s.nurses s.shifts) c.args.requests.now) ∙ c.in_ok-add_all.ensures.none
+    sym (each-alike (off_request_faults c.args.source.now s.nurses s.shifts) c.args.requests.now) ∙ c.in_ok-add_all.ensures.none
