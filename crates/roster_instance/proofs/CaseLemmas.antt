@@ -10,12 +10,12 @@ use Rattle.roster_instance.specs.declared.fault.CaseFault.TheVariants.{TooManySt
 use Rattle.roster_instance.specs.declared.rules.Past.{Past}
 use Rattle.roster_instance.specs.declared.scenario.Scenario.{Scenario}
 use Rattle.roster_instance.specs.Bundles.{meaning_of, past_meant, week_meant}
-use Rattle.roster_instance.specs.CaseParts.{HasFewStates, IsScenarioOf, case_of, faults_behind}
+use Rattle.roster_instance.specs.CaseParts.{HasFewStates, IsScenarioOf, case_of, faults_behind, known_of}
 use Rattle.roster_instance.specs.Checking.{IsFirst}
 use Rattle.roster_instance.specs.Faults.{fault_if}
 use Rattle.roster_instance.specs.Meaning.{WeekFacts}
 use Rattle.roster_instance.specs.Names.{nurse_names, shift_names, skill_names}
-use Rattle.roster_instance.specs.Refusals.{case_faults, history_faults, scenario_faults, state_fault, week_faults}
+use Rattle.roster_instance.specs.Refusals.{Known, known_in, case_faults, history_faults, scenario_faults, state_fault, week_faults}
 use Rattle.roster_instance.specs.Limits.{most_states}
 use Rattle.roster_instance.specs.Sizes.{state_count}
 use Rattle.roster_instance.proofs.Sections.{IsFirst-behind, IsFirst-front, both_none}
@@ -30,10 +30,10 @@ few_states s past weeks few = λ n within. subst (λ k. k ≤ most_states) (sym 
 
 module _ (source : List ℕ) (b : Bundle) (s : Scenario) (is : IsScenarioOf source b s) where
   abbrev past_faults : List CaseFault
-  past_faults = history_faults source s.name.items s.nurses s.shifts b.history
+  past_faults = history_faults (known_of source s) b.history
 
   abbrev faults_of_weeks : List CaseFault
-  faults_of_weeks = flat_map (week_faults source s.name.items s.shifts s.skills s.nurses) b.week_data
+  faults_of_weeks = flat_map (week_faults (known_of source s)) b.week_data
 
   abbrev faults_of_states : List CaseFault
   faults_of_states = flat_map (state_fault (case_of s [] [])) (enumerate_from 0 b.scenario.nurses.items)
@@ -67,11 +67,21 @@ module _ (source : List ℕ) (b : Bundle) (s : Scenario) (is : IsScenarioOf sour
       let past = past_meant source s.nurses s.shifts b.history.nurses in
       sym (states_alike s past (weeks_in b.week_data) n) ∙ ap (λ c. state_count c n) (case_is past (weeks_in b.week_data) refl refl)
 
-  past_same : past_faults ≡ history_faults source (text_of source b.scenario.name) (nurse_names source b) (shift_names source b) b.history
-  past_same = λ i. history_faults source (is.name_is i) (is.nurses_are i) (is.shifts_are i) b.history
+  -- what it gives is what the bundle's scenario gives
+  known_same : known_of source s ≡ known_in source b
+  known_same = λ i. record {
+    source = source;
+    name = is.name_is i;
+    nurses = is.nurses_are i;
+    shifts = is.shifts_are i;
+    skills = is.skills_are i;
+  }
 
-  weeks_same : faults_of_weeks ≡ flat_map (week_faults source (text_of source b.scenario.name) (shift_names source b) (skill_names source b) (nurse_names source b)) b.week_data
-  weeks_same = λ i. flat_map (week_faults source (is.name_is i) (is.shifts_are i) (is.skills_are i) (is.nurses_are i)) b.week_data
+  past_same : past_faults ≡ history_faults (known_in source b) b.history
+  past_same = ap (λ known. history_faults known b.history) known_same
+
+  weeks_same : faults_of_weeks ≡ flat_map (week_faults (known_in source b)) b.week_data
+  weeks_same = ap (λ known. flat_map (week_faults known) b.week_data) known_same
 
   states_same : faults_of_states ≡ flat_map (state_fault (meaning_of source b)) (enumerate_from 0 b.scenario.nurses.items)
   states_same = λ i. flat_map (λ (n : ℕ × Nurse). fault_if (nat_lt most_states (states_are n.0 i)) (TooManyStates n.0 n.1.name)) (enumerate_from 0 b.scenario.nurses.items)

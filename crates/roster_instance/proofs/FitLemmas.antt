@@ -13,7 +13,7 @@ use Rattle.roster_instance.specs.declared.choice.Choice.TheVariants.{Off}
 use Rattle.roster_instance.specs.Bundles.{choice_meant, place_of_line, row_meant, rows_of, solution_meant, work_meant}
 use Rattle.roster_instance.specs.Meaning.{Meaning, day_count, nurse_count, shift_count, skill_count, week_count}
 use Rattle.roster_instance.specs.Names.{found, name_number}
-use Rattle.roster_instance.specs.Refusals.{roster_faults, solution_faults}
+use Rattle.roster_instance.specs.Refusals.{Known, known_by, roster_faults, solution_faults}
 use Rattle.roster_instance.specs.Rosters.{fits_case, is_choice_of, is_row_of}
 use Rattle.roster_instance.specs.Tables.{item_at, table_of}
 use Rattle.roster_instance.proofs.NameLemmas.{found-within}
@@ -82,6 +82,18 @@ module _ (source name : List ℕ) (nurses shifts skills : List (List ℕ)) (c : 
   unfolding rows_of
   rows_same = λ i. map (row_meant (map (solution_meant source (nurses_are i) (shifts_are i) (skills_are i)) b.solutions)) (range_with_len 0 (nurse_count c))
 
-  pub faults_same : flat_map (solution_faults source name nurses shifts skills) (enumerate_from 0 b.solutions) ≡ roster_faults source c b
+  abbrev given : Known
+  given = record { source = source; name = name; nurses = nurses; shifts = shifts; skills = skills }
+
+  known_same : given ≡ known_by source c
+  known_same = λ i. record {
+    source = source;
+    name = name_is i;
+    nurses = nurses_are i;
+    shifts = shifts_are i;
+    skills = skills_are i;
+  }
+
+  pub faults_same : flat_map (solution_faults given) (enumerate_from 0 b.solutions) ≡ roster_faults source c b
   unfolding roster_faults
-  faults_same = λ i. flat_map (solution_faults source (name_is i) (nurses_are i) (shifts_are i) (skills_are i)) (enumerate_from 0 b.solutions)
+  faults_same = ap (λ known. flat_map (solution_faults known) (enumerate_from 0 b.solutions)) known_same

@@ -11,7 +11,7 @@ use Rattle.roster_instance.specs.Bundles.{contract_meant, limits_of, nurse_meant
 use Rattle.roster_instance.specs.Meaning.{Meaning, WeekFacts, last_shift, nurse_count, past_of, shift_count}
 use Rattle.roster_instance.specs.Names.{contract_names, nurse_names, shift_names, skill_names}
 use Rattle.roster_instance.specs.Limits.{most_states}
-use Rattle.roster_instance.specs.Refusals.{history_faults, state_fault, week_faults}
+use Rattle.roster_instance.specs.Refusals.{Known, history_faults, state_fault, week_faults}
 use Rattle.roster_instance.specs.Sizes.{state_count}
 use Rattle.roster_instance.specs.Small.{HasSmallNumbers}
 
@@ -26,6 +26,16 @@ pub record IsScenarioOf (source : List ℕ) (b : Bundle) (s : Scenario) : Type 0
   pub rules_are : s.contract_rules.items ≡ map contract_meant b.scenario.contracts.items
   pub nurses_are : s.nurses ≡ nurse_names source b
   pub facts_are : s.nurse_rules.items ≡ map (nurse_meant source (contract_names source b) (skill_names source b)) b.scenario.nurses.items
+
+-- the names that it gives
+abbrev pub known_of : List ℕ → Scenario → Known
+known_of source s = record {
+  source = source;
+  name = s.name.items;
+  nurses = s.nurses;
+  shifts = s.shifts;
+  skills = s.skills;
+}
 
 -- a case by its parts
 abbrev pub case_of : Scenario → List (Option Past) → List WeekFacts → Meaning
@@ -46,8 +56,8 @@ case_of s past weeks = record {
 -- the faults behind the scenario: of the history, of the weeks, and too many states
 abbrev pub faults_behind : List ℕ → Bundle → Scenario → List CaseFault
 faults_behind source b s =
-    history_faults source s.name.items s.nurses s.shifts b.history
-    ++ flat_map (week_faults source s.name.items s.shifts s.skills s.nurses) b.week_data
+    history_faults (known_of source s) b.history
+    ++ flat_map (week_faults (known_of source s)) b.week_data
     ++ flat_map (state_fault (case_of s [] [])) (enumerate_from 0 b.scenario.nurses.items)
 
 -- no nurse's search takes too many states

@@ -27,6 +27,51 @@ use Rattle.roster_instance.specs.Names.{same_name, reads, skill_names, shift_nam
 use Rattle.roster_instance.specs.Limits.{most_contracts, most_nurses, most_shifts, most_skills, most_states, most_weeks}
 use Rattle.roster_instance.specs.Sizes.{state_count}
 
+-- ---- by what the parts of a text are checked: its bytes, and names that stand before them
+
+-- one list of names
+pub record Among : Type 0 where
+  pub source : List ℕ
+  pub names : Names
+
+-- the names that a nurse's line may use
+pub record AmongStaff : Type 0 where
+  pub source : List ℕ
+  pub contracts : Names
+  pub skills : Names
+
+-- behind the scenario: its name, and the names that it has given
+pub record Known : Type 0 where
+  pub source : List ℕ
+  pub name : List ℕ
+  pub nurses : Names
+  pub shifts : Names
+  pub skills : Names
+
+-- the same for the lines of one week's solution
+pub record KnownInWeek : Type 0 where
+  pub known : Known
+  pub week : ℕ
+
+-- by the scenario of a bundle, and by a case
+abbrev pub known_in : List ℕ → Bundle → Known
+known_in source b = record {
+  source = source;
+  name = text_of source b.scenario.name;
+  nurses = nurse_names source b;
+  shifts = shift_names source b;
+  skills = skill_names source b;
+}
+
+abbrev pub known_by : List ℕ → Meaning → Known
+known_by source c = record {
+  source = source;
+  name = c.name;
+  nurses = c.nurse_names;
+  shifts = c.shift_names;
+  skills = c.skill_names;
+}
+
 -- ---- the faults of one token
 
 -- a count is from 1 to its limit
@@ -104,11 +149,11 @@ history_line_faults source nurses shifts earlier h =
     ++ fault_if (list_any (λ (e : NurseHistory). same_name source h.nurse e.nurse) earlier) (HistoryNurses h.nurse.line)
     ++ unknown_unless source (codes "None") shifts h.last_shift
 
-abbrev pub history_faults : List ℕ → List ℕ → Names → Names → History → List CaseFault
-history_faults source name nurses shifts h =
+abbrev pub history_faults : Known → History → List CaseFault
+history_faults known h =
     fault_if (nat_lt 0 h.week.value) (HistoryWeek h.week.token.line)
-    ++ instance_fault source name h.scenario
-    ++ each (history_line_faults source nurses shifts) h.nurses
+    ++ instance_fault known.source known.name h.scenario
+    ++ each (history_line_faults known.source known.nurses known.shifts) h.nurses
 
 -- ---- the weeks
 
@@ -121,11 +166,11 @@ requirement_faults source shifts skills earlier q =
 abbrev pub off_request_faults : List ℕ → Names → Names → OffRequest → List CaseFault
 off_request_faults source nurses shifts q = unknown_fault source nurses q.nurse ++ unknown_unless source (codes "Any") shifts q.shift
 
-abbrev pub week_faults : List ℕ → List ℕ → Names → Names → Names → WeekData → List CaseFault
-week_faults source name shifts skills nurses w =
-    instance_fault source name w.scenario
-    ++ each (requirement_faults source shifts skills) w.requirements
-    ++ flat_map (off_request_faults source nurses shifts) w.off_requests.items
+abbrev pub week_faults : Known → WeekData → List CaseFault
+week_faults known w =
+    instance_fault known.source known.name w.scenario
+    ++ each (requirement_faults known.source known.shifts known.skills) w.requirements
+    ++ flat_map (off_request_faults known.source known.nurses known.shifts) w.off_requests.items
 
 -- ---- the states: for the first nurse whose search would need too many
 
@@ -136,8 +181,8 @@ state_fault c n = fault_if (nat_lt most_states (state_count c n.0)) (TooManyStat
 unfoldable pub case_faults : List ℕ → Bundle → List CaseFault
 case_faults source b =
     scenario_faults source b
-    ++ history_faults source (text_of source b.scenario.name) (nurse_names source b) (shift_names source b) b.history
-    ++ flat_map (week_faults source (text_of source b.scenario.name) (shift_names source b) (skill_names source b) (nurse_names source b)) b.week_data
+    ++ history_faults (known_in source b) b.history
+    ++ flat_map (week_faults (known_in source b)) b.week_data
     ++ flat_map (state_fault (meaning_of source b)) (enumerate_from 0 b.scenario.nurses.items)
 
 -- ---- the solutions, by the names of a case
@@ -151,13 +196,14 @@ assignment_faults source nurses shifts skills i earlier a =
     ++ fault_if (list_any (λ (e : Assignment). same_name source a.nurse e.nurse && (weekday a.day == weekday e.day)) earlier)
     (H1 (name_number source nurses a.nurse) (7 * i + weekday a.day))
 
-abbrev pub solution_faults : List ℕ → List ℕ → Names → Names → Names → ℕ × Solution → List CaseFault
-solution_faults source name nurses shifts skills s =
-    instance_fault source name s.1.scenario ++ each (assignment_faults source nurses shifts skills s.0) s.1.assignments.items
+abbrev pub solution_faults : Known → ℕ × Solution → List CaseFault
+solution_faults known s =
+    instance_fault known.source known.name s.1.scenario
+    ++ each (assignment_faults known.source known.nurses known.shifts known.skills s.0) s.1.assignments.items
 
 -- all faults of the solutions
 unfoldable pub roster_faults : List ℕ → Meaning → Bundle → List CaseFault
-roster_faults source c b = flat_map (solution_faults source c.name c.nurse_names c.shift_names c.skill_names) (enumerate_from 0 b.solutions)
+roster_faults source c b = flat_map (solution_faults (known_by source c)) (enumerate_from 0 b.solutions)
 
 -- all faults of the four texts
 abbrev pub all_faults : List ℕ → Bundle → List CaseFault

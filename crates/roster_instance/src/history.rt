@@ -4,7 +4,8 @@ ghost use Rattle.std.specs.Prelude.{◌≡◌, ◌≤◌, ℕ, List, [], IfOk, I
 ghost use Rattle.roster_instance.specs.Bundles.{border_meant, past_meant};
 ghost use Rattle.roster_instance.specs.Checking.{IsFirst};
 ghost use Rattle.roster_instance.specs.Limits.{most_shifts};
-ghost use Rattle.roster_instance.specs.Refusals.{history_faults, history_line_faults, instance_fault, unknown_unless};
+ghost use Rattle.roster_instance.specs.CaseParts.{known_of};
+ghost use Rattle.roster_instance.specs.Refusals.{Known, history_faults, history_line_faults, instance_fault, unknown_unless};
 
 use crate::choice::Shift;
 use crate::fault::CaseFault;
@@ -24,11 +25,11 @@ struct HistorySection<'a> {
 }
 
 impl<'a> Section<NurseHistory> for HistorySection<'a> {
-    ghost About = { List ℕ × List (List ℕ) × List (List ℕ) };
+    ghost About = { Known };
 
-    ghost about = { λ s. (s.source.now, s.scenario.now.nurses, s.scenario.now.shifts) };
+    ghost about = { λ s. known_of s.source.now s.scenario.now };
 
-    ghost faults = { λ a. history_line_faults a.0 a.1 a.2 };
+    ghost faults = { λ k. history_line_faults k.source k.nurses k.shifts };
 
     ghost built = { λ s earlier. s.past ≡ past_meant s.source.now s.scenario.now.nurses s.scenario.now.shifts earlier };
 
@@ -85,8 +86,8 @@ pub(crate) fn past_of(
     history: &History,
 ) -> Result<Table<Past>, CaseFault>
     ensures meant { IfOk result (λ past. past ≡ past_meant source.now scenario.now.nurses scenario.now.shifts history.now.nurses) }
-    ensures none { OnOk result (history_faults source.now scenario.now.name.items scenario.now.nurses scenario.now.shifts history.now ≡ []) }
-    ensures first { IfErr result (IsFirst (history_faults source.now scenario.now.name.items scenario.now.nurses scenario.now.shifts history.now)) }
+    ensures none { OnOk result (history_faults (known_of source.now scenario.now) history.now ≡ []) }
+    ensures first { IfErr result (IsFirst (history_faults (known_of source.now scenario.now) history.now)) }
 {
     if history.week.value > 0 {
         return Err(CaseFault::HistoryWeek {

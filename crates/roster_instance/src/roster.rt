@@ -9,7 +9,8 @@ ghost use Rattle.roster_instance.specs.Checking.{IsFirst};
 ghost use Rattle.roster_instance.specs.Faults.{each, first_fault};
 ghost use Rattle.roster_instance.specs.Limits.{most_nurses, most_weeks};
 ghost use Rattle.roster_instance.specs.Meaning.{nurse_count, week_count};
-ghost use Rattle.roster_instance.specs.Refusals.{assignment_faults, roster_faults, solution_faults};
+ghost use Rattle.roster_instance.specs.CaseParts.{known_of};
+ghost use Rattle.roster_instance.specs.Refusals.{KnownInWeek, assignment_faults, roster_faults, solution_faults};
 ghost use Rattle.roster_instance.specs.Rosters.{choice_on, cover, fits_case, is_choice_of, is_row_of, row_of};
 ghost use Rattle.roster_instance.specs.Tables.{table_of};
 
@@ -163,11 +164,11 @@ struct LineSection<'a> {
 }
 
 impl<'a> Section<Assignment> for LineSection<'a> {
-    ghost About = { List ℕ × List (List ℕ) × List (List ℕ) × List (List ℕ) × ℕ };
+    ghost About = { KnownInWeek };
 
-    ghost about = { λ s. (s.source.now, s.scenario.now.nurses, s.scenario.now.shifts, s.scenario.now.skills, s.week) };
+    ghost about = { λ s. record { known = known_of s.source.now s.scenario.now; week = s.week } };
 
-    ghost faults = { λ a. assignment_faults a.0 a.1 a.2 a.3 a.4 };
+    ghost faults = { λ a. assignment_faults a.known.source a.known.nurses a.known.shifts a.known.skills a.week };
 
     ghost built = { λ s earlier. s.lines ≡ table_of (place_of_line s.source.now s.scenario.now.nurses) (work_meant s.source.now s.scenario.now.shifts s.scenario.now.skills) (7 * length s.scenario.now.nurses) earlier };
 
@@ -198,8 +199,8 @@ fn table_of(
 ) -> Result<Table<Choice>, CaseFault>
     requires { week < most_weeks }
     ensures meant { IfOk result (λ table. table ≡ solution_meant source.now scenario.now.nurses scenario.now.shifts scenario.now.skills solution.now) }
-    ensures none { OnOk result (solution_faults source.now scenario.now.name.items scenario.now.nurses scenario.now.shifts scenario.now.skills (week, solution.now) ≡ []) }
-    ensures first { IfErr result (IsFirst (solution_faults source.now scenario.now.name.items scenario.now.nurses scenario.now.shifts scenario.now.skills (week, solution.now))) }
+    ensures none { OnOk result (solution_faults (known_of source.now scenario.now) (week, solution.now) ≡ []) }
+    ensures first { IfErr result (IsFirst (solution_faults (known_of source.now scenario.now) (week, solution.now))) }
 {
     check_instance(source, &scenario.name, solution.scenario)?;
     let mut section = LineSection {
@@ -221,8 +222,8 @@ fn tables_of(
 ) -> Result<Vec<Table<Choice>>, CaseFault>
     requires { length solutions.now ≤ most_weeks }
     ensures meant { IfOk result (λ tables. tables.items ≡ map (solution_meant source.now scenario.now.nurses scenario.now.shifts scenario.now.skills) solutions.now) }
-    ensures none { OnOk result (flat_map (solution_faults source.now scenario.now.name.items scenario.now.nurses scenario.now.shifts scenario.now.skills) (enumerate_from 0 solutions.now) ≡ []) }
-    ensures first { IfErr result (IsFirst (flat_map (solution_faults source.now scenario.now.name.items scenario.now.nurses scenario.now.shifts scenario.now.skills) (enumerate_from 0 solutions.now))) }
+    ensures none { OnOk result (flat_map (solution_faults (known_of source.now scenario.now)) (enumerate_from 0 solutions.now) ≡ []) }
+    ensures first { IfErr result (IsFirst (flat_map (solution_faults (known_of source.now scenario.now)) (enumerate_from 0 solutions.now))) }
 {
     let mut tables = Vec::with_capacity(alloc, solutions.len())?;
     for (week, solution) in solutions.iter().enumerate() {

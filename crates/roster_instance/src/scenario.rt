@@ -13,7 +13,7 @@ ghost use Rattle.roster_instance.specs.Checking.{IsFirst};
 ghost use Rattle.roster_instance.specs.Faults.{each};
 ghost use Rattle.roster_instance.specs.Limits.{most_contracts, most_nurses, most_shifts, most_skills};
 ghost use Rattle.roster_instance.specs.Names.{contract_names, names_of, nurse_names, shift_names, skill_names};
-ghost use Rattle.roster_instance.specs.Refusals.{contract_faults, faults_of_shifts, faults_of_staff, limit_fault, listed_faults, nurse_faults, own_skill_faults, repeated_fault, reserved_fault, scenario_faults, shift_faults, succession_faults, unknown_fault};
+ghost use Rattle.roster_instance.specs.Refusals.{Among, AmongStaff, contract_faults, faults_of_shifts, faults_of_staff, limit_fault, listed_faults, nurse_faults, own_skill_faults, repeated_fault, reserved_fault, scenario_faults, shift_faults, succession_faults, unknown_fault};
 
 use crate::choice::Skill;
 use crate::fault::CaseFault;
@@ -300,11 +300,11 @@ struct ForbiddenSection<'a> {
 }
 
 impl<'a> Section<Token> for ForbiddenSection<'a> {
-    ghost About = { List ℕ × List (List ℕ) };
+    ghost About = { Among };
 
-    ghost about = { λ s. (s.source.now, s.shifts.now) };
+    ghost about = { λ s. record { source = s.source.now; names = s.shifts.now } };
 
-    ghost faults = { λ a earlier t. unknown_fault a.0 a.1 t };
+    ghost faults = { λ a earlier t. unknown_fault a.source a.names t };
 
     ghost built = { λ s earlier. s.flags ≡ numbers_among s.source.now s.shifts.now earlier };
 
@@ -339,11 +339,11 @@ struct SuccessionSection<'a> {
 }
 
 impl<'a> Section<Succession> for SuccessionSection<'a> {
-    ghost About = { List ℕ × List (List ℕ) };
+    ghost About = { Among };
 
-    ghost about = { λ s. (s.source.now, s.shifts.now) };
+    ghost about = { λ s. record { source = s.source.now; names = s.shifts.now } };
 
-    ghost faults = { λ a. succession_faults a.0 a.1 };
+    ghost faults = { λ a. succession_faults a.source a.names };
 
     ghost built = { λ s earlier. s.lines ≡ successions_meant s.source.now s.shifts.now earlier };
 
@@ -484,11 +484,11 @@ struct OwnSkillSection<'a> {
 }
 
 impl<'a> Section<Token> for OwnSkillSection<'a> {
-    ghost About = { List ℕ × List (List ℕ) };
+    ghost About = { Among };
 
-    ghost about = { λ s. (s.source.now, s.skills.now) };
+    ghost about = { λ s. record { source = s.source.now; names = s.skills.now } };
 
-    ghost faults = { λ a. own_skill_faults a.0 a.1 };
+    ghost faults = { λ a. own_skill_faults a.source a.names };
 
     ghost built = { λ s earlier. HasSkills s.source.now s.skills.now earlier s.taken s.own.items };
 
@@ -535,11 +535,11 @@ struct NurseSection<'a> {
 }
 
 impl<'a> Section<Nurse> for NurseSection<'a> {
-    ghost About = { List ℕ × List (List ℕ) × List (List ℕ) };
+    ghost About = { AmongStaff };
 
-    ghost about = { λ s. (s.source.now, s.contracts.now, s.skills.now) };
+    ghost about = { λ s. record { source = s.source.now; contracts = s.contracts.now; skills = s.skills.now } };
 
-    ghost faults = { λ a. nurse_faults a.0 a.1 a.2 };
+    ghost faults = { λ a. nurse_faults a.source a.contracts a.skills };
 
     ghost built = { λ s earlier. (s.names ≡ names_of s.source.now (map (λ (e : Nurse). e.name) earlier)) × (s.rules.items ≡ map (nurse_meant s.source.now s.contracts.now s.skills.now) earlier) };
 

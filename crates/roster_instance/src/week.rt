@@ -4,11 +4,12 @@ ghost use Rattle.std.specs.Prelude.{◌≡◌, ◌*◌, ◌<◌, ℕ, List, [], 
 ghost use Rattle.std.specs.Option.{option_map_or};
 ghost use Rattle.roster_bundle.specs.Weekdays.{weekday};
 ghost use Rattle.roster_bundle.specs.declared.bundle.WeekData.{WeekData};
+ghost use Rattle.roster_instance.specs.CaseParts.{known_of};
 ghost use Rattle.roster_instance.specs.Bundles.{limits_of_week, needs_meant, off_requests_meant, week_meant};
 ghost use Rattle.roster_instance.specs.Checking.{IsFirst};
 ghost use Rattle.roster_instance.specs.Faults.{each};
 ghost use Rattle.roster_instance.specs.Meaning.{no_limits};
-ghost use Rattle.roster_instance.specs.Refusals.{off_request_faults, requirement_faults, week_faults};
+ghost use Rattle.roster_instance.specs.Refusals.{Known, off_request_faults, requirement_faults, week_faults};
 
 use crate::fault::CaseFault;
 use crate::history::check_instance;
@@ -89,11 +90,11 @@ struct RequirementSection<'a> {
 }
 
 impl<'a> Section<Requirement> for RequirementSection<'a> {
-    ghost About = { List ℕ × List (List ℕ) × List (List ℕ) };
+    ghost About = { Known };
 
-    ghost about = { λ s. (s.source.now, s.scenario.now.shifts, s.scenario.now.skills) };
+    ghost about = { λ s. known_of s.source.now s.scenario.now };
 
-    ghost faults = { λ a. requirement_faults a.0 a.1 a.2 };
+    ghost faults = { λ k. requirement_faults k.source k.shifts k.skills };
 
     ghost built = { λ s earlier. s.lines ≡ needs_meant s.source.now s.scenario.now.shifts s.scenario.now.skills earlier };
 
@@ -154,11 +155,11 @@ struct OffRequestSection<'a> {
 }
 
 impl<'a> Section<OffRequest> for OffRequestSection<'a> {
-    ghost About = { List ℕ × List (List ℕ) × List (List ℕ) };
+    ghost About = { Known };
 
-    ghost about = { λ s. (s.source.now, s.scenario.now.nurses, s.scenario.now.shifts) };
+    ghost about = { λ s. known_of s.source.now s.scenario.now };
 
-    ghost faults = { λ a earlier q. off_request_faults a.0 a.1 a.2 q };
+    ghost faults = { λ k earlier q. off_request_faults k.source k.nurses k.shifts q };
 
     ghost built = { λ s earlier. s.off_requests.items ≡ off_requests_meant s.source.now s.scenario.now.nurses s.scenario.now.shifts earlier };
 
@@ -234,11 +235,11 @@ struct WeekSection<'a> {
 }
 
 impl<'a> Section<WeekData> for WeekSection<'a> {
-    ghost About = { List ℕ × List ℕ × List (List ℕ) × List (List ℕ) × List (List ℕ) };
+    ghost About = { Known };
 
-    ghost about = { λ s. (s.source.now, s.scenario.now.name.items, s.scenario.now.shifts, s.scenario.now.skills, s.scenario.now.nurses) };
+    ghost about = { λ s. known_of s.source.now s.scenario.now };
 
-    ghost faults = { λ a earlier w. week_faults a.0 a.1 a.2 a.3 a.4 w };
+    ghost faults = { λ k earlier w. week_faults k w };
 
     ghost built = { λ s earlier. s.weeks.items ≡ map (week_meant s.source.now s.scenario.now.shifts s.scenario.now.skills s.scenario.now.nurses) earlier };
 
@@ -271,8 +272,8 @@ pub(crate) fn weeks_of(
     weeks: &[WeekData],
 ) -> Result<Vec<Week>, CaseFault>
     ensures meant { IfOk result (λ built. built.items ≡ map (week_meant source.now scenario.now.shifts scenario.now.skills scenario.now.nurses) weeks.now) }
-    ensures none { OnOk result (flat_map (week_faults source.now scenario.now.name.items scenario.now.shifts scenario.now.skills scenario.now.nurses) weeks.now ≡ []) }
-    ensures first { IfErr result (IsFirst (flat_map (week_faults source.now scenario.now.name.items scenario.now.shifts scenario.now.skills scenario.now.nurses) weeks.now)) }
+    ensures none { OnOk result (flat_map (week_faults (known_of source.now scenario.now)) weeks.now ≡ []) }
+    ensures first { IfErr result (IsFirst (flat_map (week_faults (known_of source.now scenario.now)) weeks.now)) }
 {
     let mut section = WeekSection {
         alloc,

@@ -4,6 +4,7 @@ use Rattle.roster_bundle.specs.declared.bundle.Solution.{Solution}
 use Rattle.roster_instance.specs.declared.fault.CaseFault.{CaseFault}
 use Rattle.roster_instance.specs.Bundles.{row_meant, rows_of, solution_meant}
 use Rattle.roster_instance.specs.Checking.{IsFirst}
+use Rattle.roster_instance.specs.CaseParts.{known_of}
 use Rattle.roster_instance.specs.Refusals.{solution_faults}
 use Rattle.roster_instance.specs.Rosters.{fits_case}
 use Rattle.roster_instance.proofs.Sections.{IsFirst-through}
@@ -14,7 +15,7 @@ pub returns-in_err-tables-clause-refused : goal.returns-in_err-tables-clause-ref
 returns-in_err-tables-clause-refused c =
     let s = c.scenario.result.now in
     let are = c.scenario.ensures in
-    let faults : List Solution → List CaseFault = λ xs. flat_map (solution_faults c.args.source.now s.name.items s.nurses s.shifts s.skills) (enumerate_from 0 xs) in
+    let faults : List Solution → List CaseFault = λ xs. flat_map (solution_faults (known_of c.args.source.now s)) (enumerate_from 0 xs) in
     let e = c.in_err-tables.field-0.0 in
     IsFirst-through c.from_residual.result e _ c.from_residual.ensures.1
     (subst (λ fs. IsFirst fs e) (faults_same c.args.source.now s.name.items s.nurses s.shifts s.skills c.args.case.now are.name are.nurses are.shifts are.skills c.args.bundle.now)
@@ -44,6 +45,6 @@ pub returns-clause-taken : goal.returns-clause-taken
 returns-clause-taken c =
     let s = c.scenario.result.now in
     let are = c.scenario.ensures in
-    let faults : List Solution → List CaseFault = λ xs. flat_map (solution_faults c.args.source.now s.name.items s.nurses s.shifts s.skills) (enumerate_from 0 xs) in
+    let faults : List Solution → List CaseFault = λ xs. flat_map (solution_faults (known_of c.args.source.now s)) (enumerate_from 0 xs) in
     sym (faults_same c.args.source.now s.name.items s.nurses s.shifts s.skills c.args.case.now are.name are.nurses are.shifts are.skills c.args.bundle.now)
     ∙ ap faults (sym c.as_slice.ensures) ∙ c.in_ok-tables.ensures.none
