@@ -1,32 +1,45 @@
-//! Laws of the definitions, for the crates that go through a row day by day.
+//! A roster's penalty and the hard rules by parts, and with one nurse's row replaced.
 
-ghost use Rattle.std.specs.Prelude.{◌≡◌, ℕ, suc, ◌+◌, ◌-◌, Bool, [], ◌∷◌, ◌++◌, length, Option, is_some, if◌then◌else◌};
-ghost use Rattle.roster_instance.specs.Counting.{one_if};
-ghost use Rattle.roster_case.specs.DayLaw.{splits_more, weekends_more};
-ghost use Rattle.roster_instance.specs.Days.{Days, days_worked, shift_on, split_weekends, worked_weekends, works};
-ghost use Rattle.roster_instance.specs.RunLaw.{day_violations};
-ghost use Rattle.roster_case.specs.Runs.{open_run, run_violations};
-ghost use Rattle.roster_instance.specs.declared.Shift.{Shift};
-ghost use Rattle.roster_instance.specs.declared.Limits.{Limits};
+ghost use Rattle.std.specs.Prelude.{◌≡◌, ◌+◌, ◌*◌, ◌<◌, ◌==◌, ℕ, true, length, nat_lt};
+ghost use Rattle.roster_rules.specs.declared.Choice.TheVariants.{Off, Work};
+ghost use Rattle.roster_rules.specs.declared.Shift.{Shift};
+ghost use Rattle.roster_rules.specs.declared.Skill.{Skill};
+ghost use Rattle.roster_rules.specs.Choices.{days_of};
+ghost use Rattle.roster_rules.specs.Counting.{one_if, sum_below};
+ghost use Rattle.roster_rules.specs.HardRules.{keeps_hard};
+ghost use Rattle.roster_rules.specs.Meaning.{Meaning, day_count, minimum, nurse_count, optimum, shift_count, skill_count};
+ghost use Rattle.roster_rules.specs.Penalties.{off_request_cost, over_nurses, own_cost, penalty, staffing_cost};
+ghost use Rattle.roster_rules.specs.Rosters.{Row, Rows, choice_on, cover, with_row};
+ghost use Rattle.roster_rules.specs.AllowedRows.{penalty_with};
+ghost use Rattle.roster_rules.specs.Weights.{staffing_weight};
+ghost use Rattle.roster_case.specs.OneRow.{is_offered_row, keeps_by_parts, others, prices, rest_of};
+ghost use Rattle.roster_case.specs.Staffing.{lacking, meets, staffing_cost_by, with_choice};
 
-/// The violations of the runs of a kind of days, and the run that is open, after one day more. They begin with none and
-/// with the run of the border.
-pub fn runs_grow_by_a_day()
-    ensures no_violations { (l : Limits) (b : ℕ) (p : ℕ → Bool) → run_violations l b p 0 ≡ 0 }
-    ensures border { (b : ℕ) (p : ℕ → Bool) → open_run b p 0 ≡ b }
-    ensures violations { (l : Limits) (b : ℕ) (p : ℕ → Bool) (d : ℕ) → run_violations l b p (suc d) ≡ run_violations l b p d + day_violations l (open_run b p d) (p d) }
-    ensures open { (b : ℕ) (p : ℕ → Bool) (d : ℕ) → open_run b p (suc d) ≡ (if p d then open_run b p d + 1 else 0) }
+/// The penalty is that of the staffing, day by day, and each nurse's own cost and off requests.
+pub fn penalty_by_parts()
+    ensures penalty { (c : Meaning) (r : Rows) → penalty c r ≡ staffing_cost c r + over_nurses c r (λ n days. own_cost c n days + off_request_cost c n days) }
+    ensures staffing { (c : Meaning) (r : Rows) → staffing_cost c r ≡ sum_below (day_count c) (λ d. staffing_cost_by c d (cover r d)) }
 {}
 
-/// The same of a row with one day more, where the kind is a test of the day's shift.
-pub fn runs_of_a_row_grow_by_a_day()
-    ensures violations { (l : Limits) (b : ℕ) (t : Option Shift → Bool) (days : Days) (c : Option Shift) → run_violations l b (λ k. t (shift_on (days ++ c ∷ []) k)) (length (days ++ c ∷ [])) ≡ run_violations l b (λ k. t (shift_on days k)) (length days) + day_violations l (open_run b (λ k. t (shift_on days k)) (length days)) (t c) }
-    ensures open { (b : ℕ) (t : Option Shift → Bool) (days : Days) (c : Option Shift) → open_run b (λ k. t (shift_on (days ++ c ∷ []) k)) (length (days ++ c ∷ [])) ≡ (if t c then open_run b (λ k. t (shift_on days k)) (length days) + 1 else 0) }
+/// A roster keeps the hard rules just where no minimum is missed and each nurse's row keeps the successions and the skills.
+pub fn hard_rules_by_parts()
+    ensures { (c : Meaning) (r : Rows) → keeps_hard c r ≡ keeps_by_parts c r }
 {}
 
-/// The worked days, the worked weekends and the split ones of a row with one day more.
-pub fn weekends_grow_by_a_day()
-    ensures worked { (days : Days) (c : Option Shift) → days_worked (days ++ c ∷ []) ≡ days_worked days + one_if (is_some c) }
-    ensures weekends { (days : Days) (c : Option Shift) → worked_weekends (days ++ c ∷ []) ≡ worked_weekends days + weekends_more (length days) (works days (length days - 1)) (is_some c) }
-    ensures split { (days : Days) (c : Option Shift) → split_weekends (days ++ c ∷ []) ≡ split_weekends days + splits_more (length days) (works days (length days - 1)) (is_some c) }
+/// With one row replaced: the staffing is that of the others and of the row; the penalty is the rest, the nurse's own cost and
+/// the prices of the row's days; and where the hard rules were kept they are kept just where each choice of the row is offered
+/// on its day and may follow the one before it.
+pub fn one_row_replaced()
+    ensures cover { (r : Rows) (n : ℕ) → n < length r → (row : Row) (d s k : ℕ) → cover (with_row r n row) d s k ≡ with_choice (others r n d) (choice_on row d) s k }
+    ensures penalty { (c : Meaning) (r : Rows) (n : ℕ) → n < length r → n < nurse_count c → (row : Row) → length row ≡ day_count c → penalty_with c r n row ≡ rest_of c r n + own_cost c n (days_of row) + prices c r n row }
+    ensures keeps { (c : Meaning) (r : Rows) → keeps_hard c r ≡ true → (n : ℕ) → n < length r → n < nurse_count c → (row : Row) → keeps_hard c (with_row r n row) ≡ is_offered_row c r n row (day_count c) }
+{}
+
+/// A day's staffing costs the same for each nurse that is lacking to the optimum, its minimums are met where none is lacking to them,
+/// and a nurse more takes one off what is lacking to a number that isn't reached, where the nurse works.
+pub fn staffing_by_what_is_lacking()
+    ensures staffing { (c : Meaning) (d : ℕ) (have : ℕ → ℕ → ℕ) → staffing_cost_by c d have ≡ staffing_weight * lacking c (optimum c d) have }
+    ensures minimums { (c : Meaning) (d : ℕ) (have : ℕ → ℕ → ℕ) → meets c d have ≡ (lacking c (minimum c d) have == 0) }
+    ensures off { (c : Meaning) (want have : ℕ → ℕ → ℕ) → lacking c want (with_choice have Off) ≡ lacking c want have }
+    ensures work { (c : Meaning) (want have : ℕ → ℕ → ℕ) (shift : Shift) (skill : Skill) → shift.0 < shift_count c → skill.0 < skill_count c → lacking c want (with_choice have (Work shift skill)) + one_if (nat_lt (have shift.0 skill.0) (want shift.0 skill.0)) ≡ lacking c want have }
 {}

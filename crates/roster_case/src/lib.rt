@@ -1,24 +1,14 @@
-//! Cases and rosters, and what is counted in them: the hard rules, the penalties and the best row of a nurse.
+//! Cases and rosters, and a roster that keeps the hard rules with what it costs.
 #![tactic(auto)]
 
-mod costing;
-mod fault;
-mod hard;
 mod laws;
-mod penalties;
-mod rows;
-mod runs;
-mod staffing;
-mod weekends;
-pub mod weights;
+mod view;
 
-pub use costing::costs;
-pub use fault::HardFault;
-pub use hard::first_hard;
-pub use laws::{runs_grow_by_a_day, runs_of_a_row_grow_by_a_day, weekends_grow_by_a_day};
-pub use penalties::Costs;
-pub use roster_instance::{
-    Border, Case, CaseFault, Choice, ContractRules, Limits, MAX_STATES, Past, Roster, Shift, Skill,
-    WeekView,
+pub use laws::{
+    hard_rules_by_parts, one_row_replaced, penalty_by_parts, staffing_by_what_is_lacking,
 };
-pub use rows::one_first_least_row;
+pub use roster_rules::{
+    Border, Case, CaseFault, Choice, ContractRules, Costs, HardFault, Limits, MAX_STATES, Past, Roster, Shift, Skill,
+    costs, first_hard, one_first_least_row, runs_grow_by_a_day, runs_of_a_row_grow_by_a_day, weekends_grow_by_a_day, weights,
+};
+pub use view::WeekView;

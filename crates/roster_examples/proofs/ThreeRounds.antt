@@ -1,14 +1,14 @@
 -- The run of the worked example, a round at a time.
 use Rattle.std.proofs.Common.{◌≡◌, ◌∙◌, ◌+◌, ℕ, suc, false, true, ap, ap₂, refl, List, [], ◌∷◌, ◌++◌}
-use Rattle.roster_case.specs.Choices.{all_rows}
-use Rattle.roster_case.specs.HardRules.{hard_faults}
-use Rattle.roster_case.specs.Improver.{BestRows, Entry, changed, entries_from, entry, log_of, round, round_done, round_log, run, same_rows, settled, started, step, stopped}
-use Rattle.roster_case.specs.Meaning.{Meaning}
+use Rattle.roster_rules.specs.Choices.{all_rows}
+use Rattle.roster_rules.specs.HardRules.{hard_faults}
+use Rattle.roster_rules.specs.Improver.{BestRows, Entry, changed, entries_from, entry, log_of, round, round_done, round_log, run, same_rows, settled, started, step, stopped}
+use Rattle.roster_rules.specs.Meaning.{Meaning}
 use Rattle.roster_examples.specs.Mini.{all_free, ann, bob, early_but, early_on, mini_of_one_shift}
-use Rattle.roster_case.specs.Penalties.{costs_of, penalty}
-use Rattle.roster_case.specs.Rosters.{Rows}
-use Rattle.roster_case.specs.AllowedRows.{best_row}
-use Rattle.roster_case.specs.Runs.{run_violations}
+use Rattle.roster_rules.specs.Penalties.{costs_of, penalty}
+use Rattle.roster_rules.specs.Rosters.{Rows}
+use Rattle.roster_rules.specs.AllowedRows.{best_row}
+use Rattle.roster_rules.specs.Runs.{run_violations}
 
 -- a round that changed something
 goes_on : (c : Meaning) (best : BestRows) (k m : ℕ) (r next : Rows) → round c best r ≡ next → same_rows next r ≡ false → entries_from c best k (suc m) r ≡ round_log c best k r ++ entries_from c best (k + 1) m next

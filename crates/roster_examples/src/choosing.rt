@@ -1,11 +1,11 @@
 //! Worked examples of allowed rows, best rows and runs of the improver.
-#![tactic(auto, unfolding(roster_instance::specs::Choices::all_rows, roster_case::specs::HardRules::hard_faults, roster_case::specs::Penalties::costs_of, roster_case::specs::Penalties::penalty, roster_case::specs::Runs::run_violations))]
+#![tactic(auto, unfolding(roster_instance::specs::Choices::all_rows, roster_rules::specs::HardRules::hard_faults, roster_rules::specs::Penalties::costs_of, roster_rules::specs::Penalties::penalty, roster_rules::specs::Runs::run_violations))]
 
 ghost use Rattle.std.specs.Prelude.{◌≡◌, [], ◌∷◌, Some, None, codes, filter, flat_map, map, true, false};
-ghost use Rattle.roster_case.specs.declared.Choice.TheVariants.{Off};
-ghost use Rattle.roster_case.specs.Improver.{line_of, log_of, run};
+ghost use Rattle.roster_rules.specs.declared.Choice.TheVariants.{Off};
+ghost use Rattle.roster_rules.specs.Improver.{line_of, log_of, run};
 ghost use Rattle.roster_examples.specs.Mini.{all_free, ann, early_but, early_on, early_shift, free_week, mini, mini_of_one_shift};
-ghost use Rattle.roster_case.specs.AllowedRows.{allowed_rows, best_row, penalty_with, row_keeps};
+ghost use Rattle.roster_rules.specs.AllowedRows.{allowed_rows, best_row, penalty_with, row_keeps};
 ghost use Rattle.roster_examples.specs.Tight.{after_shift, beginning, early_as_head, needing, night_shift, resting, unskilled, with_heads};
 
 /// From Monday to Friday a nurse is needed, and Bob is off: Ann can choose her weekend. The row that is the best without minimums

@@ -1,20 +1,20 @@
 //! Worked examples: what the definitions say of a small instance and of texts that differ from it in a few lines.
-#![tactic(auto, unfolding(roster_bundle::specs::Token::tokens_from, roster_bundle::specs::Token::token_at, roster_bundle::specs::Token::begins_at, roster_bundle::specs::Token::end_from, roster_bundle::specs::Token::is_separator, roster_bundle::specs::Token::is_mark, roster_bundle::specs::Token::is_word_byte, roster_bundle::specs::Token::follows_word_byte, roster_bundle::specs::Token::line_feeds, roster_text::specs::Reading::bundle_at, roster_text::specs::Reading::title_at, roster_text::specs::Reading::scenario_at, roster_text::specs::Reading::section_at, roster_text::specs::Reading::listed_at, roster_text::specs::Reading::times_at, roster_text::specs::Reading::shift_type_at, roster_text::specs::Reading::pair_at, roster_text::specs::Reading::until_with, roster_text::specs::Reading::succession_at, roster_text::specs::Reading::names_at, roster_text::specs::Reading::contract_at, roster_text::specs::Reading::nurse_at, roster_text::specs::Reading::history_at, roster_text::specs::Reading::nurse_history_at, roster_text::specs::Reading::week_data_at, roster_text::specs::Reading::requirement_at, roster_text::specs::Reading::week_pairs_at, roster_text::specs::Reading::solution_at, roster_text::specs::Reading::assignment_at, roster_text::specs::Reading::off_request_at, roster_instance::specs::Tables::table_of, roster_instance::specs::Bundles::off_requests_meant, roster_instance::specs::Bundles::meaning_of, roster_instance::specs::Bundles::rows_of, roster_instance::specs::Refusals::case_faults, roster_instance::specs::Refusals::roster_faults, roster_instance::specs::Sizes::state_count, roster_instance::specs::Sizes::choice_count, roster_case::specs::HardRules::hard_faults, roster_case::specs::Penalties::costs_of, roster_case::specs::Penalties::penalty, roster_case::specs::Runs::run_violations, roster_case::specs::Runs::open_run, roster_instance::specs::Choices::all_rows, roster_case::specs::Prefix::due, roster_case::specs::Prefix::summary_of, roster_case::specs::Penalties::own_cost, roster_case::specs::Improver::log_of))]
+#![tactic(auto, unfolding(roster_bundle::specs::Token::tokens_from, roster_bundle::specs::Token::token_at, roster_bundle::specs::Token::begins_at, roster_bundle::specs::Token::end_from, roster_bundle::specs::Token::is_separator, roster_bundle::specs::Token::is_mark, roster_bundle::specs::Token::is_word_byte, roster_bundle::specs::Token::follows_word_byte, roster_bundle::specs::Token::line_feeds, roster_text::specs::Reading::bundle_at, roster_text::specs::Reading::title_at, roster_text::specs::Reading::scenario_at, roster_text::specs::Reading::section_at, roster_text::specs::Reading::listed_at, roster_text::specs::Reading::times_at, roster_text::specs::Reading::shift_type_at, roster_text::specs::Reading::pair_at, roster_text::specs::Reading::until_with, roster_text::specs::Reading::succession_at, roster_text::specs::Reading::names_at, roster_text::specs::Reading::contract_at, roster_text::specs::Reading::nurse_at, roster_text::specs::Reading::history_at, roster_text::specs::Reading::nurse_history_at, roster_text::specs::Reading::week_data_at, roster_text::specs::Reading::requirement_at, roster_text::specs::Reading::week_pairs_at, roster_text::specs::Reading::solution_at, roster_text::specs::Reading::assignment_at, roster_text::specs::Reading::off_request_at, roster_instance::specs::Tables::table_of, roster_instance::specs::Bundles::off_requests_meant, roster_instance::specs::Bundles::meaning_of, roster_instance::specs::Bundles::rows_of, roster_instance::specs::Refusals::case_faults, roster_instance::specs::Refusals::roster_faults, roster_instance::specs::Sizes::state_count, roster_instance::specs::Sizes::choice_count, roster_rules::specs::HardRules::hard_faults, roster_rules::specs::Penalties::costs_of, roster_rules::specs::Penalties::penalty, roster_rules::specs::Runs::run_violations, roster_rules::specs::Runs::open_run, roster_instance::specs::Choices::all_rows, roster_rules::specs::Prefix::due, roster_rules::specs::Prefix::summary_of, roster_rules::specs::Penalties::own_cost, roster_rules::specs::Improver::log_of))]
 
 ghost use Rattle.std.specs.Prelude.{◌≡◌, ℕ, ◌++◌, [], ◌∷◌, codes, flat_map, map, replicate, take, true, false};
-ghost use Rattle.roster_case.specs.declared.CaseFault.{CaseFault};
-ghost use Rattle.roster_case.specs.declared.HardFault.{HardFault};
-ghost use Rattle.roster_case.specs.Choices.{all_rows, days_of};
-ghost use Rattle.roster_case.specs.Improver.{log_of, line_of};
+ghost use Rattle.roster_rules.specs.declared.CaseFault.{CaseFault};
+ghost use Rattle.roster_rules.specs.declared.HardFault.{HardFault};
+ghost use Rattle.roster_rules.specs.Choices.{all_rows, days_of};
+ghost use Rattle.roster_rules.specs.Improver.{log_of, line_of};
 ghost use Rattle.roster_examples.specs.Mini.{mini, mini_of_one_shift, big, limits, is_among, early_on, early_but, free_week, all_free, ann, bob, costs};
 ghost use Rattle.roster_examples.specs.MiniText.{mini_lines, two_weeks, line, line_behind, solved, early_lines, case_in, roster_in, refusals_in, refusal_in, breaches_in, costs_in, total_in, sizes_in};
-ghost use Rattle.roster_case.specs.Meaning.{shift_at, skill_at};
-ghost use Rattle.roster_case.specs.Penalties.{penalty, own_cost};
-ghost use Rattle.roster_case.specs.Prefix.{due, summary_of};
-ghost use Rattle.roster_case.specs.Rosters.{fits_case};
-ghost use Rattle.roster_case.specs.AllowedRows.{best_row, first_least, penalty_with};
-ghost use Rattle.roster_case.specs.Runs.{run_violations, open_run};
-ghost use Rattle.roster_case.specs.Sizes.{state_count, choice_count};
+ghost use Rattle.roster_rules.specs.Meaning.{shift_at, skill_at};
+ghost use Rattle.roster_rules.specs.Penalties.{penalty, own_cost};
+ghost use Rattle.roster_rules.specs.Prefix.{due, summary_of};
+ghost use Rattle.roster_rules.specs.Rosters.{fits_case};
+ghost use Rattle.roster_rules.specs.AllowedRows.{best_row, first_least, penalty_with};
+ghost use Rattle.roster_rules.specs.Runs.{run_violations, open_run};
+ghost use Rattle.roster_rules.specs.Sizes.{state_count, choice_count};
 
 /// The text of the small instance means that instance, and nothing is refused in it.
 pub fn text_of_the_small_instance()

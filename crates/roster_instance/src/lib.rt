@@ -12,12 +12,10 @@ mod scenario;
 mod section;
 mod sizes;
 mod table;
-mod view;
 mod week;
 
 pub use case::{Case, MAX_STATES};
 pub use choice::{Choice, Shift, Skill};
 pub use fault::CaseFault;
-pub use roster::{Roster, choice_on};
+pub use roster::{Roster, choice_on, row_fits};
 pub use rules::{Border, ContractRules, Limits, Past};
-pub use view::WeekView;

@@ -11,7 +11,7 @@ ghost use Rattle.roster_instance.specs.Limits.{most_nurses, most_weeks};
 ghost use Rattle.roster_instance.specs.Meaning.{nurse_count, week_count};
 ghost use Rattle.roster_instance.specs.CaseParts.{known_of};
 ghost use Rattle.roster_instance.specs.Refusals.{KnownInWeek, assignment_faults, roster_faults, solution_faults};
-ghost use Rattle.roster_instance.specs.Rosters.{choice_on, cover, fits_case, is_choice_of, is_row_of, row_of};
+ghost use Rattle.roster_instance.specs.Rosters.{choice_on, cover, fits_case, is_choice_of, is_row_of, row_of, with_row};
 ghost use Rattle.roster_instance.specs.Tables.{table_of};
 
 use crate::case::Case;
@@ -86,6 +86,15 @@ impl Roster {
         }
     }
 
+    /// Puts a row of as many days in the place of a nurse's. Whether it fits the case is not looked at.
+    pub fn put_row(&mut self, nurse: usize, row: &[Choice])
+        requires nurse { nurse < length self.old }
+        requires days { length row.now ≡ length (row_of self.old nurse) }
+        ensures { self.new ≡ with_row self.old nurse row.now }
+    {
+        self.rows[nurse].copy_from_slice(row);
+    }
+
     /// How many nurses have a row.
     pub fn nurses(&self) -> usize
         ensures { result ≡ length self.now }
@@ -130,7 +139,8 @@ fn all_fit(case: &Case, rows: &[Vec<Choice>]) -> bool
     rows.iter().all(|row| row_fits(case, row))
 }
 
-fn row_fits(case: &Case, row: &[Choice]) -> bool
+/// Whether a row has a choice for each day, and the case's shifts and skills alone.
+pub fn row_fits(case: &Case, row: &[Choice]) -> bool
     ensures { result ≡ is_row_of case.now row.now }
 {
     row.len() == case.days() as usize && choices_fit(case, row)

@@ -4,13 +4,13 @@ use Rattle.std.specs.List.{All, fold, list_all, range_with_len}
 use Rattle.std.proofs.lemmas.Bool.{and_from, and_parts, cases_Bool, eq-eqb, eqb-true}
 use Rattle.std.proofs.lemmas.List.Elements.{All-append, All-cons, All-nil, All-set, Contains-append_right}
 use Rattle.std.proofs.lemmas.List.Sums.{AllPass-from_list_all, list_all-from_AllPass}
-use Rattle.roster_case.specs.HardRules.{keeps_hard}
-use Rattle.roster_case.specs.Improver.{BestRows, Entry, changed, changes, entries_from, entry, log_of, round, round_done, round_log, run, same_rows, settled, started, step, step_with, stopped}
-use Rattle.roster_case.specs.Meaning.{Meaning, nurse_count}
-use Rattle.roster_case.specs.Penalties.{penalty}
-use Rattle.roster_case.specs.Rosters.{Row, Rows, fits_case, is_row_of, with_row}
-use Rattle.roster_case.specs.AllowedRows.{allowed_rows, best_row, penalty_with, row_keeps}
-use Rattle.roster_case.proofs.FirstLeast.{found}
+use Rattle.roster_rules.specs.HardRules.{keeps_hard}
+use Rattle.roster_rules.specs.Improver.{BestRows, Entry, changed, changes, entries_from, entry, log_of, round, round_done, round_log, run, same_rows, settled, started, step, step_with, stopped}
+use Rattle.roster_rules.specs.Meaning.{Meaning, nurse_count}
+use Rattle.roster_rules.specs.Penalties.{penalty}
+use Rattle.roster_rules.specs.Rosters.{Row, Rows, fits_case, is_row_of, with_row}
+use Rattle.roster_rules.specs.AllowedRows.{allowed_rows, best_row, penalty_with, row_keeps}
+use Rattle.roster_rules.proofs.FirstLeast.{found}
 use Rattle.roster_laws.proofs.Allowed.{allowed_keeps}
 use Rattle.roster_laws.proofs.Runs.{entries-goes_on, entries-settled, run-goes_on, run-settled, run-stopped}
 

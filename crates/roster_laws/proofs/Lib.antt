@@ -4,10 +4,6 @@ pub mod Steps
 pub mod Rounds
 pub mod Runs
 pub mod Descents
-pub mod Below
-pub mod OneRow
-pub mod Keeps
-pub mod Lacking
 pub mod AllRows
 pub mod Allowed
 pub mod GreatestLemmas

@@ -1,12 +1,12 @@
 //! Runs of the improver and their logs. Where a law says nothing of the best rows, it holds for each way to choose them.
 
 ghost use Rattle.std.specs.Prelude.{◌≡◌, ℕ, ◌+◌, ◌*◌, ◌<◌, ◌≤◌, ◌%◌, ◌↔◌, suc, nat_lt, not, true, false, All, AllPairs};
-ghost use Rattle.roster_case.specs.HardRules.{keeps_hard};
-ghost use Rattle.roster_case.specs.Improver.{BestRows, entry, log_of, round, run, same_rows, step};
-ghost use Rattle.roster_case.specs.Meaning.{Meaning, nurse_count};
-ghost use Rattle.roster_case.specs.Penalties.{penalty};
-ghost use Rattle.roster_case.specs.Rosters.{Row, Rows, fits_case, with_row};
-ghost use Rattle.roster_case.specs.AllowedRows.{IsBestRow, allowed_rows, best_row, penalty_with};
+ghost use Rattle.roster_rules.specs.HardRules.{keeps_hard};
+ghost use Rattle.roster_rules.specs.Improver.{BestRows, entry, log_of, round, run, same_rows, step};
+ghost use Rattle.roster_rules.specs.Meaning.{Meaning, nurse_count};
+ghost use Rattle.roster_rules.specs.Penalties.{penalty};
+ghost use Rattle.roster_rules.specs.Rosters.{Row, Rows, fits_case, with_row};
+ghost use Rattle.roster_rules.specs.AllowedRows.{IsBestRow, allowed_rows, best_row, penalty_with};
 ghost use Rattle.roster_laws.specs.Logs.{Descends, EndsWith, changes_in, ending, outcome_of, rounds_in};
 
 /// Two rosters pass the test for the same rows just where they are one.

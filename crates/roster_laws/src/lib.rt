@@ -3,16 +3,12 @@
 #![tactic(auto)]
 
 mod improver;
-mod prices;
 mod rows;
 mod sizes;
 
 pub use improver::{
     changes_are_few, last_round_tells, log_ends_with_the_run, penalty_never_rises,
     runs_keep_the_hard_rules, same_rows_are_equal, settled_stays, steps_put_the_best_row_in,
-};
-pub use prices::{
-    hard_rules_by_parts, one_row_replaced, penalty_by_parts, staffing_by_what_is_lacking,
 };
 pub use rows::{all_rows_are_the_rows_of_the_case, allowed_rows_keep_the_hard_rules};
 pub use sizes::greatest_sizes;

@@ -1,14 +1,14 @@
 -- The start of the sum law: what is owed on no days.
 use Rattle.std.proofs.Common.{◌≡◌, refl, arith, ℕ, ◌+◌, ◌-◌, ◌*◌, Bool, true, false, [], if◌then◌else◌}
-use Rattle.roster_case.specs.declared.Border.{Border}
-use Rattle.roster_case.specs.declared.ContractRules.{ContractRules}
-use Rattle.roster_case.specs.Days.{works, is_off, has_shift, split_weekends}
-use Rattle.roster_case.specs.Meaning.{Meaning, contract_of, past_of, run_of_shift, shift_count}
-use Rattle.roster_case.specs.Penalties.{free_before, run_cost_of_shift, shift_run_before, split_cost, worked_before}
-use Rattle.roster_case.specs.Prefix.{due}
-use Rattle.roster_case.specs.Weights.{assignment_weight, split_weight, weekend_weight}
-use Rattle.roster_case.proofs.RunLaw.{no_violations}
-use Rattle.roster_case.proofs.RunSums.{sum_zero}
+use Rattle.roster_rules.specs.declared.Border.{Border}
+use Rattle.roster_rules.specs.declared.ContractRules.{ContractRules}
+use Rattle.roster_rules.specs.Days.{works, is_off, has_shift, split_weekends}
+use Rattle.roster_rules.specs.Meaning.{Meaning, contract_of, past_of, run_of_shift, shift_count}
+use Rattle.roster_rules.specs.Penalties.{free_before, run_cost_of_shift, shift_run_before, split_cost, worked_before}
+use Rattle.roster_rules.specs.Prefix.{due}
+use Rattle.roster_rules.specs.Weights.{assignment_weight, split_weight, weekend_weight}
+use Rattle.roster_rules.proofs.RunLaw.{no_violations}
+use Rattle.roster_rules.proofs.RunSums.{sum_zero}
 
 pub due_at_first : (c : Meaning) (n : ℕ) → due c n [] ≡ assignment_weight * ((past_of c n).assignments - (contract_of c n).total.greatest) + weekend_weight * ((past_of c n).weekends - (contract_of c n).weekends)
 unfolding due

@@ -2,7 +2,7 @@
 
 ghost use Rattle.std.specs.Prelude.{◌≡◌, ◌+◌, ◌<◌};
 
-use roster_case::Case;
+use roster_rules::Case;
 use std::marker::Model;
 
 /// Counts extensions: one state taken over one choice. Whoever has a case for itself alone can make one; who is lent a

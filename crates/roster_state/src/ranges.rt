@@ -1,12 +1,12 @@
 //! The ranges of the five numbers of a state.
 
 ghost use Rattle.std.specs.Prelude.{◌≡◌, ◌<◌, ◌≤◌};
-ghost use Rattle.roster_case.specs.Limits.{most_states};
-ghost use Rattle.roster_case.specs.Meaning.{nurse_count};
-ghost use Rattle.roster_case.specs.Sizes.{state_count};
+ghost use Rattle.roster_rules.specs.Limits.{most_states};
+ghost use Rattle.roster_rules.specs.Meaning.{nurse_count};
+ghost use Rattle.roster_rules.specs.Sizes.{state_count};
 ghost use Rattle.roster_state.specs.Codes.{product, sizes_of};
 
-use roster_case::{Case, MAX_STATES};
+use roster_rules::{Case, MAX_STATES};
 use std::cmp::max;
 use std::marker::Model;
 

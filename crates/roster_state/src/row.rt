@@ -1,15 +1,15 @@
 //! A row from day to day: the start, a step for each day and the end add up to what it costs.
 
 ghost use Rattle.std.specs.Prelude.{◌≡◌, ◌+◌, ◌<◌, ◌≤◌, IfSome, IsNone, true, length};
-ghost use Rattle.roster_case.specs.Choices.{days_of};
-ghost use Rattle.roster_case.specs.Meaning.{day_count, nurse_count};
-ghost use Rattle.roster_case.specs.Penalties.{own_cost};
-ghost use Rattle.roster_case.specs.Rosters.{is_row_of};
+ghost use Rattle.roster_rules.specs.Choices.{days_of};
+ghost use Rattle.roster_rules.specs.Meaning.{day_count, nurse_count};
+ghost use Rattle.roster_rules.specs.Penalties.{own_cost};
+ghost use Rattle.roster_rules.specs.Rosters.{is_row_of};
 ghost use Rattle.roster_state.specs.Step.{days_tried, KeepsSuccessions};
 
 use crate::meter::Meter;
 use crate::step::{end_cost, extend, start};
-use roster_case::{Case, Choice};
+use roster_rules::{Case, Choice};
 
 /// What a row costs its nurse in runs, split weekends, totals and worked weekends, in penalty points: the cost of the start,
 /// of a step for each day and of the end. None exactly where a shift forbids the next. The meter counts one for each day, up to

@@ -1,11 +1,11 @@
 //! The state of a nurse between two days.
 
 ghost use Rattle.std.specs.Prelude.{◌≡◌, ◌↔◌, ◌<◌, ◌≤◌, true, IfSome, IsNone};
-ghost use Rattle.roster_case.specs.Prefix.{Summary};
+ghost use Rattle.roster_rules.specs.Prefix.{Summary};
 ghost use Rattle.roster_state.specs.Codes.{code_of, fits_sizes, product, shift_digit, shift_numbered, state_at};
 
 use crate::ranges::Ranges;
-use roster_case::Shift;
+use roster_rules::Shift;
 use std::marker::Model;
 
 /// What the costs of the days to come depend on: the last shift or none, the days in a row of work or off, the days in a
@@ -20,7 +20,7 @@ pub struct State {
 }
 
 impl Model for State {
-    ghost use Rattle.roster_case.specs.Prefix.{Summary};
+    ghost use Rattle.roster_rules.specs.Prefix.{Summary};
 
     ghost Value = { Summary };
 

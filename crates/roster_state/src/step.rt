@@ -1,22 +1,22 @@
 //! One day more: what it costs, and the state behind it.
 
 ghost use Rattle.std.specs.Prelude.{◌≡◌, ◌↔◌, ◌+◌, ◌*◌, ◌<◌, ◌≤◌, ◌++◌, ◌∷◌, [], true, false, length, IfSome, IsNone, None, Some, if◌then◌else◌, is_some, min};
-ghost use Rattle.roster_case.specs.Days.{Days};
-ghost use Rattle.roster_case.specs.Meaning.{contract_of, day_count, nurse_count, past_of, run_of_shift, shift_count, forbids};
-ghost use Rattle.roster_case.specs.Penalties.{own_cost};
-ghost use Rattle.roster_case.specs.DayLaw.{splits_more, weekends_more};
-ghost use Rattle.roster_case.specs.Small.{IsSmallPast};
-ghost use Rattle.roster_case.specs.Prefix.{due, summary_of};
-ghost use Rattle.roster_case.specs.Sizes.{cap};
+ghost use Rattle.roster_rules.specs.Days.{Days};
+ghost use Rattle.roster_rules.specs.Meaning.{contract_of, day_count, nurse_count, past_of, run_of_shift, shift_count, forbids};
+ghost use Rattle.roster_rules.specs.Penalties.{own_cost};
+ghost use Rattle.roster_rules.specs.DayLaw.{splits_more, weekends_more};
+ghost use Rattle.roster_rules.specs.Small.{IsSmallPast};
+ghost use Rattle.roster_rules.specs.Prefix.{due, summary_of};
+ghost use Rattle.roster_rules.specs.Sizes.{cap};
 ghost use Rattle.roster_state.specs.Codes.{fits_sizes, sizes_of};
-ghost use Rattle.roster_case.specs.Weights.{assignment_weight, free_run_weight, shift_run_weight, split_weight, weekend_weight, working_run_weight};
+ghost use Rattle.roster_rules.specs.Weights.{assignment_weight, free_run_weight, shift_run_weight, split_weight, weekend_weight, working_run_weight};
 ghost use Rattle.roster_state.specs.Room.{most_at_end, most_at_start, most_of_step};
 ghost use Rattle.roster_state.specs.Step.{end_cost_of, ended, free_more, free_run, next_of, open_shift_run, shifts_more, split_more, step_cost, step_of, total_more, weekend_more, worked, working_more, working_run};
 
 use crate::meter::Meter;
 use crate::state::State;
-use roster_case::weights::{ASSIGNMENT, FREE_RUN, SHIFT_RUN, SPLIT, WEEKEND, WORKING_RUN};
-use roster_case::{Border, Case, Limits, Past, Shift};
+use roster_rules::weights::{ASSIGNMENT, FREE_RUN, SHIFT_RUN, SPLIT, WEEKEND, WORKING_RUN};
+use roster_rules::{Border, Case, Limits, Past, Shift};
 use std::cmp::min;
 
 /// The state before day 0, and what the history's totals cost already: points for each assignment and each worked
@@ -105,7 +105,7 @@ pub fn end_cost(case: &Case, nurse: usize, state: State) -> u32
 
 // ---- the start and the end
 
-#[tactic(auto, unfolding(roster_case::specs::Prefix::summary_of, roster_case::specs::Runs::open_run))]
+#[tactic(auto, unfolding(roster_rules::specs::Prefix::summary_of, roster_rules::specs::Runs::open_run))]
 fn start_state(case: &Case, nurse: usize, past: Past) -> State
     requires { past ≡ past_of case.now nurse }
     ensures { result ≡ summary_of case.now nurse [] }

@@ -1,10 +1,10 @@
 use Rattle.std.proofs.Common.{◌∙◌, ap, refl}
 use Rattle.std.specs.Fmt.{digits}
 use Rattle.std.specs.List.{flat_map}
-use Rattle.roster_case.specs.Improver.{line_of}
+use Rattle.roster_rules.specs.Improver.{line_of}
 use Rattle.roster_examples.specs.Mini.{mini_of_one_shift}
-use Rattle.roster_case.specs.Penalties.{costs_of, penalty}
-use Rattle.roster_case.specs.Runs.{run_violations}
+use Rattle.roster_rules.specs.Penalties.{costs_of, penalty}
+use Rattle.roster_rules.specs.Runs.{run_violations}
 use Rattle.roster_examples.proofs.ThreeRounds.{settled_log, settled_three, stopped_log, stopped_run}
 use Rattle.roster_examples.proofs.choosing.run_of_three_rounds.Goals as goal
 

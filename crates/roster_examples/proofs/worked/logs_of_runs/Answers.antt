@@ -1,10 +1,10 @@
 use Rattle.std.proofs.Common.{refl}
 use Rattle.std.specs.Fmt.{digits}
-use Rattle.roster_case.specs.Choices.{all_rows}
-use Rattle.roster_case.specs.HardRules.{hard_faults}
-use Rattle.roster_case.specs.Improver.{log_of, round, step}
-use Rattle.roster_case.specs.Penalties.{costs_of, penalty}
-use Rattle.roster_case.specs.Runs.{run_violations}
+use Rattle.roster_rules.specs.Choices.{all_rows}
+use Rattle.roster_rules.specs.HardRules.{hard_faults}
+use Rattle.roster_rules.specs.Improver.{log_of, round, step}
+use Rattle.roster_rules.specs.Penalties.{costs_of, penalty}
+use Rattle.roster_rules.specs.Runs.{run_violations}
 use Rattle.roster_examples.proofs.worked.logs_of_runs.Goals as goal
 
 pub returns-clause-no_rounds : goal.returns-clause-no_rounds

@@ -1,4 +1,4 @@
-use Rattle.roster_case.specs.AllowedRows.{best_row}
+use Rattle.roster_rules.specs.AllowedRows.{best_row}
 use Rattle.roster_laws.proofs.Kept.{IsKept, log_keeps, run_keeps, step_keeps}
 use Rattle.roster_laws.proofs.improver.runs_keep_the_hard_rules.Goals as goal
 

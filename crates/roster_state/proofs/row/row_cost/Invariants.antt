@@ -1,9 +1,9 @@
 use Rattle.std.proofs.Common.{◌≡◌, ◌+◌, ◌*◌, ◌<◌, ◌≤◌, false, true, ℕ, take}
-use Rattle.roster_case.specs.Choices.{days_of}
-use Rattle.roster_case.specs.Days.{shift_on}
-use Rattle.roster_case.specs.HardRules.{shift_before}
-use Rattle.roster_case.specs.Meaning.{last_shift, past_of, forbids}
-use Rattle.roster_case.specs.Prefix.{due, summary_of}
+use Rattle.roster_rules.specs.Choices.{days_of}
+use Rattle.roster_rules.specs.Days.{shift_on}
+use Rattle.roster_rules.specs.HardRules.{shift_before}
+use Rattle.roster_rules.specs.Meaning.{last_shift, past_of, forbids}
+use Rattle.roster_rules.specs.Prefix.{due, summary_of}
 use Rattle.roster_state.specs.Codes.{fits_sizes, sizes_of}
 use Rattle.roster_state.specs.Room.{most_at_start, most_of_step}
 use Rattle.roster_state.proofs.row.row_cost.Given as goal

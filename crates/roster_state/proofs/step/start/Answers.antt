@@ -1,8 +1,8 @@
 use Rattle.std.proofs.Common.{◌≡◌, ◌<◌, [], IfSome, subst, sym, true}
-use Rattle.roster_case.specs.declared.Shift.{Shift}
-use Rattle.roster_case.specs.declared.Past.{Past}
-use Rattle.roster_case.specs.Meaning.{last_shift, shift_count}
-use Rattle.roster_case.specs.Prefix.{Summary}
+use Rattle.roster_rules.specs.declared.Shift.{Shift}
+use Rattle.roster_rules.specs.declared.Past.{Past}
+use Rattle.roster_rules.specs.Meaning.{last_shift, shift_count}
+use Rattle.roster_rules.specs.Prefix.{Summary}
 use Rattle.roster_state.specs.Codes.{fits_sizes, sizes_of}
 use Rattle.roster_state.proofs.RangeLemmas.{summary_fits}
 use Rattle.roster_state.proofs.step.start.Goals as goal

@@ -1,5 +1,5 @@
 use Rattle.std.proofs.Common.{◌∙◌, ◌+◌, ◌*◌, ◌-◌, sym}
-use Rattle.roster_case.specs.Weights.{assignment_weight, weekend_weight}
+use Rattle.roster_rules.specs.Weights.{assignment_weight, weekend_weight}
 use Rattle.roster_state.proofs.StartLaw.{due_at_first}
 use Rattle.roster_state.proofs.step.start_cost.Goals as goal
 

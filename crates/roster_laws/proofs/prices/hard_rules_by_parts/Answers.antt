@@ -1,5 +1,0 @@
-use Rattle.roster_laws.proofs.Keeps.{keeps_hard-parts}
-use Rattle.roster_laws.proofs.prices.hard_rules_by_parts.Goals as goal
-
-pub returns : goal.returns
-returns c = keeps_hard-parts

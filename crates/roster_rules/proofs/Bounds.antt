@@ -1,0 +1,125 @@
+-- Bounds of the penalties of a roster, where the numbers of an instance are small: all sums stay below 2^31. The bounds are
+-- for the largest case, by its limits and the weights.
+use Rattle.std.proofs.Common.{◌≡◌, arith, ℕ, ◌+◌, ◌-◌, ◌*◌, ◌<◌, ◌≤◌, true, ◌||◌, length, if◌then◌else◌}
+use Rattle.roster_instance.specs.Counting.{sum_below}
+use Rattle.roster_instance.specs.Days.{Days, shift_on, works, is_off, days_worked, saturday, worked_weekends, weekends_begun, weekends_ended, split_weekends, one_alone}
+use Rattle.roster_instance.specs.Limits.{most_days, most_nurses, most_shifts, most_skills, most_small, most_weeks}
+use Rattle.roster_instance.specs.Meaning.{Meaning, week_count, day_count, shift_count, skill_count, nurse_count, run_of_shift, past_of, contract_of, optimum}
+use Rattle.roster_rules.specs.Penalties.{staffing_cost, staffing_cost_of_day, free_before, worked_before, working_run_cost, shift_run_cost, free_run_cost, breaks_off_request, off_request_cost, split_cost, totals_cost, weekends_cost, over_nurses, costs_of, total_cost}
+use Rattle.roster_rules.specs.Room.{most_staffing, penalty_room}
+use Rattle.roster_rules.specs.Weights.{staffing_weight, working_run_weight, shift_run_weight, free_run_weight, off_request_weight, split_weight, assignment_weight, weekend_weight}
+use Rattle.roster_instance.specs.Rosters.{Rows, days_of_nurse, cover, fits_case}
+use Rattle.roster_instance.specs.Small.{HasSmallNumbers}
+use Rattle.roster_instance.proofs.RosterFacts.{days_of_nurse-length}
+use Rattle.roster_rules.proofs.RunBounds.{where_within, sum_within, count_within, all_runs_within, all_shifts_within}
+
+-- ---- staffing
+
+abbrev most_staffing_of_place : ℕ
+most_staffing_of_place = staffing_weight * most_small
+
+abbrev most_staffing_of_shift : ℕ
+most_staffing_of_shift = most_skills * most_staffing_of_place
+
+abbrev most_staffing_of_day : ℕ
+most_staffing_of_day = most_shifts * most_staffing_of_shift
+
+staffing_cost_of_day-within : (c : Meaning) (r : Rows) (d : ℕ) → HasSmallNumbers c → shift_count c ≤ most_shifts → skill_count c ≤ most_skills → staffing_cost_of_day c r d ≤ most_staffing_of_day
+staffing_cost_of_day-within c r d small shifts skills = omega (arith, sum_within (shift_count c) most_staffing_of_shift of_shift (λ s h. shift s))
+  where
+    missing_at : ℕ → ℕ → ℕ
+    missing_at s k = staffing_weight * (optimum c d s k - cover r d s k)
+
+    of_shift : ℕ → ℕ
+    of_shift s = sum_below (skill_count c) (missing_at s)
+
+    skill : (s k : ℕ) → missing_at s k ≤ most_staffing_of_place
+    skill s k = omega (arith, (small.needs d s k).greatest)
+
+    shift : (s : ℕ) → of_shift s ≤ most_staffing_of_shift
+    shift s = omega (arith, sum_within (skill_count c) most_staffing_of_place (missing_at s) (λ k h. skill s k))
+
+pub staffing_cost-within : (c : Meaning) (r : Rows) → HasSmallNumbers c → shift_count c ≤ most_shifts → skill_count c ≤ most_skills → day_count c ≤ most_days → staffing_cost c r ≤ most_staffing
+staffing_cost-within c r small shifts skills days =
+    omega (arith, sum_within (day_count c) most_staffing_of_day (staffing_cost_of_day c r) (λ d h. staffing_cost_of_day-within c r d small shifts skills))
+
+-- ---- one nurse
+
+-- the missing and the extra days of all runs of a kind
+abbrev most_run_violations : ℕ
+most_run_violations = most_small + (most_small + 1) * most_days
+
+-- the points of working days, of all shifts and of days off
+abbrev most_working : ℕ
+most_working = working_run_weight * most_run_violations
+
+abbrev most_shift : ℕ
+most_shift = shift_run_weight * most_run_violations
+
+abbrev most_free : ℕ
+most_free = free_run_weight * most_run_violations
+
+abbrev most_off_requests : ℕ
+most_off_requests = off_request_weight * most_days
+
+abbrev most_split : ℕ
+most_split = split_weight * most_weeks
+
+-- the assignments that are missing, and those that are extra with the history's
+abbrev most_totals : ℕ
+most_totals = assignment_weight * most_small + assignment_weight * (most_small + most_days)
+
+abbrev most_weekends : ℕ
+most_weekends = weekend_weight * (most_small + most_weeks)
+
+module _ (c : Meaning) (n : ℕ) (days : Days) (small : HasSmallNumbers c) (few : length days ≤ most_days) where
+  pub working_run_cost-within : working_run_cost c n days ≤ most_working
+  working_run_cost-within =
+      omega (arith, all_runs_within (contract_of c n).working (worked_before (past_of c n).border) (works days) (length days) (small.contracts n).working)
+
+  pub free_run_cost-within : free_run_cost c n days ≤ most_free
+  free_run_cost-within = omega (arith, all_runs_within (contract_of c n).free (free_before (past_of c n).border) (is_off days) (length days) (small.contracts n).free)
+
+  pub shift_run_cost-within : shift_run_cost c n days ≤ most_shift
+  shift_run_cost-within = omega (arith, all_shifts_within (shift_count c) (run_of_shift c) (past_of c n).border days small.runs)
+
+  pub off_request_cost-within : off_request_cost c n days ≤ most_off_requests
+  off_request_cost-within =
+      omega (arith, sum_within (length days) off_request_weight (λ d. if breaks_off_request c n d (shift_on days d) then off_request_weight else 0) (λ d h. where_within (breaks_off_request c n d (shift_on days d)) off_request_weight off_request_weight (omega arith)))
+
+  pub split_cost-within : split_cost c n days ≤ most_split
+  split_cost-within =
+      let count : split_weekends days ≤ weekends_ended days = count_within (weekends_ended days) (λ v. one_alone (works days (saturday v)) (works days (saturday v + 1))) in
+      where_within (contract_of c n).whole_weekends (split_weight * split_weekends days) most_split (omega arith)
+
+  pub totals_cost-within : totals_cost c n days ≤ most_totals
+  totals_cost-within =
+      let worked : days_worked days ≤ length days = count_within (length days) (works days) in
+      omega (arith, (small.contracts n).total.least, (small.past n).assignments)
+
+  pub weekends_cost-within : weekends_cost c n days ≤ most_weekends
+  weekends_cost-within =
+      let count : worked_weekends days ≤ weekends_begun days = count_within (weekends_begun days) (λ v. works days (saturday v) || works days (saturday v + 1)) in
+      omega (arith, (small.past n).weekends)
+
+  -- in numbers at most 8,549,175
+  pub parts-within : working_run_cost c n days + shift_run_cost c n days + free_run_cost c n days + off_request_cost c n days + split_cost c n days + totals_cost c n days + weekends_cost c n days < 4294967296
+  parts-within = omega (arith, working_run_cost-within, shift_run_cost-within, free_run_cost-within, off_request_cost-within, split_cost-within, totals_cost-within, weekends_cost-within)
+
+-- ---- all nurses
+
+over_nurses-within : (c : Meaning) (r : Rows) (rule : ℕ → Days → ℕ) (m : ℕ) → ((n : ℕ) (days : Days) → length days ≤ most_days → rule n days ≤ m) → ((n : ℕ) → n < nurse_count c → length (days_of_nurse r n) ≤ most_days) → over_nurses c r rule ≤ nurse_count c * m
+over_nurses-within c r rule m each few = sum_within (nurse_count c) m (λ n. rule n (days_of_nurse r n)) (λ n h. each n (days_of_nurse r n) (few n h))
+
+-- in numbers 214,824,960, and 8,549,175 for each of 200 nurses: 1,924,659,960
+pub penalty-within : (c : Meaning) (r : Rows) → HasSmallNumbers c → shift_count c ≤ most_shifts → skill_count c ≤ most_skills → week_count c ≤ most_weeks → nurse_count c ≤ most_nurses → fits_case c r ≡ true → total_cost (costs_of c r) < penalty_room
+unfolding costs_of
+penalty-within c r small shifts skills weeks nurses fit =
+    let few : (n : ℕ) → n < nurse_count c → length (days_of_nurse r n) ≤ most_days = λ n h. omega (arith, days_of_nurse-length c r n fit h) in
+    let runs = over_nurses-within c r (λ n days. working_run_cost c n days + shift_run_cost c n days) (most_working + most_shift) (λ n days d. omega (arith, working_run_cost-within c n days small d, shift_run_cost-within c n days small d)) few in
+    let free = over_nurses-within c r (free_run_cost c) most_free (λ n days d. free_run_cost-within c n days small d) few in
+    let off_requests = over_nurses-within c r (off_request_cost c) most_off_requests (λ n days d. off_request_cost-within c n days small d) few in
+    let splits = over_nurses-within c r (split_cost c) most_split (λ n days d. split_cost-within c n days small d) few in
+    let total = over_nurses-within c r (totals_cost c) most_totals (λ n days d. totals_cost-within c n days small d) few in
+    let weekends = over_nurses-within c r (weekends_cost c) most_weekends (λ n days d. weekends_cost-within c n days small d) few in
+    omega (arith, staffing_cost-within c r small shifts skills (omega arith), runs, free, off_requests, splits, total, weekends)

@@ -1,0 +1,43 @@
+-- A nurse's allowed rows, and the best of them (our own: the first of least penalty, the other rows fixed).
+use Rattle.std.specs.Prelude.{◌≡◌, ℕ, Bool, ◌&&◌, ◌<◌, ◌≤◌, nat_lt, if◌then◌else◌, List, [], ◌∷◌, ◌++◌, All, filter, Option, Some, None}
+use Rattle.roster_instance.specs.Choices.{all_choices, all_rows}
+use Rattle.roster_rules.specs.HardRules.{keeps_hard}
+use Rattle.roster_instance.specs.Meaning.{Meaning, day_count}
+use Rattle.roster_rules.specs.Penalties.{penalty}
+use Rattle.roster_instance.specs.Rosters.{Row, Rows, with_row, is_row_of}
+
+-- all rows, in order, with which the roster keeps the hard rules
+abbrev pub allowed_rows : Meaning → Rows → ℕ → List Row
+allowed_rows c r n = filter (λ row. keeps_hard c (with_row r n row)) (all_rows (all_choices c) (day_count c))
+
+-- the row is one of the case's, and the roster keeps the hard rules with it
+abbrev pub row_keeps : Meaning → Rows → ℕ → Row → Bool
+row_keeps c r n row = is_row_of c row && keeps_hard c (with_row r n row)
+
+-- the roster's penalty with this row
+abbrev pub penalty_with : Meaning → Rows → ℕ → Row → ℕ
+penalty_with c r n row = penalty c (with_row r n row)
+
+-- x is the first member of which none is cheaper: those before it are dearer, and those behind are not cheaper
+pub record IsFirstLeast {A : Type 0} (cost : A → ℕ) (xs : List A) (x : A) : Type 0 where
+  pub before : List A
+  pub after : List A
+  pub split : xs ≡ before ++ x ∷ after
+  pub dearer : All (λ y. cost x < cost y) before
+  pub least : All (λ y. cost x ≤ cost y) after
+
+-- the same as a function: of two equally dear members the first
+abbrev pub cheaper_of : {A : Type 0} → (A → ℕ) → A → Option A → A
+cheaper_of cost x None = x
+cheaper_of cost x (Some y) = if nat_lt (cost y) (cost x) then y else x
+
+abbrev pub first_least : {A : Type 0} → (A → ℕ) → List A → Option A
+first_least cost [] = None
+first_least cost (x ∷ xs) = Some (cheaper_of cost x (first_least cost xs))
+
+-- the best row of a nurse, as a fact and as a function
+abbrev pub IsBestRow : Meaning → Rows → ℕ → Row → Type 0
+IsBestRow c r n row = IsFirstLeast (penalty_with c r n) (allowed_rows c r n) row
+
+abbrev pub best_row : Meaning → Rows → ℕ → Option Row
+best_row c r n = first_least (penalty_with c r n) (allowed_rows c r n)

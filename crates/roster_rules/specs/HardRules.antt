@@ -1,0 +1,72 @@
+-- The hard rules (INRC-II), and the list of their breaches in order: missing nurses by day, shift and skill; then
+-- forbidden successions by nurse and day, also from the history's last shift to day 0 (profile); then skills that a nurse
+-- lacks, by nurse and day. That a nurse works one shift a day holds of each roster by its form.
+use Rattle.std.specs.Prelude.{◌≡◌, ℕ, ◌-◌, Bool, true, false, not, ◌==◌, nat_lt, List, [], ◌++◌, if◌then◌else◌, Option, Some, None, slice_index_or}
+use Rattle.std.specs.List.{list_any}
+use Rattle.std.specs.Option.{option_map_or}
+use Rattle.roster_instance.specs.declared.Choice.{Choice}
+use Rattle.roster_instance.specs.declared.Choice.TheVariants.{Off, Work}
+use Rattle.roster_instance.specs.declared.Shift.{Shift}
+use Rattle.roster_instance.specs.declared.Skill.{Skill}
+use Rattle.roster_rules.specs.declared.fault.HardFault.{HardFault}
+use Rattle.roster_rules.specs.declared.fault.HardFault.TheVariants.{H2, H3, H4}
+use Rattle.roster_instance.specs.Counting.{all_below}
+use Rattle.roster_instance.specs.Days.{Days, shift_on}
+use Rattle.roster_instance.specs.Faults.{fault_if, below, is_none_of}
+use Rattle.roster_instance.specs.Meaning.{Meaning, day_count, forbids, shift_count, skill_count, nurse_count, shift_at, skill_at, nurse_at, past_of, last_shift, minimum}
+use Rattle.roster_instance.specs.Rosters.{Row, Rows, choice_on, row_of, days_of_nurse, cover}
+
+-- the shift before a day: on day 0 the history's last
+abbrev pub shift_before : Option Shift → Days → ℕ → Option Shift
+shift_before last days d = if d == 0 then last else shift_on days (d - 1)
+
+-- the nurse can work so
+abbrev pub is_able : List Skill → Choice → Bool
+is_able skills Off = true
+is_able skills (Work s k) = list_any (λ own. own.0 == k.0) skills
+
+-- ---- a nurse's row: a day that breaks the successions, a day that the nurse is able to work so, and both over m days
+
+abbrev pub breaks_succession : Meaning → ℕ → Days → ℕ → Bool
+breaks_succession c n days d = forbids c.successions (shift_before (last_shift (past_of c n).border) days d) (shift_on days d)
+
+abbrev pub keeps_successions : Meaning → ℕ → Days → ℕ → Bool
+keeps_successions c n days m = all_below m (λ d. not (breaks_succession c n days d))
+
+abbrev pub is_able_on : Meaning → ℕ → Row → ℕ → Bool
+is_able_on c n row d = is_able (nurse_at c n).skills (choice_on row d)
+
+abbrev pub keeps_skills : Meaning → ℕ → Row → ℕ → Bool
+keeps_skills c n row m = all_below m (is_able_on c n row)
+
+-- ---- the breaches
+
+abbrev pub staffing_fault : Meaning → Rows → ℕ → ℕ → ℕ → List HardFault
+staffing_fault c r d s k =
+    fault_if (nat_lt (cover r d s k) (minimum c d s k)) (H2 d (shift_at s) (skill_at k) (cover r d s k) (minimum c d s k))
+
+abbrev pub staffing_faults : Meaning → Rows → List HardFault
+staffing_faults c r = below (day_count c) (λ d. below (shift_count c) (λ s. below (skill_count c) (λ k. staffing_fault c r d s k)))
+
+abbrev pub succession_fault : Meaning → Rows → ℕ → ℕ → List HardFault
+succession_fault c r n d = fault_if (breaks_succession c n (days_of_nurse r n) d) (H3 n d)
+
+abbrev pub succession_faults : Meaning → Rows → List HardFault
+succession_faults c r = below (nurse_count c) (λ n. below (day_count c) (λ d. succession_fault c r n d))
+
+abbrev pub skill_fault : Meaning → Rows → ℕ → ℕ → List HardFault
+skill_fault c r n d = fault_if (not (is_able_on c n (row_of r n) d)) (H4 n d)
+
+abbrev pub skill_faults : Meaning → Rows → List HardFault
+skill_faults c r = below (nurse_count c) (λ n. below (day_count c) (λ d. skill_fault c r n d))
+
+-- all breaches in order
+unfoldable pub hard_faults : Meaning → Rows → List HardFault
+hard_faults c r = staffing_faults c r ++ succession_faults c r ++ skill_faults c r
+
+abbrev pub keeps_hard : Meaning → Rows → Bool
+keeps_hard c r = is_none_of (hard_faults c r)
+
+-- the roster keeps the hard rules
+abbrev pub KeepsHard : Meaning → Rows → Type 0
+KeepsHard c r = hard_faults c r ≡ []

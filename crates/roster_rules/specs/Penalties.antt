@@ -1,0 +1,127 @@
+-- The penalties of the soft rules with their weights, and the penalty of a roster (INRC-II; totals and weekends are counted
+-- once, at the end of the horizon, with the history's: our profile).
+use Rattle.std.specs.Prelude.{ℕ, ◌+◌, ◌-◌, ◌*◌, Bool, false, ◌==◌, if◌then◌else◌, length, Option, Some, None}
+use Rattle.roster_instance.specs.declared.Shift.{Shift}
+use Rattle.roster_rules.specs.declared.penalties.Costs.{Costs}
+use Rattle.roster_instance.specs.declared.Border.{Border}
+use Rattle.roster_instance.specs.declared.Border.TheVariants.{Free, Working}
+use Rattle.roster_instance.specs.Counting.{sum_below}
+use Rattle.roster_instance.specs.Days.{Days, shift_on, works, is_off, has_shift, days_worked, worked_weekends, split_weekends}
+use Rattle.roster_instance.specs.Meaning.{Meaning, day_count, shift_count, skill_count, nurse_count, run_of_shift, past_of, contract_of, has_off_request, optimum}
+use Rattle.roster_instance.specs.Rosters.{Rows, days_of_nurse, cover}
+use Rattle.roster_rules.specs.Runs.{run_violations}
+use Rattle.roster_rules.specs.Weights.{staffing_weight, working_run_weight, shift_run_weight, free_run_weight, off_request_weight, split_weight, assignment_weight, weekend_weight}
+
+-- ---- staffing: points for each nurse missing to the optimum of a day, shift and skill
+
+abbrev pub staffing_cost_of_place : Meaning → Rows → ℕ → ℕ → ℕ → ℕ
+staffing_cost_of_place c r d s k = staffing_weight * (optimum c d s k - cover r d s k)
+
+abbrev pub staffing_cost_of_day : Meaning → Rows → ℕ → ℕ
+staffing_cost_of_day c r d = sum_below (shift_count c) (λ s. sum_below (skill_count c) (staffing_cost_of_place c r d s))
+
+abbrev pub staffing_cost : Meaning → Rows → ℕ
+staffing_cost c r = sum_below (day_count c) (staffing_cost_of_day c r)
+
+-- ---- runs: how many days of a kind stand right before day 0
+
+abbrev pub free_before : Border → ℕ
+free_before (Free n) = n
+free_before (Working s own all) = 0
+
+abbrev pub worked_before : Border → ℕ
+worked_before (Free n) = 0
+worked_before (Working s own all) = all
+
+abbrev pub shift_run_before : ℕ → Border → ℕ
+shift_run_before s (Free n) = 0
+shift_run_before s (Working t own all) = if t.0 == s then own else 0
+
+-- points for each missing or extra day of a run of working days
+abbrev pub working_run_cost : Meaning → ℕ → Days → ℕ
+working_run_cost c n days = working_run_weight * run_violations (contract_of c n).working (worked_before (past_of c n).border) (works days) (length days)
+
+-- points for each missing or extra day of a run of one shift
+abbrev pub run_cost_of_shift : Meaning → ℕ → Days → ℕ → ℕ
+run_cost_of_shift c n days s = shift_run_weight * run_violations (run_of_shift c s) (shift_run_before s (past_of c n).border) (has_shift s days) (length days)
+
+abbrev pub shift_run_cost : Meaning → ℕ → Days → ℕ
+shift_run_cost c n days = sum_below (shift_count c) (run_cost_of_shift c n days)
+
+-- points for each missing or extra day of a run of days off
+abbrev pub free_run_cost : Meaning → ℕ → Days → ℕ
+free_run_cost c n days = free_run_weight * run_violations (contract_of c n).free (free_before (past_of c n).border) (is_off days) (length days)
+
+-- ---- off requests: points for each assignment against one, once, however many name it
+
+-- an off request names the shift, if one is worked
+abbrev pub breaks_off_request : Meaning → ℕ → ℕ → Option Shift → Bool
+breaks_off_request c n d None = false
+breaks_off_request c n d (Some s) = has_off_request c n d s.0
+
+-- what a day with this shift, or with none, costs
+abbrev pub off_request_cost_on : Meaning → ℕ → ℕ → Option Shift → ℕ
+off_request_cost_on c n d shift = if breaks_off_request c n d shift then off_request_weight else 0
+
+abbrev pub off_request_cost : Meaning → ℕ → Days → ℕ
+off_request_cost c n days = sum_below (length days) (λ d. off_request_cost_on c n d (shift_on days d))
+
+-- ---- weekends and totals
+
+-- points for each weekend of which exactly one day is worked, where the contract wants whole weekends
+abbrev pub split_cost : Meaning → ℕ → Days → ℕ
+split_cost c n days = if (contract_of c n).whole_weekends then split_weight * split_weekends days else 0
+
+-- the assignments and the worked weekends, with the history's
+abbrev pub total_of : Meaning → ℕ → Days → ℕ
+total_of c n days = (past_of c n).assignments + days_worked days
+
+abbrev pub weekends_of : Meaning → ℕ → Days → ℕ
+weekends_of c n days = (past_of c n).weekends + worked_weekends days
+
+-- points for each assignment missing to the least total, and for each above the greatest
+abbrev pub missing_cost : Meaning → ℕ → ℕ → ℕ
+missing_cost c n total = assignment_weight * ((contract_of c n).total.least - total)
+
+abbrev pub extra_cost : Meaning → ℕ → ℕ → ℕ
+extra_cost c n total = assignment_weight * (total - (contract_of c n).total.greatest)
+
+abbrev pub totals_cost : Meaning → ℕ → Days → ℕ
+totals_cost c n days = missing_cost c n (total_of c n days) + extra_cost c n (total_of c n days)
+
+-- points for each worked weekend above the greatest number
+abbrev pub weekends_cost : Meaning → ℕ → Days → ℕ
+weekends_cost c n days = weekend_weight * (weekends_of c n days - (contract_of c n).weekends)
+
+-- ---- the sums
+
+-- a nurse's own part: runs, split weekends, totals and worked weekends
+unfoldable pub own_cost : Meaning → ℕ → Days → ℕ
+own_cost c n days = working_run_cost c n days + shift_run_cost c n days + free_run_cost c n days + split_cost c n days + totals_cost c n days + weekends_cost c n days
+
+-- all that a nurse's row costs, apart from staffing
+abbrev pub nurse_cost : Meaning → ℕ → Days → ℕ
+nurse_cost c n days = own_cost c n days + off_request_cost c n days
+
+-- one rule over all nurses
+abbrev pub over_nurses : Meaning → Rows → (ℕ → Days → ℕ) → ℕ
+over_nurses c r rule = sum_below (nurse_count c) (λ n. rule n (days_of_nurse r n))
+
+-- the penalty of each rule
+unfoldable pub costs_of : Meaning → Rows → Costs
+costs_of c r = record {
+  s1 = staffing_cost c r;
+  s2 = over_nurses c r (λ n days. working_run_cost c n days + shift_run_cost c n days);
+  s3 = over_nurses c r (free_run_cost c);
+  s4 = over_nurses c r (off_request_cost c);
+  s5 = over_nurses c r (split_cost c);
+  s6 = over_nurses c r (totals_cost c);
+  s7 = over_nurses c r (weekends_cost c);
+}
+
+abbrev pub total_cost : Costs → ℕ
+total_cost k = k.s1 + k.s2 + k.s3 + k.s4 + k.s5 + k.s6 + k.s7
+
+-- the roster's penalty
+unfoldable pub penalty : Meaning → Rows → ℕ
+penalty c r = total_cost (costs_of c r)

@@ -1,0 +1,33 @@
+//! The penalty of a roster by its rules.
+
+ghost use Rattle.std.specs.Prelude.{◌≡◌, min};
+ghost use Rattle.roster_rules.specs.Penalties.{total_cost};
+
+/// What each soft rule costs, in penalty points, weights included: staffing below the optimum, runs of work and of shifts,
+/// runs of days off, off requests, split weekends, totals of assignments, worked weekends.
+#[derive(Clone, Copy, Debug, Default, PartialEq, Eq)]
+pub struct Costs {
+    pub s1: u64,
+    pub s2: u64,
+    pub s3: u64,
+    pub s4: u64,
+    pub s5: u64,
+    pub s6: u64,
+    pub s7: u64,
+}
+
+impl Costs {
+    /// The sum of all rules. Numbers that no roster costs may add up to more than there is room for; then it is the greatest
+    /// number.
+    pub fn total(&self) -> u64
+        ensures { result ≡ min (total_cost self.now) 18446744073709551615 }
+    {
+        self.s1
+            .saturating_add(self.s2)
+            .saturating_add(self.s3)
+            .saturating_add(self.s4)
+            .saturating_add(self.s5)
+            .saturating_add(self.s6)
+            .saturating_add(self.s7)
+    }
+}
