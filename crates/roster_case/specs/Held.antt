@@ -1,0 +1,34 @@
+-- A roster that keeps the hard rules, and what is kept of it so that nothing is counted anew.
+use Rattle.std.specs.Prelude.{◌≡◌, ◌×◌, ◌<◌, ℕ, true, List, [], Some, length, slice_index_or}
+use Rattle.roster_instance.specs.Faults.{first_fault}
+use Rattle.roster_instance.specs.Meaning.{Meaning, day_count, nurse_count}
+use Rattle.roster_instance.specs.Rosters.{Rows, days_of_nurse, fits_case}
+use Rattle.roster_rules.specs.Covers.{AreCovers}
+use Rattle.roster_rules.specs.HardRules.{hard_faults, keeps_hard}
+use Rattle.roster_rules.specs.Penalties.{nurse_cost, staffing_cost}
+use Rattle.roster_case.specs.declared.held.HeldFault.{HeldFault}
+use Rattle.roster_case.specs.declared.held.HeldFault.TheVariants.{Hard, Memory}
+
+-- the case and the roster
+pub record HeldRoster : Type 0 where
+  pub case : Meaning
+  pub roster : Rows
+
+-- what is kept: how many nurses each day, shift and skill has, what each nurse costs, and what the staffing costs
+pub record AreCounts (c : Meaning) (r : Rows) (covers : List (List ℕ)) (costs : List ℕ) (staffing : ℕ) : Type 0 where
+  pub days : length covers ≡ day_count c
+  pub covers : (d : ℕ) → d < day_count c → AreCovers r d (slice_index_or covers d [])
+  pub nurses : length costs ≡ nurse_count c
+  pub costs : (n : ℕ) → n < nurse_count c → slice_index_or costs n 0 ≡ nurse_cost c n (days_of_nurse r n)
+  pub staffing : staffing ≡ staffing_cost c r
+
+-- what always holds of a held roster
+pub record IsHeld (c : Meaning) (r : Rows) (covers : List (List ℕ)) (costs : List ℕ) (staffing : ℕ) : Type 0 where
+  pub fits : fits_case c r ≡ true
+  pub keeps : keeps_hard c r ≡ true
+  pub counts : AreCounts c r covers costs staffing
+
+-- a refusal hands the same case and roster back: the first breach of the hard rules, or want of memory where there is none
+abbrev pub IsHandedBack : Meaning → Rows → HeldFault → Type 0
+IsHandedBack c r (Hard fault case roster) = (first_fault (hard_faults c r) ≡ Some fault) × (case ≡ c) × (roster ≡ r)
+IsHandedBack c r (Memory case roster) = (hard_faults c r ≡ []) × (case ≡ c) × (roster ≡ r)

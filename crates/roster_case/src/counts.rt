@@ -1,0 +1,1 @@
+//! What is kept of a roster that keeps the hard rules.

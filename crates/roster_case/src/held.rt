@@ -1,0 +1,159 @@
+//! A roster that keeps the hard rules.
+
+ghost use Rattle.std.specs.Prelude.{◌≡◌, ◌<◌, true, [], IfOk, IfErr, OnOk};
+ghost use Rattle.roster_instance.specs.Meaning.{day_count, nurse_count, shift_count, skill_count};
+ghost use Rattle.roster_instance.specs.Rosters.{fits_case, row_of, with_row};
+ghost use Rattle.roster_rules.specs.AllowedRows.{row_keeps};
+ghost use Rattle.roster_rules.specs.HardRules.{hard_faults, keeps_hard};
+ghost use Rattle.roster_rules.specs.Penalties.{penalty};
+ghost use Rattle.roster_rules.specs.Room.{penalty_room};
+ghost use Rattle.roster_case.specs.Held.{IsHandedBack};
+ghost use Rattle.roster_case.specs.OneRow.{others, rest_of};
+
+use crate::counts::Counts;
+use roster_rules::{Case, Choice, HardFault, Roster, Shift, Skill, first_hard};
+use std::alloc::Global;
+use std::marker::Model;
+
+/// A case and a roster that keeps the hard rules, with its counts: how many nurses each day, shift and skill has, and what
+/// each nurse and the staffing cost. A replaced row changes the counts by that row alone, so nothing is counted anew.
+pub struct Held {
+    case: Case,
+    roster: Roster,
+    counts: Counts,
+}
+
+// By hand, so that who drops a held roster has one call to prove and not the drops of all its parts.
+impl Drop for Held {
+    fn drop(self) {
+        let Held {
+            case: _,
+            roster: _,
+            counts: _,
+        } = self;
+    }
+}
+
+impl Model for Held {
+    ghost use Rattle.roster_case.specs.Held.{HeldRoster, IsHeld};
+
+    ghost Value = { HeldRoster };
+
+    ghost view = { λ h. record { case = h.case; roster = h.roster } };
+
+    ghost invariant = { λ h. IsHeld h.case h.roster h.counts.covers.items h.counts.nurse_costs.items h.counts.staffing_cost };
+}
+
+/// Why a roster isn't held. The case and the roster are handed back.
+pub enum HeldFault {
+    /// The first breach of the hard rules.
+    Hard(HardFault, Case, Roster),
+    /// A growth was refused.
+    Memory(Case, Roster),
+}
+
+impl Drop for HeldFault {
+    fn drop(self) {
+        match self {
+            HeldFault::Hard(_, _, _) => {}
+            HeldFault::Memory(_, _) => {}
+        }
+    }
+}
+
+impl Held {
+    /// Holds a roster of the case. The hard rules are looked at before any memory is taken.
+    ///
+    /// # Errors
+    ///
+    /// `Hard` where a hard rule is broken, with the first breach. `Memory` where a growth was refused. Both hand the case and
+    /// the roster back as they were.
+    pub fn new(alloc: Global, case: Case, roster: Roster) -> Result<Held, HeldFault>
+        requires { fits_case case roster ≡ true }
+        ensures held { IfOk result (λ held. held ≡ record { case = case; roster = roster }) }
+        ensures keeps { OnOk result (hard_faults case roster ≡ []) }
+        ensures refused { IfErr result (IsHandedBack case roster) }
+    {
+        if let Some(fault) = first_hard(&case, &roster) {
+            return Err(HeldFault::Hard(fault, case, roster));
+        }
+        match Counts::of(alloc, &case, &roster) {
+            Ok(counts) => Ok(Held {
+                case,
+                roster,
+                counts,
+            }),
+            Err(_) => Err(HeldFault::Memory(case, roster)),
+        }
+    }
+
+    pub fn case(&self) -> &Case
+        ensures { result.now ≡ self.now.case }
+    {
+        &self.case
+    }
+
+    /// The roster. It fits the case and keeps the hard rules.
+    pub fn roster(&self) -> &Roster
+        ensures roster { result.now ≡ self.now.roster }
+        ensures fits { fits_case self.now.case self.now.roster ≡ true }
+        ensures keeps { keeps_hard self.now.case self.now.roster ≡ true }
+    {
+        &self.roster
+    }
+
+    /// The choices of a nurse, one for each day.
+    pub fn row(&self, nurse: usize) -> &[Choice]
+        ensures { result.now ≡ row_of self.now.roster nurse }
+    {
+        self.roster.row(nurse)
+    }
+
+    /// How many of the other nurses work a shift with a skill on a day.
+    pub fn others(&self, nurse: usize, day: u16, shift: Shift, skill: Skill) -> u16
+        requires nurse { nurse < nurse_count self.now.case }
+        requires day { day < day_count self.now.case }
+        requires shift { shift.0 < shift_count self.now.case }
+        requires skill { skill.0 < skill_count self.now.case }
+        ensures { result ≡ others self.now.roster nurse day shift.0 skill.0 }
+    {
+        let own = self.row(nurse)[day as usize] == Choice::Work(shift, skill);
+        self.counts.cover(day, shift, skill) - own as u16
+    }
+
+    /// What the rows of all other nurses cost beside staffing, in penalty points.
+    pub fn rest(&self, nurse: usize) -> u64
+        requires { nurse < nurse_count self.now.case }
+        ensures { result ≡ rest_of self.now.case self.now.roster nurse }
+    {
+        self.counts.rest(nurse)
+    }
+
+    /// The roster's penalty, below 2^31.
+    pub fn total(&self) -> u64
+        ensures total { result ≡ penalty self.now.case self.now.roster }
+        ensures within { result < penalty_room }
+    {
+        self.counts.total()
+    }
+
+    /// Whether a row is one of the case's (as many choices as days, and shifts and skills in range), and the roster keeps the
+    /// hard rules with it in the place of the nurse's.
+    pub fn row_keeps(&self, nurse: usize, row: &[Choice]) -> bool
+        requires { nurse < nurse_count self.now.case }
+        ensures { result ≡ row_keeps self.now.case self.now.roster nurse row.now }
+    {
+        row_fits(&self.case, row) && self.is_offered_row(nurse, row)
+    }
+
+    /// Puts a row in the place of a nurse's. The case stays.
+    pub fn replace_row(&mut self, nurse: usize, row: &[Choice])
+        requires nurse { nurse < nurse_count self.old.case }
+        requires keeps { row_keeps self.old.case self.old.roster nurse row.now ≡ true }
+        ensures { self.new ≡ record { case = self.old.case; roster = with_row self.old.roster nurse row.now } }
+    {
+        self.counts
+            .replace_row(&self.case, &self.roster, nurse, row);
+        self.roster.put_row(nurse, row);
+    }
+}
