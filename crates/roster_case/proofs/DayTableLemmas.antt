@@ -1,7 +1,6 @@
 -- A day's table: what is lacking with one nurse more, and the tables of a roster with one row replaced.
-use Rattle.std.proofs.Common.{◌≡◌, ◌∙◌, ◌+◌, ◌*◌, ◌<◌, ◌≤◌, ◌⊎◌, ◌&&◌, ◌==◌, ℕ, Bool, true, false, inl, inr, ap, ap₂, arith, refl, sym, List, [], length, nat_lt, slice_index_or, slice_set}
-use Rattle.std.proofs.lemmas.Bool.{and_parts, cases_eq, eq-eqb, ltb-true}
-use Rattle.std.proofs.lemmas.List.{get_or-set_other, get_or-set_same}
+use Rattle.std.proofs.Common.{◌≡◌, ◌∙◌, ◌+◌, ◌*◌, ◌<◌, ◌≤◌, ◌&&◌, ℕ, true, ap, ap₂, arith, refl, sym, List, [], length, nat_lt, slice_index_or}
+use Rattle.std.proofs.lemmas.Bool.{and_parts, eq-eqb, ltb-true}
 use Rattle.std.proofs.lemmas.List.Sums.{count_by-le-length, sum_by-set}
 use Rattle.roster_instance.specs.declared.Choice.{Choice}
 use Rattle.roster_instance.specs.declared.Choice.TheVariants.{Off, Work}
@@ -9,10 +8,9 @@ use Rattle.roster_instance.specs.declared.Limits.{Limits}
 use Rattle.roster_instance.specs.declared.Shift.{Shift}
 use Rattle.roster_instance.specs.declared.Skill.{Skill}
 use Rattle.roster_instance.specs.Choices.{same_choice}
-use Rattle.roster_instance.specs.Counting.{one_if, sum_below}
-use Rattle.roster_instance.specs.Meaning.{Meaning, day_count, need, nurse_count, optimum, shift_at, shift_count, skill_at, skill_count}
-use Rattle.roster_instance.specs.Rosters.{Row, Rows, choice_on, cover, fits_case, is_choice_of, row_of, with_row}
-use Rattle.roster_instance.proofs.RosterFacts.{has_row, works-of_case}
+use Rattle.roster_instance.specs.Counting.{one_if}
+use Rattle.roster_instance.specs.Meaning.{Meaning, need, optimum, shift_at, shift_count, skill_at, skill_count}
+use Rattle.roster_instance.specs.Rosters.{Row, Rows, choice_on, cover, is_choice_of, row_of}
 use Rattle.roster_rules.specs.Covers.{AreCovers}
 use Rattle.roster_case.specs.DayTables.{HasPlace, IsCounted, IsTable, number_at}
 use Rattle.roster_case.specs.OneRow.{others}

@@ -1,16 +1,13 @@
 -- What a held roster's counts add up to.
-use Rattle.std.proofs.Common.{◌≡◌, ◌∙◌, ◌+◌, ◌<◌, ◌≤◌, ◌==◌, ℕ, Bool, true, false, ap, arith, refl, sym, [], length, slice_index_or, if◌then◌else◌}
-use Rattle.std.proofs.lemmas.Bool.{and_parts}
-use Rattle.roster_instance.specs.Counting.{one_if, sum_below}
-use Rattle.roster_instance.specs.Meaning.{Meaning, day_count, nurse_count}
+use Rattle.std.proofs.Common.{◌≡◌, ◌∙◌, ◌+◌, ◌==◌, ℕ, ap, arith, length, slice_index_or, if◌then◌else◌}
+use Rattle.roster_instance.specs.Counting.{sum_below}
+use Rattle.roster_instance.specs.Meaning.{Meaning, nurse_count}
 use Rattle.roster_instance.specs.Rosters.{Rows, days_of_nurse}
-use Rattle.roster_instance.proofs.RosterFacts.{has_row}
-use Rattle.roster_rules.specs.Penalties.{nurse_cost, over_nurses, penalty, staffing_cost}
+use Rattle.roster_rules.specs.Penalties.{nurse_cost, over_nurses, penalty}
 use Rattle.roster_rules.proofs.RunSums.{sum_same}
 use Rattle.roster_case.specs.declared.counts.Counts.{Counts}
-use Rattle.roster_case.specs.DayTables.{number_at}
 use Rattle.roster_case.specs.Held.{AreCounts}
-use Rattle.roster_case.specs.OneRow.{others, rest_of}
+use Rattle.roster_case.specs.OneRow.{rest_of}
 use Rattle.roster_case.proofs.OneRow.{penalty-parts}
 
 module _ (c : Meaning) (r : Rows) (counts : Counts) (counted : AreCounts c r counts) where

@@ -12,7 +12,9 @@ ghost use Rattle.roster_case.specs.OneRow.{others, rest_of};
 
 use crate::allowed::is_offered_row;
 use crate::counts::Counts;
-use roster_rules::{Case, Choice, HardFault, Roster, Shift, Skill, choice_on, first_hard, row_fits};
+use roster_rules::{
+    Case, Choice, HardFault, Roster, Shift, Skill, choice_on, first_hard, row_fits,
+};
 use std::alloc::Global;
 use std::marker::Model;
 

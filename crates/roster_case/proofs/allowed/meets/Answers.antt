@@ -1,4 +1,4 @@
-use Rattle.std.proofs.Common.{◌≡◌, ◌∙◌, ◌<◌, ℕ, ap, arith, not, nat_lt, sym}
+use Rattle.std.proofs.Common.{◌≡◌, ◌∙◌, ◌<◌, ap, arith, not, nat_lt, sym}
 use Rattle.roster_instance.specs.Counting.{all_below}
 use Rattle.roster_instance.specs.Meaning.{Meaning, minimum, shift_count, skill_count}
 use Rattle.roster_case.specs.OneRow.{others}
@@ -18,4 +18,4 @@ loop-shift-preserved c =
     let case = c.args.held.now.case in
     let all : c.loop-skill.skill ≡ skill_count case = omega (arith, ap (λ (m : Meaning). skill_count m) c.case-case.ensures) in
     all_more _ c.loop-shift.shift c.loop-shift.invariant
-        (ap (λ m. all_below m (λ k. not (nat_lt (with_choice (others c.args.held.now.roster c.args.nurse c.args.day) c.args.choice c.loop-shift.shift k) (minimum case c.args.day c.loop-shift.shift k)))) (sym all) ∙ c.loop-skill.invariant)
+    (ap (λ m. all_below m (λ k. not (nat_lt (with_choice (others c.args.held.now.roster c.args.nurse c.args.day) c.args.choice c.loop-shift.shift k) (minimum case c.args.day c.loop-shift.shift k)))) (sym all) ∙ c.loop-skill.invariant)

@@ -1,12 +1,11 @@
-use Rattle.std.proofs.Common.{◌≡◌, ◌∙◌, ◌+◌, ◌*◌, ◌<◌, ◌≤◌, ℕ, [], ap, arith, refl, length, slice_index_or}
+use Rattle.std.proofs.Common.{◌≡◌, ◌∙◌, ◌+◌, ◌*◌, ◌<◌, [], ap, arith, refl, length, slice_index_or}
 use Rattle.std.proofs.lemmas.List.{get_or-set_other, length-set}
 use Rattle.roster_instance.specs.Counting.{sum_below}
 use Rattle.roster_instance.specs.Meaning.{day_count, optimum}
-use Rattle.roster_instance.specs.Rosters.{Row, choice_on, cover, row_of, with_row}
-use Rattle.roster_instance.proofs.RosterFacts.{has_row, row-length}
+use Rattle.roster_instance.specs.Rosters.{Row, choice_on, cover, with_row}
+use Rattle.roster_instance.proofs.RosterFacts.{has_row}
 use Rattle.roster_rules.specs.Covers.{AreCovers}
 use Rattle.roster_case.specs.Staffing.{lacking}
-use Rattle.roster_case.proofs.DayTableLemmas.{has_place, is_counted, room}
 use Rattle.roster_case.proofs.Lacking.{staffing_cost-lacking}
 use Rattle.roster_case.proofs.RecountLemmas.{lacks_more, tables_more}
 use Rattle.roster_case.proofs.recount.recount.Goals as goal
