@@ -1,5 +1,5 @@
 -- Which fault a failing reader or writer gives, and what a bundle means.
-use Rattle.std.proofs.Common.{◌≡◌, ◌≢◌, ◌⊎◌, ◌∙◌, ◌∷◌, [], ◌<◌, ℕ, Err, List, Option, None, Some, Result, Ok, ap, ap₂, arith, get_or, inl, inr, length, lit<, map, nat_lt, refl, subst, sym, true, zero, suc}
+use Rattle.std.proofs.Common.{◌≡◌, ◌≢◌, ◌⊎◌, ◌∙◌, ◌∷◌, [], ◌<◌, ℕ, Err, List, Option, None, Some, Result, Ok, ap, ap₂, arith, get_or, inl, inr, length, lit<, map, nat_lt, refl, subst, sym, false, true, zero, suc}
 use Rattle.std.specs.Prelude.{Contains, IfErr, IfSome, IsErrOf, OnOk}
 use Rattle.std.proofs.lemmas.Bool.{ltb-true}
 use Rattle.std.proofs.lemmas.List.{length-map}
@@ -20,7 +20,7 @@ use Rattle.roster_case.specs.Rosters.{Rows}
 use Rattle.roster_case.specs.declared.CaseFault.{CaseFault}
 use Rattle.roster_case.specs.declared.CaseFault.TheVariants as case
 use Rattle.roster_case.proofs.Sections.{IsFirst-behind}
-use Rattle.roster_answer.specs.Answer.{Answers, Input, IsUnread, Output, Says, StopsOutput, StopsReport, answered_text, breaches, breaches_of, report_of, roster_of}
+use Rattle.roster_answer.specs.Answer.{Answers, Input, IsUnread, Output, Says, StopsOutput, StopsReport, answered_text, breaches, breaches_of, holds, report_of, roster_of}
 use Rattle.roster_answer.specs.Lines.{IsFirstBreach, Text, status_of}
 use Rattle.roster_answer.specs.declared.fault.Fault.{Fault}
 use Rattle.roster_answer.specs.declared.fault.Fault.TheVariants as fault
@@ -75,6 +75,7 @@ status_listed (fault.Case (case.Limit line) nurse) = (1, lit< tt, refl)
 status_listed (fault.Case (case.TooManyStates number name) nurse) = (1, lit< tt, refl)
 status_listed (fault.Case (case.H1 number day) nurse) = (1, lit< tt, refl)
 status_listed (fault.Hard f names) = (1, lit< tt, refl)
+status_listed fault.Memory = (3, lit< tt, refl)
 status_listed fault.Output = (2, lit< tt, refl)
 
 -- ---- an input that was not read to its end
@@ -111,7 +112,7 @@ module _ {W : Type 0} (output : Output W) (command : Command) (source : Text) (i
   }
   answers (Err f) kept written = tt
 
-  refuses_for : (f : Fault) → StopsReport output.contents (breaches_of command i.case i.roster) (report_of command i.case i.roster) source i.bundle output.before output.after f
+  refuses_for : (f : Fault) → StopsReport output.contents (holds command) (breaches_of command i.case i.roster) (report_of command i.case i.roster) source i.bundle output.before output.after f
       → Answers output command source (Some f)
   refuses_for (fault.Text f) h = absurd h
   refuses_for (fault.Case f nurse) h = absurd h
@@ -121,6 +122,12 @@ module _ {W : Type 0} (output : Output W) (command : Command) (source : Text) (i
     ends = record { taken = says.taken; breach = subst (λ broken. IsFirstBreach source i.bundle broken (fault.Hard f names)) breaches_meant h.0 };
     left = h.1;
   }
+  refuses_for fault.Memory h = record {
+    bundle = i.bundle;
+    spelled = says.spelled;
+    ends = record { held = h.held; taken = record { taken = says.taken; kept = sym breaches_meant ∙ h.kept } };
+    left = h.unwritten;
+  }
   refuses_for fault.Output h = record {
     bundle = i.bundle;
     spelled = says.spelled;
@@ -129,15 +136,16 @@ module _ {W : Type 0} (output : Output W) (command : Command) (source : Text) (i
   }
 
   pub refuses : {X : Type 0} (result : Result X Fault)
-      → IfErr result (StopsReport output.contents (breaches_of command i.case i.roster) (report_of command i.case i.roster) source i.bundle output.before output.after)
+      → IfErr result (StopsReport output.contents (holds command) (breaches_of command i.case i.roster) (report_of command i.case i.roster) source i.bundle output.before output.after)
       → IfErr result (λ f. Answers output command source (Some f))
   refuses (Ok x) stopped = tt
   refuses (Err f) stopped = refuses_for f stopped
 
 -- a text of a command that refuses no breaches
 pub stops_report : {W : Type 0} (contents : W → Option (List ℕ)) (report source : Text) (b : Bundle) (old new : Watched W) (f : Fault) → StopsOutput contents old new report f
-    → StopsReport contents [] report source b old new f
+    → StopsReport contents false [] report source b old new f
 stops_report contents report source b old new (fault.Text f) h = absurd h
 stops_report contents report source b old new (fault.Case f nurse) h = absurd h
 stops_report contents report source b old new (fault.Hard f names) h = absurd h
+stops_report contents report source b old new fault.Memory h = absurd h
 stops_report contents report source b old new fault.Output h = (refl, h)

@@ -7,7 +7,7 @@ use Rattle.roster_case.specs.Meaning.{Meaning, day_count, nurse_count, nurse_nam
 use Rattle.roster_case.specs.Penalties.{total_cost}
 use Rattle.roster_case.specs.Room.{penalty_room}
 use Rattle.roster_case.specs.Sizes.{choice_count, state_count}
-use Rattle.roster_case.specs.declared.penalties.Costs.{Costs}
+use Rattle.roster_case.specs.declared.Costs.{Costs}
 use Rattle.roster_answer.specs.Lines.{Text, costs_text, search_line, sizes_line, sizes_text}
 
 -- what is expected on a line

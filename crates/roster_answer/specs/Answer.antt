@@ -1,5 +1,5 @@
 -- What a run answers.
-use Rattle.std.specs.Prelude.{◌≡◌, ◌≢◌, ℕ, ◌<◌, ◌≤◌, ◌⊎◌, true, List, [], IfSome, Option, None, Some, length}
+use Rattle.std.specs.Prelude.{◌≡◌, ◌≢◌, ℕ, ◌<◌, ◌≤◌, ◌⊎◌, Bool, true, false, List, [], IfSome, Option, None, Some, length}
 use Rattle.std.specs.Io.KnownBytes.{IsAtEnd}
 use Rattle.roster_text.specs.FirstFault.{IsFirstFault}
 use Rattle.roster_text.specs.Grammar.{Spells}
@@ -19,7 +19,7 @@ use Rattle.roster_case.specs.Rosters.{Rows, fits_case}
 use Rattle.roster_case.specs.Shown.{weeks_text}
 use Rattle.roster_case.specs.declared.CaseFault.{CaseFault}
 use Rattle.roster_case.specs.declared.CaseFault.TheVariants.{Memory}
-use Rattle.roster_case.specs.declared.fault.HardFault.{HardFault}
+use Rattle.roster_case.specs.declared.HardFault.{HardFault}
 use Rattle.roster_answer.specs.Lines.{IsFirstBreach, Text, costs_text, nurse_of, sizes_text}
 use Rattle.roster_answer.specs.declared.fault.BreachNames.{BreachNames}
 use Rattle.roster_answer.specs.declared.fault.Fault.{Fault}
@@ -64,6 +64,7 @@ Leaves output text (Some fault.Output) = Stops output.contents output.before out
 Leaves output text (Some (fault.Text f)) = output.after ≡ output.before
 Leaves output text (Some (fault.Case f nurse)) = output.after ≡ output.before
 Leaves output text (Some (fault.Hard f names)) = output.after ≡ output.before
+Leaves output text (Some fault.Memory) = output.after ≡ output.before
 
 -- ---- the bytes
 
@@ -92,16 +93,34 @@ breaches_of command.Show c r = []
 breaches_of command.Cost c r = hard_faults c r
 breaches_of command.Sizes c r = []
 
+-- whether a command holds the roster, so that it takes memory for what it keeps of it
+abbrev pub holds : Command → Bool
+holds command.Show = false
+holds command.Cost = true
+holds command.Sizes = false
+
 -- why a text was not all written, and what was written
 abbrev pub StopsOutput : {W : Type 0} → (W → Option (List ℕ)) → Watched W → Watched W → Text → Fault → Type 0
 StopsOutput contents old new text fault.Output = Stops contents old new text
 StopsOutput contents old new text _ = ⊥
 
+-- why a roster is not held: for the first of these breaches, or for want of memory where there is none
+abbrev pub IsUnheld : Text → Bundle → List HardFault → Fault → Type 0
+IsUnheld bytes b broken fault.Memory = broken ≡ []
+IsUnheld bytes b broken f = IsFirstBreach bytes b broken f
+
+-- memory was wanted for a roster that is held, in which nothing is refused, and nothing was written
+pub record WantsMemory {W : Type 0} (is_held : Bool) (broken : List HardFault) (old new : Watched W) : Type 0 where
+  pub held : is_held ≡ true
+  pub kept : broken ≡ []
+  pub unwritten : new ≡ old
+
 -- why a report was not all written, where these breaches are refused, and what was written
-abbrev pub StopsReport : {W : Type 0} → (W → Option (List ℕ)) → List HardFault → Text → Text → Bundle → Watched W → Watched W → Fault → Type 0
-StopsReport contents broken report bytes b old new (fault.Hard f names) = IsFirstBreach bytes b broken (fault.Hard f names) × (new ≡ old)
-StopsReport contents broken report bytes b old new fault.Output = (broken ≡ []) × Stops contents old new report
-StopsReport contents broken report bytes b old new _ = ⊥
+abbrev pub StopsReport : {W : Type 0} → (W → Option (List ℕ)) → Bool → List HardFault → Text → Text → Bundle → Watched W → Watched W → Fault → Type 0
+StopsReport contents is_held broken report bytes b old new (fault.Hard f names) = IsFirstBreach bytes b broken (fault.Hard f names) × (new ≡ old)
+StopsReport contents is_held broken report bytes b old new fault.Memory = WantsMemory is_held broken old new
+StopsReport contents is_held broken report bytes b old new fault.Output = (broken ≡ []) × Stops contents old new report
+StopsReport contents is_held broken report bytes b old new _ = ⊥
 
 -- ---- a bundle: the same, and why it is refused
 
@@ -132,12 +151,18 @@ pub record IsBreachedBy (command : Command) (bytes : Text) (b : Bundle) (f : Har
   pub taken : all_faults bytes b ≡ []
   pub breach : IsFirstBreach bytes b (breaches command bytes b) (fault.Hard f names)
 
+-- nothing in it is refused, but memory is wanted to hold it
+pub record IsTooLarge (command : Command) (bytes : Text) (b : Bundle) : Type 0 where
+  pub held : holds command ≡ true
+  pub taken : IsTaken command bytes b
+
 -- how a command ends for it
 abbrev pub IsOutcomeFor : Command → Text → Bundle → Outcome → Type 0
 IsOutcomeFor command bytes b None = IsTaken command bytes b
 IsOutcomeFor command bytes b (Some fault.Output) = IsTaken command bytes b
 IsOutcomeFor command bytes b (Some (fault.Case f nurse)) = IsRefusedFor bytes b f nurse.now
 IsOutcomeFor command bytes b (Some (fault.Hard f names)) = IsBreachedBy command bytes b f names
+IsOutcomeFor command bytes b (Some fault.Memory) = IsTooLarge command bytes b
 IsOutcomeFor command bytes b (Some (fault.Text f)) = ⊥
 
 -- ---- a command, from the bytes

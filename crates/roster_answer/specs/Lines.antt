@@ -15,9 +15,9 @@ use Rattle.roster_case.specs.Penalties.{total_cost}
 use Rattle.roster_case.specs.Sizes.{choice_count, state_count}
 use Rattle.roster_case.specs.declared.CaseFault.{CaseFault}
 use Rattle.roster_case.specs.declared.CaseFault.TheVariants as case
-use Rattle.roster_case.specs.declared.fault.HardFault.{HardFault}
-use Rattle.roster_case.specs.declared.fault.HardFault.TheVariants.{H2, H3, H4}
-use Rattle.roster_case.specs.declared.penalties.Costs.{Costs}
+use Rattle.roster_case.specs.declared.HardFault.{HardFault}
+use Rattle.roster_case.specs.declared.HardFault.TheVariants.{H2, H3, H4}
+use Rattle.roster_case.specs.declared.Costs.{Costs}
 use Rattle.roster_answer.specs.declared.fault.BreachNames.{BreachNames}
 use Rattle.roster_answer.specs.declared.fault.Fault.{Fault}
 use Rattle.roster_answer.specs.declared.fault.Fault.TheVariants as fault
@@ -27,9 +27,13 @@ Text = List ℕ
 
 -- ---- lines
 
+-- the line of want of memory
+abbrev pub memory_line : Text
+memory_line = codes "no memory\n"
+
 -- the line of a fault of the text
 abbrev pub text_line : TextFault → Text
-text_line text.Memory = codes "no memory\n"
+text_line text.Memory = memory_line
 text_line text.ReadFailed = codes "read failed\n"
 text_line text.TooLong = codes "input longer than " ++ decimal most_bytes ++ codes " bytes\n"
 text_line (text.Expected line what) = codes "line " ++ decimal line ++ codes ": expected " ++ what_text what ++ codes "\n"
@@ -48,7 +52,7 @@ nurse_of source b _ = []
 
 -- the line of such a fault, with that name
 abbrev pub case_line : CaseFault → Text → Text
-case_line case.Memory nurse = codes "no memory\n"
+case_line case.Memory nurse = memory_line
 case_line (case.Repeated line) nurse = codes "line " ++ decimal line ++ codes ": repeated name\n"
 case_line (case.Unknown line) nurse = codes "line " ++ decimal line ++ codes ": unknown name\n"
 case_line (case.Reserved line) nurse = codes "line " ++ decimal line ++ codes ": reserved name\n"
@@ -88,6 +92,7 @@ abbrev pub fault_line : Fault → Text
 fault_line (fault.Text f) = text_line f
 fault_line (fault.Case f nurse) = case_line f nurse.now
 fault_line (fault.Hard f names) = hard_line f names
+fault_line fault.Memory = memory_line
 fault_line fault.Output = codes "write failed\n"
 
 -- ---- reports
@@ -131,4 +136,5 @@ abbrev pub status_of : Fault → ℕ
 status_of (fault.Text f) = text_status f
 status_of (fault.Case f nurse) = case_status f
 status_of (fault.Hard f names) = 1
+status_of fault.Memory = 4
 status_of fault.Output = 3

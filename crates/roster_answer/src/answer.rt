@@ -83,5 +83,5 @@ fn answer_bytes<'a, Out: Write>(
     ensures err { IfErr result (λ fault. Answers (record { contents = Out.contents; before = output.old; after = output.new }) command.now source.now (Some fault)) }
 {
     let instance = read_instance(alloc, source)?;
-    report(command, source, &instance, output)
+    report(alloc, command, source, instance, output)
 }

@@ -6,41 +6,39 @@ ghost use Rattle.roster_case.specs.HardRules.{hard_faults};
 ghost use Rattle.roster_case.specs.Penalties.{costs_of};
 ghost use Rattle.roster_case.specs.Rosters.{fits_case};
 ghost use Rattle.roster_case.specs.Shown.{weeks_text};
-ghost use Rattle.roster_answer.specs.Answer.{StopsOutput, StopsReport, breaches_of, report_of};
+ghost use Rattle.roster_answer.specs.Answer.{StopsOutput, StopsReport, breaches_of, holds, report_of};
 ghost use Rattle.roster_answer.specs.Lines.{costs_text, sizes_text};
 
-use crate::cost::{keep_hard_rules, write_costs};
+use crate::cost::write_costs;
 use crate::fault::Fault;
+use crate::held::hold;
 use crate::reading::Instance;
 use crate::sizes::write_sizes;
 use crate::weeks::write_weeks;
 use roster_case::{Case, Roster, costs};
-use roster_text::{Bundle, Watch};
+use roster_text::Watch;
 use roster_words::Command;
+use std::alloc::Global;
 use std::io::Write;
 
 /// Writes what a command reports of an instance, or says why it is refused, with the names that the source has.
 pub(crate) fn report<'a, Out: Write>(
+    alloc: Global,
     command: &Command,
     source: &'a [u8],
-    instance: &Instance,
+    instance: Instance,
     output: &mut Watch<Out>,
 ) -> Result<(), Fault<'a>>
-    requires { fits_case instance.now.case instance.now.roster ≡ true }
-    ensures kept { OnOk result (breaches_of command.now instance.now.case instance.now.roster ≡ []) }
-    ensures ok { OnOk result (Writes Out.contents output.old output.new (report_of command.now instance.now.case instance.now.roster)) }
-    ensures err { IfErr result (StopsReport Out.contents (breaches_of command.now instance.now.case instance.now.roster)
-        (report_of command.now instance.now.case instance.now.roster) source.now instance.now.bundle output.old output.new) }
+    requires { fits_case instance.case instance.roster ≡ true }
+    ensures kept { OnOk result (breaches_of command.now instance.case instance.roster ≡ []) }
+    ensures ok { OnOk result (Writes Out.contents output.old output.new (report_of command.now instance.case instance.roster)) }
+    ensures err { IfErr result (StopsReport Out.contents (holds command.now) (breaches_of command.now instance.case instance.roster)
+        (report_of command.now instance.case instance.roster) source.now instance.bundle output.old output.new) }
 {
-    let Instance {
-        bundle,
-        case,
-        roster,
-    } = instance;
     match command {
-        Command::Show => show(case, roster, output),
-        Command::Cost => cost(source, bundle, case, roster, output),
-        Command::Sizes => sizes(case, output),
+        Command::Show => show(&instance.case, &instance.roster, output),
+        Command::Cost => cost(alloc, source, instance, output),
+        Command::Sizes => sizes(&instance.case, output),
     }
 }
 
@@ -57,20 +55,19 @@ fn show<'a, Out: Write>(
 }
 
 fn cost<'a, Out: Write>(
+    alloc: Global,
     source: &'a [u8],
-    bundle: &Bundle,
-    case: &Case,
-    roster: &Roster,
+    instance: Instance,
     output: &mut Watch<Out>,
 ) -> Result<(), Fault<'a>>
-    requires { fits_case case.now roster.now ≡ true }
-    ensures kept { OnOk result (hard_faults case.now roster.now ≡ []) }
-    ensures ok { OnOk result (Writes Out.contents output.old output.new (costs_text (costs_of case.now roster.now))) }
-    ensures err { IfErr result (StopsReport Out.contents (hard_faults case.now roster.now)
-        (costs_text (costs_of case.now roster.now)) source.now bundle.now output.old output.new) }
+    requires { fits_case instance.case instance.roster ≡ true }
+    ensures kept { OnOk result (hard_faults instance.case instance.roster ≡ []) }
+    ensures ok { OnOk result (Writes Out.contents output.old output.new (costs_text (costs_of instance.case instance.roster))) }
+    ensures err { IfErr result (StopsReport Out.contents true (hard_faults instance.case instance.roster)
+        (costs_text (costs_of instance.case instance.roster)) source.now instance.bundle output.old output.new) }
 {
-    keep_hard_rules(source, bundle, case, roster)?;
-    Ok(write_costs(output, costs(case, roster))?)
+    let held = hold(alloc, source, instance)?;
+    Ok(write_costs(output, costs(held.case(), held.roster()))?)
 }
 
 fn sizes<'a, Out: Write>(case: &Case, output: &mut Watch<Out>) -> Result<(), Fault<'a>>

@@ -13,6 +13,8 @@ pub(crate) enum Fault<'a> {
     Case(CaseFault, &'a [u8]),
     /// The roster breaks a hard rule that the command asks for.
     Hard(HardFault, BreachNames<'a>),
+    /// A growth was refused for what a command keeps of a roster that it holds.
+    Memory,
     /// The output failed.
     Output,
 }

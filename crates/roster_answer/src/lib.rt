@@ -5,6 +5,7 @@ mod answer;
 mod commands;
 mod cost;
 mod fault;
+mod held;
 mod lines;
 mod names;
 mod reading;

@@ -3,7 +3,7 @@
 ghost use Rattle.std.specs.Prelude.{◌≡◌, OnOk, IfErr, ◌++◌, codes, decimal};
 ghost use Rattle.roster_text.specs.Io.{StopsIn, Writes};
 ghost use Rattle.roster_answer.specs.Answer.{Logs};
-ghost use Rattle.roster_answer.specs.Lines.{case_line, fault_line, hard_line, missing_line, nurse_day_line, status_of, text_line, text_status};
+ghost use Rattle.roster_answer.specs.Lines.{case_line, fault_line, hard_line, memory_line, missing_line, nurse_day_line, status_of, text_line, text_status};
 
 use crate::fault::{BreachNames, Fault};
 use roster_case::{CaseFault, HardFault};
@@ -39,7 +39,7 @@ fn status_of(fault: Fault<'_>) -> u8
     ensures { result ≡ status_of fault.entry }
 {
     match fault {
-        Fault::Text(TextFault::Memory) | Fault::Case(CaseFault::Memory, _) => 4,
+        Fault::Text(TextFault::Memory) | Fault::Case(CaseFault::Memory, _) | Fault::Memory => 4,
         Fault::Text(TextFault::ReadFailed) | Fault::Output => 3,
         Fault::Text(_) | Fault::Case(_, _) | Fault::Hard(_, _) => 1,
     }
@@ -53,8 +53,16 @@ fn write_line<Log: Write>(fault: Fault<'_>, log: &mut Watch<Log>) -> Result<(), 
         Fault::Text(fault) => write_text_line(fault, log),
         Fault::Case(fault, nurse) => write_case_line(fault, nurse, log),
         Fault::Hard(fault, names) => write_hard_line(fault, names, log),
+        Fault::Memory => write_no_memory(log),
         Fault::Output => write_pieces(log, &[Piece::Bytes(b"write failed\n")]),
     }
+}
+
+fn write_no_memory<Log: Write>(log: &mut Watch<Log>) -> Result<(), WriteFault>
+    ensures ok { OnOk result (Writes Log.contents log.old log.new memory_line) }
+    ensures err { IfErr result (StopsIn Log.contents log.old log.new memory_line) }
+{
+    write_pieces(log, &[Piece::Bytes(b"no memory\n")])
 }
 
 fn write_text_line<Log: Write>(fault: TextFault, log: &mut Watch<Log>) -> Result<(), WriteFault>
@@ -62,7 +70,7 @@ fn write_text_line<Log: Write>(fault: TextFault, log: &mut Watch<Log>) -> Result
     ensures err { IfErr result (StopsIn Log.contents log.old log.new (text_line fault)) }
 {
     match fault {
-        TextFault::Memory => write_pieces(log, &[Piece::Bytes(b"no memory\n")]),
+        TextFault::Memory => write_no_memory(log),
         TextFault::ReadFailed => write_pieces(log, &[Piece::Bytes(b"read failed\n")]),
         TextFault::TooLong => write_pieces(
             log,
@@ -96,7 +104,7 @@ fn write_case_line<Log: Write>(
     ensures err { IfErr result (StopsIn Log.contents log.old log.new (case_line fault nurse.now)) }
 {
     match fault {
-        CaseFault::Memory => write_pieces(log, &[Piece::Bytes(b"no memory\n")]),
+        CaseFault::Memory => write_no_memory(log),
         CaseFault::Repeated { line } => write_at(line, b": repeated name\n", log),
         CaseFault::Unknown { line } => write_at(line, b": unknown name\n", log),
         CaseFault::Reserved { line } => write_at(line, b": reserved name\n", log),

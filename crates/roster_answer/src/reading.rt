@@ -31,6 +31,22 @@ impl Drop for Instance {
     }
 }
 
+impl Instance {
+    /// The bundle, the case and the roster.
+    pub(crate) fn into_parts(self) -> (Bundle, Case, Roster)
+        ensures bundle { result.0 ≡ self.bundle }
+        ensures case { result.1 ≡ self.case }
+        ensures roster { result.2 ≡ self.roster }
+    {
+        let Instance {
+            bundle,
+            case,
+            roster,
+        } = self;
+        (bundle, case, roster)
+    }
+}
+
 /// What the bytes of an input say, or why they are refused.
 pub(crate) fn read_instance<'a>(alloc: Global, source: &'a [u8]) -> Result<Instance, Fault<'a>>
     ensures says { IfOk result (Says source.now) }

@@ -48,20 +48,12 @@ impl Model for Held {
 }
 
 /// Why a roster isn't held. The case and the roster are handed back.
+#[derive(Drop)]
 pub enum HeldFault {
     /// The first breach of the hard rules.
     Hard(HardFault, Case, Roster),
     /// A growth was refused.
     Memory(Case, Roster),
-}
-
-impl Drop for HeldFault {
-    fn drop(self) {
-        match self {
-            HeldFault::Hard(_, _, _) => {}
-            HeldFault::Memory(_, _) => {}
-        }
-    }
 }
 
 impl Held {
