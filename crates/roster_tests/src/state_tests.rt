@@ -38,7 +38,7 @@ fn rows_cost(case: &mut Case, roster: &Roster) -> Option<(u64, u64)>
     Some((sum, steps))
 }
 
-/// The instance mini with other lines, each of which stands there once.
+/// The instance mini with other texts in the place of these, wherever they stand.
 fn changed(alloc: Global, changes: &[(&str, &str)]) -> Result<String, AllocError> {
     let mut text = String::from_str(alloc, MINI)?;
     for (line, other) in changes {
