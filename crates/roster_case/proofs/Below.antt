@@ -1,5 +1,5 @@
 -- Sums and tests over the numbers below a number: two of them, and one that differs at one number.
-use Rattle.std.proofs.Common.{◌≡◌, ◌∙◌, ◌+◌, ◌<◌, ◌⊎◌, ◌&&◌, ◌==◌, ℕ, zero, suc, Bool, true, false, inl, inr, ap, ap₂, arith, refl, if◌then◌else◌}
+use Rattle.std.proofs.Common.{◌≡◌, ◌∙◌, ◌+◌, ◌<◌, ◌⊎◌, ◌&&◌, ◌==◌, ℕ, zero, suc, Bool, true, false, inl, inr, ap, ap₂, arith, refl, sym, if◌then◌else◌}
 use Rattle.std.proofs.lemmas.Bool.{and_parts, cases_eq, ne_eqb, eq-eqb}
 use Rattle.roster_rules.specs.Counting.{all_below, sum_below}
 use Rattle.roster_rules.proofs.RunSums.{sum_same}
@@ -56,3 +56,18 @@ all_elim (suc m) p all k within = go (cases_eq k m) (and_parts (all_below m p) (
     go : (k ≡ m) ⊎ (k ≡ m → ⊥) → (all_below m p ≡ true) × (p m ≡ true) → (all_below m p ≡ true → (k : ℕ) → k < m → p k ≡ true) → p k ≡ true
     go (inl e) parts before = ap p e ∙ parts.1
     go (inr e) parts before = before parts.0 k (omega arith)
+
+pub all_more : (p : ℕ → Bool) (i : ℕ) → all_below i p ≡ true → p i ≡ true → all_below (i + 1) p ≡ true
+all_more p i all here = let one : i + 1 ≡ suc i = omega arith in ap (λ k. all_below k p) one ∙ ap₂ (λ a b. a && b) all here
+
+pub all_fails : (m : ℕ) (p : ℕ → Bool) (k : ℕ) → k < m → p k ≡ false → all_below m p ≡ false
+all_fails zero p k within fails = absurd (omega arith)
+all_fails (suc m) p k within fails = go (cases_eq k m) (all_fails m p k)
+  where
+    and_false : (b : Bool) → (b && false) ≡ false
+    and_false true = refl
+    and_false false = refl
+
+    go : (k ≡ m) ⊎ (k ≡ m → ⊥) → (k < m → p k ≡ false → all_below m p ≡ false) → (all_below m p && p m) ≡ false
+    go (inl e) before = ap (λ b. all_below m p && b) (ap p (sym e) ∙ fails) ∙ and_false (all_below m p)
+    go (inr e) before = ap (λ b. b && p m) (before (omega arith) fails)

@@ -5,7 +5,9 @@ use Rattle.roster_rules.specs.declared.Choice.TheVariants.{Off, Work}
 use Rattle.roster_rules.specs.declared.Shift.{Shift}
 use Rattle.roster_rules.specs.declared.Skill.{Skill}
 use Rattle.roster_rules.specs.Counting.{all_below, one_if, sum_below}
-use Rattle.roster_rules.specs.Meaning.{Meaning, minimum, optimum, shift_count, skill_count}
+use Rattle.roster_rules.specs.Meaning.{Meaning, day_count, minimum, optimum, shift_count, skill_count}
+use Rattle.roster_instance.specs.Rosters.{Rows, cover}
+use Rattle.roster_rules.specs.Penalties.{staffing_cost}
 use Rattle.roster_rules.specs.Weights.{staffing_weight}
 use Rattle.roster_rules.proofs.RunSums.{sum_same}
 use Rattle.roster_case.specs.Staffing.{lacking, meets, staffing_cost_by, with_choice}
@@ -48,6 +50,9 @@ module _ (c : Meaning) where
   pub staffing-lacking : (d : ℕ) (have : ℕ → ℕ → ℕ) → staffing_cost_by c d have ≡ staffing_weight * lacking c (optimum c d) have
   staffing-lacking d have =
       (λ i. sum_below (shift_count c) (λ s. scaled (skill_count c) (λ k. optimum c d s k - have s k) i)) ∙ scaled (shift_count c) (λ s. sum_below (skill_count c) (λ k. optimum c d s k - have s k))
+
+  pub staffing_cost-lacking : (r : Rows) → staffing_cost c r ≡ staffing_weight * sum_below (day_count c) (λ d. lacking c (optimum c d) (cover r d))
+  staffing_cost-lacking r = (λ i. sum_below (day_count c) (λ d. staffing-lacking d (cover r d) i)) ∙ scaled (day_count c) (λ d. lacking c (optimum c d) (cover r d))
 
   pub meets-lacking : (d : ℕ) (have : ℕ → ℕ → ℕ) → meets c d have ≡ (lacking c (minimum c d) have == 0)
   meets-lacking d have = sym (all_none (shift_count c) _ _ (λ s. all_none (skill_count c) _ _ (λ k. none_lacks (minimum c d s k) (have s k))))

@@ -4,3 +4,7 @@ pub mod Below
 pub mod OneRow
 pub mod Keeps
 pub mod Lacking
+pub mod DayTableLemmas
+mod RecountLemmas
+mod AllowedLemmas
+mod HeldLemmas

@@ -1,11 +1,12 @@
 -- A roster that keeps the hard rules, and what is kept of it so that nothing is counted anew.
-use Rattle.std.specs.Prelude.{◌≡◌, ◌×◌, ◌<◌, ℕ, true, List, [], Some, length, slice_index_or}
+use Rattle.std.specs.Prelude.{◌≡◌, ◌<◌, ℕ, true, [], Some, length, slice_index_or}
 use Rattle.roster_instance.specs.Faults.{first_fault}
 use Rattle.roster_instance.specs.Meaning.{Meaning, day_count, nurse_count}
 use Rattle.roster_instance.specs.Rosters.{Rows, days_of_nurse, fits_case}
 use Rattle.roster_rules.specs.Covers.{AreCovers}
 use Rattle.roster_rules.specs.HardRules.{hard_faults, keeps_hard}
 use Rattle.roster_rules.specs.Penalties.{nurse_cost, staffing_cost}
+use Rattle.roster_case.specs.declared.counts.Counts.{Counts}
 use Rattle.roster_case.specs.declared.held.HeldFault.{HeldFault}
 use Rattle.roster_case.specs.declared.held.HeldFault.TheVariants.{Hard, Memory}
 
@@ -15,18 +16,18 @@ pub record HeldRoster : Type 0 where
   pub roster : Rows
 
 -- what is kept: how many nurses each day, shift and skill has, what each nurse costs, and what the staffing costs
-pub record AreCounts (c : Meaning) (r : Rows) (covers : List (List ℕ)) (costs : List ℕ) (staffing : ℕ) : Type 0 where
-  pub days : length covers ≡ day_count c
-  pub covers : (d : ℕ) → d < day_count c → AreCovers r d (slice_index_or covers d [])
-  pub nurses : length costs ≡ nurse_count c
-  pub costs : (n : ℕ) → n < nurse_count c → slice_index_or costs n 0 ≡ nurse_cost c n (days_of_nurse r n)
-  pub staffing : staffing ≡ staffing_cost c r
+pub record AreCounts (c : Meaning) (r : Rows) (counts : Counts) : Type 0 where
+  pub days : length counts.covers.items ≡ day_count c
+  pub covers : (d : ℕ) → d < day_count c → AreCovers r d (slice_index_or counts.covers.items d [])
+  pub nurses : length counts.nurse_costs.items ≡ nurse_count c
+  pub costs : (n : ℕ) → n < nurse_count c → slice_index_or counts.nurse_costs.items n 0 ≡ nurse_cost c n (days_of_nurse r n)
+  pub staffing : counts.staffing_cost ≡ staffing_cost c r
 
 -- what always holds of a held roster
-pub record IsHeld (c : Meaning) (r : Rows) (covers : List (List ℕ)) (costs : List ℕ) (staffing : ℕ) : Type 0 where
+pub record IsHeld (c : Meaning) (r : Rows) (counts : Counts) : Type 0 where
   pub fits : fits_case c r ≡ true
   pub keeps : keeps_hard c r ≡ true
-  pub counts : AreCounts c r covers costs staffing
+  pub counted : AreCounts c r counts
 
 -- a refusal hands the same case and roster back: the first breach of the hard rules, or want of memory where there is none
 abbrev pub IsHandedBack : Meaning → Rows → HeldFault → Type 0

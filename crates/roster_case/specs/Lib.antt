@@ -29,3 +29,5 @@ pub use Rattle.roster_rules.specs.Improver
 pub mod Shown
 pub mod Staffing
 pub mod OneRow
+pub mod DayTables
+pub mod Held

@@ -3,7 +3,6 @@ use Rattle.std.specs.Prelude.{ℕ, ◌+◌, Bool, not, ◌&&◌, ◌==◌, [], l
 use Rattle.roster_rules.specs.declared.Choice.{Choice}
 use Rattle.roster_rules.specs.Choices.{days_of, shift_of}
 use Rattle.roster_rules.specs.Counting.{all_below, sum_below}
-use Rattle.roster_rules.specs.Days.{Days}
 use Rattle.roster_rules.specs.HardRules.{breaks_succession, is_able, keeps_skills, keeps_successions}
 use Rattle.roster_rules.specs.Meaning.{Meaning, day_count, nurse_at, nurse_count}
 use Rattle.roster_rules.specs.Penalties.{nurse_cost, off_request_cost_on}

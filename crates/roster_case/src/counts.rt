@@ -1,1 +1,130 @@
 //! What is kept of a roster that keeps the hard rules.
+
+ghost use Rattle.std.specs.Prelude.{◌≡◌, ◌+◌, ◌*◌, ◌<◌, ◌≤◌, ◌==◌, ℕ, [], true, IfOk, if◌then◌else◌, length, slice_index_or};
+ghost use Rattle.roster_instance.specs.Counting.{sum_below};
+ghost use Rattle.roster_instance.specs.Limits.{most_nurses};
+ghost use Rattle.roster_instance.specs.Meaning.{day_count, nurse_count};
+ghost use Rattle.roster_instance.specs.Rosters.{days_of_nurse, fits_case, is_row_of, with_row};
+ghost use Rattle.roster_rules.specs.Covers.{AreCovers};
+ghost use Rattle.roster_rules.specs.Penalties.{nurse_cost};
+ghost use Rattle.roster_rules.specs.Room.{most_staffing};
+ghost use Rattle.roster_case.specs.DayTables.{number_at};
+ghost use Rattle.roster_case.specs.Held.{AreCounts};
+
+use crate::recount::recount;
+use roster_rules::weights::STAFFING;
+use roster_rules::{Case, Choice, Roster, Shift, Skill, covers, nurse_cost, place, staffing_cost};
+use std::alloc::{AllocError, Global};
+
+/// How many nurses each day, shift and skill has, and what each nurse and the staffing cost, in penalty points.
+pub(crate) struct Counts {
+    /// A table for each day, with a number at the place of each shift and skill.
+    pub(crate) covers: Vec<[u16; 64]>,
+    /// What each nurse's row costs apart from staffing.
+    pub(crate) nurse_costs: Vec<u32>,
+    pub(crate) staffing_cost: u64,
+}
+
+// By hand, so that who drops the counts has one call to prove.
+impl Drop for Counts {
+    fn drop(self) {
+        let Counts {
+            covers: _,
+            nurse_costs: _,
+            staffing_cost: _,
+        } = self;
+    }
+}
+
+impl Counts {
+    /// The counts of a roster, by two growths.
+    pub(crate) fn of(alloc: Global, case: &Case, roster: &Roster) -> Result<Counts, AllocError>
+        requires { fits_case case.now roster.now ≡ true }
+        ensures { IfOk result (AreCounts case.now roster.now) }
+    {
+        Ok(Counts {
+            covers: covers_of(alloc, case, roster)?,
+            nurse_costs: nurse_costs_of(alloc, case, roster)?,
+            staffing_cost: staffing_cost(case, roster),
+        })
+    }
+
+    /// How many nurses work a shift with a skill on a day.
+    pub(crate) fn cover(&self, day: u16, shift: Shift, skill: Skill) -> u16
+        requires day { day < length self.now.covers.items }
+        requires place { shift.0 < 8 × skill.0 < 8 }
+        ensures { result ≡ number_at (slice_index_or self.now.covers.items day []) shift.0 skill.0 }
+    {
+        self.covers[day as usize][place(shift, skill)]
+    }
+
+    /// What the rows of all nurses but one cost.
+    #[tactic(auto, using(roster_rules::proofs::CountLemmas::sum_more))]
+    pub(crate) fn rest(&self, nurse: usize) -> u64
+        requires { length self.now.nurse_costs.items ≤ most_nurses }
+        ensures cost { result ≡ sum_below (length self.now.nurse_costs.items) (λ m. if m == nurse then 0 else slice_index_or self.now.nurse_costs.items m 0) }
+        ensures within { result ≤ most_nurses * 4294967295 }
+    {
+        let mut cost = 0;
+        for other in 0..self.nurse_costs.len() {
+            if other != nurse {
+                cost += self.nurse_costs[other] as u64;
+            }
+        }
+        cost
+    }
+
+    /// What the rows and the staffing cost.
+    #[tactic(auto, using(roster_rules::proofs::CountLemmas::sum_more))]
+    pub(crate) fn total(&self) -> u64
+        requires nurses { length self.now.nurse_costs.items ≤ most_nurses }
+        requires staffing { self.now.staffing_cost ≤ most_staffing }
+        ensures { result ≡ self.now.staffing_cost + sum_below (length self.now.nurse_costs.items) (λ n. slice_index_or self.now.nurse_costs.items n 0) }
+    {
+        let mut cost = 0;
+        for nurse in 0..self.nurse_costs.len() {
+            cost += self.nurse_costs[nurse] as u64;
+        }
+        self.staffing_cost + cost
+    }
+
+    /// Counts a row in the place of a nurse's, by that row alone.
+    pub(crate) fn replace_row(&mut self, case: &Case, roster: &Roster, nurse: usize, row: &[Choice])
+        requires fitting { fits_case case.now roster.now ≡ true }
+        requires nurse { nurse < nurse_count case.now }
+        requires row { is_row_of case.now row.now ≡ true }
+        requires counts { AreCounts case.now roster.now self.old }
+        ensures { AreCounts case.now (with_row roster.now nurse row.now) self.new }
+    {
+        case.keeps_limits();
+        let change = recount(case, roster, nurse, row, &mut self.covers);
+        self.staffing_cost += STAFFING as u64 * change.more;
+        self.staffing_cost -= STAFFING as u64 * change.fewer;
+        self.nurse_costs[nurse] = nurse_cost(case, nurse, row);
+    }
+}
+
+fn covers_of(alloc: Global, case: &Case, roster: &Roster) -> Result<Vec<[u16; 64]>, AllocError>
+    requires { fits_case case.now roster.now ≡ true }
+    ensures days { IfOk result (λ tables. length tables.items ≡ day_count case.now) }
+    ensures covers { IfOk result (λ tables. (d : ℕ) → d < day_count case.now → AreCovers roster.now d (slice_index_or tables.items d [])) }
+{
+    case.keeps_limits();
+    let mut tables = Vec::with_capacity(alloc, case.days() as usize)?;
+    for day in 0..case.days() {
+        tables.push(covers(case, roster, day))?;
+    }
+    Ok(tables)
+}
+
+fn nurse_costs_of(alloc: Global, case: &Case, roster: &Roster) -> Result<Vec<u32>, AllocError>
+    requires { fits_case case.now roster.now ≡ true }
+    ensures nurses { IfOk result (λ costs. length costs.items ≡ nurse_count case.now) }
+    ensures costs { IfOk result (λ costs. (n : ℕ) → n < nurse_count case.now → slice_index_or costs.items n 0 ≡ nurse_cost case.now n (days_of_nurse roster.now n)) }
+{
+    let mut costs = Vec::with_capacity(alloc, case.nurses())?;
+    for nurse in 0..case.nurses() {
+        costs.push(nurse_cost(case, nurse, roster.row(nurse)))?;
+    }
+    Ok(costs)
+}

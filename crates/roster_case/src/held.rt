@@ -10,8 +10,11 @@ ghost use Rattle.roster_rules.specs.Room.{penalty_room};
 ghost use Rattle.roster_case.specs.Held.{IsHandedBack};
 ghost use Rattle.roster_case.specs.OneRow.{others, rest_of};
 
+use crate::allowed::is_offered_row;
 use crate::counts::Counts;
-use roster_rules::{Case, Choice, HardFault, Roster, Shift, Skill, first_hard};
+use roster_rules::{
+    Case, Choice, HardFault, Roster, Shift, Skill, choice_on, first_hard, row_fits,
+};
 use std::alloc::Global;
 use std::marker::Model;
 
@@ -41,7 +44,7 @@ impl Model for Held {
 
     ghost view = { λ h. record { case = h.case; roster = h.roster } };
 
-    ghost invariant = { λ h. IsHeld h.case h.roster h.counts.covers.items h.counts.nurse_costs.items h.counts.staffing_cost };
+    ghost invariant = { λ h. IsHeld h.case h.roster h.counts };
 }
 
 /// Why a roster isn't held. The case and the roster are handed back.
@@ -117,7 +120,8 @@ impl Held {
         requires skill { skill.0 < skill_count self.now.case }
         ensures { result ≡ others self.now.roster nurse day shift.0 skill.0 }
     {
-        let own = self.row(nurse)[day as usize] == Choice::Work(shift, skill);
+        self.case.keeps_limits();
+        let own = choice_on(self.roster.row(nurse), day) == Choice::Work(shift, skill);
         self.counts.cover(day, shift, skill) - own as u16
     }
 
@@ -126,6 +130,7 @@ impl Held {
         requires { nurse < nurse_count self.now.case }
         ensures { result ≡ rest_of self.now.case self.now.roster nurse }
     {
+        self.case.keeps_limits();
         self.counts.rest(nurse)
     }
 
@@ -134,6 +139,7 @@ impl Held {
         ensures total { result ≡ penalty self.now.case self.now.roster }
         ensures within { result < penalty_room }
     {
+        self.case.keeps_limits();
         self.counts.total()
     }
 
@@ -143,7 +149,7 @@ impl Held {
         requires { nurse < nurse_count self.now.case }
         ensures { result ≡ row_keeps self.now.case self.now.roster nurse row.now }
     {
-        row_fits(&self.case, row) && self.is_offered_row(nurse, row)
+        row_fits(&self.case, row) && is_offered_row(self, nurse, row)
     }
 
     /// Puts a row in the place of a nurse's. The case stays.

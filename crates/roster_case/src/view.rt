@@ -4,8 +4,8 @@ ghost use Rattle.std.specs.Prelude.{◌≡◌, ◌<◌, true};
 ghost use Rattle.roster_instance.specs.Meaning.{week_count};
 ghost use Rattle.roster_instance.specs.Rosters.{fits_case};
 
-use roster_rules::{Case, Choice, Roster};
 use roster_bundle::SolutionView;
+use roster_rules::{Case, Choice, Roster};
 use std::marker::Model;
 
 /// A week of a roster that fits its case.

@@ -11,6 +11,7 @@ use Rattle.roster_rules.specs.Penalties.{penalty}
 use Rattle.roster_rules.specs.Rosters.{Row, Rows, fits_case, is_row_of, with_row}
 use Rattle.roster_rules.specs.AllowedRows.{allowed_rows, best_row, penalty_with, row_keeps}
 use Rattle.roster_rules.proofs.FirstLeast.{found}
+use Rattle.roster_rules.proofs.RowFits.{fits-with_row}
 use Rattle.roster_laws.proofs.Allowed.{allowed_keeps}
 use Rattle.roster_laws.proofs.Runs.{entries-goes_on, entries-settled, run-goes_on, run-settled, run-stopped}
 
@@ -70,13 +71,6 @@ module _ (c : Meaning) (best : BestRows) (P : Rows → Type 0) (steps : (r : Row
 
 abbrev pub IsKept : Meaning → Rows → Type 0
 IsKept c r = (fits_case c r ≡ true) × (keeps_hard c r ≡ true)
-
-fits-with_row : (c : Meaning) (r : Rows) (n : ℕ) (row : Row) → fits_case c r ≡ true → is_row_of c row ≡ true → fits_case c (with_row r n row) ≡ true
-fits-with_row c r n row fitting is =
-    let parts = and_parts (length r == nurse_count c) (list_all (is_row_of c) r) fitting in
-    let same : length (with_row r n row) ≡ nurse_count c = length-set r n row ∙ eqb-true (length r) (nurse_count c) parts.0 in
-    and_from (length (with_row r n row) == nurse_count c) (list_all (is_row_of c) (with_row r n row)) (eq-eqb (length (with_row r n row)) (nurse_count c) same)
-    (list_all-from_AllPass (is_row_of c) (with_row r n row) (All-set (λ own. is_row_of c own ≡ true) r n row is (AllPass-from_list_all (is_row_of c) r parts.1)))
 
 module _ (c : Meaning) (r : Rows) (n : ℕ) where
   best_is_allowed : (row : Row) → best_row c r n ≡ Some row → Contains (allowed_rows c r n) row

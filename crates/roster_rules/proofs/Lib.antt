@@ -9,5 +9,6 @@ pub mod WeekendLaw
 pub mod CountLemmas
 pub mod RunBounds
 pub mod Bounds
-mod CoverLemmas
+pub mod CoverLemmas
 pub mod HardLemmas
+pub mod RowFits

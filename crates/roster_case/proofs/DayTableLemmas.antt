@@ -1,0 +1,58 @@
+-- A day's table: what is lacking with one nurse more, and the tables of a roster with one row replaced.
+use Rattle.std.proofs.Common.{◌≡◌, ◌∙◌, ◌+◌, ◌*◌, ◌<◌, ◌≤◌, ◌&&◌, ℕ, true, ap, ap₂, arith, refl, sym, List, [], length, nat_lt, slice_index_or}
+use Rattle.std.proofs.lemmas.Bool.{and_parts, eq-eqb, ltb-true}
+use Rattle.std.proofs.lemmas.List.Sums.{count_by-le-length, sum_by-set}
+use Rattle.roster_instance.specs.declared.Choice.{Choice}
+use Rattle.roster_instance.specs.declared.Choice.TheVariants.{Off, Work}
+use Rattle.roster_instance.specs.declared.Limits.{Limits}
+use Rattle.roster_instance.specs.declared.Shift.{Shift}
+use Rattle.roster_instance.specs.declared.Skill.{Skill}
+use Rattle.roster_instance.specs.Choices.{same_choice}
+use Rattle.roster_instance.specs.Counting.{one_if}
+use Rattle.roster_instance.specs.Meaning.{Meaning, need, optimum, shift_at, shift_count, skill_at, skill_count}
+use Rattle.roster_instance.specs.Rosters.{Row, Rows, choice_on, cover, is_choice_of, row_of}
+use Rattle.roster_rules.specs.Covers.{AreCovers}
+use Rattle.roster_case.specs.DayTables.{HasPlace, IsCounted, IsTable, number_at}
+use Rattle.roster_case.specs.OneRow.{others}
+use Rattle.roster_case.specs.Staffing.{lacking, with_choice}
+use Rattle.roster_case.proofs.Lacking.{lacking-work}
+
+-- ---- a choice of the case
+
+work_of_case : (c : Meaning) (shift : Shift) (skill : Skill) → is_choice_of c (Work shift skill) ≡ true → (shift.0 < shift_count c) × (skill.0 < skill_count c)
+work_of_case c shift skill known =
+    let parts = and_parts (nat_lt shift.0 (shift_count c)) (nat_lt skill.0 (skill_count c)) known in
+    (ltb-true shift.0 (shift_count c) parts.0, ltb-true skill.0 (skill_count c) parts.1)
+
+module _ (c : Meaning) (shifts : shift_count c ≤ 8) (skills : skill_count c ≤ 8) where
+  pub has_place : (choice : Choice) → is_choice_of c choice ≡ true → HasPlace choice
+  has_place Off known = tt
+  has_place (Work shift skill) known = let parts = work_of_case c shift skill known in (omega (arith, parts.0, shifts), omega (arith, parts.1, skills))
+
+  -- one nurse more is one less lacking where the optimum isn't reached
+  pub work_lacks : (d : ℕ) (table : List ℕ) (choice : Choice) → is_choice_of c choice ≡ true → (shift : Shift) (skill : Skill) → choice ≡ Work shift skill → (place : ℕ) → place ≡ 8 * shift.0 + skill.0 → (limits : Limits) → limits ≡ need c d shift.0 skill.0 → (have : ℕ → ℕ → ℕ) → IsTable have table
+      → lacking c (optimum c d) (with_choice have choice) + one_if (nat_lt (slice_index_or table place 0) limits.greatest) ≡ lacking c (optimum c d) have
+  work_lacks d table choice known shift skill is place place_is limits limits_is have are =
+      let parts = work_of_case c shift skill (ap (is_choice_of c) (sym is) ∙ known) in
+      let at : slice_index_or table place 0 ≡ have shift.0 skill.0 = ap (λ i. slice_index_or table i 0) place_is ∙ are shift.0 skill.0 (omega (arith, parts.0, shifts)) (omega (arith, parts.1, skills)) in
+      (λ i. lacking c (optimum c d) (with_choice have (is i)) + one_if (nat_lt (at i) (limits_is i).greatest)) ∙ lacking-work c (optimum c d) have shift skill parts.0 parts.1
+
+-- ---- the nurse's own part of a cover
+
+module _ (r : Rows) (n : ℕ) (within : n < length r) where
+  pub cover-parts : (d s k : ℕ) → cover r d s k ≡ with_choice (others r n d) (choice_on (row_of r n) d) s k
+  cover-parts d s k =
+      let one : Row → ℕ = λ own. one_if (same_choice (choice_on own d) (Work (shift_at s) (skill_at k))) in
+      omega (arith, sum_by-set one r n [] [] within)
+
+  -- a shift and skill that the nurse works is counted
+  pub is_counted : (d : ℕ) (table : List ℕ) → AreCovers r d table → (choice : Choice) → choice ≡ choice_on (row_of r n) d → HasPlace choice → IsCounted table choice
+  is_counted d table are Off is place = tt
+  is_counted d table are (Work shift skill) is place =
+      let own : with_choice (others r n d) (choice_on (row_of r n) d) shift.0 skill.0 ≡ others r n d shift.0 skill.0 + 1 =
+      (λ i. with_choice (others r n d) (sym is i) shift.0 skill.0) ∙ ap (λ b. others r n d shift.0 skill.0 + one_if b) (ap₂ (λ a b. a && b) (eq-eqb shift.0 shift.0 refl) (eq-eqb skill.0 skill.0 refl)) in
+      omega (arith, are shift.0 skill.0 place.0 place.1, cover-parts d shift.0 skill.0, own)
+
+-- no number of a table is above that of the nurses
+pub room : (r : Rows) (d : ℕ) (table : List ℕ) → AreCovers r d table → length r ≤ 200 → (s k : ℕ) → s < 8 → k < 8 → number_at table s k < 65535
+room r d table are few s k s_in k_in = omega (arith, are s k s_in k_in, count_by-le-length (λ row. same_choice (choice_on row d) (Work (shift_at s) (skill_at k))) r, few)
