@@ -1,6 +1,6 @@
 //! What the offers of all days say of a nurse's rows.
 
-ghost use Rattle.std.specs.Prelude.{◌≡◌, ◌×◌, ◌↔◌, ◌+◌, ◌<◌, ℕ, true, length};
+ghost use Rattle.std.specs.Prelude.{◌≡◌, ◌↔◌, ◌+◌, ◌<◌, ℕ, true, length};
 ghost use Rattle.roster_instance.specs.Choices.{days_of};
 ghost use Rattle.roster_instance.specs.Meaning.{Meaning, nurse_count};
 ghost use Rattle.roster_instance.specs.Rosters.{Row, Rows, is_row_of, with_row};

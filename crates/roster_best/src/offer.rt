@@ -19,7 +19,7 @@ use roster_rules::is_able;
 use roster_rules::weights::{OFF_REQUEST, STAFFING};
 
 /// A choice, and its price in penalty points.
-#[derive(Clone, Copy, Default)]
+#[derive(Clone, Copy, Default, PartialEq)]
 pub struct Offer {
     pub choice: Choice,
     pub price: u32,

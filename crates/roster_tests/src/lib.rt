@@ -6,6 +6,8 @@ mod command_tests;
 #[cfg(test)]
 mod devices_tests;
 #[cfg(test)]
+mod held_tests;
+#[cfg(test)]
 mod library_tests;
 #[cfg(test)]
 mod start_tests;
