@@ -64,9 +64,14 @@ impl Day {
 }
 
 /// The items of a section, in the order of the text.
-#[derive(Drop)]
 pub struct Items<T> {
     items: Vec<T>,
+}
+
+impl<T: Drop> Drop for Items<T> {
+    fn drop(self) {
+        let Items { items: _ } = self;
+    }
 }
 
 impl<T> Model for Items<T> {
@@ -113,10 +118,15 @@ pub struct Number {
 }
 
 /// A section that begins with the count of its items, and where that count stands.
-#[derive(Drop)]
 pub struct Listed<T> {
     pub count: Token,
     pub items: Items<T>,
+}
+
+impl<T: Drop> Drop for Listed<T> {
+    fn drop(self) {
+        let Listed { count: _, items: _ } = self;
+    }
 }
 
 /// A least and a greatest number, or a minimum and an optimum, each from 0 to 999.
@@ -161,7 +171,6 @@ pub struct Nurse {
 }
 
 /// The scenario: what stays the same in every week.
-#[derive(Drop)]
 pub struct Scenario {
     pub name: Token,
     pub weeks: Number,
@@ -170,6 +179,20 @@ pub struct Scenario {
     pub successions: Items<Succession>,
     pub contracts: Listed<Contract>,
     pub nurses: Listed<Nurse>,
+}
+
+impl Drop for Scenario {
+    fn drop(self) {
+        let Scenario {
+            name: _,
+            weeks: _,
+            skills: _,
+            shifts: _,
+            successions: _,
+            contracts: _,
+            nurses: _,
+        } = self;
+    }
 }
 
 /// What a nurse did before the first Monday. The last shift may be the word `None`.

@@ -4,6 +4,7 @@ ghost use Rattle.std.specs.Prelude.{◌≡◌, ◌<◌, true};
 ghost use Rattle.roster_instance.specs.Meaning.{week_count};
 ghost use Rattle.roster_instance.specs.Rosters.{fits_case};
 
+use crate::held::Held;
 use roster_bundle::SolutionView;
 use roster_rules::{Case, Choice, Roster};
 use std::marker::Model;
@@ -37,6 +38,14 @@ impl<'a> WeekView<'a> {
         ensures { result ≡ record { case = case.now; roster = roster.now; week = week } }
     {
         WeekView { case, roster, week }
+    }
+
+    /// The same of a held roster.
+    pub fn of_held(held: &'a Held, week: u16) -> WeekView<'a>
+        requires { week < week_count held.now.case }
+        ensures { result ≡ record { case = held.now.case; roster = held.now.roster; week = week } }
+    {
+        WeekView::of(held.case(), held.roster(), week)
     }
 }
 

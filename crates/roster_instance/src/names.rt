@@ -14,9 +14,15 @@ use std::alloc::{AllocError, Global};
 use std::marker::Model;
 
 /// Different names, numbered from 0 in the order in which they came.
-#[derive(Drop)]
 pub(crate) struct Names {
     names: IndexSet<Vec<u8>>,
+}
+
+// By hand, so that who lets names go has one call to prove.
+impl Drop for Names {
+    fn drop(self) {
+        let Names { names: _ } = self;
+    }
 }
 
 impl Model for Names {

@@ -22,10 +22,19 @@ use std::alloc::{AllocError, Global};
 use std::marker::Model;
 
 /// A week: what each shift and skill needs, and which shifts the off requests of each nurse name on each weekday.
-#[derive(Drop)]
 pub(crate) struct Week {
     needs: Table<[Limits; 7]>,
     off_requests: Vec<[bool; 8]>,
+}
+
+// By hand, so that who lets a week go has one call to prove.
+impl Drop for Week {
+    fn drop(self) {
+        let Week {
+            needs: _,
+            off_requests: _,
+        } = self;
+    }
 }
 
 impl Model for Week {

@@ -3,20 +3,16 @@
 ghost use Rattle.std.specs.Prelude.{◌≡◌, ◌<◌};
 ghost use Rattle.roster_case.specs.Meaning.{nurse_count};
 
-use crate::texts::{big, mini_with};
+use crate::texts::{big, changed, read};
 use roster_best::{Offer, choices};
-use roster_case::{Case, Choice, Held, Roster, Shift, Skill, costs};
+use roster_case::{Choice, Held, Shift, Skill, costs};
 use roster_rules::{choice_on, nurse_cost};
-use roster_text::{parse_bundle, tokens};
 use std::alloc::Global;
 use std::test::Fail;
 
 /// The case and the roster of a text, held.
 fn held(alloc: Global, source: &[u8]) -> Result<Held, Fail> {
-    let tokens = tokens(alloc, source)?;
-    let bundle = parse_bundle(alloc, source, &tokens)?;
-    let case = Case::from_bundle(alloc, &bundle, source)?;
-    let roster = Roster::from_bundle(alloc, &case, &bundle, source)?;
+    let (case, roster) = read(alloc, source)?;
     match Held::new(alloc, case, roster) {
         Ok(held) => Ok(held),
         Err(_) => Err(Fail::new("not held")),
@@ -46,13 +42,18 @@ fn work(shift: u8, skill: u8, price: u32) -> Offer {
     }
 }
 
+const EARLY: &str = "Early Nurse (0,1) (0,1) (0,1) (0,1) (0,1) (0,1) (0,1)";
+
 #[test]
-fn offers_of_the_only_nurse_for_a_minimum(rt: HostRuntime) -> Result<(), Fail> {
+fn offers_at_a_minimum(rt: HostRuntime) -> Result<(), Fail> {
     let alloc = rt.alloc();
-    let needs = "Early Nurse (0,1) (0,1) (0,1) (0,1) (0,1) (0,1) (0,1)\n\
+    let night = "Early Nurse (0,1) (0,1) (0,1) (0,1) (0,1) (0,1) (0,1)\n\
         Night Nurse (0,0) (0,0) (0,0) (1,1) (0,0) (0,0) (0,0)";
-    let changes = [(34, needs), (41, "ASSIGNMENTS = 1\nBob Thu Night Nurse")];
-    let text = mini_with(alloc, &changes)?;
+    let changes = [
+        (EARLY, night),
+        ("ASSIGNMENTS = 0", "ASSIGNMENTS = 1\nBob Thu Night Nurse"),
+    ];
+    let text = changed(alloc, &changes)?;
     let held = held(alloc, text.as_bytes())?;
     assert!(rt; offers_are(&held, 1, 3, &[work(1, 0, 30)]));
     assert!(rt; offers_are(&held, 1, 0, &[off(30), work(0, 0, 0), work(1, 0, 30)]));
@@ -62,15 +63,14 @@ fn offers_of_the_only_nurse_for_a_minimum(rt: HostRuntime) -> Result<(), Fail> {
 #[test]
 fn offers_by_shift_and_then_by_skill(rt: HostRuntime) -> Result<(), Fail> {
     let alloc = rt.alloc();
-    let needs = "Early Nurse (0,1) (0,1) (0,1) (0,1) (0,1) (0,1) (0,1)\n\
+    let head = "Early Nurse (0,1) (0,1) (0,1) (0,1) (0,1) (0,1) (0,1)\n\
         Early Head (0,1) (0,1) (0,1) (0,1) (0,1) (0,1) (0,1)";
     let changes = [
-        (5, "SKILLS = 2"),
-        (6, "Nurse\nHead"),
-        (20, "Ann Full 2 Head Nurse"),
-        (34, needs),
+        ("SKILLS = 1\nNurse", "SKILLS = 2\nNurse\nHead"),
+        ("Ann Full 1 Nurse", "Ann Full 2 Head Nurse"),
+        (EARLY, head),
     ];
-    let text = mini_with(alloc, &changes)?;
+    let text = changed(alloc, &changes)?;
     let held = held(alloc, text.as_bytes())?;
     let expected = [
         off(60),

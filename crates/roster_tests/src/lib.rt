@@ -1,8 +1,6 @@
-//! Tests that cross crates: worked runs of the commands, over stand-in devices. It has no code of its own.
+//! Tests that cross crates, over stand-in devices. It has no code of its own.
 #![tactic(auto)]
 
-#[cfg(test)]
-mod command_tests;
 #[cfg(test)]
 mod devices_tests;
 #[cfg(test)]
@@ -15,5 +13,3 @@ mod start_tests;
 mod state_tests;
 #[cfg(test)]
 mod texts;
-#[cfg(test)]
-mod words_tests;

@@ -1,7 +1,7 @@
 //! The libraries called one after the other. What each asks for, the one before it has promised, so that a caller has
 //! nothing to prove.
 
-use crate::texts::mini;
+use crate::texts::MINI;
 use roster_case::{Case, Roster, costs};
 use roster_text::{parse_bundle, tokens};
 use std::alloc::Global;
@@ -18,7 +18,6 @@ fn total_of(alloc: Global, source: &[u8]) -> Result<u64, Fail> {
 
 #[test]
 fn totals_from_bytes(rt: HostRuntime) -> Result<(), Fail> {
-    let text = mini(rt.alloc())?;
-    assert_eq!(rt; total_of(rt.alloc(), text.as_str().as_bytes())?, 470);
+    assert_eq!(rt; total_of(rt.alloc(), MINI.as_bytes())?, 470);
     Ok(())
 }

@@ -2,7 +2,7 @@
 
 ghost use Rattle.std.specs.Prelude.{IsErr};
 
-use crate::texts::{EMPTY_OUTPUT, EMPTY_ROSTER, HISTORY, SCENARIO, mini};
+use crate::texts::{MINI, SHOWN};
 use roster_cli::answer_command_line;
 use roster_devices::{AtEnd, ShortWriter};
 use roster_text::Watch;
@@ -14,16 +14,6 @@ use std::io;
 use std::io::{BufWriter, ErrorKind, Read, Seek, SeekFrom, Write};
 use std::rt::{Env, Files};
 use std::test::Fail;
-
-/// The week of the instance mini.
-const WEEK: &str = "WEEK_DATA
-mini
-
-REQUIREMENTS
-Early Nurse (0,1) (0,1) (0,1) (0,1) (0,1) (0,1) (0,1)
-
-SHIFT_OFF_REQUESTS = 0
-";
 
 /// The words of a command line, and the texts of all files that there are: their names are `a`, `b` and so on. A file
 /// of the name `memory` finds no memory.
@@ -119,7 +109,6 @@ impl<'a> Files for Shelf<'a> {
             "a" => self.opened(0, 1),
             "b" => self.opened(1, 2),
             "c" => self.opened(2, 3),
-            "d" => self.opened(3, 4),
             "memory" => Err(ErrorKind::OutOfMemory.into()),
             _ => Err(ErrorKind::NotFound.into()),
         }
@@ -203,12 +192,11 @@ impl Write for Stream<'_> {
     }
 }
 
-/// How a start of the program ended: the output is what had reached its device.
-#[derive(Drop)]
-struct End<'a> {
-    status: u8,
-    output: &'a str,
-    log: &'a str,
+/// How a start of the program ended: its status, what had reached the output's device, and the log.
+type End<'a> = (u8, &'a str, &'a str);
+
+fn is_end(end: End<'_>, status: u8, output: &[u8], log: &[u8]) -> bool {
+    end.0 == status && end.1.as_bytes() == output && end.2.as_bytes() == log
 }
 
 /// Whether the program, started over a shelf and this standard input, ends so.
@@ -217,10 +205,10 @@ fn ends(
     shelf: &Shelf<'_>,
     input: &str,
     flush_fails: bool,
-    end: &End<'_>,
+    end: End<'_>,
 ) -> Result<bool, Fail> {
-    let mut output_room = [0; 1000];
-    let mut log_room = [0; 100];
+    let mut output_room = [0; 40];
+    let mut log_room = [0; 60];
     let stream = Stream {
         room: ShortWriter::new(&mut output_room, AtEnd::Fail),
         flush_fails,
@@ -229,85 +217,62 @@ fn ends(
     let mut log = Watch::new(ShortWriter::new(&mut log_room, AtEnd::Fail));
     let status = answer_command_line(&(shelf, alloc), input.as_bytes(), &mut output, &mut log);
     let log = log.into_inner();
-    Ok(
-        status == end.status
-            && output.get_ref().room.written() == end.output.as_bytes()
-            && log.written() == end.log.as_bytes(),
-    )
+    Ok(is_end(end, status, output.get_ref().room.written(), log.written()))
 }
 
-/// Whether `show`, with these names of files behind it, ends so and did this with the files of mini, one for each text.
-fn shows<'a>(
-    alloc: Global,
-    words: &'a [&'a [u8]],
-    done: u32,
-    status: u8,
-    output: &'a str,
-    log: &'a str,
-) -> Result<bool, Fail> {
+/// Whether the program, with these words and mini in its first file, the second and third empty, ends so and did this
+/// with the files.
+fn shows(alloc: Global, words: &[&[u8]], done: u32, end: End<'_>) -> Result<bool, Fail> {
     let did = Cell::new(0);
     let shelf = Shelf {
         words,
-        texts: &[SCENARIO, HISTORY, WEEK, EMPTY_ROSTER],
+        texts: &[MINI, "", ""],
         done: &did,
     };
-    let end = End {
-        status,
-        output,
-        log,
-    };
-    let is_end = ends(alloc, &shelf, "", false, &end)?;
+    let is_end = ends(alloc, &shelf, "", false, end)?;
     Ok(is_end && did.get() == done)
 }
 
 #[test]
 fn files_in_order_and_all_before_the_first_read(rt: HostRuntime) -> Result<(), Fail> {
-    let alloc = rt.alloc();
-    let in_order: &[&[u8]] = &[b"roster", b"show", b"a", b"b", b"c", b"d"];
-    assert!(rt; shows(alloc, in_order, 12349, 0, EMPTY_OUTPUT, "")?);
-    let swapped: &[&[u8]] = &[b"roster", b"show", b"b", b"a", b"c", b"d"];
-    assert!(rt; shows(alloc, swapped, 21349, 1, "", "line 1: expected SCENARIO\n")?);
+    let end = (0, SHOWN, "");
+    let words: &[&[u8]] = &[b"roster", b"show", b"a", b"b", b"c"];
+    assert!(rt; shows(rt.alloc(), words, 1239, end)?);
+    let words: &[&[u8]] = &[b"roster", b"show", b"c", b"a", b"b"];
+    assert!(rt; shows(rt.alloc(), words, 3129, end)?);
     Ok(())
 }
 
 #[test]
-fn a_second_file_that_cannot_be_opened(rt: HostRuntime) -> Result<(), Fail> {
-    let alloc = rt.alloc();
-    let missing: &[&[u8]] = &[b"roster", b"show", b"a", b"none", b"c"];
-    assert!(rt; shows(alloc, missing, 1, 3, "", "read failed\n")?);
-    let without_memory: &[&[u8]] = &[b"roster", b"show", b"a", b"memory", b"c"];
-    assert!(rt; shows(alloc, without_memory, 1, 4, "", "no memory\n")?);
+fn a_second_file_that_is_not_there(rt: HostRuntime) -> Result<(), Fail> {
+    let end = (3, "", "read failed\n");
+    let words: &[&[u8]] = &[b"roster", b"show", b"a", b"none", b"c"];
+    assert!(rt; shows(rt.alloc(), words, 1, end)?);
     Ok(())
 }
 
 #[test]
-fn a_word_that_is_no_text(rt: HostRuntime) -> Result<(), Fail> {
-    let line = "error: a word of the command line is not UTF-8\n";
-    assert!(rt; shows(rt.alloc(), &[b"roster", b"show", b"\xff"], 0, 2, "", line)?);
+fn a_second_file_without_memory(rt: HostRuntime) -> Result<(), Fail> {
+    let end = (4, "", "no memory\n");
+    let words: &[&[u8]] = &[b"roster", b"show", b"a", b"memory", b"c"];
+    assert!(rt; shows(rt.alloc(), words, 1, end)?);
     Ok(())
 }
 
-/// Whether `show` over mini on standard input ends with this status and log, all of the answer sent on.
-fn shows_input(alloc: Global, flush_fails: bool, status: u8, log: &str) -> Result<bool, Fail> {
-    let text = mini(alloc)?;
+/// Whether `show` over mini on standard input ends so.
+fn shows_input(alloc: Global, flush_fails: bool, end: End<'_>) -> Result<bool, Fail> {
     let did = Cell::new(0);
     let shelf = Shelf {
         words: &[b"roster", b"show"],
         texts: &[],
         done: &did,
     };
-    let end = End {
-        status,
-        output: EMPTY_OUTPUT,
-        log,
-    };
-    ends(alloc, &shelf, text.as_str(), flush_fails, &end)
+    ends(alloc, &shelf, MINI, flush_fails, end)
 }
 
 #[test]
 fn a_flush_that_fails_behind_a_full_answer(rt: HostRuntime) -> Result<(), Fail> {
-    let alloc = rt.alloc();
-    assert!(rt; shows_input(alloc, false, 0, "")?);
-    assert!(rt; shows_input(alloc, true, 3, "write failed\n")?);
+    let end = (3, SHOWN, "write failed\n");
+    assert!(rt; shows_input(rt.alloc(), true, end)?);
     Ok(())
 }

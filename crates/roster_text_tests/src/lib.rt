@@ -4,8 +4,4 @@
 #[cfg(test)]
 mod io_tests;
 #[cfg(test)]
-mod parsing_tests;
-#[cfg(test)]
-mod token_tests;
-#[cfg(test)]
 mod watch_tests;

@@ -1,9 +1,8 @@
 //! What no clause says of a watch: which calls reach its device, and how often.
 
 use roster_devices::{AtEnd, CallCounter, ShortWriter};
-use roster_text::{TextFault, Watch, WriteFault, read_all, write_bytes, write_number};
+use roster_text::{TextFault, Watch, WriteFault, read_all, write_bytes};
 use std::io::{Read, Write};
-use std::test::Fail;
 
 #[test]
 fn a_failed_write_is_not_tried_again(rt: HostRuntime) {
@@ -11,9 +10,7 @@ fn a_failed_write_is_not_tried_again(rt: HostRuntime) {
     let answer = write_bytes(&mut out, b"one");
     assert_eq!(rt; answer, Err(WriteFault::WriteFailed { sent: 0 }));
     assert!(rt; out.failed());
-    let counter = out.into_inner();
-    assert_eq!(rt; counter.calls, 1);
-    assert!(rt; counter.device.is_empty());
+    assert_eq!(rt; out.into_inner().calls, 1);
 }
 
 #[test]
@@ -22,52 +19,42 @@ fn a_failed_read_is_not_tried_again(rt: HostRuntime) {
     let answer = read_all(rt.alloc(), &mut input);
     assert!(rt; matches!(answer, Err(TextFault::ReadFailed)));
     assert!(rt; input.failed());
-    let counter = input.into_inner();
-    assert_eq!(rt; counter.calls, 1);
-    assert_eq!(rt; counter.device, b"one".as_slice());
+    assert_eq!(rt; input.into_inner().calls, 1);
 }
 
 #[test]
-fn a_write_behind_a_failure_reaches_the_device(rt: HostRuntime) -> Result<(), Fail> {
-    let mut out = Watch::new(CallCounter::new(Vec::new(rt.alloc()), 2));
+fn a_write_behind_a_failure_reaches_the_device(rt: HostRuntime) {
+    let mut out = Watch::new(CallCounter::new(Vec::new(rt.alloc()), 1));
     assert!(rt; out.write(b"one").is_err());
-    assert!(rt; out.write(b"two").is_err());
-    write_bytes(&mut out, b"three")?;
-    write_number(&mut out, 4)?;
+    assert!(rt; write_bytes(&mut out, b"two").is_ok());
     assert!(rt; out.failed());
-    let counter = out.into_inner();
-    assert_eq!(rt; counter.calls, 4);
-    assert_eq!(rt; counter.device.as_slice(), b"three4".as_slice());
-    Ok(())
+    assert_eq!(rt; out.into_inner().calls, 2);
 }
 
 #[test]
-fn a_read_behind_a_failure_reaches_the_device(rt: HostRuntime) -> Result<(), Fail> {
-    let mut input = Watch::new(CallCounter::new(b"one".as_slice(), 2));
+fn a_read_behind_a_failure_reaches_the_device(rt: HostRuntime) {
+    let mut input = Watch::new(CallCounter::new(b"one".as_slice(), 1));
     assert!(rt; input.read(&mut [0; 8]).is_err());
-    assert!(rt; input.read(&mut [0; 8]).is_err());
-    let bytes = read_all(rt.alloc(), &mut input)?;
-    assert_eq!(rt; bytes.as_slice(), b"one".as_slice());
+    assert!(rt; read_all(rt.alloc(), &mut input).is_ok());
     assert!(rt; input.failed());
-    assert_eq!(rt; input.into_inner().calls, 4);
-    Ok(())
+    assert_eq!(rt; input.into_inner().calls, 3);
 }
 
 #[test]
-fn each_call_is_one_of_the_device(rt: HostRuntime) -> Result<(), Fail> {
+fn a_read_is_one_of_the_device(rt: HostRuntime) {
     let mut input = Watch::new(CallCounter::new(b"one".as_slice(), 0));
     let mut room = [0; 2];
-    for (taken, calls) in [(2, 1), (1, 2), (0, 3), (0, 4)] {
-        assert_eq!(rt; input.read(&mut room)?, taken);
-        assert_eq!(rt; input.failed(), false, "at {calls}");
-    }
-    assert_eq!(rt; input.into_inner().calls, 4);
+    assert!(rt; matches!(input.read(&mut room), Ok(2)));
+    assert!(rt; !input.failed());
+    assert_eq!(rt; input.into_inner().calls, 1);
+}
+
+#[test]
+fn a_write_of_nothing_is_one_of_the_device(rt: HostRuntime) {
     let mut out = Watch::new(CallCounter::new(Vec::new(rt.alloc()), 0));
-    assert_eq!(rt; out.write(b"one")?, 3);
-    assert_eq!(rt; out.write(b"")?, 0);
+    assert!(rt; matches!(out.write(b""), Ok(0)));
     assert!(rt; !out.failed());
-    assert_eq!(rt; out.into_inner().calls, 2);
-    Ok(())
+    assert_eq!(rt; out.into_inner().calls, 1);
 }
 
 #[test]
@@ -82,14 +69,10 @@ fn a_write_that_takes_nothing_is_not_tried_again(rt: HostRuntime) {
 }
 
 #[test]
-fn a_flush_is_passed_on_and_not_counted_as_failing(rt: HostRuntime) -> Result<(), Fail> {
+fn a_flush_is_passed_on_and_not_counted_as_failing(rt: HostRuntime) {
     let mut out = Watch::new(CallCounter::new(Vec::new(rt.alloc()), 1));
     assert!(rt; out.flush().is_err());
+    assert!(rt; out.flush().is_ok());
     assert!(rt; !out.failed());
-    out.flush()?;
-    assert!(rt; out.write(b"one").is_ok());
-    out.flush()?;
-    assert!(rt; !out.failed());
-    assert_eq!(rt; out.into_inner().calls, 4);
-    Ok(())
+    assert_eq!(rt; out.into_inner().calls, 2);
 }
