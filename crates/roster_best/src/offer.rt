@@ -121,7 +121,14 @@ fn lacking_without(held: &Held, nurse: usize, day: u16) -> Lacking
 }
 
 /// What it lacks with the nurse at work: one nurse less, where the others don't reach the number.
-fn lacking_with(held: &Held, nurse: usize, day: u16, shift: Shift, skill: Skill, without: Lacking) -> Lacking
+fn lacking_with(
+    held: &Held,
+    nurse: usize,
+    day: u16,
+    shift: Shift,
+    skill: Skill,
+    without: Lacking,
+) -> Lacking
     requires nurse { nurse < nurse_count held.now.case }
     requires day { day < day_count held.now.case }
     requires shift { shift.0 < shift_count held.now.case }

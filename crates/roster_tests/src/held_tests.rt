@@ -138,7 +138,10 @@ fn costs_agree(held: &Held, nurse: usize) -> bool
     let (case, roster) = (held.case(), held.roster());
     let costs = costs(case, roster);
     let own = nurse_cost(case, nurse, roster.row(nurse)) as u64;
-    let sum = held.rest(nurse).saturating_add(own).saturating_add(costs.s1);
+    let sum = held
+        .rest(nurse)
+        .saturating_add(own)
+        .saturating_add(costs.s1);
     held.total() == costs.total() && sum == costs.total()
 }
 
@@ -167,10 +170,16 @@ fn counts_after_each_replacement(rt: HostRuntime) -> Result<(), Fail> {
     ];
     for (nurse, week, skill, keeps) in replacements {
         assert!(rt; nurse < held.case().nurses());
-        assert!(rt; put(&mut held, nurse, &row_of(week, skill)) == keeps, "{nurse} {week}");
+        assert!(rt;
+            put(&mut held, nurse, &row_of(week, skill)) == keeps,
+            "{nurse} {week}"
+        );
         for other in [0, 5, 29] {
             assert!(rt; other < held.case().nurses());
-            assert!(rt; others_agree(&held, other) && costs_agree(&held, other), "{nurse} {week}");
+            assert!(rt;
+                others_agree(&held, other) && costs_agree(&held, other),
+                "{nurse} {week}"
+            );
         }
     }
     Ok(())
