@@ -7,12 +7,11 @@ use Rattle.std.proofs.lemmas.List.Elements.{filter-append}
 use Rattle.roster_bundle.proofs.Ranges.{flat_map-range_more, range_with_len_more}
 use Rattle.roster_instance.specs.declared.Choice.{Choice}
 use Rattle.roster_instance.specs.declared.Choice.TheVariants.{Off, Work}
-use Rattle.roster_instance.specs.declared.Limits.{Limits}
 use Rattle.roster_instance.specs.declared.Shift.{Shift}
 use Rattle.roster_instance.specs.declared.Skill.{Skill}
 use Rattle.roster_instance.specs.Choices.{shift_of}
 use Rattle.roster_instance.specs.Counting.{one_if}
-use Rattle.roster_instance.specs.Meaning.{Meaning, minimum, need, nurse_at, optimum, shift_at, shift_count, skill_at, skill_count}
+use Rattle.roster_instance.specs.Meaning.{Meaning, minimum, nurse_at, optimum, shift_at, shift_count, skill_at, skill_count}
 use Rattle.roster_instance.specs.Rosters.{Rows}
 use Rattle.roster_rules.specs.HardRules.{is_able}
 use Rattle.roster_rules.specs.Penalties.{off_request_cost_on}

@@ -1,5 +1,5 @@
 -- Rows whose choices are among the offers of their days.
-use Rattle.std.proofs.Common.{◌≡◌, ◌∙◌, ◌+◌, ◌<◌, ◌&&◌, ◌==◌, ℕ, zero, suc, Bool, true, false, not, ap, ap₂, arith, refl, subst, sym, List, [], ◌∷◌, ◌++◌, Contains, cond, filter, get_or, length, map, nat_lt}
+use Rattle.std.proofs.Common.{◌≡◌, ◌∙◌, ◌<◌, ◌&&◌, ◌==◌, ℕ, zero, suc, Bool, true, false, not, ap, ap₂, arith, refl, subst, sym, List, [], ◌∷◌, Contains, cond, filter, get_or, length, map, nat_lt}
 use Rattle.std.specs.List.{All, flat_map, list_all, range_with_len}
 use Rattle.std.proofs.lemmas.Bool.{and_from, and_parts, eq-eqb, lt-ltb, ltb-true}
 use Rattle.std.proofs.lemmas.List.{length-map}
