@@ -4,6 +4,8 @@
 #[cfg(test)]
 mod devices_tests;
 #[cfg(test)]
+mod held_tests;
+#[cfg(test)]
 mod library_tests;
 #[cfg(test)]
 mod start_tests;

@@ -1,25 +1,13 @@
 //! The states of nurses along the rows of worked instances.
 
-ghost use Rattle.std.specs.Prelude.{◌≡◌, true, IfOk};
+ghost use Rattle.std.specs.Prelude.{◌≡◌, true};
 ghost use Rattle.roster_case.specs.Rosters.{fits_case};
 
-use crate::texts::MINI;
+use crate::texts::{MINI, changed, read};
 use roster_case::{Case, Roster, costs};
 use roster_state::{Meter, Ranges, State, row_cost};
-use roster_text::{parse_bundle, tokens};
-use std::alloc::{AllocError, Global};
+use std::alloc::Global;
 use std::test::Fail;
-
-/// The case and the roster of a text.
-fn read(alloc: Global, source: &[u8]) -> Result<(Case, Roster), Fail>
-    ensures { IfOk result (λ r. fits_case r.0 r.1 ≡ true) }
-{
-    let tokens = tokens(alloc, source)?;
-    let bundle = parse_bundle(alloc, source, &tokens)?;
-    let case = Case::from_bundle(alloc, &bundle, source)?;
-    let roster = Roster::from_bundle(alloc, &case, &bundle, source)?;
-    Ok((case, roster))
-}
 
 /// What the rows cost their nurses, from day to day, and how many steps that took. None where a shift forbids the next.
 fn rows_cost(case: &mut Case, roster: &Roster) -> Option<(u64, u64)>
@@ -36,15 +24,6 @@ fn rows_cost(case: &mut Case, roster: &Roster) -> Option<(u64, u64)>
         steps = steps.saturating_add(meter.count());
     }
     Some((sum, steps))
-}
-
-/// The instance mini with other lines, each of which stands there once.
-fn changed(alloc: Global, changes: &[(&str, &str)]) -> Result<String, AllocError> {
-    let mut text = String::from_str(alloc, MINI)?;
-    for (line, other) in changes {
-        text = text.replace(alloc, *line, *other)?;
-    }
-    Ok(text)
 }
 
 /// What the rows of mini with other lines cost their nurses by the rules. None where it is something else from day to

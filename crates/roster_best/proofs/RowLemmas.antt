@@ -1,0 +1,96 @@
+-- Rows whose choices are among the offers of their days.
+use Rattle.std.proofs.Common.{◌≡◌, ◌∙◌, ◌+◌, ◌<◌, ◌&&◌, ◌==◌, ℕ, zero, suc, Bool, true, false, not, ap, ap₂, arith, refl, subst, sym, List, [], ◌∷◌, ◌++◌, Contains, cond, filter, length, map, nat_lt}
+use Rattle.std.specs.List.{All, flat_map, list_all, range_with_len}
+use Rattle.std.proofs.lemmas.Bool.{and_from, and_parts, eqb-true, ltb-true}
+use Rattle.std.proofs.lemmas.List.{length-map}
+use Rattle.std.proofs.lemmas.List.Elements.{All-contains, All-get_or, Contains-append_left, Contains-append_right, filter_passes}
+use Rattle.std.proofs.lemmas.List.FromFn.{get_or-range_with_len, length-range_with_len}
+use Rattle.std.proofs.lemmas.List.Sums.{AllPass-from_list_all}
+use Rattle.std.proofs.Math.ListN.{get_or-map}
+use Rattle.roster_instance.specs.declared.Choice.{Choice}
+use Rattle.roster_instance.specs.declared.Choice.TheVariants.{Off, Work}
+use Rattle.roster_instance.specs.Choices.{all_choices, days_of}
+use Rattle.roster_instance.specs.Counting.{all_below}
+use Rattle.roster_instance.specs.Meaning.{Meaning, day_count, nurse_count, shift_at, shift_count, skill_at, skill_count}
+use Rattle.roster_instance.specs.Rosters.{Row, Rows, choice_on, is_choice_of, is_row_of, with_row}
+use Rattle.roster_rules.specs.AllowedRows.{row_keeps}
+use Rattle.roster_rules.specs.HardRules.{breaks_succession, keeps_hard, keeps_successions}
+use Rattle.roster_case.specs.OneRow.{is_offered, is_offered_row}
+use Rattle.roster_case.proofs.Below.{all_both, all_elim, all_true}
+use Rattle.roster_case.proofs.Keeps.{keeps_hard-with_row}
+use Rattle.roster_best.specs.declared.offer.Offer.{Offer}
+use Rattle.roster_best.specs.Offers.{IsOffered, offer_of, offers}
+
+-- ---- the choices of the case are among all choices
+
+contains_map : {X Y : Type 0} (f : X → Y) (xs : List X) (x : X) → Contains xs x → Contains (map f xs) (f x)
+contains_map f xs x (k, within, is) = (k, omega (arith, within, length-map xs f), get_or-map f xs k x ∙ ap f is)
+
+contains_flat_map : {X Y : Type 0} (f : X → List Y) (xs : List X) (x : X) (y : Y) → Contains xs x → Contains (f x) y → Contains (flat_map f xs) y
+contains_flat_map f [] x y (k, within, is) member = absurd (omega (arith, within))
+contains_flat_map f (z ∷ zs) x y (zero, within, is) member = Contains-append_left (f z) (flat_map f zs) y (subst (λ w. Contains (f w) y) (sym is) member)
+contains_flat_map f (z ∷ zs) x y (suc k, within, is) member = Contains-append_right (f z) (flat_map f zs) y (contains_flat_map f zs x y (k, omega (arith, within), is) member)
+
+contains_range : (n k : ℕ) → k < n → Contains (range_with_len 0 n) k
+contains_range n k within = (k, omega (arith, within, length-range_with_len 0 n), omega (arith, get_or-range_with_len 0 n k k within))
+
+contains_choice : (c : Meaning) (choice : Choice) → is_choice_of c choice ≡ true → Contains (all_choices c) choice
+contains_choice c Off is = (0, omega arith, refl)
+contains_choice c (Work s k) is =
+    let parts = and_parts (nat_lt s.0 (shift_count c)) (nat_lt k.0 (skill_count c)) is in
+    let skills : List ℕ = range_with_len 0 (skill_count c) in
+    let works : ℕ → List Choice = λ t. map (λ l. Work (shift_at t) (skill_at l)) skills in
+    Contains-append_right (Off ∷ []) (flat_map works (range_with_len 0 (shift_count c))) (Work s k)
+    (contains_flat_map works (range_with_len 0 (shift_count c)) s.0 (Work s k) (contains_range (shift_count c) s.0 (ltb-true s.0 (shift_count c) parts.0))
+    (contains_map (λ l. Work (shift_at s.0) (skill_at l)) skills k.0 (contains_range (skill_count c) k.0 (ltb-true k.0 (skill_count c) parts.1))))
+
+-- ---- the offers of a day are the choices that are offered
+
+module _ {X Y : Type 0} (p : X → Bool) (f : X → Y) where
+  kept_here : (x : X) (xs : List X) (b : Bool) → b ≡ true → Contains (map f (cond b (x ∷ xs) xs)) (f x)
+  kept_here x xs b e = rw e (0, omega arith, refl)
+
+  kept_behind : (x : X) (xs : List X) (y : Y) (b : Bool) → Contains (map f xs) y → Contains (map f (cond b (x ∷ xs) xs)) y
+  kept_behind x xs y true member = Contains-append_right (f x ∷ []) (map f xs) y member
+  kept_behind x xs y false member = member
+
+  contains_kept : (xs : List X) (x : X) → Contains xs x → p x ≡ true → Contains (map f (filter p xs)) (f x)
+  contains_kept [] x (k, within, is) passes = absurd (omega (arith, within))
+  contains_kept (z ∷ zs) x (zero, within, is) passes = subst (λ w. Contains (map f (filter p (z ∷ zs))) (f w)) is (kept_here z (filter p zs) (p z) (ap p is ∙ passes))
+  contains_kept (z ∷ zs) x (suc k, within, is) passes = kept_behind z (filter p zs) (f x) (p z) (contains_kept zs x (k, omega (arith, within), is) passes)
+
+module _ (c : Meaning) (r : Rows) (n : ℕ) where
+  pub offered_is_among : (d : ℕ) (choice : Choice) → is_choice_of c choice ≡ true → is_offered c r n d choice ≡ true → Contains (offers c r n d) (offer_of c r n d choice)
+  offered_is_among d choice of_case offered = contains_kept (is_offered c r n d) (offer_of c r n d) (all_choices c) choice (contains_choice c choice of_case) offered
+
+  pub among_is_offered : (d : ℕ) (choice : Choice) → Contains (offers c r n d) (offer_of c r n d choice) → is_offered c r n d choice ≡ true
+  among_is_offered d choice (k, within, is) =
+      let kept : List Choice = filter (is_offered c r n d) (all_choices c) in
+      let at : k < length kept = omega (arith, within, length-map kept (offer_of c r n d)) in
+      let here = All-get_or (λ own. is_offered c r n d own ≡ true) kept k choice at (filter_passes (is_offered c r n d) (all_choices c)) in
+      ap (λ (offer : Offer). is_offered c r n d offer.choice) (sym is ∙ get_or-map (offer_of c r n d) kept k choice) ∙ here
+
+  -- ---- rows
+
+  module _ (keeps : keeps_hard c r ≡ true) (within : n < length r) (inside : n < nurse_count c) (row : Row) (is_row : is_row_of c row ≡ true) where
+    abbrev days_are : length row ≡ day_count c
+    days_are = eqb-true (length row) (day_count c) (and_parts (length row == day_count c) (list_all (is_choice_of c) row) is_row).0
+
+    of_case : (d : ℕ) → d < length row → is_choice_of c (choice_on row d) ≡ true
+    of_case d h = All-get_or (λ choice. is_choice_of c choice ≡ true) row d Off h (AllPass-from_list_all (is_choice_of c) row (and_parts (length row == day_count c) (list_all (is_choice_of c) row) is_row).1)
+
+    by_parts : keeps_hard c (with_row r n row) ≡ (all_below (length row) (λ d. is_offered c r n d (choice_on row d)) && keeps_successions c n (days_of row) (length row))
+    by_parts =
+        keeps_hard-with_row c r keeps n within inside row
+        ∙ ap (is_offered_row c r n row) (sym days_are)
+        ∙ all_both (length row) (λ d. is_offered c r n d (choice_on row d)) (λ d. not (breaks_succession c n (days_of row) d))
+
+    pub keeps-of_offers : row_keeps c r n row ≡ true → IsOffered c r n row × (keeps_successions c n (days_of row) (length row) ≡ true)
+    keeps-of_offers kept =
+        let parts = and_parts (all_below (length row) (λ d. is_offered c r n d (choice_on row d))) (keeps_successions c n (days_of row) (length row)) (sym by_parts ∙ (and_parts (is_row_of c row) (keeps_hard c (with_row r n row)) kept).1) in
+        (λ d h. offered_is_among d (choice_on row d) (of_case d h) (all_elim (length row) (λ e. is_offered c r n e (choice_on row e)) parts.0 d h), parts.1)
+
+    pub of_offers-keeps : IsOffered c r n row × (keeps_successions c n (days_of row) (length row) ≡ true) → row_keeps c r n row ≡ true
+    of_offers-keeps (offered, successions) =
+        let all : all_below (length row) (λ d. is_offered c r n d (choice_on row d)) ≡ true = all_true (length row) (λ d. is_offered c r n d (choice_on row d)) (λ d h. among_is_offered d (choice_on row d) (offered d h)) in
+        and_from (is_row_of c row) (keeps_hard c (with_row r n row)) is_row (by_parts ∙ ap₂ (λ a b. a && b) all successions)

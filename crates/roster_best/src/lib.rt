@@ -1,0 +1,8 @@
+//! What a nurse may do on each day while the others' rows stay, and what it costs.
+#![tactic(auto)]
+
+mod laws;
+mod offer;
+
+pub use laws::offers_tell_the_allowed_rows;
+pub use offer::{Offer, choices};

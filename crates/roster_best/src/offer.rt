@@ -1,0 +1,154 @@
+//! What a nurse may do on a day, with its price.
+
+ghost use Rattle.std.specs.Prelude.{◌≡◌, ◌-◌, ◌*◌, ◌<◌, ◌≤◌, ◌++◌, length, nat_lt};
+ghost use Rattle.std.specs.Bool.{then_some};
+ghost use Rattle.std.specs.Option.{option_to_list};
+ghost use Rattle.roster_instance.specs.declared.Choice.TheVariants.{Off, Work};
+ghost use Rattle.roster_instance.specs.Counting.{one_if};
+ghost use Rattle.roster_instance.specs.Limits.{most_shifts, most_skills, most_small};
+ghost use Rattle.roster_instance.specs.Meaning.{day_count, minimum, nurse_count, optimum, shift_count, skill_count};
+ghost use Rattle.roster_rules.specs.Penalties.{off_request_cost_on};
+ghost use Rattle.roster_rules.specs.Weights.{off_request_weight};
+ghost use Rattle.roster_case.specs.OneRow.{is_offered, others};
+ghost use Rattle.roster_case.specs.Staffing.{lacking, with_choice};
+ghost use Rattle.roster_best.specs.Offers.{offer_of, offers};
+
+use arrayvec::ArrayVec;
+use roster_case::{Case, Choice, Held, Shift, Skill};
+use roster_rules::is_able;
+use roster_rules::weights::{OFF_REQUEST, STAFFING};
+
+/// A choice, and its price in penalty points.
+#[derive(Clone, Copy, Default, PartialEq)]
+pub struct Offer {
+    pub choice: Choice,
+    pub price: u32,
+}
+
+/// How many nurses a day lacks to its minimums and to its optimums, over all shifts and skills.
+#[derive(Clone, Copy)]
+struct Lacking {
+    minimum: u32,
+    optimum: u32,
+}
+
+/// What a nurse may do on a day while the others' rows stay, in the order of the choices: to be off, or to work a shift with one
+/// of the nurse's skills; each only where no minimum of the day is missed with it. The price is that of the day's staffing with
+/// this choice, and of an off request against it. The others are counted once for the day, not anew for each choice.
+#[tactic(auto, using(crate::proofs::OfferLemmas::offers_begin, crate::proofs::OfferLemmas::offers_skill, crate::proofs::OfferLemmas::offers_shift))]
+pub fn choices(held: &Held, nurse: usize, day: u16) -> ArrayVec<Offer, 65>
+    requires nurse { nurse < nurse_count held.now.case }
+    requires day { day < day_count held.now.case }
+    ensures { result.items ≡ offers held.now.case held.now.roster nurse day }
+{
+    let case = held.case();
+    let (shifts, skills) = (case.shifts(), case.skills());
+    let without = lacking_without(held, nurse, day);
+    let mut offers = ArrayVec::new();
+    push_some(&mut offers, offered(held, nurse, day, Choice::Off, without));
+    for shift in 0..shifts {
+        for skill in 0..skills {
+            let with = lacking_with(held, nurse, day, Shift(shift), Skill(skill), without);
+            let choice = Choice::Work(Shift(shift), Skill(skill));
+            push_some(&mut offers, offered(held, nurse, day, choice, with));
+        }
+    }
+    offers
+}
+
+fn push_some(offers: &mut ArrayVec<Offer, 65>, offer: Option<Offer>)
+    requires { length offers.old.items < 65 }
+    ensures items { offers.new.items ≡ offers.old.items ++ option_to_list offer }
+    ensures few { length offers.new.items ≤ length offers.old.items + 1 }
+{
+    if let Some(offer) = offer {
+        offers.push(offer);
+    }
+}
+
+/// The choice with its price, where it is offered, by what the day lacks with it.
+fn offered(held: &Held, nurse: usize, day: u16, choice: Choice, lacking: Lacking) -> Option<Offer>
+    requires nurse { nurse < nurse_count held.now.case }
+    requires minimum { lacking.minimum ≡ lacking held.now.case (minimum held.now.case day) (with_choice (others held.now.roster nurse day) choice) }
+    requires optimum { lacking.optimum ≡ lacking held.now.case (optimum held.now.case day) (with_choice (others held.now.roster nurse day) choice) }
+    requires within { lacking.optimum ≤ most_shifts * most_skills * most_small }
+    ensures { result ≡ then_some (is_offered held.now.case held.now.roster nurse day choice) (offer_of held.now.case held.now.roster nurse day choice) }
+{
+    let case = held.case();
+    let is_offered = is_able(case.skills_of(nurse), choice) && lacking.minimum == 0;
+    let price = STAFFING * lacking.optimum + off_request_cost(case, nurse, day, choice.shift());
+    is_offered.then_some(Offer { choice, price })
+}
+
+/// The points for an off request against the shift of a day, if one is worked.
+fn off_request_cost(case: &Case, nurse: usize, day: u16, shift: Option<Shift>) -> u32
+    requires { nurse < nurse_count case.now }
+    ensures cost { result ≡ off_request_cost_on case.now nurse day shift }
+    ensures within { result ≤ off_request_weight }
+{
+    match shift {
+        Some(shift) => OFF_REQUEST * case.has_off_request(nurse, day, shift) as u32,
+        None => 0,
+    }
+}
+
+// ---- what a day lacks
+
+/// What a day lacks without the nurse.
+#[tactic(auto, using(roster_rules::proofs::CountLemmas::sum_more))]
+fn lacking_without(held: &Held, nurse: usize, day: u16) -> Lacking
+    requires nurse { nurse < nurse_count held.now.case }
+    requires day { day < day_count held.now.case }
+    ensures minimum { result.minimum ≡ lacking held.now.case (minimum held.now.case day) (others held.now.roster nurse day) }
+    ensures optimum { result.optimum ≡ lacking held.now.case (optimum held.now.case day) (others held.now.roster nurse day) }
+    ensures within { result.optimum ≤ most_shifts * most_skills * most_small }
+{
+    let case = held.case();
+    let (shifts, skills) = (case.shifts(), case.skills());
+    let mut lacking = Lacking {
+        minimum: 0,
+        optimum: 0,
+    };
+    for shift in 0..shifts {
+        for skill in 0..skills {
+            let need = case.need(day, Shift(shift), Skill(skill));
+            let others = held.others(nurse, day, Shift(shift), Skill(skill));
+            lacking.minimum += need.least.saturating_sub(others) as u32;
+            lacking.optimum += need.greatest.saturating_sub(others) as u32;
+        }
+    }
+    lacking
+}
+
+/// What it lacks with the nurse at work: one nurse less, where the others don't reach the number.
+fn lacking_with(
+    held: &Held,
+    nurse: usize,
+    day: u16,
+    shift: Shift,
+    skill: Skill,
+    without: Lacking,
+) -> Lacking
+    requires nurse { nurse < nurse_count held.now.case }
+    requires day { day < day_count held.now.case }
+    requires shift { shift.0 < shift_count held.now.case }
+    requires skill { skill.0 < skill_count held.now.case }
+    requires minimum { without.minimum ≡ lacking held.now.case (minimum held.now.case day) (others held.now.roster nurse day) }
+    requires optimum { without.optimum ≡ lacking held.now.case (optimum held.now.case day) (others held.now.roster nurse day) }
+    ensures minimum { result.minimum ≡ lacking held.now.case (minimum held.now.case day) (with_choice (others held.now.roster nurse day) (Work shift skill)) }
+    ensures optimum { result.optimum ≡ lacking held.now.case (optimum held.now.case day) (with_choice (others held.now.roster nurse day) (Work shift skill)) }
+    ensures within { result.optimum ≤ without.optimum }
+{
+    let need = held.case().need(day, shift, skill);
+    let others = held.others(nurse, day, shift, skill);
+    Lacking {
+        minimum: with_one_more(without.minimum, others, need.least),
+        optimum: with_one_more(without.optimum, others, need.greatest),
+    }
+}
+
+fn with_one_more(lacking: u32, have: u16, want: u16) -> u32
+    ensures { result ≡ lacking - one_if (nat_lt have want) }
+{
+    lacking.saturating_sub((have < want) as u32)
+}
