@@ -1,7 +1,6 @@
 //! What a nurse may do on a day, with its price.
 
-ghost use Rattle.std.specs.Prelude.{◌≡◌, ◌-◌, ◌*◌, ◌<◌, ◌≤◌, ◌++◌, length, nat_lt};
-ghost use Rattle.std.specs.Bool.{then_some};
+ghost use Rattle.std.specs.Prelude.{◌≡◌, ◌+◌, ◌-◌, ◌*◌, ◌<◌, ◌≤◌, ◌++◌, ◌&&◌, ◌==◌, if◌then◌else◌, length, nat_lt, Some, None};
 ghost use Rattle.std.specs.Option.{option_to_list};
 ghost use Rattle.roster_instance.specs.declared.Choice.TheVariants.{Off, Work};
 ghost use Rattle.roster_instance.specs.Counting.{one_if};
@@ -35,22 +34,23 @@ struct Lacking {
 /// What a nurse may do on a day while the others' rows stay, in the order of the choices: to be off, or to work a shift with one
 /// of the nurse's skills; each only where no minimum of the day is missed with it. The price is that of the day's staffing with
 /// this choice, and of an off request against it. The others are counted once for the day, not anew for each choice.
-#[tactic(auto, using(crate::proofs::OfferLemmas::offers_begin, crate::proofs::OfferLemmas::offers_skill, crate::proofs::OfferLemmas::offers_shift))]
+#[tactic(auto, using(crate::proofs::OfferLemmas::offers_begin, crate::proofs::OfferLemmas::offers_skill, crate::proofs::OfferLemmas::offers_shift, crate::proofs::OfferLemmas::lacking_unchanged))]
 pub fn choices(held: &Held, nurse: usize, day: u16) -> ArrayVec<Offer, 65>
     requires nurse { nurse < nurse_count held.now.case }
     requires day { day < day_count held.now.case }
     ensures { result.items ≡ offers held.now.case held.now.roster nurse day }
 {
     let case = held.case();
-    let (shifts, skills) = (case.shifts(), case.skills());
+    let shifts = case.shifts();
+    let skills = case.skills();
     let without = lacking_without(held, nurse, day);
     let mut offers = ArrayVec::new();
     push_some(&mut offers, offered(held, nurse, day, Choice::Off, without));
     for shift in 0..shifts {
         for skill in 0..skills {
-            let with = lacking_with(held, nurse, day, Shift(shift), Skill(skill), without);
+            let with_nurse = lacking_with(held, nurse, day, Shift(shift), Skill(skill), without);
             let choice = Choice::Work(Shift(shift), Skill(skill));
-            push_some(&mut offers, offered(held, nurse, day, choice, with));
+            push_some(&mut offers, offered(held, nurse, day, choice, with_nurse));
         }
     }
     offers
@@ -67,17 +67,26 @@ fn push_some(offers: &mut ArrayVec<Offer, 65>, offer: Option<Offer>)
 }
 
 /// The choice with its price, where it is offered, by what the day lacks with it.
-fn offered(held: &Held, nurse: usize, day: u16, choice: Choice, lacking: Lacking) -> Option<Offer>
+fn offered(held: &Held, nurse: usize, day: u16, choice: Choice, lack: Lacking) -> Option<Offer>
     requires nurse { nurse < nurse_count held.now.case }
-    requires minimum { lacking.minimum ≡ lacking held.now.case (minimum held.now.case day) (with_choice (others held.now.roster nurse day) choice) }
-    requires optimum { lacking.optimum ≡ lacking held.now.case (optimum held.now.case day) (with_choice (others held.now.roster nurse day) choice) }
-    requires within { lacking.optimum ≤ most_shifts * most_skills * most_small }
-    ensures { result ≡ then_some (is_offered held.now.case held.now.roster nurse day choice) (offer_of held.now.case held.now.roster nurse day choice) }
+    requires minimum { lack.minimum ≡ lacking held.now.case (minimum held.now.case day) (with_choice (others held.now.roster nurse day) choice) }
+    requires optimum { lack.optimum ≡ lacking held.now.case (optimum held.now.case day) (with_choice (others held.now.roster nurse day) choice) }
+    requires within { lack.optimum ≤ most_shifts * most_skills * most_small }
+    ensures { result ≡ (if is_offered held.now.case held.now.roster nurse day choice then Some (offer_of held.now.case held.now.roster nurse day choice) else None) }
 {
     let case = held.case();
-    let is_offered = is_able(case.skills_of(nurse), choice) && lacking.minimum == 0;
-    let price = STAFFING * lacking.optimum + off_request_cost(case, nurse, day, choice.shift());
-    is_offered.then_some(Offer { choice, price })
+    let able = is_able(case.skills_of(nurse), choice);
+    let price = STAFFING * lack.optimum + off_request_cost(case, nurse, day, choice.shift());
+    offer_if(able, lack.minimum, choice, price)
+}
+
+fn offer_if(able: bool, lacking: u32, choice: Choice, price: u32) -> Option<Offer>
+    ensures { result ≡ (if able && (lacking == 0) then Some (record { choice = choice; price = price }) else None) }
+{
+    if able && lacking == 0 {
+        return Some(Offer { choice, price });
+    }
+    None
 }
 
 /// The points for an off request against the shift of a day, if one is worked.
@@ -141,10 +150,9 @@ fn lacking_with(
 {
     let need = held.case().need(day, shift, skill);
     let others = held.others(nurse, day, shift, skill);
-    Lacking {
-        minimum: with_one_more(without.minimum, others, need.least),
-        optimum: with_one_more(without.optimum, others, need.greatest),
-    }
+    let minimum = with_one_more(without.minimum, others, need.least);
+    let optimum = with_one_more(without.optimum, others, need.greatest);
+    Lacking { minimum, optimum }
 }
 
 fn with_one_more(lacking: u32, have: u16, want: u16) -> u32

@@ -85,15 +85,14 @@ fn offers_by_shift_and_then_by_skill(rt: HostRuntime) -> Result<(), Fail> {
 
 // ---- rows replaced
 
-/// A row of the instance big that is the same each week: a letter for each weekday, `-` for a day off and else the number of
-/// the shift, worked with this skill.
-fn row_of(week: &str, skill: u8) -> [Choice; 56] {
+/// A row of the instance big that is the same each week: for each weekday a digit, the number of a shift that is worked with this
+/// skill, or `-` for a day off.
+fn row_of(week: &[u8; 7], skill: u8) -> [Choice; 56] {
     let mut row = [Choice::Off; 56];
-    for (day, choice) in row.iter_mut().enumerate() {
-        if let Some(letter) = week.as_bytes().get(day % 7)
-            && *letter >= b'0'
-        {
-            *choice = Choice::Work(Shift(*letter - b'0'), Skill(skill));
+    for day in 0..56_usize {
+        let letter = week[day % 7];
+        if letter >= b'0' {
+            row[day] = Choice::Work(Shift(letter - b'0'), Skill(skill));
         }
     }
     row
@@ -136,8 +135,12 @@ fn costs_agree(held: &Held, nurse: usize) -> bool
     requires { nurse < nurse_count held.now.case }
 {
     let (case, roster) = (held.case(), held.roster());
+    let row = roster.row(nurse);
+    if row.len() != case.days() as usize {
+        return false;
+    }
     let costs = costs(case, roster);
-    let own = nurse_cost(case, nurse, roster.row(nurse)) as u64;
+    let own = nurse_cost(case, nurse, row) as u64;
     let sum = held
         .rest(nurse)
         .saturating_add(own)
@@ -154,31 +157,31 @@ fn counts_after_each_replacement(rt: HostRuntime) -> Result<(), Fail> {
     // A nurse, a week with its skill, and whether the hard rules are kept: S3 forbids S0 and S1 on the next day, and nurse n
     // has the skill that is left of n by 4.
     let replacements = [
-        (0, "00000--", 0, true),
-        (5, "33330--", 1, false),
-        (5, "-01233-", 1, true),
-        (9, "0000003", 1, false),
-        (9, "0-0-3-1", 1, true),
-        (6, "22222--", 3, false),
-        (6, "22222--", 2, true),
-        (5, "2233---", 1, true),
-        (29, "00000--", 4, false),
-        (29, "4444444", 1, false),
-        (29, "1111111", 1, true),
-        (0, "-------", 0, true),
-        (0, "2---333", 0, true),
+        (0, b"00000--", 0, true),
+        (5, b"33330--", 1, false),
+        (5, b"-01233-", 1, true),
+        (9, b"0000003", 1, false),
+        (9, b"0-0-3-1", 1, true),
+        (6, b"22222--", 3, false),
+        (6, b"22222--", 2, true),
+        (5, b"2233---", 1, true),
+        (29, b"00000--", 4, false),
+        (29, b"4444444", 1, false),
+        (29, b"1111111", 1, true),
+        (0, b"-------", 0, true),
+        (0, b"2---333", 0, true),
     ];
     for (nurse, week, skill, keeps) in replacements {
         assert!(rt; nurse < held.case().nurses());
         assert!(rt;
             put(&mut held, nurse, &row_of(week, skill)) == keeps,
-            "{nurse} {week}"
+            "{nurse} {week:?}"
         );
         for other in [0, 5, 29] {
             assert!(rt; other < held.case().nurses());
             assert!(rt;
                 others_agree(&held, other) && costs_agree(&held, other),
-                "{nurse} {week}"
+                "{nurse} {week:?}"
             );
         }
     }

@@ -1,12 +1,7 @@
-use Rattle.std.proofs.Common.{arith}
-use Rattle.roster_best.proofs.OfferLemmas.{offers_begin, offers_shift, offers_skill}
+use Rattle.std.proofs.Common.{◌≡◌, ◌∙◌, ap, arith}
+use Rattle.roster_instance.specs.Meaning.{Meaning, shift_count, skill_count}
+use Rattle.roster_best.proofs.OfferLemmas.{of_shifts, offers_of, offers_shift, offers_skill}
 use Rattle.roster_best.proofs.offer.choices.Goals as goal
-
-pub loop-shift-init : goal.loop-shift-init
-loop-shift-init c = record {
-  so_far = offers_begin c.args.held.now.case c.args.held.now.roster c.args.nurse c.args.day _ c.offered.result c.push_some.ensures.items c.offered.ensures;
-  few = omega (arith, c.push_some.ensures.few);
-}
 
 pub loop-skill-preserved : goal.loop-skill-preserved
 loop-skill-preserved c = record {
@@ -15,7 +10,14 @@ loop-skill-preserved c = record {
 }
 
 pub loop-shift-preserved : goal.loop-shift-preserved
-loop-shift-preserved c = record {
-  so_far = offers_shift c.args.held.now.case c.args.held.now.roster c.args.nurse c.args.day c.loop-shift.offers.items c.loop-skill.offers.items c.loop-shift.shift c.loop-skill.skill (omega arith) c.loop-shift.invariant.so_far c.loop-skill.invariant.so_far;
-  few = omega (arith, c.loop-skill.invariant.few, c.loop-shift.invariant.few, c.skills-skills.ensures.within);
-}
+loop-shift-preserved c =
+    let all : c.loop-skill.skill ≡ skill_count c.args.held.now.case = omega (arith, ap (λ (m : Meaning). skill_count m) c.case-case.ensures) in
+    record {
+      so_far = offers_shift c.args.held.now.case c.args.held.now.roster c.args.nurse c.args.day c.loop-shift.offers.items c.loop-skill.offers.items c.loop-shift.shift c.loop-skill.skill all c.loop-shift.invariant.so_far c.loop-skill.invariant.so_far;
+      few = omega (arith, c.loop-skill.invariant.few, c.loop-shift.invariant.few, c.skills-skills.ensures.within);
+    }
+
+pub returns : goal.returns
+returns c =
+    let all : c.loop-shift.shift ≡ shift_count c.args.held.now.case = omega (arith, ap (λ (m : Meaning). shift_count m) c.case-case.ensures) in
+    c.loop-shift.invariant.so_far ∙ ap (λ m. offers_of c.args.held.now.case c.args.held.now.roster c.args.nurse c.args.day (of_shifts c.args.held.now.case m)) all
