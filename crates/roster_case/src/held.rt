@@ -1,6 +1,6 @@
 //! A roster that keeps the hard rules.
 
-ghost use Rattle.std.specs.Prelude.{◌≡◌, ◌<◌, true, [], IfOk, IfErr, OnOk};
+ghost use Rattle.std.specs.Prelude.{◌≡◌, ◌<◌, true, [], IfOk, IfErr, OnOk, length};
 ghost use Rattle.roster_instance.specs.Meaning.{day_count, nurse_count, shift_count, skill_count};
 ghost use Rattle.roster_instance.specs.Rosters.{fits_case, row_of, with_row};
 ghost use Rattle.roster_rules.specs.AllowedRows.{row_keeps};
@@ -99,7 +99,8 @@ impl Held {
 
     /// The choices of a nurse, one for each day.
     pub fn row(&self, nurse: usize) -> &[Choice]
-        ensures { result.now ≡ row_of self.now.roster nurse }
+        ensures row { result.now ≡ row_of self.now.roster nurse }
+        ensures days { nurse < nurse_count self.now.case → length result.now ≡ day_count self.now.case }
     {
         self.roster.row(nurse)
     }

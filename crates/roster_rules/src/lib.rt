@@ -1,4 +1,4 @@
-//! Cases and rosters, and what is counted in them: the hard rules, the penalties and the best row of a nurse.
+//! Cases and rosters, and what is counted in them: the hard rules and the penalties, and the laws of a day more.
 #![tactic(auto)]
 
 mod costing;
