@@ -135,12 +135,8 @@ fn costs_agree(held: &Held, nurse: usize) -> bool
     requires { nurse < nurse_count held.now.case }
 {
     let (case, roster) = (held.case(), held.roster());
-    let row = roster.row(nurse);
-    if row.len() != case.days() as usize {
-        return false;
-    }
     let costs = costs(case, roster);
-    let own = nurse_cost(case, nurse, row) as u64;
+    let own = nurse_cost(case, nurse, held.row(nurse)) as u64;
     let sum = held
         .rest(nurse)
         .saturating_add(own)
