@@ -1,7 +1,6 @@
 -- A case by its parts: what they mean, and the faults of all of them in their order.
 use Rattle.std.proofs.Common.{◌≡◌, ◌∙◌, ◌≤◌, ℕ, ap, refl, subst, sym, List, [], ◌++◌, append_assoc, map, nat_lt, Option}
 use Rattle.std.specs.List.{enumerate_from, flat_map}
-use Rattle.roster_bundle.specs.Token.{text_of}
 use Rattle.roster_bundle.specs.declared.bundle.Bundle.{Bundle}
 use Rattle.roster_bundle.specs.declared.bundle.Nurse.{Nurse}
 use Rattle.roster_bundle.specs.declared.bundle.WeekData.{WeekData}
@@ -15,7 +14,7 @@ use Rattle.roster_instance.specs.Checking.{IsFirst}
 use Rattle.roster_instance.specs.Faults.{fault_if}
 use Rattle.roster_instance.specs.Meaning.{WeekFacts}
 use Rattle.roster_instance.specs.Names.{nurse_names, shift_names, skill_names}
-use Rattle.roster_instance.specs.Refusals.{Known, known_in, case_faults, history_faults, scenario_faults, state_fault, week_faults}
+use Rattle.roster_instance.specs.Refusals.{known_in, case_faults, history_faults, scenario_faults, state_fault, week_faults}
 use Rattle.roster_instance.specs.Limits.{most_states}
 use Rattle.roster_instance.specs.Sizes.{state_count}
 use Rattle.roster_instance.proofs.Sections.{IsFirst-behind, IsFirst-front, both_none}

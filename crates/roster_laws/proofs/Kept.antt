@@ -1,9 +1,8 @@
 -- What each step keeps holds all along a log, and at the run's end.
-use Rattle.std.proofs.Common.{◌≡◌, ◌∙◌, ◌+◌, ◌⊎◌, ◌==◌, ℕ, zero, suc, Bool, true, false, cond, inl, inr, arith, refl, List, [], ◌∷◌, Option, Some, None, length, length-set, nat_lt, Contains}
-use Rattle.std.specs.List.{All, fold, list_all, range_with_len}
-use Rattle.std.proofs.lemmas.Bool.{and_from, and_parts, cases_Bool, eq-eqb, eqb-true}
-use Rattle.std.proofs.lemmas.List.Elements.{All-append, All-cons, All-nil, All-set, Contains-append_right}
-use Rattle.std.proofs.lemmas.List.Sums.{AllPass-from_list_all, list_all-from_AllPass}
+use Rattle.std.proofs.Common.{◌≡◌, ◌+◌, ◌⊎◌, ℕ, zero, suc, Bool, true, false, cond, inl, inr, arith, refl, List, [], ◌∷◌, Option, Some, None, nat_lt, Contains}
+use Rattle.std.specs.List.{All, fold, range_with_len}
+use Rattle.std.proofs.lemmas.Bool.{and_parts, cases_Bool}
+use Rattle.std.proofs.lemmas.List.Elements.{All-append, All-cons, All-nil, Contains-append_right}
 use Rattle.roster_rules.specs.HardRules.{keeps_hard}
 use Rattle.roster_rules.specs.Improver.{BestRows, Entry, changed, changes, entries_from, entry, log_of, round, round_done, round_log, run, same_rows, settled, started, step, step_with, stopped}
 use Rattle.roster_rules.specs.Meaning.{Meaning, nurse_count}

@@ -1,9 +1,8 @@
 -- The hard rules (INRC-II), and the list of their breaches in order: missing nurses by day, shift and skill; then
 -- forbidden successions by nurse and day, also from the history's last shift to day 0 (profile); then skills that a nurse
 -- lacks, by nurse and day. That a nurse works one shift a day holds of each roster by its form.
-use Rattle.std.specs.Prelude.{◌≡◌, ℕ, ◌-◌, Bool, true, false, not, ◌==◌, nat_lt, List, [], ◌++◌, if◌then◌else◌, Option, Some, None, slice_index_or}
+use Rattle.std.specs.Prelude.{◌≡◌, ℕ, ◌-◌, Bool, true, not, ◌==◌, nat_lt, List, [], ◌++◌, if◌then◌else◌, Option}
 use Rattle.std.specs.List.{list_any}
-use Rattle.std.specs.Option.{option_map_or}
 use Rattle.roster_instance.specs.declared.Choice.{Choice}
 use Rattle.roster_instance.specs.declared.Choice.TheVariants.{Off, Work}
 use Rattle.roster_instance.specs.declared.Shift.{Shift}

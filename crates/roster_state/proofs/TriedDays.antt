@@ -1,5 +1,5 @@
 -- Days that are gone through until one of them breaks a rule.
-use Rattle.std.proofs.Common.{◌≡◌, ◌∙◌, ◌+◌, ◌<◌, ◌≤◌, ◌⊎◌, ◌&&◌, ℕ, zero, suc, Bool, true, false, ap, ap₂, arith, inl, inr, not, refl, sym}
+use Rattle.std.proofs.Common.{◌≡◌, ◌∙◌, ◌+◌, ◌<◌, ◌⊎◌, ◌&&◌, ℕ, zero, suc, Bool, true, false, ap, ap₂, arith, inl, inr, not, refl, sym}
 use Rattle.std.proofs.lemmas.Bool.{cases_eq}
 use Rattle.roster_rules.specs.Counting.{all_below, count_below, one_if}
 

@@ -8,7 +8,6 @@ use Rattle.roster_bundle.specs.declared.bundle.Assignment.{Assignment}
 use Rattle.roster_bundle.specs.declared.bundle.Bundle.{Bundle}
 use Rattle.roster_bundle.specs.declared.bundle.Contract.{Contract}
 use Rattle.roster_bundle.specs.declared.bundle.Day.{Day}
-use Rattle.roster_bundle.specs.declared.bundle.Day.TheVariants as days
 use Rattle.roster_bundle.specs.declared.bundle.History.{History}
 use Rattle.roster_bundle.specs.declared.bundle.Listed.{Listed}
 use Rattle.roster_bundle.specs.declared.bundle.Nurse.{Nurse}

@@ -1,8 +1,6 @@
 -- A solution that is written and read: what it takes, and what is read then.
 use Rattle.std.specs.Prelude.{◌≡◌, ℕ, ◌≤◌, IsTrue, List, All, length, map}
 use Rattle.roster_bundle.specs.declared.bundle.Assignment.{Assignment}
-use Rattle.roster_bundle.specs.declared.bundle.Day.{Day}
-use Rattle.roster_bundle.specs.declared.bundle.Day.TheVariants as days
 use Rattle.roster_bundle.specs.declared.bundle.Solution.{Solution}
 use Rattle.roster_bundle.specs.Canonical.{Shown, assignment, assignments, canonical}
 use Rattle.roster_bundle.specs.Canonical.{Assignment as ShownAssignment}

@@ -1,4 +1,4 @@
-use Rattle.std.proofs.Common.{arith, ap, ◌∙◌}
+use Rattle.std.proofs.Common.{arith}
 use Rattle.roster_instance.specs.Choices.{days_of, shift_of}
 use Rattle.roster_rules.proofs.Bounds.{parts-within}
 use Rattle.std.proofs.lemmas.List.{length-map}
