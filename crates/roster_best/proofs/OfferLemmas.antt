@@ -19,8 +19,8 @@ use Rattle.roster_rules.specs.Weights.{staffing_weight}
 use Rattle.roster_case.specs.OneRow.{is_offered, others}
 use Rattle.roster_case.specs.Staffing.{lacking, with_choice}
 use Rattle.roster_case.proofs.Lacking.{lacking-off, lacking-work, meets-lacking, staffing-lacking}
-use Rattle.roster_best.specs.declared.offer.Offer.{Offer}
-use Rattle.roster_best.specs.Offers.{offer_of}
+use Rattle.roster_search.specs.declared.Offer.{Offer}
+use Rattle.roster_search.specs.Offers.{offer_of}
 
 -- the choices of a shift with the first skills, and those of the first shifts
 abbrev pub of_shift : ℕ → ℕ → List Choice
@@ -33,40 +33,40 @@ module _ (c : Meaning) (r : Rows) (n d : ℕ) where
   -- ---- the list grows choice by choice
 
   -- what is offered of these choices
-  abbrev pub offers_of : List Choice → List Offer
-  offers_of choices = map (offer_of c r n d) (filter (is_offered c r n d) choices)
+  abbrev pub offers_among : List Choice → List Offer
+  offers_among choices = map (offer_of c r n d) (filter (is_offered c r n d) choices)
 
   abbrev pub offered : Choice → Option Offer
   offered choice = if is_offered c r n d choice then Some (offer_of c r n d choice) else None
 
-  offers_both : (xs ys : List Choice) → offers_of (xs ++ ys) ≡ offers_of xs ++ offers_of ys
+  offers_both : (xs ys : List Choice) → offers_among (xs ++ ys) ≡ offers_among xs ++ offers_among ys
   offers_both xs ys = ap (map (offer_of c r n d)) (filter-append (is_offered c r n d) xs ys) ∙ map-append (offer_of c r n d) (filter (is_offered c r n d) xs) (filter (is_offered c r n d) ys)
 
-  offers_one : (x : Choice) → offers_of (x ∷ []) ≡ option_to_list (offered x)
+  offers_one : (x : Choice) → offers_among (x ∷ []) ≡ option_to_list (offered x)
   offers_one x = go (is_offered c r n d x)
     where
       go : (b : Bool) → map (offer_of c r n d) (if b then x ∷ [] else []) ≡ option_to_list (if b then Some (offer_of c r n d x) else None)
       go true = refl
       go false = refl
 
-  pub offers_begin : (new : List Offer) (o : Option Offer) → new ≡ [] ++ option_to_list o → o ≡ offered Off → new ≡ offers_of (of_shifts c 0)
+  pub offers_begin : (new : List Offer) (o : Option Offer) → new ≡ [] ++ option_to_list o → o ≡ offered Off → new ≡ offers_among (of_shifts c 0)
   offers_begin new o pushed is = pushed ∙ ap option_to_list is ∙ sym (offers_one Off)
 
-  pub offers_skill : (start old new : List Offer) (s k : ℕ) (o : Option Offer) → old ≡ start ++ offers_of (of_shift s k) → new ≡ old ++ option_to_list o → o ≡ offered (Work (shift_at s) (skill_at k)) → new ≡ start ++ offers_of (of_shift s (k + 1))
+  pub offers_skill : (start old new : List Offer) (s k : ℕ) (o : Option Offer) → old ≡ start ++ offers_among (of_shift s k) → new ≡ old ++ option_to_list o → o ≡ offered (Work (shift_at s) (skill_at k)) → new ≡ start ++ offers_among (of_shift s (k + 1))
   offers_skill start old new s k o so_far pushed is =
       let x : Choice = Work (shift_at s) (skill_at k) in
       let more : of_shift s (k + 1) ≡ of_shift s k ++ x ∷ [] = ap (map (λ j. Work (shift_at s) (skill_at j))) (range_with_len_more k) ∙ map-append (λ j. Work (shift_at s) (skill_at j)) (range_with_len 0 k) (k ∷ []) in
       pushed
       ∙ ap₂ (λ xs p. xs ++ option_to_list p) so_far is
-      ∙ append_assoc start (offers_of (of_shift s k)) (option_to_list (offered x))
-      ∙ ap (λ os. start ++ os) (ap (λ os. offers_of (of_shift s k) ++ os) (sym (offers_one x)) ∙ sym (offers_both (of_shift s k) (x ∷ [])) ∙ ap offers_of (sym more))
+      ∙ append_assoc start (offers_among (of_shift s k)) (option_to_list (offered x))
+      ∙ ap (λ os. start ++ os) (ap (λ os. offers_among (of_shift s k) ++ os) (sym (offers_one x)) ∙ sym (offers_both (of_shift s k) (x ∷ [])) ∙ ap offers_among (sym more))
 
-  pub offers_shift : (start new : List Offer) (s k : ℕ) → k ≡ skill_count c → start ≡ offers_of (of_shifts c s) → new ≡ start ++ offers_of (of_shift s k) → new ≡ offers_of (of_shifts c (s + 1))
+  pub offers_shift : (start new : List Offer) (s k : ℕ) → k ≡ skill_count c → start ≡ offers_among (of_shifts c s) → new ≡ start ++ offers_among (of_shift s k) → new ≡ offers_among (of_shifts c (s + 1))
   offers_shift start new s k all so_far is =
       is
-      ∙ ap₂ (λ os m. os ++ offers_of (of_shift s m)) so_far all
+      ∙ ap₂ (λ os m. os ++ offers_among (of_shift s m)) so_far all
       ∙ sym (offers_both (of_shifts c s) (of_shift s (skill_count c)))
-      ∙ ap (λ xs. offers_of (Off ∷ xs)) (sym (flat_map-range_more (λ t. of_shift t (skill_count c)) s))
+      ∙ ap (λ xs. offers_among (Off ∷ xs)) (sym (flat_map-range_more (λ t. of_shift t (skill_count c)) s))
 
   -- ---- one choice
 

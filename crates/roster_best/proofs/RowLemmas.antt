@@ -18,8 +18,9 @@ use Rattle.roster_rules.specs.HardRules.{breaks_succession, keeps_hard, keeps_su
 use Rattle.roster_case.specs.OneRow.{is_offered, is_offered_row}
 use Rattle.roster_case.proofs.Below.{all_both, all_elim, all_true}
 use Rattle.roster_case.proofs.Keeps.{keeps_hard-with_row}
-use Rattle.roster_best.specs.declared.offer.Offer.{Offer}
-use Rattle.roster_best.specs.Offers.{IsOffered, offer_of, offers}
+use Rattle.roster_search.specs.declared.Offer.{Offer}
+use Rattle.roster_search.specs.Offers.{offer_of, offers_of}
+use Rattle.roster_best.specs.Offers.{IsOffered}
 
 -- ---- all choices are just those of the case
 
@@ -88,20 +89,20 @@ module _ {X Y : Type 0} (p : X → Bool) (f : X → Y) where
   contains_kept (z ∷ zs) x (suc k, within, is) passes = kept_behind z (filter p zs) (f x) (p z) (contains_kept zs x (k, omega (arith, within), is) passes)
 
 module _ (c : Meaning) (r : Rows) (n : ℕ) where
-  offered_is_among : (d : ℕ) (choice : Choice) → is_choice_of c choice ≡ true → is_offered c r n d choice ≡ true → Contains (offers c r n d) (offer_of c r n d choice)
+  offered_is_among : (d : ℕ) (choice : Choice) → is_choice_of c choice ≡ true → is_offered c r n d choice ≡ true → Contains (offers_of c r n d) (offer_of c r n d choice)
   offered_is_among d choice of_case offered = contains_kept (is_offered c r n d) (offer_of c r n d) (all_choices c) choice (contains_choice c choice of_case) offered
 
-  among_has : (d : ℕ) (choice : Choice) (P : Choice → Type 0) → All P (filter (is_offered c r n d) (all_choices c)) → Contains (offers c r n d) (offer_of c r n d choice) → P choice
+  among_has : (d : ℕ) (choice : Choice) (P : Choice → Type 0) → All P (filter (is_offered c r n d) (all_choices c)) → Contains (offers_of c r n d) (offer_of c r n d choice) → P choice
   among_has d choice P all (k, within, is) =
       let kept : List Choice = filter (is_offered c r n d) (all_choices c) in
       let at : k < length kept = omega (arith, within, length-map kept (offer_of c r n d)) in
       let same : get_or kept k choice ≡ choice = ap (λ (offer : Offer). offer.choice) (sym (get_or-map (offer_of c r n d) kept k choice) ∙ is) in
       subst P same (All-get_or P kept k choice at all)
 
-  among_is_offered : (d : ℕ) (choice : Choice) → Contains (offers c r n d) (offer_of c r n d choice) → is_offered c r n d choice ≡ true
+  among_is_offered : (d : ℕ) (choice : Choice) → Contains (offers_of c r n d) (offer_of c r n d choice) → is_offered c r n d choice ≡ true
   among_is_offered d choice = among_has d choice (λ own. is_offered c r n d own ≡ true) (filter_passes (is_offered c r n d) (all_choices c))
 
-  among_is_of_case : (d : ℕ) (choice : Choice) → Contains (offers c r n d) (offer_of c r n d choice) → is_choice_of c choice ≡ true
+  among_is_of_case : (d : ℕ) (choice : Choice) → Contains (offers_of c r n d) (offer_of c r n d choice) → is_choice_of c choice ≡ true
   unfolding of_case
   among_is_of_case d choice = among_has d choice (of_case c) (All-filter (is_offered c r n d) (of_case c) (all_choices c) (choices_of_case c))
 

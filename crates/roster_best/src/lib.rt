@@ -5,4 +5,5 @@ mod laws;
 mod offer;
 
 pub use laws::offers_tell_the_allowed_rows;
-pub use offer::{Offer, choices};
+pub use offer::choices;
+pub use roster_search::Offer;

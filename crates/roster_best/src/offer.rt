@@ -10,19 +10,13 @@ ghost use Rattle.roster_rules.specs.Penalties.{off_request_cost_on};
 ghost use Rattle.roster_rules.specs.Weights.{off_request_weight};
 ghost use Rattle.roster_case.specs.OneRow.{is_offered, others};
 ghost use Rattle.roster_case.specs.Staffing.{lacking, with_choice};
-ghost use Rattle.roster_best.specs.Offers.{offer_of, offers};
+ghost use Rattle.roster_search.specs.Offers.{offer_of, offers_of};
 
 use arrayvec::ArrayVec;
 use roster_case::{Case, Choice, Held, Shift, Skill};
 use roster_rules::is_able;
 use roster_rules::weights::{OFF_REQUEST, STAFFING};
-
-/// A choice, and its price in penalty points.
-#[derive(Clone, Copy, Default, PartialEq)]
-pub struct Offer {
-    pub choice: Choice,
-    pub price: u32,
-}
+use roster_search::Offer;
 
 /// How many nurses a day lacks to its minimums and to its optimums, over all shifts and skills.
 #[derive(Clone, Copy)]
@@ -38,7 +32,7 @@ struct Lacking {
 pub fn choices(held: &Held, nurse: usize, day: u16) -> ArrayVec<Offer, 65>
     requires nurse { nurse < nurse_count held.now.case }
     requires day { day < day_count held.now.case }
-    ensures { result.items ≡ offers held.now.case held.now.roster nurse day }
+    ensures { result.items ≡ offers_of held.now.case held.now.roster nurse day }
 {
     let case = held.case();
     let shifts = case.shifts();

@@ -18,7 +18,7 @@ use Rattle.roster_laws.proofs.SameRows.{same_row_is, same_row_self}
 
 -- ---- how often a test passes
 
-count-cons : {X : Type 0} (p : X → Bool) (x : X) (xs : List X) → count_by p (x ∷ xs) ≡ cond (p x) 1 0 + count_by p xs
+pub count-cons : {X : Type 0} (p : X → Bool) (x : X) (xs : List X) → count_by p (x ∷ xs) ≡ cond (p x) 1 0 + count_by p xs
 count-cons p x xs = sum_by-cons (λ y. cond (p y) 1 0) x xs
 
 count-flat : {X Y : Type 0} (p : Y → Bool) (f : X → List Y) (g : X → ℕ) → ((x : X) → count_by p (f x) ≡ g x) → (xs : List X) → count_by p (flat_map f xs) ≡ sum_by g xs
@@ -26,11 +26,11 @@ count-flat p f g each [] = refl
 count-flat p f g each (x ∷ xs) =
     sum_by-append (λ y. cond (p y) 1 0) (f x) (flat_map f xs) ∙ ap₂ (λ a b. a + b) (each x) (count-flat p f g each xs) ∙ sym (sum_by-cons g x xs)
 
-count-map : {X Y : Type 0} (p : Y → Bool) (q : X → Bool) (f : X → Y) → ((x : X) → p (f x) ≡ q x) → (xs : List X) → count_by p (map f xs) ≡ count_by q xs
+pub count-map : {X Y : Type 0} (p : Y → Bool) (q : X → Bool) (f : X → Y) → ((x : X) → p (f x) ≡ q x) → (xs : List X) → count_by p (map f xs) ≡ count_by q xs
 count-map p q f each [] = refl
 count-map p q f each (x ∷ xs) = count-cons p (f x) (map f xs) ∙ ap₂ (λ b n. cond b 1 0 + n) (each x) (count-map p q f each xs) ∙ sym (count-cons q x xs)
 
-count-none : {X : Type 0} (xs : List X) → count_by (λ x. false) xs ≡ 0
+pub count-none : {X : Type 0} (xs : List X) → count_by (λ x. false) xs ≡ 0
 count-none [] = refl
 count-none {X} (x ∷ xs) = omega (arith, count-cons (λ (y : X). false) x xs, count-none xs)
 
@@ -55,7 +55,7 @@ count-range a (suc n) k = count-cons (λ t. k == t) a (range_with_len (a + 1) n)
     one_more : cond (k == a) 1 0 + one_if (nat_le (a + 1) k && nat_lt k ((a + 1) + n)) ≡ one_if (nat_le a k && nat_lt k (a + suc n))
     one_more = grind (arith, nat_tests)
 
-count-below : (n k : ℕ) → count_by (λ t. k == t) (range_with_len 0 n) ≡ one_if (nat_lt k n)
+pub count-below : (n k : ℕ) → count_by (λ t. k == t) (range_with_len 0 n) ≡ one_if (nat_lt k n)
 count-below n k = count-range 0 n k ∙ from_zero
   where
     from_zero : one_if (nat_le 0 k && nat_lt k (0 + n)) ≡ one_if (nat_lt k n)
@@ -95,7 +95,7 @@ module _ (c : Meaning) where
       both true false = refl
       both false b = omega arith
 
-  count-choices : (x : Choice) → count_by (same_choice x) (all_choices c) ≡ one_if (is_choice_of c x)
+  pub count-choices : (x : Choice) → count_by (same_choice x) (all_choices c) ≡ one_if (is_choice_of c x)
   count-choices Off = omega (arith, count-cons (same_choice Off) Off (flat_map with_shift shifts), count-off)
   count-choices (Work s k) = omega (arith, count-cons (same_choice (Work s k)) Off (flat_map with_shift shifts), count-work s k)
 
@@ -137,7 +137,7 @@ count-all_rows c row = count-rows (all_choices c) (is_choice_of c) (count-choice
 
 -- ---- members
 
-passes : {X : Type 0} (p : X → Bool) (xs : List X) → All (λ y. p y ≡ true → 0 < count_by p xs) xs
+pub passes : {X : Type 0} (p : X → Bool) (xs : List X) → All (λ y. p y ≡ true → 0 < count_by p xs) xs
 passes p [] = All-nil (λ y. p y ≡ true → 0 < 0)
 passes {X} p (x ∷ xs) =
     let P : X → Type 0 = λ y. p y ≡ true → 0 < count_by p (x ∷ xs) in
@@ -154,7 +154,7 @@ count_contains (x ∷ xs) row some = go (same_row row x) refl (rw count-cons at 
     go true e h later = rw (same_row_is row x e) (0, omega arith, refl)
     go false e h later = Contains-append_right (x ∷ []) xs row (later (omega (arith, h, ap one_if e)))
 
-is_one : (b : Bool) → 0 < one_if b → b ≡ true
+pub is_one : (b : Bool) → 0 < one_if b → b ≡ true
 is_one true h = refl
 is_one false h = absurd (omega (arith, h))
 

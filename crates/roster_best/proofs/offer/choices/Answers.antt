@@ -1,6 +1,6 @@
 use Rattle.std.proofs.Common.{◌≡◌, ◌∙◌, ap, arith}
 use Rattle.roster_instance.specs.Meaning.{Meaning, shift_count, skill_count}
-use Rattle.roster_best.proofs.OfferLemmas.{of_shifts, offers_of, offers_shift, offers_skill}
+use Rattle.roster_best.proofs.OfferLemmas.{of_shifts, offers_among, offers_shift, offers_skill}
 use Rattle.roster_best.proofs.offer.choices.Goals as goal
 
 pub loop-skill-preserved : goal.loop-skill-preserved
@@ -20,4 +20,4 @@ loop-shift-preserved c =
 pub returns : goal.returns
 returns c =
     let all : c.loop-shift.shift ≡ shift_count c.args.held.now.case = omega (arith, ap (λ (m : Meaning). shift_count m) c.case-case.ensures) in
-    c.loop-shift.invariant.so_far ∙ ap (λ m. offers_of c.args.held.now.case c.args.held.now.roster c.args.nurse c.args.day (of_shifts c.args.held.now.case m)) all
+    c.loop-shift.invariant.so_far ∙ ap (λ m. offers_among c.args.held.now.case c.args.held.now.roster c.args.nurse c.args.day (of_shifts c.args.held.now.case m)) all

@@ -1,0 +1,142 @@
+-- The offers of a day: each is of the case and at a small price, they are few, and where the roster keeps the hard rules there is one.
+use Rattle.std.proofs.Common.{◌≡◌, ◌∙◌, ◌+◌, ◌-◌, ◌*◌, ◌<◌, ◌≤◌, ◌&&◌, ◌||◌, ◌==◌, ℕ, Bool, true, false, not, nat_lt, if◌then◌else◌, ap, arith, refl, subst, sym, List, [], ◌∷◌, cond, filter, length, map, Contains}
+use Rattle.std.specs.List.{All, count_by, flat_map, list_all, list_any, range_with_len}
+use Rattle.std.proofs.Math.Nat.{suc-mul}
+use Rattle.std.proofs.lemmas.Bool.{and_parts}
+use Rattle.std.proofs.lemmas.List.{length-map, set-get_or}
+use Rattle.std.proofs.lemmas.List.Elements.{All-contains, All-contains_itself, All-filter, All-get_or, All-map, All-weaker}
+use Rattle.std.proofs.lemmas.List.FromFn.{length-range_with_len}
+use Rattle.std.proofs.lemmas.List.Sums.{AllPass-from_list_all, length-filter, sum_by-append}
+use Rattle.roster_rules.specs.declared.Choice.{Choice}
+use Rattle.roster_rules.specs.declared.Choice.TheVariants.{Off, Work}
+use Rattle.roster_rules.specs.declared.Skill.{Skill}
+use Rattle.roster_rules.specs.Choices.{all_choices, days_of, same_choice, shift_of}
+use Rattle.roster_rules.specs.Counting.{one_if, sum_below}
+use Rattle.roster_rules.specs.HardRules.{breaks_succession, keeps_hard}
+use Rattle.roster_rules.specs.Limits.{most_shifts, most_skills, most_small}
+use Rattle.roster_rules.specs.Meaning.{Meaning, day_count, nurse_at, nurse_count, optimum, shift_at, shift_count, skill_at, skill_count}
+use Rattle.roster_rules.specs.Penalties.{breaks_off_request}
+use Rattle.roster_rules.specs.Rosters.{Rows, choice_on, fits_case, is_choice_of, row_of}
+use Rattle.roster_rules.specs.Sizes.{choice_count}
+use Rattle.roster_rules.specs.Small.{HasSmallNumbers}
+use Rattle.roster_rules.specs.Weights.{off_request_weight, staffing_weight}
+use Rattle.roster_rules.proofs.RosterFacts.{has_row, row-length, row_fits}
+use Rattle.roster_rules.proofs.RunBounds.{sum_within}
+use Rattle.roster_case.specs.OneRow.{is_offered, is_offered_row, others, price}
+use Rattle.roster_case.specs.Staffing.{meets, staffing_cost_by, with_choice}
+use Rattle.roster_case.proofs.Below.{all_elim}
+use Rattle.roster_case.proofs.Keeps.{keeps_hard-with_row}
+use Rattle.roster_laws.proofs.AllRows.{count-below, count-choices, count-cons, count-map, count-none, is_one, passes}
+use Rattle.roster_laws.proofs.SameRows.{same_choice_is, same_choice_self}
+use Rattle.roster_search.specs.Offers.{offer_of, offers_of}
+use Rattle.roster_search.specs.Tables.{IsOfferOf, most_price}
+
+-- ---- how many pass a test
+
+one_at_most : (b : Bool) → cond b 1 0 ≤ 1
+one_at_most true = omega arith
+one_at_most false = omega arith
+
+count-fewer : {X : Type 0} (p q : X → Bool) → ((x : X) → p x ≡ true → q x ≡ true) → (xs : List X) → count_by p xs ≤ count_by q xs
+count-fewer p q each [] = omega arith
+count-fewer {X} p q each (x ∷ xs) = omega (arith, count-cons p x xs, count-cons q x xs, count-fewer p q each xs, one (p x) refl)
+  where
+    one : (b : Bool) → p x ≡ b → cond b 1 0 ≤ cond (q x) 1 0
+    one true e = omega (arith, ap one_if (each x e))
+    one false e = omega arith
+
+count-either : {X : Type 0} (p q : X → Bool) (xs : List X) → count_by (λ x. p x || q x) xs ≤ count_by p xs + count_by q xs
+count-either p q [] = omega arith
+count-either p q (x ∷ xs) = omega (arith, count-cons (λ y. p y || q y) x xs, count-cons p x xs, count-cons q x xs, count-either p q xs, one (p x) (q x))
+  where
+    one : (a b : Bool) → cond (a || b) 1 0 ≤ cond a 1 0 + cond b 1 0
+    one true b = omega arith
+    one false b = omega arith
+
+count-flat_few : {X Y : Type 0} (p : Y → Bool) (f : X → List Y) (m : ℕ) → ((x : X) → count_by p (f x) ≤ m) → (xs : List X) → count_by p (flat_map f xs) ≤ length xs * m
+count-flat_few p f m each [] = omega arith
+count-flat_few p f m each (x ∷ xs) = omega (arith, sum_by-append (λ y. cond (p y) 1 0) (f x) (flat_map f xs), each x, count-flat_few p f m each xs, suc-mul (length xs) m)
+
+-- the skills with a number below n that are among these
+skills_few : (n : ℕ) (skills : List Skill) → count_by (λ k. list_any (λ own. own.0 == k) skills) (range_with_len 0 n) ≤ length skills
+skills_few n [] = omega (arith, count-none (range_with_len 0 n))
+skills_few n (own ∷ skills) =
+    omega (arith, count-either (λ k. own.0 == k) (λ k. list_any (λ s. s.0 == k) skills) (range_with_len 0 n), count-below n own.0, one_at_most (nat_lt own.0 n), skills_few n skills)
+
+-- ---- the choices
+
+module _ (c : Meaning) where
+  choices_of_case : All (λ x. is_choice_of c x ≡ true) (all_choices c)
+  choices_of_case =
+      let has : (x : Choice) → Contains (all_choices c) x → is_choice_of c x ≡ true = λ x member.
+      is_one (is_choice_of c x) (subst (λ m. 0 < m) (count-choices c x) (All-contains (λ y. same_choice x y ≡ true → 0 < count_by (same_choice x) (all_choices c)) (all_choices c) x (passes (same_choice x) (all_choices c)) member (same_choice_self x))) in
+      All-weaker (Contains (all_choices c)) (λ x. is_choice_of c x ≡ true) has (all_choices c) (All-contains_itself (all_choices c))
+
+  -- one of the choices that passes a test is counted
+  choice_counted : (p : Choice → Bool) (x : Choice) → is_choice_of c x ≡ true → p x ≡ true → 0 < count_by p (all_choices c)
+  choice_counted p x of_case passed =
+      omega (arith, count-fewer (same_choice x) p (λ y same. ap p (sym (same_choice_is x y same)) ∙ passed) (all_choices c), count-choices c x, ap one_if of_case)
+
+module _ (c : Meaning) (r : Rows) (n d : ℕ) where
+  pub offers_few : length (offers_of c r n d) ≤ choice_count c n
+  unfolding choice_count
+  offers_few =
+      let offered : Choice → Bool = is_offered c r n d in
+      let own : List Skill = (nurse_at c n).skills in
+      let skills : List ℕ = range_with_len 0 (skill_count c) in
+      let shifts : List ℕ = range_with_len 0 (shift_count c) in
+      let of_shift : ℕ → List Choice = λ s. map (λ k. Work (shift_at s) (skill_at k)) skills in
+      let few : (s : ℕ) → count_by offered (of_shift s) ≤ length own = λ s.
+      omega (
+        arith,
+        count-map offered (λ k. offered (Work (shift_at s) (skill_at k))) (λ k. Work (shift_at s) (skill_at k)) (λ k. refl) skills,
+        count-fewer (λ k. offered (Work (shift_at s) (skill_at k))) (λ k. list_any (λ x. x.0 == k) own)
+            (λ k e. (and_parts (list_any (λ x. x.0 == k) own) (meets c d (with_choice (others r n d) (Work (shift_at s) (skill_at k)))) e).0) skills,
+        skills_few (skill_count c) own,
+      ) in
+      omega (
+        arith,
+        length-map (filter offered (all_choices c)) (offer_of c r n d),
+        length-filter offered (all_choices c),
+        count-cons offered Off (flat_map of_shift shifts),
+        one_at_most (offered Off),
+        count-flat_few offered of_shift (length own) few shifts,
+        ap (λ m. m * length own) (length-range_with_len 0 (shift_count c)),
+      )
+
+  module _ (small : HasSmallNumbers c) (shifts : shift_count c ≤ most_shifts) (skills : skill_count c ≤ most_skills) where
+    staffing_within : (have : ℕ → ℕ → ℕ) → staffing_cost_by c d have ≤ most_shifts * most_skills * staffing_weight * most_small
+    staffing_within have =
+        let place : ℕ → ℕ → ℕ = λ s k. staffing_weight * (optimum c d s k - have s k) in
+        let of_place : (s k : ℕ) → place s k ≤ staffing_weight * most_small = λ s k. omega (arith, (small.needs d s k).greatest) in
+        let of_shift : (s : ℕ) → sum_below (skill_count c) (place s) ≤ most_skills * (staffing_weight * most_small) = λ s. omega (arith, sum_within (skill_count c) (staffing_weight * most_small) (place s) (λ k h. of_place s k)) in
+        omega (arith, sum_within (shift_count c) (most_skills * (staffing_weight * most_small)) (λ s. sum_below (skill_count c) (place s)) (λ s h. of_shift s))
+
+    request_within : (b : Bool) → (if b then off_request_weight else 0) ≤ off_request_weight
+    request_within true = omega arith
+    request_within false = omega arith
+
+    price_within : (x : Choice) → price c r n d x ≤ most_price
+    price_within x = omega (arith, staffing_within (with_choice (others r n d) x), request_within (breaks_off_request c n d (shift_of x)))
+
+    pub offers_of_case : All (IsOfferOf c) (offers_of c r n d)
+    offers_of_case =
+        All-map (IsOfferOf c) (offer_of c r n d) (filter (is_offered c r n d) (all_choices c))
+        (All-filter (is_offered c r n d) (λ x. IsOfferOf c (offer_of c r n d x)) (all_choices c)
+        (All-weaker (λ x. is_choice_of c x ≡ true) (λ x. IsOfferOf c (offer_of c r n d x)) (λ x e. record { choice = e; price = price_within x }) (all_choices c) (choices_of_case c)))
+
+  module _ (fits : fits_case c r ≡ true) (keeps : keeps_hard c r ≡ true) (inside : n < nurse_count c) (day : d < day_count c) where
+    -- the present choice is offered
+    pub offers_some : 0 < length (offers_of c r n d)
+    offers_some =
+        let row = row_of r n in
+        let kept : is_offered_row c r n row (day_count c) ≡ true = sym (keeps_hard-with_row c r keeps n (has_row c r n fits inside) inside row) ∙ ap (keeps_hard c) (set-get_or r n []) ∙ keeps in
+        let here = and_parts (is_offered c r n d (choice_on row d)) (not (breaks_succession c n (days_of row) d)) (all_elim (day_count c) (λ k. is_offered c r n k (choice_on row k) && not (breaks_succession c n (days_of row) k)) kept d day) in
+        let of_case : is_choice_of c (choice_on row d) ≡ true =
+        All-get_or (λ x. is_choice_of c x ≡ true) row d Off (omega (arith, day, row-length c r n fits inside)) (AllPass-from_list_all (is_choice_of c) row (and_parts (length row == day_count c) (list_all (is_choice_of c) row) (row_fits c r n fits inside)).1) in
+        omega (
+          arith,
+          length-map (filter (is_offered c r n d) (all_choices c)) (offer_of c r n d),
+          length-filter (is_offered c r n d) (all_choices c),
+          choice_counted c (is_offered c r n d) (choice_on row d) of_case here.0,
+        )

@@ -1,0 +1,98 @@
+-- The best row begins with the offer that its pointer gives, and goes on from the state behind it.
+use Rattle.std.proofs.Common.{◌≡◌, ◌∙◌, ◌+◌, ◌<◌, ℕ, Bool, true, false, ap, arith, refl, sym, List, [], ◌∷◌, length, length-append, slice_index_or, subst, Option, Some, None, IfSome, IsSome, if◌then◌else◌}
+use Rattle.std.proofs.lemmas.Bool.{true≢false}
+use Rattle.std.proofs.Math.Seq.{get_or-append_seam}
+use Rattle.roster_rules.specs.declared.Shift.{Shift}
+use Rattle.roster_rules.specs.Choices.{shift_of}
+use Rattle.roster_rules.specs.Meaning.{Meaning, forbids}
+use Rattle.roster_rules.specs.Prefix.{Summary}
+use Rattle.roster_state.specs.Codes.{product, state_at}
+use Rattle.roster_state.specs.Step.{next_of, step_cost}
+use Rattle.roster_search.specs.declared.day.SearchDay.{SearchDay}
+use Rattle.roster_search.specs.declared.offer.Offer.{Offer}
+use Rattle.roster_search.specs.ByStates.{best_behind}
+use Rattle.roster_search.specs.Cheapest.{Priced, raised}
+use Rattle.roster_search.specs.Offers.{dearer}
+use Rattle.roster_search.specs.Tables.{ArePointers, BeginsWith, BestRows, IsDayOf, PointsToBest, Stands, best_by, best_on, no_row}
+use Rattle.roster_search.proofs.Cheapest.{cost_or, thing_or}
+
+-- the state behind a step, if it is allowed
+abbrev behind : {S : Type 0} → Bool → S → Option S
+behind forbidden next = if forbidden then None else Some next
+
+module _ (later : BestRows) (offer : Offer) (row : ℕ × List Offer) (reached : Summary) (cost : ℕ) where
+  abbrev by : Bool → Priced (List Offer)
+  by forbidden = best_behind offer (dearer offer.price (if forbidden then None else Some (reached, cost))) later
+
+  begins : (forbidden : Bool) (next : Summary) → by forbidden ≡ Some row → behind forbidden reached ≡ Some next → BeginsWith later row offer.choice next
+  begins true next best is = absurd cc
+  begins false next best is = go (later reached) refl best
+    where
+      go : (p : Priced (List Offer)) → later reached ≡ p → raised (offer.price + cost) (λ rest. offer ∷ rest) p ≡ Some row → BeginsWith later row offer.choice next
+      go None found e = absurd cc
+      go (Some p) found e =
+          let state : reached ≡ next = cc in
+          let total : offer.price + cost + p.0 ≡ row.0 = ap (cost_or 0) e in
+          record {
+            offer = offer;
+            others = p.1;
+            cost = p.0;
+            split = sym (ap (thing_or []) e);
+            chosen = refl;
+            goes_on = ap later (sym state) ∙ found;
+            below = omega (arith, total);
+          }
+
+  goes_on : (forbidden : Bool) → by forbidden ≡ Some row → behind forbidden reached ≡ None → ⊥
+  goes_on true best is = absurd cc
+  goes_on false best is = absurd cc
+
+-- ---- where the pointer leads
+
+pub record LowRow {X : Type 0} (p : Priced X) : Type 0 where
+  pub row : ℕ × X
+  pub is : p ≡ Some row
+  pub low : row.0 < no_row
+
+pub low_row : {X : Type 0} (p : Priced X) → IsSome p → IfSome p (λ row. row.0 < no_row) → LowRow p
+low_row None some low = elim (true≢false (sym some)) [ ]
+low_row (Some row) some low = record { row = row; is = refl; low = low }
+
+pub low_of : {X : Type 0} (p : Priced X) (row : ℕ × X) → p ≡ Some row → IfSome p (λ r. r.0 < no_row) → row.0 < no_row
+low_of {X} p row is low = subst (λ (q : Priced X). IfSome q (λ r. r.0 < no_row)) is low
+
+pub pointer_within : {O X : Type 0} (by : O → Priced X) (offers : List O) (row : ℕ × X) (pointer : ℕ) → PointsToBest by offers row pointer → pointer < length offers
+pointer_within by offers row pointer points =
+    omega (arith, points.place, ap length points.split, length-append points.front (points.offer ∷ points.back))
+
+pub points_at : (c : Meaning) (at : SearchDay) → IsDayOf c at → (offers : List Offer) (later : BestRows) (first : ℕ) (pointers : List ℕ) → ArePointers c at offers later first pointers
+    → (s : Summary) (code : ℕ) → code < product at.ranges → state_at at.ranges code ≡ Some s → Stands c at.nurse at.day s
+    → (row : ℕ × List Offer) → best_on c at offers later s ≡ Some row → row.0 < no_row → PointsToBest (best_by c at later s) offers row (slice_index_or pointers (first + code) 0)
+points_at c at day offers later first pointers right s code within back stands row best low =
+    right code s (subst (λ z. code < product z) day.ranges within) (subst (λ z. state_at z code ≡ Some s) day.ranges back) stands row best low
+
+-- ---- what is read there
+
+module _ (c : Meaning) (at : SearchDay) (later : BestRows) (s : Summary) (offers : List Offer) (row : ℕ × List Offer) (pointer : ℕ) (points : PointsToBest (best_by c at later s) offers row pointer) (d : Offer) where
+  abbrev read : Offer
+  read = slice_index_or offers pointer d
+
+  same : read ≡ points.offer
+  same = (λ i. slice_index_or (points.split i) (points.place i) d) ∙ get_or-append_seam points.front points.offer points.back d
+
+  best : best_by c at later s read ≡ Some row
+  best = ap (best_by c at later s) same ∙ points.best
+
+  abbrev next_by : Option Shift → Option Summary
+  next_by shift = if forbids c.successions s.last shift then None else Some (next_of c at.nurse at.day s shift)
+
+  module _ (shift : Option Shift) (is : shift ≡ shift_of read.choice) (o : Option Summary) (after : o ≡ next_by shift) where
+    reached : next_by (shift_of read.choice) ≡ o
+    reached = ap next_by (sym is) ∙ sym after
+
+    pub read_begins : (next : Summary) → o ≡ Some next → BeginsWith later row read.choice next
+    read_begins next found =
+        begins later read row (next_of c at.nurse at.day s (shift_of read.choice)) (step_cost c at.nurse at.day s (shift_of read.choice)) (forbids c.successions s.last (shift_of read.choice)) next best (reached ∙ found)
+
+    pub read_goes_on : o ≡ None → ⊥
+    read_goes_on found = goes_on later read row (next_of c at.nurse at.day s (shift_of read.choice)) (step_cost c at.nurse at.day s (shift_of read.choice)) (forbids c.successions s.last (shift_of read.choice)) best (reached ∙ found)

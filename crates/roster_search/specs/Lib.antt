@@ -1,0 +1,4 @@
+pub mod Cheapest
+pub mod ByStates
+pub mod Offers
+pub mod Tables

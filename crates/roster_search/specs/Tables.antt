@@ -1,0 +1,113 @@
+-- The tables of a day: at the number of each state its label, what the best row from there on costs, and its pointer, the place
+-- of the offer with which that row begins (our own).
+use Rattle.std.specs.Prelude.{◌≡◌, ◌+◌, ◌*◌, ◌<◌, ◌≤◌, ℕ, true, List, [], ◌∷◌, ◌++◌, length, min, Some, None, slice_index_or}
+use Rattle.roster_rules.specs.declared.Choice.{Choice}
+use Rattle.roster_rules.specs.Limits.{most_shifts, most_skills, most_small}
+use Rattle.roster_rules.specs.Meaning.{Meaning, day_count, nurse_count}
+use Rattle.roster_rules.specs.Prefix.{Summary}
+use Rattle.roster_rules.specs.Rosters.{is_choice_of}
+use Rattle.roster_rules.specs.Weights.{off_request_weight, staffing_weight}
+use Rattle.roster_state.specs.Codes.{Sizes, fits_sizes, product, sizes_of, state_at}
+use Rattle.roster_state.specs.Step.{end_cost_of}
+use Rattle.roster_search.specs.declared.day.SearchDay.{SearchDay}
+use Rattle.roster_search.specs.declared.offer.Offer.{Offer}
+use Rattle.roster_search.specs.ByStates.{best_behind}
+use Rattle.roster_search.specs.Cheapest.{Priced, cheapest}
+use Rattle.roster_search.specs.Offers.{offer_step}
+
+-- what an offer costs at most: 1,918,090
+abbrev pub most_price : ℕ
+most_price = most_shifts * most_skills * staffing_weight * most_small + off_request_weight
+
+-- the label of a state from which no row goes on, 2^28: each row costs less
+abbrev pub no_row : ℕ
+no_row = 268435456
+
+-- the label that a best row gives
+abbrev pub label_of : {X : Type 0} → Priced X → ℕ
+label_of None = no_row
+label_of (Some best) = min best.0 no_row
+
+-- ---- a day of a search
+
+abbrev pub BestRows : Type 0
+BestRows = Summary → Priced (List Offer)
+
+-- the day is one of the case's, and its ranges are the nurse's
+pub record IsDayOf (c : Meaning) (at : SearchDay) : Type 0 where
+  pub nurse : at.nurse < nurse_count c
+  pub day : at.day < day_count c
+  pub ranges : at.ranges ≡ sizes_of c at.nurse
+
+pub record IsOfferOf (c : Meaning) (offer : Offer) : Type 0 where
+  pub choice : is_choice_of c offer.choice ≡ true
+  pub price : offer.price ≤ most_price
+
+-- the best row from a state on that begins with an offer, where these are the best rows from the next day on
+abbrev pub best_by : Meaning → SearchDay → BestRows → Summary → Offer → Priced (List Offer)
+best_by c at later s offer = best_behind offer (offer_step c at.nurse at.day s offer) later
+
+abbrev pub best_on : Meaning → SearchDay → List Offer → BestRows → BestRows
+best_on c at offers later s = cheapest (best_by c at later s) offers
+
+-- behind the last day
+abbrev pub best_at_end : Meaning → ℕ → BestRows
+best_at_end c n s = Some (end_cost_of c n s, [])
+
+-- ---- the tables
+
+-- the states for which a day's tables are right: in this version each whose numbers are in range
+abbrev pub Stands : Meaning → ℕ → ℕ → Summary → Type 0
+Stands c n day s = fits_sizes (sizes_of c n) s ≡ true
+
+-- for each number below k, what stands at its place in a table is right for its state
+abbrev pub CellsBelow : (Summary → Type 0) → Sizes → (Summary → ℕ → Type 0) → (ℕ → ℕ) → ℕ → List ℕ → Type 0
+CellsBelow stands z right place k cells = (code : ℕ) (s : Summary) → code < k → state_at z code ≡ Some s → stands s → right s (slice_index_or cells (place code) 0)
+
+-- the label of each state with a number below k
+abbrev pub LabelsBelow : Meaning → ℕ → ℕ → BestRows → ℕ → List ℕ → Type 0
+LabelsBelow c n day best k labels = CellsBelow (Stands c n day) (sizes_of c n) (λ s label. label ≡ label_of (best s)) (λ code. code) k labels
+
+abbrev pub AreLabels : Meaning → ℕ → ℕ → BestRows → List ℕ → Type 0
+AreLabels c n day best labels = LabelsBelow c n day best (product (sizes_of c n)) labels
+
+-- at the place of the pointer stands an offer with which the best row begins
+pub record PointsToBest {O X : Type 0} (by : O → Priced X) (offers : List O) (row : ℕ × X) (pointer : ℕ) : Type 0 where
+  pub front : List O
+  pub offer : O
+  pub back : List O
+  pub split : offers ≡ front ++ offer ∷ back
+  pub place : pointer ≡ length front
+  pub best : by offer ≡ Some row
+
+-- where there is a row below no_row
+abbrev pub PointsWhereBest : {O X : Type 0} → (O → Priced X) → List O → Priced X → ℕ → Type 0
+PointsWhereBest {O} {X} by offers best pointer = (row : ℕ × X) → best ≡ Some row → row.0 < no_row → PointsToBest by offers row pointer
+
+-- the label and the pointer of the least of some offers, of equal ones the first
+pub record AreOfLeast {O X : Type 0} (by : O → Priced X) (offers : List O) (label pointer : ℕ) : Type 0 where
+  pub least : label ≡ label_of (cheapest by offers)
+  pub points : PointsWhereBest by offers (cheapest by offers) pointer
+
+-- the pointer of each state with a number below k, from a first place on
+abbrev pub PointersBelow : Meaning → SearchDay → List Offer → BestRows → ℕ → ℕ → List ℕ → Type 0
+PointersBelow c at offers later first k pointers =
+    CellsBelow (Stands c at.nurse at.day) (sizes_of c at.nurse) (λ s. PointsWhereBest (best_by c at later s) offers (best_on c at offers later s)) (λ code. first + code) k pointers
+
+abbrev pub ArePointers : Meaning → SearchDay → List Offer → BestRows → ℕ → List ℕ → Type 0
+ArePointers c at offers later first pointers = PointersBelow c at offers later first (product (sizes_of c at.nurse)) pointers
+
+-- outside these places nothing has changed
+pub record SameOutside (first end : ℕ) (old new : List ℕ) : Type 0 where
+  pub before : (place : ℕ) → place < first → slice_index_or new place 0 ≡ slice_index_or old place 0
+  pub behind : (place : ℕ) → end ≤ place → slice_index_or new place 0 ≡ slice_index_or old place 0
+
+-- the best row begins with this choice, and goes on from the next state with the best row there
+pub record BeginsWith (later : BestRows) (row : ℕ × List Offer) (choice : Choice) (next : Summary) : Type 0 where
+  pub offer : Offer
+  pub others : List Offer
+  pub cost : ℕ
+  pub split : row.1 ≡ offer ∷ others
+  pub chosen : offer.choice ≡ choice
+  pub goes_on : later next ≡ Some (cost, others)
+  pub below : cost ≤ row.0

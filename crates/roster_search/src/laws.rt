@@ -1,0 +1,41 @@
+//! The best row is found from state to state. The functions here do nothing: each is a law, and its clauses say it.
+
+ghost use Rattle.std.specs.Prelude.{◌≡◌, ◌+◌, ◌<◌, ◌≤◌, ℕ, true, [], All, List, IsSome, Some, length};
+ghost use Rattle.roster_rules.specs.AllowedRows.{IsBestRow, penalty_with};
+ghost use Rattle.roster_rules.specs.HardRules.{keeps_hard};
+ghost use Rattle.roster_rules.specs.Limits.{most_shifts, most_skills, most_weeks};
+ghost use Rattle.roster_rules.specs.Meaning.{Meaning, day_count, nurse_count, shift_count, skill_count, week_count};
+ghost use Rattle.roster_rules.specs.Prefix.{Summary, due};
+ghost use Rattle.roster_rules.specs.Rosters.{Rows, fits_case};
+ghost use Rattle.roster_rules.specs.Sizes.{choice_count};
+ghost use Rattle.roster_rules.specs.Small.{HasSmallNumbers};
+ghost use Rattle.roster_case.specs.OneRow.{rest_of};
+ghost use Rattle.roster_search.specs.ByStates.{Steps, best_from, cost_from, rows_from};
+ghost use Rattle.roster_search.specs.Cheapest.{cheapest, with_cost};
+ghost use Rattle.roster_search.specs.Offers.{best_by_states, choices_of, offers_of};
+ghost use Rattle.roster_search.specs.Tables.{IsOfferOf, no_row};
+ghost use Rattle.roster_search.specs.declared.offer.Offer.{Offer};
+
+/// The cheapest of all rows of the days' offers, the first of them, is what the search from state to state gives, with its
+/// cost, whatever the offers, the steps and the end are.
+pub fn cheapest_row_is_found_by_states()
+    ensures { (offers : ℕ → List Offer) (step : Steps Summary Offer) (finish : Summary → ℕ) (m d : ℕ) (s : Summary) → cheapest (λ row. with_cost row (cost_from step finish d s row)) (rows_from offers m d) ≡ best_from offers step finish m d s }
+{}
+
+/// For a roster that fits the case and keeps the hard rules, the search over a nurse's offers gives a row. It is the nurse's best
+/// row, and the roster's penalty with it is what the other nurses' rows cost, what the start owes, and the cost that the search
+/// gives. In a case with small numbers that cost is below the label of no row.
+pub fn best_row_is_found_by_states()
+    ensures some { (c : Meaning) (r : Rows) → fits_case c r ≡ true → keeps_hard c r ≡ true → (n : ℕ) → n < nurse_count c → IsSome (best_by_states c r n) }
+    ensures best { (c : Meaning) (r : Rows) → fits_case c r ≡ true → keeps_hard c r ≡ true → (n : ℕ) → n < nurse_count c → (cost : ℕ) (offers : List Offer) → best_by_states c r n ≡ Some (cost, offers) → IsBestRow c r n (choices_of offers) }
+    ensures below { (c : Meaning) (r : Rows) → fits_case c r ≡ true → keeps_hard c r ≡ true → (n : ℕ) → n < nurse_count c → (cost : ℕ) (offers : List Offer) → best_by_states c r n ≡ Some (cost, offers) → HasSmallNumbers c → shift_count c ≤ most_shifts → skill_count c ≤ most_skills → week_count c ≤ most_weeks → cost < no_row }
+    ensures penalty { (c : Meaning) (r : Rows) → fits_case c r ≡ true → keeps_hard c r ≡ true → (n : ℕ) → n < nurse_count c → (cost : ℕ) (offers : List Offer) → best_by_states c r n ≡ Some (cost, offers) → penalty_with c r n (choices_of offers) ≡ rest_of c r n + due c n [] + cost }
+{}
+
+/// The offers of a day are choices of the case at small prices, and not more than the nurse has choices. For a roster that fits
+/// the case and keeps the hard rules there is one at least.
+pub fn offers_are_few()
+    ensures each { (c : Meaning) → HasSmallNumbers c → shift_count c ≤ most_shifts → skill_count c ≤ most_skills → (r : Rows) (n d : ℕ) → All (IsOfferOf c) (offers_of c r n d) }
+    ensures few { (c : Meaning) (r : Rows) (n d : ℕ) → length (offers_of c r n d) ≤ choice_count c n }
+    ensures some { (c : Meaning) (r : Rows) → fits_case c r ≡ true → keeps_hard c r ≡ true → (n : ℕ) → n < nurse_count c → (d : ℕ) → d < day_count c → 0 < length (offers_of c r n d) }
+{}
