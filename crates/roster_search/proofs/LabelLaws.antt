@@ -16,7 +16,7 @@ use Rattle.roster_search.specs.declared.offer.Offer.{Offer}
 use Rattle.roster_search.specs.ByStates.{best_behind}
 use Rattle.roster_search.specs.Cheapest.{Priced, cheaper, cheapest, raised}
 use Rattle.roster_search.specs.Offers.{dearer}
-use Rattle.roster_search.specs.Tables.{AreLabels, AreOfLeast, BestRows, IsDayOf, PointsToBest, Stands, best_by, label_of, no_row}
+use Rattle.roster_search.specs.Tables.{AreLabels, AreOfLeast, BestOnward, IsDayOf, PointsToBest, Stands, best_by, label_of, no_row}
 use Rattle.roster_search.proofs.Cheapest.{cheapest_more, keeps_first, takes_second}
 
 pub label_within : {X : Type 0} (p : Priced X) → label_of p ≤ no_row
@@ -33,7 +33,7 @@ shift_of_case c (Work s k) e = ltb-true s.0 (shift_count c) (and_parts (nat_lt s
 
 -- ---- by one offer
 
-module _ (c : Meaning) (at : SearchDay) (later : BestRows) (s : Summary) (offer : Offer) where
+module _ (c : Meaning) (at : SearchDay) (later : BestOnward) (s : Summary) (offer : Offer) where
   by_step : (step : Option (Summary × ℕ)) → step_of c at.nurse at.day s (shift_of offer.choice) ≡ step → label_of (best_by c at later s offer) ≡ label_of (best_behind offer (dearer offer.price step) later)
   by_step step e = ap (λ t. label_of (best_behind offer (dearer offer.price t) later)) e
 
@@ -124,10 +124,10 @@ module _ {O X : Type 0} (by : O → Priced X) where
 -- ---- the label of the next state
 
 module _ (c : Meaning) (at : SearchDay) (day : IsDayOf c at) where
-  pub label_of_next : (later : BestRows) (labels : List ℕ) → AreLabels c at.nurse (at.day + 1) later labels → (next : Summary) (code : ℕ) → code < product at.ranges → state_at at.ranges code ≡ Some next → Stands c at.nurse (at.day + 1) next
+  pub label_of_next : (later : BestOnward) (labels : List ℕ) → AreLabels c at.nurse (at.day + 1) later labels → (next : Summary) (code : ℕ) → code < product at.ranges → state_at at.ranges code ≡ Some next → Stands c at.nurse (at.day + 1) next
       → slice_index_or labels code 0 ≡ label_of (later next)
   label_of_next later labels right next code within back stands = right code next (subst (λ z. code < product z) day.ranges within) (subst (λ z. state_at z code ≡ Some next) day.ranges back) stands
 
-  pub label_of_next_within : (later : BestRows) (labels : List ℕ) → AreLabels c at.nurse (at.day + 1) later labels → (next : Summary) (code : ℕ) → code < product at.ranges → state_at at.ranges code ≡ Some next → Stands c at.nurse (at.day + 1) next
+  pub label_of_next_within : (later : BestOnward) (labels : List ℕ) → AreLabels c at.nurse (at.day + 1) later labels → (next : Summary) (code : ℕ) → code < product at.ranges → state_at at.ranges code ≡ Some next → Stands c at.nurse (at.day + 1) next
       → slice_index_or labels code 0 ≤ no_row
   label_of_next_within later labels right next code within back stands = omega (arith, label_of_next later labels right next code within back stands, label_within (later next))

@@ -13,14 +13,14 @@ use Rattle.roster_search.specs.declared.offer.Offer.{Offer}
 use Rattle.roster_search.specs.ByStates.{best_behind}
 use Rattle.roster_search.specs.Cheapest.{Priced, raised}
 use Rattle.roster_search.specs.Offers.{dearer}
-use Rattle.roster_search.specs.Tables.{ArePointers, BeginsWith, BestRows, IsDayOf, PointsToBest, Stands, best_by, best_on, no_row}
+use Rattle.roster_search.specs.Tables.{ArePointers, BeginsWith, BestOnward, IsDayOf, PointsToBest, Stands, best_by, best_on, no_row}
 use Rattle.roster_search.proofs.Cheapest.{cost_or, thing_or}
 
 -- the state behind a step, if it is allowed
 abbrev behind : {S : Type 0} → Bool → S → Option S
 behind forbidden next = if forbidden then None else Some next
 
-module _ (later : BestRows) (offer : Offer) (row : ℕ × List Offer) (reached : Summary) (cost : ℕ) where
+module _ (later : BestOnward) (offer : Offer) (row : ℕ × List Offer) (reached : Summary) (cost : ℕ) where
   abbrev by : Bool → Priced (List Offer)
   by forbidden = best_behind offer (dearer offer.price (if forbidden then None else Some (reached, cost))) later
 
@@ -65,7 +65,7 @@ pub pointer_within : {O X : Type 0} (by : O → Priced X) (offers : List O) (row
 pointer_within by offers row pointer points =
     omega (arith, points.place, ap length points.split, length-append points.front (points.offer ∷ points.back))
 
-pub points_at : (c : Meaning) (at : SearchDay) → IsDayOf c at → (offers : List Offer) (later : BestRows) (first : ℕ) (pointers : List ℕ) → ArePointers c at offers later first pointers
+pub points_at : (c : Meaning) (at : SearchDay) → IsDayOf c at → (offers : List Offer) (later : BestOnward) (first : ℕ) (pointers : List ℕ) → ArePointers c at offers later first pointers
     → (s : Summary) (code : ℕ) → code < product at.ranges → state_at at.ranges code ≡ Some s → Stands c at.nurse at.day s
     → (row : ℕ × List Offer) → best_on c at offers later s ≡ Some row → row.0 < no_row → PointsToBest (best_by c at later s) offers row (slice_index_or pointers (first + code) 0)
 points_at c at day offers later first pointers right s code within back stands row best low =
@@ -73,7 +73,7 @@ points_at c at day offers later first pointers right s code within back stands r
 
 -- ---- what is read there
 
-module _ (c : Meaning) (at : SearchDay) (later : BestRows) (s : Summary) (offers : List Offer) (row : ℕ × List Offer) (pointer : ℕ) (points : PointsToBest (best_by c at later s) offers row pointer) (d : Offer) where
+module _ (c : Meaning) (at : SearchDay) (later : BestOnward) (s : Summary) (offers : List Offer) (row : ℕ × List Offer) (pointer : ℕ) (points : PointsToBest (best_by c at later s) offers row pointer) (d : Offer) where
   abbrev read : Offer
   read = slice_index_or offers pointer d
 

@@ -30,8 +30,9 @@ label_of (Some best) = min best.0 no_row
 
 -- ---- a day of a search
 
-abbrev pub BestRows : Type 0
-BestRows = Summary → Priced (List Offer)
+-- for each state the best row from it on, if any
+abbrev pub BestOnward : Type 0
+BestOnward = Summary → Priced (List Offer)
 
 -- the day is one of the case's, and its ranges are the nurse's
 pub record IsDayOf (c : Meaning) (at : SearchDay) : Type 0 where
@@ -44,14 +45,14 @@ pub record IsOfferOf (c : Meaning) (offer : Offer) : Type 0 where
   pub price : offer.price ≤ most_price
 
 -- the best row from a state on that begins with an offer, where these are the best rows from the next day on
-abbrev pub best_by : Meaning → SearchDay → BestRows → Summary → Offer → Priced (List Offer)
+abbrev pub best_by : Meaning → SearchDay → BestOnward → Summary → Offer → Priced (List Offer)
 best_by c at later s offer = best_behind offer (offer_step c at.nurse at.day s offer) later
 
-abbrev pub best_on : Meaning → SearchDay → List Offer → BestRows → BestRows
+abbrev pub best_on : Meaning → SearchDay → List Offer → BestOnward → BestOnward
 best_on c at offers later s = cheapest (best_by c at later s) offers
 
 -- behind the last day
-abbrev pub best_at_end : Meaning → ℕ → BestRows
+abbrev pub best_at_end : Meaning → ℕ → BestOnward
 best_at_end c n s = Some (end_cost_of c n s, [])
 
 -- ---- the tables
@@ -65,10 +66,10 @@ abbrev pub CellsBelow : (Summary → Type 0) → Sizes → (Summary → ℕ → 
 CellsBelow stands z right place k cells = (code : ℕ) (s : Summary) → code < k → state_at z code ≡ Some s → stands s → right s (slice_index_or cells (place code) 0)
 
 -- the label of each state with a number below k
-abbrev pub LabelsBelow : Meaning → ℕ → ℕ → BestRows → ℕ → List ℕ → Type 0
+abbrev pub LabelsBelow : Meaning → ℕ → ℕ → BestOnward → ℕ → List ℕ → Type 0
 LabelsBelow c n day best k labels = CellsBelow (Stands c n day) (sizes_of c n) (λ s label. label ≡ label_of (best s)) (λ code. code) k labels
 
-abbrev pub AreLabels : Meaning → ℕ → ℕ → BestRows → List ℕ → Type 0
+abbrev pub AreLabels : Meaning → ℕ → ℕ → BestOnward → List ℕ → Type 0
 AreLabels c n day best labels = LabelsBelow c n day best (product (sizes_of c n)) labels
 
 -- at the place of the pointer stands an offer with which the best row begins
@@ -90,11 +91,11 @@ pub record AreOfLeast {O X : Type 0} (by : O → Priced X) (offers : List O) (la
   pub points : PointsWhereBest by offers (cheapest by offers) pointer
 
 -- the pointer of each state with a number below k, from a first place on
-abbrev pub PointersBelow : Meaning → SearchDay → List Offer → BestRows → ℕ → ℕ → List ℕ → Type 0
+abbrev pub PointersBelow : Meaning → SearchDay → List Offer → BestOnward → ℕ → ℕ → List ℕ → Type 0
 PointersBelow c at offers later first k pointers =
     CellsBelow (Stands c at.nurse at.day) (sizes_of c at.nurse) (λ s. PointsWhereBest (best_by c at later s) offers (best_on c at offers later s)) (λ code. first + code) k pointers
 
-abbrev pub ArePointers : Meaning → SearchDay → List Offer → BestRows → ℕ → List ℕ → Type 0
+abbrev pub ArePointers : Meaning → SearchDay → List Offer → BestOnward → ℕ → List ℕ → Type 0
 ArePointers c at offers later first pointers = PointersBelow c at offers later first (product (sizes_of c at.nurse)) pointers
 
 -- outside these places nothing has changed
@@ -103,7 +104,7 @@ pub record SameOutside (first end : ℕ) (old new : List ℕ) : Type 0 where
   pub behind : (place : ℕ) → end ≤ place → slice_index_or new place 0 ≡ slice_index_or old place 0
 
 -- the best row begins with this choice, and goes on from the next state with the best row there
-pub record BeginsWith (later : BestRows) (row : ℕ × List Offer) (choice : Choice) (next : Summary) : Type 0 where
+pub record BeginsWith (later : BestOnward) (row : ℕ × List Offer) (choice : Choice) (next : Summary) : Type 0 where
   pub offer : Offer
   pub others : List Offer
   pub cost : ℕ

@@ -3,7 +3,7 @@
 ghost use Rattle.std.specs.Prelude.{◌≡◌, ◌+◌, ◌*◌, ◌<◌, ◌≤◌, List, [], All, length};
 ghost use Rattle.roster_rules.specs.Meaning.{day_count, nurse_count};
 ghost use Rattle.roster_state.specs.Codes.{product, sizes_of};
-ghost use Rattle.roster_search.specs.Tables.{AreLabels, AreOfLeast, ArePointers, BestRows, IsDayOf, IsOfferOf, SameOutside, Stands, best_at_end, best_by, best_on, label_of};
+ghost use Rattle.roster_search.specs.Tables.{AreLabels, AreOfLeast, ArePointers, BestOnward, IsDayOf, IsOfferOf, SameOutside, Stands, best_at_end, best_by, best_on, label_of};
 
 use crate::day::SearchDay;
 use crate::offer::Offer;
@@ -48,7 +48,7 @@ pub fn label_day(
     first: u32,
     meter: &mut Meter,
 )
-    ghost rest: { BestRows }
+    ghost rest: { BestOnward }
     requires day { IsDayOf case.now at.now }
     requires offers { All (IsOfferOf case.now) offers.now }
     requires few { length offers.now ≤ 256 }
@@ -85,7 +85,7 @@ fn least_of_offers(
     later: &[u32],
     meter: &mut Meter,
 ) -> Least
-    ghost rest: { BestRows }
+    ghost rest: { BestOnward }
     requires day { IsDayOf case.now at.now }
     requires stands { Stands case.now at.now.nurse at.now.day state.now }
     requires offers { All (IsOfferOf case.now) offers.now }
@@ -123,7 +123,7 @@ fn label_by(
     later: &[u32],
     meter: &mut Meter,
 ) -> u32
-    ghost rest: { BestRows }
+    ghost rest: { BestOnward }
     requires day { IsDayOf case.now at.now }
     requires stands { Stands case.now at.now.nurse at.now.day state.now }
     requires offer { IsOfferOf case.now offer }

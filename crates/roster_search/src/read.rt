@@ -2,7 +2,7 @@
 
 ghost use Rattle.std.specs.Prelude.{◌≡◌, ◌+◌, ◌<◌, ◌≤◌, ℕ, All, IfSome, IsSome, List, Some, length};
 ghost use Rattle.roster_state.specs.Codes.{product};
-ghost use Rattle.roster_search.specs.Tables.{ArePointers, BeginsWith, BestRows, IsDayOf, IsOfferOf, Stands, best_on, no_row};
+ghost use Rattle.roster_search.specs.Tables.{ArePointers, BeginsWith, BestOnward, IsDayOf, IsOfferOf, Stands, best_on, no_row};
 ghost use Rattle.roster_search.specs.declared.offer.Offer.{Offer};
 
 use crate::day::SearchDay;
@@ -21,7 +21,7 @@ pub fn read_day(
     pointers: &Pointers,
     first: u32,
 ) -> (Choice, State)
-    ghost rest: { BestRows }
+    ghost rest: { BestOnward }
     requires day { IsDayOf case.now at.now }
     requires stands { Stands case.now at.now.nurse at.now.day state.now }
     requires offers { All (IsOfferOf case.now) offers.now }
