@@ -1,10 +1,10 @@
 -- The staffing of a day, by how many nurses work each shift with each skill.
 use Rattle.std.specs.Prelude.{ℕ, ◌+◌, ◌-◌, ◌*◌, Bool, not, nat_lt}
-use Rattle.roster_rules.specs.declared.Choice.{Choice}
-use Rattle.roster_rules.specs.declared.Choice.TheVariants.{Work}
-use Rattle.roster_rules.specs.Choices.{same_choice}
-use Rattle.roster_rules.specs.Counting.{all_below, one_if, sum_below}
-use Rattle.roster_rules.specs.Meaning.{Meaning, minimum, optimum, shift_at, shift_count, skill_at, skill_count}
+use Rattle.roster_instance.specs.declared.Choice.{Choice}
+use Rattle.roster_instance.specs.declared.Choice.TheVariants.{Work}
+use Rattle.roster_instance.specs.Choices.{same_choice}
+use Rattle.roster_instance.specs.Counting.{all_below, one_if, sum_below}
+use Rattle.roster_instance.specs.Meaning.{Meaning, minimum, optimum, shift_at, shift_count, skill_at, skill_count}
 use Rattle.roster_rules.specs.Weights.{staffing_weight}
 
 -- one nurse more, with this choice
