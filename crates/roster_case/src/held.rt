@@ -82,6 +82,7 @@ impl Held {
         }
     }
 
+    /// The case, as it was given.
     pub fn case(&self) -> &Case
         ensures { result.now ≡ self.now.case }
     {

@@ -1,4 +1,10 @@
-//! Cases and rosters, and a roster that keeps the hard rules with what it costs.
+//! Cases and rosters, and a roster that keeps the hard rules with what it costs. It passes on the types of `roster_rules`.
+//!
+//! What a held roster is, and that all that is kept of it is exact, is defined in `specs/Held.antt`; what a row costs and
+//! whether it keeps the hard rules in the place of a nurse's in `specs/OneRow.antt`, by what a day's staffing lacks
+//! (`specs/Staffing.antt`); a week as it is written in `specs/Shown.antt`. `Held::new` promises a roster that keeps the hard
+//! rules, or the first breach; `Held::row_keeps` and `Held::replace_row` which row may be put in, and what the roster is
+//! then; `Held::total` its penalty. The laws of these definitions stand in `src/laws.rt`.
 #![tactic(auto)]
 
 mod allowed;

@@ -1,4 +1,10 @@
-//! Cases and rosters, and what is counted in them: the hard rules and the penalties, and the laws of a day more.
+//! Cases and rosters, and what is counted in them: the hard rules and the penalties, and the laws of a day more. It passes on
+//! all of `roster_instance`.
+//!
+//! The hard rules with their order are defined in `specs/HardRules.antt`, the soft ones in `specs/Penalties.antt`, over runs
+//! of days (`specs/Runs.antt`) and weights (`specs/Weights.antt`), what the first days of a row owe in `specs/Prefix.antt`,
+//! best rows in `specs/AllowedRows.antt`, and the improver's runs in `specs/Improver.antt`. `first_hard` promises the first
+//! breach of the hard rules, `costs` what a roster costs by each soft rule, and `nurse_cost` what a nurse's row costs.
 #![tactic(auto)]
 
 mod costing;
