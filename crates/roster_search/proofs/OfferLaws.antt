@@ -22,10 +22,10 @@ use Rattle.roster_rules.specs.Small.{HasSmallNumbers}
 use Rattle.roster_rules.specs.Weights.{off_request_weight, staffing_weight}
 use Rattle.roster_rules.proofs.RosterFacts.{has_row, row-length, row_fits}
 use Rattle.roster_rules.proofs.RunBounds.{sum_within}
-use Rattle.roster_case.specs.OneRow.{is_offered, is_offered_row, others, price}
-use Rattle.roster_case.specs.Staffing.{meets, staffing_cost_by, with_choice}
-use Rattle.roster_case.proofs.Below.{all_elim}
-use Rattle.roster_case.proofs.Keeps.{keeps_hard-with_row}
+use Rattle.roster_laws.specs.OneRow.{is_offered, is_offered_row, others, price}
+use Rattle.roster_laws.specs.Staffing.{meets, staffing_cost_by, with_choice}
+use Rattle.roster_laws.proofs.Below.{all_elim}
+use Rattle.roster_laws.proofs.Keeps.{keeps_hard-with_row}
 use Rattle.roster_laws.proofs.AllRows.{count-below, count-choices, count-cons, count-map, count-none, member_is_choice}
 use Rattle.roster_laws.proofs.SameRows.{same_choice_is}
 use Rattle.roster_search.specs.Offers.{offer_of, offers_of}
