@@ -14,7 +14,7 @@ use Rattle.roster_rules.specs.Prefix.{Summary, due, summary_of}
 use Rattle.roster_rules.specs.Room.{penalty_room}
 use Rattle.roster_rules.proofs.Bounds.{penalty-within}
 use Rattle.roster_rules.proofs.RowFits.{fits-with_row}
-use Rattle.roster_case.specs.OneRow.{rest_of}
+use Rattle.roster_laws.specs.OneRow.{rest_of}
 use Rattle.roster_laws.specs.Greatest.{greatest_state_count}
 use Rattle.roster_laws.proofs.Allowed.{allowed_keeps}
 use Rattle.roster_laws.proofs.GreatestLemmas.{greatest_states}

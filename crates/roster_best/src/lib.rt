@@ -1,4 +1,9 @@
 //! What a nurse may do on each day while the others' rows stay, and what it costs.
+//!
+//! Which choices are offered at which price is defined below (`is_offered` and `price` of `roster_case`, `offers_of` of
+//! `roster_search`), and rows of which each choice is offered in `specs/Offers.antt`. `choices` promises the offers of a day
+//! in the order of the choices, and `offers_tell_the_allowed_rows` that they tell a nurse's allowed rows and the prices of
+//! these.
 #![tactic(auto)]
 
 mod laws;
