@@ -1,0 +1,51 @@
+-- What the steps of a run count on the meter, and the room that they leave in the workspace.
+use Rattle.std.proofs.Common.{◌≡◌, ◌∙◌, ◌+◌, ◌*◌, ◌<◌, ◌≤◌, ℕ, ap, arith}
+use Rattle.std.proofs.lemmas.Nat.{mul-le}
+use Rattle.roster_instance.specs.Meaning.{Meaning, nurse_count}
+use Rattle.roster_laws.specs.Greatest.{extension_count, greatest_extension_count}
+use Rattle.roster_laws.proofs.GreatestLemmas.{greatest_extensions}
+use Rattle.roster_best.specs.Workspaces.{SameRoom, Space}
+use Rattle.roster_rounds.specs.RunLogs.{extensions_in}
+
+pub same_room : (a b c : Space) → SameRoom a b → SameRoom b c → SameRoom a c
+same_room a b c p q = record { labels = q.labels ∙ p.labels; pointers = q.pointers ∙ p.pointers; room = q.room ∙ p.room }
+
+-- ---- the steps of the first nurses of a round; the case is known by an equation
+
+module _ (c now : Meaning) (same : now ≡ c) (n start meter : ℕ) (so_far : meter ≤ start + n * greatest_extension_count c) (inside : n < nurse_count c) where
+  step_counts : extension_count now n ≤ greatest_extension_count c
+  step_counts = omega (arith, ap (λ (m : Meaning). extension_count m n) same, (greatest_extensions c (omega (arith, inside))).above n inside)
+
+  pub step_room : (most : ℕ) → start + nurse_count c * greatest_extension_count c ≤ most → meter + extension_count now n ≤ most
+  step_room most room = omega (arith, so_far, step_counts, room, mul-le (n + 1) (greatest_extension_count c) (nurse_count c) (greatest_extension_count c) (omega (arith, inside)) (omega arith))
+
+  pub step_counted : (new : ℕ) → new ≤ meter + extension_count now n → new ≤ start + (n + 1) * greatest_extension_count c
+  step_counted new more = omega (arith, so_far, step_counts, more)
+
+  pub step_within : (new : ℕ) → new ≤ meter + extension_count now n → new ≤ start + nurse_count c * greatest_extension_count c
+  step_within new more = omega (arith, step_counted new more, mul-le (n + 1) (greatest_extension_count c) (nurse_count c) (greatest_extension_count c) (omega (arith, inside)) (omega arith))
+
+-- ---- the first rounds of a run
+
+module _ (c now : Meaning) (same : now ≡ c) (made start meter : ℕ) (so_far : meter ≤ start + extensions_in c made) where
+  round_counts : nurse_count now * greatest_extension_count now ≡ nurse_count c * greatest_extension_count c
+  round_counts = ap (λ (m : Meaning). nurse_count m * greatest_extension_count m) same
+
+  pub round_room : (rounds most : ℕ) → made < rounds → start + extensions_in c rounds ≤ most → meter + nurse_count now * greatest_extension_count now ≤ most
+  round_room rounds most within room =
+      let all = nurse_count c * greatest_extension_count c in
+      omega (arith, so_far, round_counts, room, mul-le (made + 1) all rounds all (omega (arith, within)) (omega arith))
+
+  pub round_counted : (new : ℕ) → new ≤ meter + nurse_count now * greatest_extension_count now → new ≤ start + extensions_in c (made + 1)
+  round_counted new more = omega (arith, so_far, round_counts, more)
+
+  pub round_within : (rounds new : ℕ) → made < rounds → new ≤ meter + nurse_count now * greatest_extension_count now → new ≤ start + extensions_in c rounds
+  round_within rounds new within more =
+      let all = nurse_count c * greatest_extension_count c in
+      omega (arith, round_counted new more, mul-le (made + 1) all rounds all (omega (arith, within)) (omega arith))
+
+-- more rounds count no less
+pub counted_within : (c : Meaning) (made rounds start meter : ℕ) → made ≤ rounds → meter ≤ start + extensions_in c made → meter ≤ start + extensions_in c rounds
+counted_within c made rounds start meter within so_far =
+    let all = nurse_count c * greatest_extension_count c in
+    omega (arith, so_far, mul-le made all rounds all within (omega arith))

@@ -1,0 +1,5 @@
+mod Sent
+mod RoundSteps
+mod OneRound
+mod RunSteps
+mod Counts

@@ -1,0 +1,70 @@
+-- The text of a run's log, and a run whose log a writer took, or on which it stopped (our own).
+use Rattle.std.specs.Prelude.{◌≡◌, ℕ, ◌+◌, ◌*◌, ◌<◌, ◌≤◌, List, [], ◌∷◌, ◌++◌, length, codes, decimal, flat_map, Option}
+use Rattle.std.specs.List.{range_with_len}
+use Rattle.roster_text.specs.Io.{Sends, StopsAt, Watched, Writes, saturated}
+use Rattle.roster_text.specs.declared.fault.WriteFault.{WriteFault}
+use Rattle.roster_text.specs.declared.fault.WriteFault.TheVariants.{WriteFailed}
+use Rattle.roster_instance.specs.Meaning.{Meaning, nurse_count}
+use Rattle.roster_instance.specs.Rosters.{Rows}
+use Rattle.roster_rules.specs.Improver.{BestRows, Entry, changes, line_of, log_of, round, round_log, run}
+use Rattle.roster_laws.specs.Greatest.{greatest_extension_count}
+use Rattle.roster_laws.specs.Logs as laws
+use Rattle.roster_rounds.specs.declared.outcome.LogFault.{LogFault}
+use Rattle.roster_rounds.specs.declared.outcome.LogFault.TheVariants.{LogFailed}
+use Rattle.roster_rounds.specs.declared.outcome.Outcome.{Outcome}
+
+-- how often a run extends a label, at most
+abbrev pub extensions_in : Meaning → ℕ → ℕ
+extensions_in c rounds = rounds * (nurse_count c * greatest_extension_count c)
+
+-- a line: what happened, and a penalty
+abbrev pub line : List ℕ → ℕ → List ℕ
+line event total = event ++ codes " " ++ decimal total ++ codes "\n"
+
+-- the text of some entries
+abbrev pub text_of : Meaning → List Entry → List ℕ
+text_of c entries = flat_map (line_of c) entries
+
+-- what is told of a run's end
+abbrev pub told : Outcome → laws.Outcome
+told outcome = record { is_settled = outcome.settled; rounds = outcome.rounds; changes = outcome.changes; total = outcome.total }
+
+-- ---- a writer that stops
+
+-- among these entries' lines: all lines of `done` went out, that of `next` not wholly, and the roster is that of `next`
+pub record StopsAmong {W : Type 0} (contents : W → Option (List ℕ)) (c : Meaning) (entries : List Entry) (roster : Rows) (old new : Watched W) (sent : ℕ) : Type 0 where
+  pub done : List Entry
+  pub next : Entry
+  pub rest : List Entry
+  pub split : entries ≡ done ++ next ∷ rest
+  pub stops : StopsAt contents old new (text_of c entries) sent
+  pub whole : length (text_of c done) ≤ sent
+  pub broken : sent < length (text_of c (done ++ next ∷ []))
+  pub roster_is : roster ≡ next.roster
+
+-- the same in a part of the log; the fault counts from the log's beginning
+pub record BreaksAmong {W : Type 0} (contents : W → Option (List ℕ)) (c : Meaning) (entries : List Entry) (roster : Rows) (old new : Watched W) (before : ℕ) (fault : WriteFault) : Type 0 where
+  pub sent : ℕ
+  pub stops : StopsAmong contents c entries roster old new sent
+  pub counted : fault ≡ WriteFailed (saturated (before + sent))
+
+-- the same in a whole log
+pub record LogStops {W : Type 0} (contents : W → Option (List ℕ)) (c : Meaning) (best : BestRows) (rounds : ℕ) (before after : Rows) (old new : Watched W) (fault : LogFault) : Type 0 where
+  pub sent : ℕ
+  pub stops : StopsAmong contents c (log_of c best rounds before) after old new sent
+  pub counted : fault ≡ LogFailed (saturated sent)
+
+-- ---- and one that takes all
+
+-- a round was made, and its lines were sent
+pub record RoundMade {W : Type 0} (contents : W → Option (List ℕ)) (c : Meaning) (best : BestRows) (k : ℕ) (before after : Rows) (old new : Watched W) (sent_before sent : ℕ) (count : ℕ) : Type 0 where
+  pub roster_is : after ≡ round c best before
+  pub sends : Sends contents old new sent_before sent (text_of c (round_log c best k before))
+  pub counted : count ≡ length (changes c best k (range_with_len 0 (nurse_count c)) before)
+  pub few : count ≤ 200
+
+-- a run was made, and its log went out
+pub record Ran {W : Type 0} (contents : W → Option (List ℕ)) (c : Meaning) (best : BestRows) (rounds : ℕ) (before after : Rows) (old new : Watched W) (outcome : Outcome) : Type 0 where
+  pub roster_is : after ≡ (run c best rounds before).roster
+  pub writes : Writes contents old new (text_of c (log_of c best rounds before))
+  pub outcome_is : told outcome ≡ laws.outcome_of c best rounds before

@@ -1,0 +1,78 @@
+//! The lines of a run's log. Each function takes how many bytes of the log were sent before, and returns how many are sent then.
+
+ghost use Rattle.std.specs.Prelude.{◌++◌, IfErr, IfOk, codes, decimal};
+ghost use Rattle.roster_text.specs.Io.{BreaksIn, Sends};
+ghost use Rattle.roster_rounds.specs.RunLogs.{line};
+
+use roster_text::{Piece, Watch, WriteFault, send_pieces};
+use std::io::Write;
+
+/// A line of one word and the penalty.
+pub(crate) fn log_word<W: Write>(
+    log: &mut Watch<W>,
+    sent: usize,
+    word: &[u8],
+    total: u64,
+) -> Result<usize, WriteFault>
+    ensures ok { IfOk result (λ after. Sends W.contents log.old log.new sent after (line word.now total)) }
+    ensures err { IfErr result (BreaksIn W.contents log.old log.new sent (line word.now total)) }
+{
+    send_pieces(
+        log,
+        sent,
+        &[
+            Piece::Bytes(word),
+            Piece::Bytes(b" "),
+            Piece::Number(total),
+            Piece::Bytes(b"\n"),
+        ],
+    )
+}
+
+/// The line of a nurse whose row was replaced in this round.
+pub(crate) fn log_change<W: Write>(
+    log: &mut Watch<W>,
+    sent: usize,
+    round: u16,
+    name: &[u8],
+    total: u64,
+) -> Result<usize, WriteFault>
+    ensures ok { IfOk result (λ after. Sends W.contents log.old log.new sent after (line (decimal round ++ codes " " ++ name.now) total)) }
+    ensures err { IfErr result (BreaksIn W.contents log.old log.new sent (line (decimal round ++ codes " " ++ name.now) total)) }
+{
+    send_pieces(
+        log,
+        sent,
+        &[
+            Piece::Number(round as u64),
+            Piece::Bytes(b" "),
+            Piece::Bytes(name),
+            Piece::Bytes(b" "),
+            Piece::Number(total),
+            Piece::Bytes(b"\n"),
+        ],
+    )
+}
+
+/// The line of a round that is done.
+pub(crate) fn log_round<W: Write>(
+    log: &mut Watch<W>,
+    sent: usize,
+    round: u16,
+    total: u64,
+) -> Result<usize, WriteFault>
+    ensures ok { IfOk result (λ after. Sends W.contents log.old log.new sent after (line (codes "round " ++ decimal round) total)) }
+    ensures err { IfErr result (BreaksIn W.contents log.old log.new sent (line (codes "round " ++ decimal round) total)) }
+{
+    send_pieces(
+        log,
+        sent,
+        &[
+            Piece::Bytes(b"round "),
+            Piece::Number(round as u64),
+            Piece::Bytes(b" "),
+            Piece::Number(total),
+            Piece::Bytes(b"\n"),
+        ],
+    )
+}

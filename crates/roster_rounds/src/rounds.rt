@@ -1,0 +1,105 @@
+//! Rounds of steps.
+
+ghost use Rattle.std.specs.Prelude.{◌≡◌, ◌+◌, ◌*◌, ◌<◌, ◌≤◌, true, IfErr, IfOk};
+ghost use Rattle.roster_instance.specs.Meaning.{nurse_count};
+ghost use Rattle.roster_rules.specs.AllowedRows.{best_row};
+ghost use Rattle.roster_rules.specs.Improver.{round_log};
+ghost use Rattle.roster_laws.specs.Greatest.{greatest_extension_count};
+ghost use Rattle.roster_best.specs.Workspaces.{SameRoom, fits_space};
+ghost use Rattle.roster_rounds.specs.RunLogs.{BreaksAmong, LogStops, Ran, RoundMade, extensions_in};
+
+use crate::log::{log_change, log_round, log_word};
+use crate::nurse::step;
+use crate::outcome::{LogFault, Outcome};
+use roster_best::Workspace;
+use roster_case::Held;
+use roster_state::Meter;
+use roster_text::{Watch, WriteFault};
+use std::io::Write;
+
+/// Makes rounds until one changes nothing, or as many as are given. A round is a step for each nurse, in the order of the case. Each
+/// line of the log goes out as it is made.
+///
+/// # Errors
+///
+/// The log failed. The roster is the one to which the first line that didn't wholly go out belongs.
+pub fn improve<W: Write>(
+    held: &mut Held,
+    rounds: u16,
+    workspace: &mut Workspace,
+    meter: &mut Meter,
+    log: &mut Watch<W>,
+) -> Result<Outcome, LogFault>
+    requires fits { fits_space held.old.case workspace.old ≡ true }
+    requires room { meter.old + extensions_in held.old.case rounds ≤ 18446744073709551615 }
+    ensures case { held.new.case ≡ held.old.case }
+    ensures ok { IfOk result (Ran W.contents held.old.case (best_row held.old.case) rounds held.old.roster held.new.roster log.old log.new) }
+    ensures err { IfErr result (LogStops W.contents held.old.case (best_row held.old.case) rounds held.old.roster held.new.roster log.old log.new) }
+    ensures counted { meter.new ≤ meter.old + extensions_in held.old.case rounds }
+    ensures room { SameRoom workspace.old workspace.new }
+    ensures fits { fits_space held.old.case workspace.new ≡ true }
+{
+    let mut sent = log_word(log, 0, b"start", held.total())?;
+    let mut changes = 0;
+    for rounds_before in 0..rounds {
+        let made = make_round(held, rounds_before + 1, workspace, meter, log, sent)?;
+        sent = made.sent;
+        changes += made.changes;
+        if made.changes == 0 {
+            let total = held.total();
+            log_word(log, sent, b"settled", total)?;
+            return Ok(Outcome {
+                settled: true,
+                rounds: rounds_before + 1,
+                changes,
+                total,
+            });
+        }
+    }
+    let total = held.total();
+    log_word(log, sent, b"stopped", total)?;
+    Ok(Outcome {
+        settled: false,
+        rounds,
+        changes,
+        total,
+    })
+}
+
+/// A round that was made: how many bytes of the log are sent, and how many steps changed the roster.
+#[derive(Clone, Copy)]
+struct Round {
+    sent: usize,
+    changes: u32,
+}
+
+/// A step for each nurse, a line for each that changed the roster, and the line of the round.
+fn make_round<W: Write>(
+    held: &mut Held,
+    round: u16,
+    workspace: &mut Workspace,
+    meter: &mut Meter,
+    log: &mut Watch<W>,
+    mut sent: usize,
+) -> Result<Round, WriteFault>
+    requires fits { fits_space held.old.case workspace.old ≡ true }
+    requires room { meter.old + nurse_count held.old.case * greatest_extension_count held.old.case ≤ 18446744073709551615 }
+    ensures case { held.new.case ≡ held.old.case }
+    ensures ok { IfOk result (λ made. RoundMade W.contents held.old.case (best_row held.old.case) round held.old.roster held.new.roster log.old log.new sent made.sent made.changes) }
+    ensures err { IfErr result (BreaksAmong W.contents held.old.case (round_log held.old.case (best_row held.old.case) round held.old.roster) held.new.roster log.old log.new sent) }
+    ensures counted { meter.new ≤ meter.old + nurse_count held.old.case * greatest_extension_count held.old.case }
+    ensures room { SameRoom workspace.old workspace.new }
+    ensures fits { fits_space held.old.case workspace.new ≡ true }
+{
+    let mut changes = 0;
+    for nurse in 0..held.case().nurses() {
+        let step = step(held, nurse, workspace, meter);
+        if !step.changed {
+            continue;
+        }
+        changes += 1;
+        sent = log_change(log, sent, round, held.case().nurse_name(nurse), step.after)?;
+    }
+    sent = log_round(log, sent, round, held.total())?;
+    Ok(Round { sent, changes })
+}
