@@ -1,10 +1,9 @@
 -- A run: the rounds so far are made, and their lines are sent.
-use Rattle.std.proofs.Common.{◌≡◌, ◌∙◌, ◌+◌, ◌-◌, ◌*◌, ◌<◌, ◌≤◌, ℕ, suc, Bool, true, false, cond, ap, arith, sym, refl, List, [], ◌∷◌, ◌++◌, Option, length, length-append, append_assoc, append-nil, zero-add}
+use Rattle.std.proofs.Common.{◌≡◌, ◌∙◌, ◌+◌, ◌-◌, ◌*◌, ◌<◌, ◌≤◌, ℕ, suc, Bool, true, false, ap, arith, sym, refl, List, [], ◌∷◌, ◌++◌, Option, length, append_assoc, append-nil, zero-add}
 use Rattle.std.specs.List.{range_with_len}
-use Rattle.std.proofs.lemmas.List.Sums.{sum_by-append}
 use Rattle.roster_text.specs.declared.fault.WriteFault.{WriteFault}
 use Rattle.roster_text.specs.Io.{Watched, Sends, BreaksIn, sent_of, saturated}
-use Rattle.roster_rules.specs.Improver.{BestRows, round_log, Entry, Run, entry, started, changed, round_done, settled, stopped, step, round, run, changes, entries_from, log_of, line_of, same_rows}
+use Rattle.roster_rules.specs.Improver.{BestRows, round_log, Entry, Run, entry, started, settled, stopped, round, run, changes, entries_from, log_of, line_of, same_rows}
 use Rattle.roster_instance.specs.Meaning.{Meaning, nurse_count}
 use Rattle.roster_rules.specs.Penalties.{penalty}
 use Rattle.roster_instance.specs.Rosters.{Rows}
@@ -13,9 +12,8 @@ use Rattle.roster_laws.specs.Logs as laws
 use Rattle.roster_laws.proofs.Rounds.{changes_in-append, changes_in-round, round_stays, rounds_in-append, rounds_in-round, stays_none}
 use Rattle.roster_laws.proofs.Runs.{entries-goes_on, entries-settled, run-goes_on, run-settled, run-stopped}
 use Rattle.roster_laws.proofs.SameRows.{same_rows_is}
-use Rattle.roster_rounds.specs.RunLogs.{BreaksAmong, LogStops, Ran, RoundMade, text_of, told}
+use Rattle.roster_rounds.specs.RunLogs.{BreaksAmong, LogStops, Ran, RoundMade, text_of}
 use Rattle.roster_rounds.specs.declared.outcome.LogFault.TheVariants.{LogFailed}
-use Rattle.roster_rounds.specs.declared.outcome.Outcome.{Outcome}
 use Rattle.roster_rounds.proofs.Sent.{BreaksAmong-after, BreaksAmong-front, BreaksAmong-one, Sends-entries, Sends-one}
 
 -- ---- a run, a round at a time

@@ -1,6 +1,6 @@
-use Rattle.std.proofs.Common.{◌≡◌, ◌∙◌, ◌<◌, ap, ap₂, arith, le-ltb, nat_lt, not, sym}
-use Rattle.roster_instance.specs.Rosters.{Rows, with_row}
-use Rattle.roster_rules.specs.AllowedRows.{best_row, penalty_with}
+use Rattle.std.proofs.Common.{◌≡◌, ◌∙◌, ap, ap₂, arith, le-ltb, nat_lt, not, sym}
+use Rattle.roster_instance.specs.Rosters.{with_row}
+use Rattle.roster_rules.specs.AllowedRows.{best_row}
 use Rattle.roster_rules.specs.Improver.{same_rows, step}
 use Rattle.roster_rules.specs.Penalties.{penalty}
 use Rattle.roster_case.specs.Held.{HeldRoster}
@@ -17,11 +17,11 @@ returns-clause-roster c =
     let told = c.best_row-best.ensures in
     elim c.if-changed.branch [
       | then-changed w ↦
-        ap (λ (h : HeldRoster). h.roster) (w.held-is ∙ w.replace_row.ensures) ∙ ap (with_row rows n) w.row.ensures
-        ∙ sym (put_in k rows n row told.best (omega (arith, told.total, c.total-before.ensures.total, w.if-changed.true)))
+          ap (λ (h : HeldRoster). h.roster) (w.held-is ∙ w.replace_row.ensures) ∙ ap (with_row rows n) w.row.ensures
+          ∙ sym (put_in k rows n row told.best (omega (arith, told.total, c.total-before.ensures.total, w.if-changed.true)))
       | else-changed w ↦
-        ap (λ (h : HeldRoster). h.roster) w.held-is
-        ∙ sym (left_out k rows n row told.best (omega (arith, told.total, c.total-before.ensures.total, w.if-changed.false)))
+          ap (λ (h : HeldRoster). h.roster) w.held-is
+          ∙ sym (left_out k rows n row told.best (omega (arith, told.total, c.total-before.ensures.total, w.if-changed.false)))
     ]
 
 pub returns-clause-changed : goal.returns-clause-changed
@@ -36,10 +36,10 @@ returns-clause-changed c =
     let cheaper : nat_lt c.best_row-best.result.total c.total-before.result ≡ nat_lt (penalty k next) (penalty k rows) =
     elim c.if-changed.branch [
       | then-changed w ↦
-        let is = put_in k rows n row told.best (omega (arith, told.total, before, w.if-changed.true)) in
-        ap₂ nat_lt (told.total ∙ sym (ap (penalty k) is)) before
+          let is = put_in k rows n row told.best (omega (arith, told.total, before, w.if-changed.true)) in
+          ap₂ nat_lt (told.total ∙ sym (ap (penalty k) is)) before
       | else-changed w ↦
-        let is = left_out k rows n row told.best (omega (arith, told.total, before, w.if-changed.false)) in
-        le-ltb c.best_row-best.result.total c.total-before.result w.if-changed.false ∙ sym (le-ltb (penalty k next) (penalty k rows) (omega (arith, ap (penalty k) is)))
+          let is = left_out k rows n row told.best (omega (arith, told.total, before, w.if-changed.false)) in
+          le-ltb c.best_row-best.result.total c.total-before.result w.if-changed.false ∙ sym (le-ltb (penalty k next) (penalty k rows) (omega (arith, ap (penalty k) is)))
     ] in
     cheaper ∙ sym (changed_is_cheaper k (best_row k) rows n) ∙ ap (λ r. not (same_rows r rows)) (sym (returns-clause-roster c))

@@ -1,8 +1,6 @@
 -- The rounds so far are made, and the lines so far are sent.
-use Rattle.std.proofs.Common.{◌≡◌, ◌+◌, ◌*◌, ◌≤◌, true}
-use Rattle.roster_instance.specs.Meaning.{nurse_count}
+use Rattle.std.proofs.Common.{◌≡◌, ◌+◌, ◌≤◌, true}
 use Rattle.roster_rules.specs.AllowedRows.{best_row}
-use Rattle.roster_laws.specs.Greatest.{greatest_extension_count}
 use Rattle.roster_best.specs.Workspaces.{SameRoom, fits_space}
 use Rattle.roster_rounds.specs.RunLogs.{extensions_in}
 use Rattle.roster_rounds.proofs.RunSteps.{Going}

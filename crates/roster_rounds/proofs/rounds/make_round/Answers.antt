@@ -3,7 +3,7 @@ use Rattle.std.proofs.lemmas.Result.{err_from_is_err_and}
 use Rattle.roster_text.specs.Io.{BreaksIn, Sends}
 use Rattle.roster_instance.specs.Meaning.{Meaning, nurse_count, nurse_name}
 use Rattle.roster_rules.specs.AllowedRows.{best_row}
-use Rattle.roster_rules.specs.Improver.{changed, entry, line_of, same_rows, step}
+use Rattle.roster_rules.specs.Improver.{changed, entry, line_of, step}
 use Rattle.roster_rules.specs.Penalties.{penalty}
 use Rattle.roster_laws.specs.Greatest.{greatest_extension_count}
 use Rattle.roster_best.specs.Workspaces.{fits_space}
@@ -49,8 +49,8 @@ line_is : (g : _) (c : After-nurse_name g) → line (decimal c.args.round ++ cod
 line_is g c =
     let same = c.loop-nurse.invariant.case_is in
     change_line c.args.held.now.case c.args.round c.loop-nurse.nurse c.step-step.new.held.roster c.nurse_name.result.now c.step-step.result.after
-        (c.nurse_name.ensures ∙ ap (λ (m : Meaning). nurse_name m c.loop-nurse.nurse) (c.case-in-loop-nurse.ensures ∙ c.step-step.ensures.case ∙ same))
-        (c.step-step.ensures.after ∙ ap (λ (m : Meaning). penalty m c.step-step.new.held.roster) same)
+    (c.nurse_name.ensures ∙ ap (λ (m : Meaning). nurse_name m c.loop-nurse.nurse) (c.case-in-loop-nurse.ensures ∙ c.step-step.ensures.case ∙ same))
+    (c.step-step.ensures.after ∙ ap (λ (m : Meaning). penalty m c.step-step.new.held.roster) same)
 
 pub loop-nurse-preserved : goal.loop-nurse-preserved
 loop-nurse-preserved g c =

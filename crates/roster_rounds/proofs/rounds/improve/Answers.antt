@@ -1,0 +1,122 @@
+use Rattle.std.proofs.Common.{◌≡◌, ◌∙◌, ◌+◌, ap, arith, refl, subst, true}
+use Rattle.std.proofs.lemmas.Result.{err_from_is_err_and}
+use Rattle.roster_text.specs.Io.{BreaksIn, Sends}
+use Rattle.roster_instance.specs.Meaning.{Meaning}
+use Rattle.roster_rules.specs.AllowedRows.{best_row}
+use Rattle.roster_rules.specs.Improver.{round_log}
+use Rattle.roster_rules.specs.Penalties.{penalty}
+use Rattle.roster_best.specs.Workspaces.{fits_space}
+use Rattle.roster_rounds.specs.RunLogs.{BreaksAmong, RoundMade}
+use Rattle.roster_rounds.proofs.Counts.{round_counted, round_room, round_within, same_room}
+use Rattle.roster_rounds.proofs.OneRound.{settled_line, start_line, stopped_line}
+use Rattle.roster_rounds.proofs.RunSteps.{Going-round, Going-settled, Going-start, Going-stopped, round_breaks, settled_breaks, start_breaks, stopped_breaks}
+use Rattle.roster_rounds.proofs.rounds.improve.Goals as goal
+
+pub returns-in_err-sent-clause-err : goal.returns-in_err-sent-clause-err
+returns-in_err-sent-clause-err g c =
+    let p = err_from_is_err_and c.from_residual.result c.from_residual.ensures.1 in
+    let line = start_line c.args.held.now.case c.args.held.now.roster c.total.result c.total.ensures.total in
+    rw (p.1, p.2) (start_breaks g.W.Write.contents c.args.held.now.case (best_row c.args.held.now.case) c.args.rounds c.args.held.now.roster c.args.log.now c.log_word.new.log c.in_err-sent.field-0.0
+    (subst (λ text. BreaksIn g.W.Write.contents c.args.log.now c.log_word.new.log 0 text c.in_err-sent.field-0.0) line c.in_err-sent.ensures.err))
+
+pub loop-rounds_before-init : goal.loop-rounds_before-init
+loop-rounds_before-init g c =
+    let line = start_line c.args.held.now.case c.args.held.now.roster c.total.result c.total.ensures.total in
+    record {
+      case_is = refl;
+      counted = omega arith;
+      room = record { labels = refl; pointers = refl; room = refl };
+      fits = c.requires.fits;
+      going = Going-start g.W.Write.contents c.args.held.now.case (best_row c.args.held.now.case) c.args.rounds c.args.held.now.roster c.args.log.now c.log_word.new.log c.in_ok-sent.sent
+          (subst (Sends g.W.Write.contents c.args.log.now c.log_word.new.log 0 c.in_ok-sent.sent) line c.in_ok-sent.ensures.ok);
+    }
+
+pub returns-in_err-made-clause-err : goal.returns-in_err-made-clause-err
+returns-in_err-made-clause-err g c =
+    let p = err_from_is_err_and c.from_residual-in_err-made.result c.from_residual-in_err-made.ensures.1 in
+    let contents = g.W.Write.contents in
+    let l = c.loop-rounds_before in
+    let k = l.rounds_before + 1 in
+    rw (p.1, p.2) (round_breaks contents c.args.held.now.case (best_row c.args.held.now.case) c.args.rounds c.args.held.now.roster c.args.log.now l.held.roster c.make_round.new.held.roster l.log c.make_round.new.log l.sent
+    l.changes l.rounds_before c.in_err-made.field-0.0 l.invariant.going c.loop-rounds_before-test.true
+    (subst (λ (m : Meaning). BreaksAmong contents m (round_log m (best_row m) k l.held.roster) c.make_round.new.held.roster l.log c.make_round.new.log l.sent c.in_err-made.field-0.0) l.invariant.case_is c.in_err-made.ensures.err))
+
+pub returns-in_err-log_word-clause-err : goal.returns-in_err-log_word-clause-err
+returns-in_err-log_word-clause-err g c =
+    let p = err_from_is_err_and c.from_residual-in_err-log_word.result c.from_residual-in_err-log_word.ensures.1 in
+    let contents = g.W.Write.contents in
+    let case = c.args.held.now.case in
+    let l = c.loop-rounds_before in
+    let now = l.held.roster in
+    let next = c.make_round.new.held.roster in
+    let made = c.in_ok-made.made in
+    let round = subst (λ (m : Meaning). RoundMade contents m (best_row m) (l.rounds_before + 1) now next l.log c.make_round.new.log l.sent made.sent made.changes) l.invariant.case_is c.in_ok-made.ensures.ok in
+    let line = settled_line case next c.total-total.result (c.total-total.ensures.total ∙ ap (λ (m : Meaning). penalty m next) (c.make_round.ensures.case ∙ l.invariant.case_is)) in
+    rw (p.1, p.2) (settled_breaks contents case (best_row case) c.args.rounds c.args.held.now.roster c.args.log.now now next l.log c.make_round.new.log c.log_word-then-made-eq0.new.log l.sent made.sent l.changes l.rounds_before
+    made.changes c.in_err-log_word.field-0.0 l.invariant.going c.loop-rounds_before-test.true round c.if-made-eq0.true
+    (subst (λ text. BreaksIn contents c.make_round.new.log c.log_word-then-made-eq0.new.log made.sent text c.in_err-log_word.field-0.0) line c.in_err-log_word.ensures.err))
+
+pub returns-then-made-eq0-clause-ok : goal.returns-then-made-eq0-clause-ok
+returns-then-made-eq0-clause-ok g c =
+    let contents = g.W.Write.contents in
+    let case = c.args.held.now.case in
+    let l = c.loop-rounds_before in
+    let now = l.held.roster in
+    let next = c.make_round.new.held.roster in
+    let made = c.in_ok-made.made in
+    let round = subst (λ (m : Meaning). RoundMade contents m (best_row m) (l.rounds_before + 1) now next l.log c.make_round.new.log l.sent made.sent made.changes) l.invariant.case_is c.in_ok-made.ensures.ok in
+    let total = c.total-total.ensures.total ∙ ap (λ (m : Meaning). penalty m next) (c.make_round.ensures.case ∙ l.invariant.case_is) in
+    Going-settled contents case (best_row case) c.args.rounds c.args.held.now.roster c.args.log.now now next l.log c.make_round.new.log c.log_word-then-made-eq0.new.log l.sent made.sent c.in_ok-log_word.field-0 l.changes
+    l.rounds_before made.changes c.total-total.result l.invariant.going c.loop-rounds_before-test.true round c.if-made-eq0.true total
+    (subst (Sends contents c.make_round.new.log c.log_word-then-made-eq0.new.log made.sent c.in_ok-log_word.field-0) (settled_line case next c.total-total.result total) c.in_ok-log_word.ensures.ok)
+
+pub loop-rounds_before-preserved : goal.loop-rounds_before-preserved
+loop-rounds_before-preserved g c =
+    let contents = g.W.Write.contents in
+    let case = c.args.held.now.case in
+    let l = c.loop-rounds_before in
+    let now = l.held.roster in
+    let next = c.make_round.new.held.roster in
+    let made = c.in_ok-made.made in
+    let round = subst (λ (m : Meaning). RoundMade contents m (best_row m) (l.rounds_before + 1) now next l.log c.make_round.new.log l.sent made.sent made.changes) l.invariant.case_is c.in_ok-made.ensures.ok in
+    record {
+      case_is = c.make_round.ensures.case ∙ l.invariant.case_is;
+      counted = round_counted case l.held.case l.invariant.case_is l.rounds_before c.args.meter.now l.meter l.invariant.counted c.make_round.new.meter c.make_round.ensures.counted;
+      room = same_room _ _ _ l.invariant.room c.make_round.ensures.room;
+      fits = subst (λ (m : Meaning). fits_space m c.make_round.new.workspace ≡ true) l.invariant.case_is c.make_round.ensures.fits;
+      going = Going-round contents case (best_row case) c.args.rounds c.args.held.now.roster c.args.log.now now next l.log c.make_round.new.log l.sent made.sent l.changes l.rounds_before made.changes l.invariant.going
+          c.loop-rounds_before-test.true round (omega (arith, c.if-made-eq0.false));
+    }
+
+pub returns-in_err-log_word-2-clause-err : goal.returns-in_err-log_word-2-clause-err
+returns-in_err-log_word-2-clause-err g c =
+    let p = err_from_is_err_and c.from_residual-in_err-log_word-2.result c.from_residual-in_err-log_word-2.ensures.1 in
+    let contents = g.W.Write.contents in
+    let case = c.args.held.now.case in
+    let l = c.loop-rounds_before in
+    let now = l.held.roster in
+    let all : l.rounds_before ≡ c.args.rounds = omega (arith, c.loop-rounds_before-test.false, l.auto.rounds_before-end) in
+    let line = stopped_line case now c.total-total-2.result (c.total-total-2.ensures.total ∙ ap (λ (m : Meaning). penalty m now) l.invariant.case_is) in
+    rw (p.1, p.2) (stopped_breaks contents case (best_row case) c.args.rounds c.args.held.now.roster c.args.log.now now l.log c.log_word-2.new.log l.sent l.changes l.rounds_before c.in_err-log_word-2.field-0.0 l.invariant.going all
+    (subst (λ text. BreaksIn contents l.log c.log_word-2.new.log l.sent text c.in_err-log_word-2.field-0.0) line c.in_err-log_word-2.ensures.err))
+
+pub returns-clause-ok : goal.returns-clause-ok
+returns-clause-ok g c =
+    let contents = g.W.Write.contents in
+    let case = c.args.held.now.case in
+    let l = c.loop-rounds_before in
+    let now = l.held.roster in
+    let all : l.rounds_before ≡ c.args.rounds = omega (arith, c.loop-rounds_before-test.false, l.auto.rounds_before-end) in
+    let total = c.total-total-2.ensures.total ∙ ap (λ (m : Meaning). penalty m now) l.invariant.case_is in
+    Going-stopped contents case (best_row case) c.args.rounds c.args.held.now.roster c.args.log.now now l.log c.log_word-2.new.log l.sent c.in_ok-log_word-2.field-0 l.changes l.rounds_before c.total-total-2.result l.invariant.going
+    all total (subst (Sends contents l.log c.log_word-2.new.log l.sent c.in_ok-log_word-2.field-0) (stopped_line case now c.total-total-2.result total) c.in_ok-log_word-2.ensures.ok)
+
+pub make_round-requires-clause-room : goal.make_round-requires-clause-room
+make_round-requires-clause-room g c =
+    let l = c.loop-rounds_before in
+    round_room c.args.held.now.case l.held.case l.invariant.case_is l.rounds_before c.args.meter.now l.meter l.invariant.counted c.args.rounds 18446744073709551615 c.loop-rounds_before-test.true c.requires.room
+
+pub returns-then-made-eq0-clause-counted : goal.returns-then-made-eq0-clause-counted
+returns-then-made-eq0-clause-counted g c =
+    let l = c.loop-rounds_before in
+    round_within c.args.held.now.case l.held.case l.invariant.case_is l.rounds_before c.args.meter.now l.meter l.invariant.counted c.args.rounds c.make_round.new.meter c.loop-rounds_before-test.true c.make_round.ensures.counted
