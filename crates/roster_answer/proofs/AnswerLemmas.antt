@@ -1,10 +1,10 @@
 -- Which fault a failing reader or writer gives, and what a bundle means.
-use Rattle.std.proofs.Common.{◌≡◌, ◌≢◌, ◌⊎◌, ◌∙◌, ◌∷◌, [], ◌<◌, ℕ, Err, List, Option, None, Some, Result, Ok, ap, ap₂, arith, get_or, inl, inr, length, lit<, map, nat_lt, refl, subst, sym, false, true, zero, suc}
+use Rattle.std.proofs.Common.{◌≡◌, ◌∙◌, ◌∷◌, [], ◌<◌, ℕ, Err, List, Option, None, Some, Result, Ok, ap, ap₂, arith, get_or, length, lit<, map, nat_lt, refl, subst, sym, false, true, zero, suc}
 use Rattle.std.specs.Prelude.{Contains, IfErr, IfSome, IsErrOf, OnOk}
 use Rattle.std.proofs.lemmas.Bool.{ltb-true}
 use Rattle.std.proofs.lemmas.List.{length-map}
 use Rattle.roster_text.specs.Grammar.{Spells}
-use Rattle.roster_text.specs.Io.{IsReadFault, Stops, Watched, Writes, counted, is_read_failure, one_more}
+use Rattle.roster_text.specs.Io.{IsReadFault, Stops, Watched, Writes, counted, is_read_failure}
 use Rattle.roster_text.specs.Limits.{most_bytes}
 use Rattle.roster_text.specs.Token.{all_seen, text_of, tokens_of}
 use Rattle.roster_text.specs.declared.Bundle.{Bundle}
@@ -16,7 +16,6 @@ use Rattle.roster_case.specs.Checking.{IsFirst}
 use Rattle.roster_case.specs.Meaning.{Meaning, week_count}
 use Rattle.roster_case.specs.Names.{nurse_names, shift_names, skill_names}
 use Rattle.roster_case.specs.Refusals.{all_faults, case_faults, roster_faults}
-use Rattle.roster_case.specs.Rosters.{Rows}
 use Rattle.roster_case.specs.declared.CaseFault.{CaseFault}
 use Rattle.roster_case.specs.declared.CaseFault.TheVariants as case
 use Rattle.roster_case.proofs.Sections.{IsFirst-behind}

@@ -1,9 +1,18 @@
 //! What a nurse may do on each day while the others' rows stay, and what it costs.
+//!
+//! Which choices are offered at which price is defined below (`is_offered` and `price` of `roster_case`, `offers_of` of
+//! `roster_search`), and rows of which each choice is offered in `specs/Offers.antt`. `choices` promises the offers of a day
+//! in the order of the choices, and `offers_tell_the_allowed_rows` that they tell a nurse's allowed rows and the prices of
+//! these.
 #![tactic(auto)]
 
 mod laws;
 mod offer;
+mod search;
+mod workspace;
 
 pub use laws::offers_tell_the_allowed_rows;
 pub use offer::choices;
 pub use roster_search::Offer;
+pub use search::{Best, best_row};
+pub use workspace::{BestFault, Workspace};

@@ -13,9 +13,9 @@ use Rattle.roster_instance.specs.Meaning.{Meaning, need, optimum, shift_at, shif
 use Rattle.roster_instance.specs.Rosters.{Row, Rows, choice_on, cover, is_choice_of, row_of}
 use Rattle.roster_rules.specs.Covers.{AreCovers}
 use Rattle.roster_case.specs.DayTables.{HasPlace, IsCounted, IsTable, number_at}
-use Rattle.roster_case.specs.OneRow.{others}
-use Rattle.roster_case.specs.Staffing.{lacking, with_choice}
-use Rattle.roster_case.proofs.Lacking.{lacking-work}
+use Rattle.roster_laws.specs.OneRow.{others}
+use Rattle.roster_laws.specs.Staffing.{lacking, with_choice}
+use Rattle.roster_laws.proofs.Lacking.{lacking-work}
 
 -- ---- a choice of the case
 

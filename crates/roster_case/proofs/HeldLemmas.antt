@@ -7,8 +7,8 @@ use Rattle.roster_rules.specs.Penalties.{nurse_cost, over_nurses, penalty}
 use Rattle.roster_rules.proofs.RunSums.{sum_same}
 use Rattle.roster_case.specs.declared.counts.Counts.{Counts}
 use Rattle.roster_case.specs.Held.{AreCounts}
-use Rattle.roster_case.specs.OneRow.{rest_of}
-use Rattle.roster_case.proofs.OneRow.{penalty-parts}
+use Rattle.roster_laws.specs.OneRow.{rest_of}
+use Rattle.roster_laws.proofs.OneRow.{penalty-parts}
 
 module _ (c : Meaning) (r : Rows) (counts : Counts) (counted : AreCounts c r counts) where
   pub rest_is : (n : ℕ) → sum_below (length counts.nurse_costs.items) (λ m. if m == n then 0 else slice_index_or counts.nurse_costs.items m 0) ≡ rest_of c r n

@@ -8,10 +8,10 @@ use Rattle.roster_instance.specs.Meaning.{Meaning, optimum}
 use Rattle.roster_instance.specs.Rosters.{Row, Rows, choice_on, cover, row_of, with_row}
 use Rattle.roster_rules.specs.Covers.{AreCovers}
 use Rattle.roster_case.specs.DayTables.{IsTable, number_at}
-use Rattle.roster_case.specs.OneRow.{others}
-use Rattle.roster_case.specs.Staffing.{lacking, with_choice}
+use Rattle.roster_laws.specs.OneRow.{others}
+use Rattle.roster_laws.specs.Staffing.{lacking, with_choice}
 use Rattle.roster_case.proofs.DayTableLemmas.{cover-parts}
-use Rattle.roster_case.proofs.OneRow.{cover-with_row}
+use Rattle.roster_laws.proofs.OneRow.{cover-with_row}
 
 module _ (r : Rows) (n : ℕ) (within : n < length r) (row : Row) (day : ℕ) (old new : Choice) (old_is : old ≡ choice_on (row_of r n) day) (new_is : new ≡ choice_on row day) where
   cover-old : (s k : ℕ) → cover r day s k ≡ with_choice (others r n day) old s k

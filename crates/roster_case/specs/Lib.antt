@@ -18,7 +18,6 @@ pub use Rattle.roster_instance.specs.CaseParts
 pub use Rattle.roster_rules.specs.Covers
 pub use Rattle.roster_rules.specs.HardRules
 pub use Rattle.roster_rules.specs.Runs
-pub use Rattle.roster_rules.specs.Kinds
 pub use Rattle.roster_rules.specs.DayLaw
 pub use Rattle.roster_rules.specs.Weights
 pub use Rattle.roster_rules.specs.Room
@@ -26,8 +25,8 @@ pub use Rattle.roster_rules.specs.Penalties
 pub use Rattle.roster_rules.specs.Prefix
 pub use Rattle.roster_rules.specs.AllowedRows
 pub use Rattle.roster_rules.specs.Improver
+pub use Rattle.roster_laws.specs.Staffing
+pub use Rattle.roster_laws.specs.OneRow
 pub mod Shown
-pub mod Staffing
-pub mod OneRow
 pub mod DayTables
 pub mod Held

@@ -3,8 +3,8 @@
 ghost use Rattle.std.specs.Prelude.{◌≡◌, ◌<◌, ◌&&◌, not, nat_lt};
 ghost use Rattle.roster_instance.specs.Choices.{shift_of};
 ghost use Rattle.roster_instance.specs.Meaning.{day_count, forbids, minimum, nurse_count, shift_count, skill_count};
-ghost use Rattle.roster_case.specs.OneRow.{is_offered, is_offered_row, others};
-ghost use Rattle.roster_case.specs.Staffing.{meets, with_choice};
+ghost use Rattle.roster_laws.specs.OneRow.{is_offered, is_offered_row, others};
+ghost use Rattle.roster_laws.specs.Staffing.{meets, with_choice};
 
 use crate::held::Held;
 use roster_rules::{Choice, Shift, Skill, choice_on, is_able, last_shift};

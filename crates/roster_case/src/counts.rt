@@ -12,8 +12,9 @@ ghost use Rattle.roster_case.specs.DayTables.{number_at};
 ghost use Rattle.roster_case.specs.Held.{AreCounts};
 
 use crate::recount::recount;
+use roster_costs::{covers, nurse_cost, place, staffing_cost};
 use roster_rules::weights::STAFFING;
-use roster_rules::{Case, Choice, Roster, Shift, Skill, covers, nurse_cost, place, staffing_cost};
+use roster_rules::{Case, Choice, Roster, Shift, Skill};
 use std::alloc::{AllocError, Global};
 
 /// How many nurses each day, shift and skill has, and what each nurse and the staffing cost, in penalty points.

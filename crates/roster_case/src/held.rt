@@ -8,13 +8,12 @@ ghost use Rattle.roster_rules.specs.HardRules.{hard_faults, keeps_hard};
 ghost use Rattle.roster_rules.specs.Penalties.{penalty};
 ghost use Rattle.roster_rules.specs.Room.{penalty_room};
 ghost use Rattle.roster_case.specs.Held.{IsHandedBack};
-ghost use Rattle.roster_case.specs.OneRow.{others, rest_of};
+ghost use Rattle.roster_laws.specs.OneRow.{others, rest_of};
 
 use crate::allowed::is_offered_row;
 use crate::counts::Counts;
-use roster_rules::{
-    Case, Choice, HardFault, Roster, Shift, Skill, choice_on, first_hard, row_fits,
-};
+use roster_costs::first_hard;
+use roster_rules::{Case, Choice, HardFault, Roster, Shift, Skill, choice_on, row_fits};
 use std::alloc::Global;
 use std::marker::Model;
 
@@ -82,6 +81,7 @@ impl Held {
         }
     }
 
+    /// The case, as it was given.
     pub fn case(&self) -> &Case
         ensures { result.now ≡ self.now.case }
     {

@@ -8,9 +8,10 @@ ghost use Rattle.roster_rules.specs.Covers.{AreCovers};
 ghost use Rattle.roster_rules.specs.Penalties.{staffing_cost};
 ghost use Rattle.roster_rules.specs.Weights.{staffing_weight};
 ghost use Rattle.roster_case.specs.DayTables.{HasPlace, IsCounted, IsTable, number_at};
-ghost use Rattle.roster_case.specs.Staffing.{lacking, with_choice};
+ghost use Rattle.roster_laws.specs.Staffing.{lacking, with_choice};
 
-use roster_rules::{Case, Choice, Roster, place};
+use roster_costs::place;
+use roster_rules::{Case, Choice, Roster};
 
 /// How many nurses more, and how many fewer, are lacking to the optimums.
 #[derive(Clone, Copy, Default)]

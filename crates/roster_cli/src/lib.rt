@@ -1,10 +1,9 @@
 //! The program `roster` but for its `main`: what the words of a command line ask for, and the answer to it.
 #![tactic(auto)]
 
-mod joined;
 mod start;
 
-pub use joined::Joined;
 pub use roster_answer::{refuse, refuse_output, run};
+pub use roster_joined::Joined;
 pub use roster_words::{CliFault, Command, Request, request_of};
 pub use start::{answer_command_line, answer_words};

@@ -6,8 +6,8 @@ ghost use Rattle.std.specs.Io.Buffered.{writer_buffer, writer_contents};
 ghost use Rattle.roster_answer.specs.Answer.{Logs};
 ghost use Rattle.roster_cli.specs.Start.{AnswersWords, Sends, TellsWords};
 
-use crate::joined::Joined;
 use roster_answer::{refuse, refuse_output, run};
+use roster_joined::Joined;
 use roster_text::{TextFault, Watch, write_bytes};
 use roster_words::{CliFault, Request, request_of};
 use std::alloc::Global;

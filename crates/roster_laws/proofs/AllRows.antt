@@ -14,7 +14,7 @@ use Rattle.roster_rules.specs.Counting.{one_if}
 use Rattle.roster_rules.specs.Improver.{same_row}
 use Rattle.roster_rules.specs.Meaning.{Meaning, day_count, shift_at, shift_count, skill_at, skill_count}
 use Rattle.roster_rules.specs.Rosters.{Row, is_choice_of, is_row_of}
-use Rattle.roster_laws.proofs.SameRows.{same_row_is, same_row_self}
+use Rattle.roster_laws.proofs.SameRows.{same_choice_is, same_choice_self, same_row_is, same_row_self}
 
 -- ---- how often a test passes
 
@@ -143,23 +143,31 @@ passes {X} p (x ∷ xs) =
     let P : X → Type 0 = λ y. p y ≡ true → 0 < count_by p (x ∷ xs) in
     All-cons P x xs (λ e. omega (arith, count-cons p x xs, ap one_if e)) (λ k d h e. omega (arith, count-cons p x xs, passes p xs k d h e))
 
-contains_count : (xs : List Row) (row : Row) → Contains xs row → 0 < count_by (same_row row) xs
-contains_count xs row member = All-contains (λ y. same_row row y ≡ true → 0 < count_by (same_row row) xs) xs row (passes (same_row row) xs) member (same_row_self row)
+module _ {X : Type 0} (same : X → X → Bool) where
+  contains_count : ((x : X) → same x x ≡ true) → (xs : List X) (x : X) → Contains xs x → 0 < count_by (same x) xs
+  contains_count self xs x member = All-contains (λ y. same x y ≡ true → 0 < count_by (same x) xs) xs x (passes (same x) xs) member (self x)
 
-count_contains : (xs : List Row) (row : Row) → 0 < count_by (same_row row) xs → Contains xs row
-count_contains [] row some = absurd (omega (arith, some))
-count_contains (x ∷ xs) row some = go (same_row row x) refl (rw count-cons at some) (count_contains xs row)
-  where
-    go : (b : Bool) → same_row row x ≡ b → 0 < cond (same_row row x) 1 0 + count_by (same_row row) xs → (0 < count_by (same_row row) xs → Contains xs row) → Contains (x ∷ xs) row
-    go true e h later = rw (same_row_is row x e) (0, omega arith, refl)
-    go false e h later = Contains-append_right (x ∷ []) xs row (later (omega (arith, h, ap one_if e)))
+  count_contains : ((x y : X) → same x y ≡ true → x ≡ y) → (xs : List X) (x : X) → 0 < count_by (same x) xs → Contains xs x
+  count_contains is [] x some = absurd (omega (arith, some))
+  count_contains is (y ∷ ys) x some = go (same x y) refl (rw count-cons at some) (count_contains is ys x)
+    where
+      go : (b : Bool) → same x y ≡ b → 0 < cond (same x y) 1 0 + count_by (same x) ys → (0 < count_by (same x) ys → Contains ys x) → Contains (y ∷ ys) x
+      go true e h later = rw (is x y e) (0, omega arith, refl)
+      go false e h later = Contains-append_right (y ∷ []) ys x (later (omega (arith, h, ap one_if e)))
 
 pub is_one : (b : Bool) → 0 < one_if b → b ≡ true
 is_one true h = refl
 is_one false h = absurd (omega (arith, h))
 
-pub member_is_row : (c : Meaning) (row : Row) → Contains (all_rows (all_choices c) (day_count c)) row → is_row_of c row ≡ true
-member_is_row c row member = is_one (is_row_of c row) (rw (← count-all_rows c row) (contains_count (all_rows (all_choices c) (day_count c)) row member))
+module _ (c : Meaning) where
+  pub member_is_choice : (x : Choice) → Contains (all_choices c) x → is_choice_of c x ≡ true
+  member_is_choice x member = is_one (is_choice_of c x) (rw (← count-choices c x) (contains_count same_choice same_choice_self (all_choices c) x member))
 
-pub row_is_member : (c : Meaning) (row : Row) → is_row_of c row ≡ true → Contains (all_rows (all_choices c) (day_count c)) row
-row_is_member c row is = count_contains (all_rows (all_choices c) (day_count c)) row (omega (arith, count-all_rows c row, ap one_if is))
+  pub choice_is_member : (x : Choice) → is_choice_of c x ≡ true → Contains (all_choices c) x
+  choice_is_member x is = count_contains same_choice same_choice_is (all_choices c) x (omega (arith, count-choices c x, ap one_if is))
+
+  pub member_is_row : (row : Row) → Contains (all_rows (all_choices c) (day_count c)) row → is_row_of c row ≡ true
+  member_is_row row member = is_one (is_row_of c row) (rw (← count-all_rows c row) (contains_count same_row same_row_self (all_rows (all_choices c) (day_count c)) row member))
+
+  pub row_is_member : (row : Row) → is_row_of c row ≡ true → Contains (all_rows (all_choices c) (day_count c)) row
+  row_is_member row is = count_contains same_row same_row_is (all_rows (all_choices c) (day_count c)) row (omega (arith, count-all_rows c row, ap one_if is))

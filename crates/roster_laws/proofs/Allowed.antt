@@ -15,10 +15,10 @@ use Rattle.roster_laws.proofs.AllRows.{member_is_row, row_is_member}
 -- ---- what is kept of a list
 
 module _ {X : Type 0} (p : X → Bool) where
-  kept_is_member : (xs : List X) (x : X) → Contains (filter p xs) x → Contains xs x
+  pub kept_is_member : (xs : List X) (x : X) → Contains (filter p xs) x → Contains xs x
   kept_is_member xs x member = All-contains (Contains xs) (filter p xs) x (All-filter p (Contains xs) xs (All-contains_itself xs)) member
 
-  kept_passes : (xs : List X) (x : X) → Contains (filter p xs) x → p x ≡ true
+  pub kept_passes : (xs : List X) (x : X) → Contains (filter p xs) x → p x ≡ true
   kept_passes xs x member = All-contains (λ y. p y ≡ true) (filter p xs) x (filter_passes p xs) member
 
   first_kept : (x : X) (xs : List X) (b : Bool) → b ≡ true → Contains (cond b (x ∷ xs) xs) x
@@ -34,7 +34,7 @@ module _ {X : Type 0} (p : X → Bool) where
       All-cons (λ y. p y ≡ true → Contains (filter p (x ∷ xs)) y) x xs (first_kept x (filter p xs) (p x))
       (All-weaker (λ y. p y ≡ true → Contains (filter p xs) y) (λ y. p y ≡ true → Contains (filter p (x ∷ xs)) y) (λ y keeps e. later_kept x (filter p xs) (p x) y (keeps e)) xs (each_kept xs))
 
-  member_is_kept : (xs : List X) (x : X) → Contains xs x → p x ≡ true → Contains (filter p xs) x
+  pub member_is_kept : (xs : List X) (x : X) → Contains xs x → p x ≡ true → Contains (filter p xs) x
   member_is_kept xs x member passes = All-contains (λ y. p y ≡ true → Contains (filter p xs) y) xs x (each_kept xs) member passes
 
 some_least : {X : Type 0} (cost : X → ℕ) (xs : List X) (x : X) → Contains xs x → IsSome (first_least cost xs)

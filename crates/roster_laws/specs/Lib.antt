@@ -1,3 +1,5 @@
+pub mod Staffing
+pub mod OneRow
 pub mod Logs
 pub mod Greatest
 pub mod RowOrder

@@ -1,14 +1,22 @@
-//! Laws of the definitions of best rows, prices, runs of the improver and their logs. The functions here do nothing: each is a
-//! law, and its clauses say it.
+//! Laws of the definitions: one row replaced, best rows, runs of the improver and their logs. The functions here do nothing:
+//! each is a law, and its clauses say it.
+//!
+//! What a row costs, and whether it keeps the hard rules in the place of a nurse's, is defined in `specs/OneRow.antt`, by
+//! what a day's staffing lacks (`specs/Staffing.antt`); what the log of a run tells in `specs/Logs.antt`; the greatest sizes
+//! of a case in `specs/Greatest.antt`; the order of rows in `specs/RowOrder.antt`.
 #![tactic(auto)]
 
 mod improver;
+mod replaced;
 mod rows;
 mod sizes;
 
 pub use improver::{
     changes_are_few, last_round_tells, log_ends_with_the_run, penalty_never_rises,
     runs_keep_the_hard_rules, same_rows_are_equal, settled_stays, steps_put_the_best_row_in,
+};
+pub use replaced::{
+    hard_rules_by_parts, one_row_replaced, penalty_by_parts, staffing_by_what_is_lacking,
 };
 pub use rows::{all_rows_are_the_rows_of_the_case, allowed_rows_keep_the_hard_rules};
 pub use sizes::greatest_sizes;

@@ -9,6 +9,5 @@ pub mod WeekendLaw
 pub mod CountLemmas
 pub mod RunBounds
 pub mod Bounds
-pub mod CoverLemmas
 pub mod HardLemmas
 pub mod RowFits

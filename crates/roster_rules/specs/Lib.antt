@@ -18,7 +18,6 @@ pub use Rattle.roster_instance.specs.CaseParts
 pub mod Covers
 pub mod HardRules
 pub mod Runs
-pub mod Kinds
 pub mod DayLaw
 pub mod Weights
 pub mod Room

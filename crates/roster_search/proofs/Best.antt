@@ -11,9 +11,9 @@ use Rattle.roster_rules.specs.Rosters.{Row, Rows, fits_case, with_row}
 use Rattle.roster_rules.specs.AllowedRows.{IsBestRow, allowed_rows, best_row, penalty_with}
 use Rattle.roster_rules.proofs.FirstLeast.{found}
 use Rattle.roster_rules.proofs.RosterFacts.{has_row}
-use Rattle.roster_case.specs.OneRow.{is_offered, is_offered_row, prices, rest_of}
-use Rattle.roster_case.proofs.Keeps.{keeps_hard-with_row}
-use Rattle.roster_case.proofs.OneRow.{penalty-with_row}
+use Rattle.roster_laws.specs.OneRow.{is_offered, is_offered_row, prices, rest_of}
+use Rattle.roster_laws.proofs.Keeps.{keeps_hard-with_row}
+use Rattle.roster_laws.proofs.OneRow.{penalty-with_row}
 use Rattle.roster_state.specs.Step.{end_cost_of}
 use Rattle.roster_laws.proofs.Allowed.{best_exists}
 use Rattle.roster_search.specs.declared.offer.Offer.{Offer}

@@ -14,7 +14,7 @@ use Rattle.roster_rules.specs.AllowedRows.{allowed_rows}
 use Rattle.roster_rules.specs.Small.{HasSmallNumbers}
 use Rattle.roster_rules.proofs.Bounds.{free_run_cost-within, off_request_cost-within, shift_run_cost-within, split_cost-within, staffing_cost-within, totals_cost-within, weekends_cost-within, working_run_cost-within}
 use Rattle.roster_rules.proofs.RosterFacts.{has_row}
-use Rattle.roster_case.proofs.OneRow.{penalty-with_row, prices-with_row}
+use Rattle.roster_laws.proofs.OneRow.{penalty-with_row, prices-with_row}
 use Rattle.roster_laws.proofs.Allowed.{allowed_keeps}
 use Rattle.roster_search.specs.declared.offer.Offer.{Offer}
 use Rattle.roster_search.specs.Offers.{best_by_states, choices_of}

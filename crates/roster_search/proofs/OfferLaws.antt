@@ -1,10 +1,10 @@
 -- The offers of a day: each is of the case and at a small price, they are few, and where the roster keeps the hard rules there is one.
-use Rattle.std.proofs.Common.{◌≡◌, ◌∙◌, ◌+◌, ◌-◌, ◌*◌, ◌<◌, ◌≤◌, ◌&&◌, ◌||◌, ◌==◌, ℕ, Bool, true, false, not, nat_lt, if◌then◌else◌, ap, arith, refl, subst, sym, List, [], ◌∷◌, cond, filter, length, map, Contains}
+use Rattle.std.proofs.Common.{◌≡◌, ◌∙◌, ◌+◌, ◌-◌, ◌*◌, ◌<◌, ◌≤◌, ◌&&◌, ◌||◌, ◌==◌, ℕ, Bool, true, false, not, nat_lt, if◌then◌else◌, ap, arith, refl, sym, List, [], ◌∷◌, cond, filter, length, map, Contains}
 use Rattle.std.specs.List.{All, count_by, flat_map, list_all, list_any, range_with_len}
 use Rattle.std.proofs.Math.Nat.{suc-mul}
 use Rattle.std.proofs.lemmas.Bool.{and_parts}
 use Rattle.std.proofs.lemmas.List.{length-map, set-get_or}
-use Rattle.std.proofs.lemmas.List.Elements.{All-contains, All-contains_itself, All-filter, All-get_or, All-map, All-weaker}
+use Rattle.std.proofs.lemmas.List.Elements.{All-contains_itself, All-filter, All-get_or, All-map, All-weaker}
 use Rattle.std.proofs.lemmas.List.FromFn.{length-range_with_len}
 use Rattle.std.proofs.lemmas.List.Sums.{AllPass-from_list_all, length-filter, sum_by-append}
 use Rattle.roster_rules.specs.declared.Choice.{Choice}
@@ -22,12 +22,12 @@ use Rattle.roster_rules.specs.Small.{HasSmallNumbers}
 use Rattle.roster_rules.specs.Weights.{off_request_weight, staffing_weight}
 use Rattle.roster_rules.proofs.RosterFacts.{has_row, row-length, row_fits}
 use Rattle.roster_rules.proofs.RunBounds.{sum_within}
-use Rattle.roster_case.specs.OneRow.{is_offered, is_offered_row, others, price}
-use Rattle.roster_case.specs.Staffing.{meets, staffing_cost_by, with_choice}
-use Rattle.roster_case.proofs.Below.{all_elim}
-use Rattle.roster_case.proofs.Keeps.{keeps_hard-with_row}
-use Rattle.roster_laws.proofs.AllRows.{count-below, count-choices, count-cons, count-map, count-none, is_one, passes}
-use Rattle.roster_laws.proofs.SameRows.{same_choice_is, same_choice_self}
+use Rattle.roster_laws.specs.OneRow.{is_offered, is_offered_row, others, price}
+use Rattle.roster_laws.specs.Staffing.{meets, staffing_cost_by, with_choice}
+use Rattle.roster_laws.proofs.Below.{all_elim}
+use Rattle.roster_laws.proofs.Keeps.{keeps_hard-with_row}
+use Rattle.roster_laws.proofs.AllRows.{count-below, count-choices, count-cons, count-map, count-none, member_is_choice}
+use Rattle.roster_laws.proofs.SameRows.{same_choice_is}
 use Rattle.roster_search.specs.Offers.{offer_of, offers_of}
 use Rattle.roster_search.specs.Tables.{IsOfferOf, most_price}
 
@@ -67,10 +67,7 @@ skills_few n (own ∷ skills) =
 
 module _ (c : Meaning) where
   choices_of_case : All (λ x. is_choice_of c x ≡ true) (all_choices c)
-  choices_of_case =
-      let has : (x : Choice) → Contains (all_choices c) x → is_choice_of c x ≡ true = λ x member.
-      is_one (is_choice_of c x) (subst (λ m. 0 < m) (count-choices c x) (All-contains (λ y. same_choice x y ≡ true → 0 < count_by (same_choice x) (all_choices c)) (all_choices c) x (passes (same_choice x) (all_choices c)) member (same_choice_self x))) in
-      All-weaker (Contains (all_choices c)) (λ x. is_choice_of c x ≡ true) has (all_choices c) (All-contains_itself (all_choices c))
+  choices_of_case = All-weaker (Contains (all_choices c)) (λ x. is_choice_of c x ≡ true) (member_is_choice c) (all_choices c) (All-contains_itself (all_choices c))
 
   -- one of the choices that passes a test is counted
   choice_counted : (p : Choice → Bool) (x : Choice) → is_choice_of c x ≡ true → p x ≡ true → 0 < count_by p (all_choices c)

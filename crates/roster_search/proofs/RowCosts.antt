@@ -14,8 +14,8 @@ use Rattle.roster_rules.specs.Prefix.{Summary, due, last_of, summary_of}
 use Rattle.roster_rules.specs.Rosters.{Row, Rows, choice_on}
 use Rattle.roster_rules.proofs.DayMore.{shift_before_it, shift_of_it}
 use Rattle.roster_rules.proofs.RunSums.{sum_same}
-use Rattle.roster_case.specs.OneRow.{is_offered, is_offered_row, price, prices}
-use Rattle.roster_case.proofs.Below.{all_same}
+use Rattle.roster_laws.specs.OneRow.{is_offered, is_offered_row, price, prices}
+use Rattle.roster_laws.proofs.Below.{all_same}
 use Rattle.roster_state.specs.Step.{end_cost_of, next_of, step_cost}
 use Rattle.roster_state.proofs.SumLaw.{closes, next_is, owed_more}
 use Rattle.roster_search.specs.ByStates.{Steps, cost_behind, cost_from}

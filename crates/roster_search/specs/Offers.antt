@@ -5,7 +5,7 @@ use Rattle.roster_rules.specs.Choices.{all_choices, shift_of}
 use Rattle.roster_rules.specs.Meaning.{Meaning, day_count}
 use Rattle.roster_rules.specs.Prefix.{Summary, summary_of}
 use Rattle.roster_rules.specs.Rosters.{Row, Rows}
-use Rattle.roster_case.specs.OneRow.{is_offered, price}
+use Rattle.roster_laws.specs.OneRow.{is_offered, price}
 use Rattle.roster_state.specs.Step.{end_cost_of, step_of}
 use Rattle.roster_search.specs.declared.offer.Offer.{Offer}
 use Rattle.roster_search.specs.Cheapest.{Priced}

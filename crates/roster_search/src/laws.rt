@@ -9,7 +9,7 @@ ghost use Rattle.roster_rules.specs.Prefix.{Summary, due};
 ghost use Rattle.roster_rules.specs.Rosters.{Rows, fits_case};
 ghost use Rattle.roster_rules.specs.Sizes.{choice_count};
 ghost use Rattle.roster_rules.specs.Small.{HasSmallNumbers};
-ghost use Rattle.roster_case.specs.OneRow.{rest_of};
+ghost use Rattle.roster_laws.specs.OneRow.{rest_of};
 ghost use Rattle.roster_search.specs.ByStates.{Steps, best_from, cost_from, rows_from};
 ghost use Rattle.roster_search.specs.Cheapest.{cheapest, with_cost};
 ghost use Rattle.roster_search.specs.Offers.{best_by_states, choices_of, offers_of};

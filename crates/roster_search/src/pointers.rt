@@ -1,6 +1,6 @@
 //! Which offer is the best of each state.
 
-ghost use Rattle.std.specs.Prelude.{◌≡◌, ◌<◌, ◌==◌, IfOk, length, slice_index_or, slice_set};
+ghost use Rattle.std.specs.Prelude.{◌≡◌, ◌<◌, IfOk, length, slice_index_or, slice_set};
 
 use std::alloc::{AllocError, Global};
 use std::marker::Model;
@@ -44,12 +44,6 @@ impl Pointers {
         ensures { result ≡ length self.now }
     {
         self.bytes.len()
-    }
-
-    pub fn is_empty(&self) -> bool
-        ensures { result ≡ (length self.now == 0) }
-    {
-        self.bytes.is_empty()
     }
 
     /// The pointer at a place.

@@ -6,7 +6,8 @@ ghost use Rattle.roster_case.specs.Meaning.{nurse_count};
 use crate::texts::{big, changed, read};
 use roster_best::{Offer, choices};
 use roster_case::{Choice, Held, Shift, Skill, costs};
-use roster_rules::{choice_on, nurse_cost};
+use roster_costs::nurse_cost;
+use roster_rules::choice_on;
 use std::alloc::Global;
 use std::test::Fail;
 

@@ -4,7 +4,7 @@ use Rattle.roster_instance.specs.Counting.{all_below}
 use Rattle.roster_instance.specs.Meaning.{last_shift, past_of}
 use Rattle.roster_instance.specs.Rosters.{choice_on}
 use Rattle.roster_rules.specs.HardRules.{breaks_succession, shift_before}
-use Rattle.roster_case.specs.OneRow.{is_offered}
+use Rattle.roster_laws.specs.OneRow.{is_offered}
 use Rattle.roster_case.proofs.allowed.is_offered_row.Given as goal
 
 abbrev pub invariant-loop-day : goal.invariant-loop-day

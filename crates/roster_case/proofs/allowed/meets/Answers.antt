@@ -1,9 +1,9 @@
 use Rattle.std.proofs.Common.{◌≡◌, ◌∙◌, ◌<◌, ap, arith, not, nat_lt, sym}
 use Rattle.roster_instance.specs.Counting.{all_below}
 use Rattle.roster_instance.specs.Meaning.{Meaning, minimum, shift_count, skill_count}
-use Rattle.roster_case.specs.OneRow.{others}
-use Rattle.roster_case.specs.Staffing.{with_choice}
-use Rattle.roster_case.proofs.Below.{all_fails, all_more}
+use Rattle.roster_laws.specs.OneRow.{others}
+use Rattle.roster_laws.specs.Staffing.{with_choice}
+use Rattle.roster_laws.proofs.Below.{all_fails, all_more}
 use Rattle.roster_case.proofs.allowed.meets.Goals as goal
 
 pub returns-then-not-meets_at : goal.returns-then-not-meets_at

@@ -1,8 +1,8 @@
 use Rattle.std.proofs.Common.{◌≡◌, true, not, nat_lt}
 use Rattle.roster_instance.specs.Counting.{all_below}
 use Rattle.roster_instance.specs.Meaning.{minimum, skill_count}
-use Rattle.roster_case.specs.OneRow.{others}
-use Rattle.roster_case.specs.Staffing.{with_choice}
+use Rattle.roster_laws.specs.OneRow.{others}
+use Rattle.roster_laws.specs.Staffing.{with_choice}
 use Rattle.roster_case.proofs.allowed.meets.Given as goal
 
 abbrev pub invariant-loop-shift : goal.invariant-loop-shift

@@ -5,8 +5,8 @@ use Rattle.roster_instance.specs.Meaning.{day_count, optimum}
 use Rattle.roster_instance.specs.Rosters.{Row, choice_on, cover, with_row}
 use Rattle.roster_instance.proofs.RosterFacts.{has_row}
 use Rattle.roster_rules.specs.Covers.{AreCovers}
-use Rattle.roster_case.specs.Staffing.{lacking}
-use Rattle.roster_case.proofs.Lacking.{staffing_cost-lacking}
+use Rattle.roster_laws.specs.Staffing.{lacking}
+use Rattle.roster_laws.proofs.Lacking.{staffing_cost-lacking}
 use Rattle.roster_case.proofs.RecountLemmas.{lacks_more, tables_more}
 use Rattle.roster_case.proofs.recount.recount.Goals as goal
 

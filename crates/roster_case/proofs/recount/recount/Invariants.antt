@@ -3,7 +3,7 @@ use Rattle.roster_instance.specs.Counting.{sum_below}
 use Rattle.roster_instance.specs.Meaning.{optimum}
 use Rattle.roster_instance.specs.Rosters.{cover, with_row}
 use Rattle.roster_rules.specs.Covers.{AreCovers}
-use Rattle.roster_case.specs.Staffing.{lacking}
+use Rattle.roster_laws.specs.Staffing.{lacking}
 use Rattle.roster_case.proofs.recount.recount.Given as goal
 
 abbrev pub invariant-loop-day : goal.invariant-loop-day

@@ -1,6 +1,6 @@
 use Rattle.std.proofs.Common.{◌∙◌, ap, arith}
 use Rattle.roster_case.specs.Held.{HeldRoster}
-use Rattle.roster_case.specs.OneRow.{rest_of}
+use Rattle.roster_laws.specs.OneRow.{rest_of}
 use Rattle.roster_case.proofs.HeldLemmas.{rest_is}
 use Rattle.roster_case.proofs.held.Held.rest.Goals as goal
 

@@ -5,8 +5,8 @@ use Rattle.roster_instance.proofs.RosterFacts.{has_row}
 use Rattle.roster_rules.specs.AllowedRows.{row_keeps}
 use Rattle.roster_rules.specs.HardRules.{keeps_hard}
 use Rattle.roster_case.specs.Held.{HeldRoster}
-use Rattle.roster_case.specs.OneRow.{is_offered_row}
-use Rattle.roster_case.proofs.Keeps.{keeps_hard-with_row}
+use Rattle.roster_laws.specs.OneRow.{is_offered_row}
+use Rattle.roster_laws.proofs.Keeps.{keeps_hard-with_row}
 use Rattle.roster_case.proofs.held.Held.row_keeps.Goals as goal
 
 pub returns-then-row_fits : goal.returns-then-row_fits

@@ -1,5 +1,0 @@
-use Rattle.roster_case.proofs.Keeps.{keeps_hard-parts}
-use Rattle.roster_case.proofs.laws.hard_rules_by_parts.Goals as goal
-
-pub returns : goal.returns
-returns c = keeps_hard-parts

@@ -1,0 +1,70 @@
+//! What a roster costs.
+
+ghost use Rattle.std.specs.Prelude.{◌≡◌, ◌<◌, ◌≤◌, true, length};
+ghost use Rattle.roster_instance.specs.Choices.{days_of};
+ghost use Rattle.roster_instance.specs.Meaning.{day_count, nurse_count};
+ghost use Rattle.roster_rules.specs.Penalties.{costs_of, nurse_cost, total_cost};
+ghost use Rattle.roster_rules.specs.Room.{most_staffing, penalty_room};
+ghost use Rattle.roster_instance.specs.Rosters.{fits_case};
+
+use crate::runs::{free_run_cost, shift_run_cost, working_run_cost};
+use crate::staffing::staffing_cost;
+use crate::weekends::{off_request_cost, split_cost, totals_cost, weekends_cost};
+use roster_instance::{Case, Choice, Roster};
+use roster_rules::Costs;
+
+/// What a roster costs by each soft rule. The hard rules are not asked for. Each row, and the nurses of each day, are gone
+/// through once for each count, whatever runs there are.
+pub fn costs(case: &Case, roster: &Roster) -> Costs
+    requires { fits_case case.now roster.now ≡ true }
+    ensures costs { result ≡ costs_of case.now roster.now }
+
+    // No sum comes near the end of its numbers: the penalty is below 2^31, and the part of staffing is at most that of as
+    // many missing nurses as a pair can want, for each shift and skill on each day.
+    ensures within { total_cost result < penalty_room }
+    ensures staffing { result.s1 ≤ most_staffing }
+{
+    case.keeps_limits();
+    by_rule(case, roster)
+}
+
+/// What a nurse's row costs, apart from staffing.
+#[tactic(auto, unfolding(roster_rules::specs::Penalties::own_cost))]
+pub fn nurse_cost(case: &Case, nurse: usize, row: &[Choice]) -> u32
+    requires nurse { nurse < nurse_count case.now }
+    requires days { length row.now ≡ day_count case.now }
+    ensures cost { result ≡ nurse_cost case.now nurse (days_of row.now) }
+{
+    case.keeps_limits();
+    let weeks = case.weeks();
+    let cost = working_run_cost(case, nurse, row)
+        + shift_run_cost(case, nurse, row)
+        + free_run_cost(case, nurse, row)
+        + off_request_cost(case, nurse, row)
+        + split_cost(case, nurse, row, weeks)
+        + totals_cost(case, nurse, row)
+        + weekends_cost(case, nurse, row, weeks);
+    cost as u32
+}
+
+#[tactic(auto, using(roster_rules::proofs::CountLemmas::sum_more), unfolding(roster_rules::specs::Penalties::costs_of))]
+fn by_rule(case: &Case, roster: &Roster) -> Costs
+    requires { fits_case case.now roster.now ≡ true }
+    ensures { result ≡ costs_of case.now roster.now }
+{
+    let weeks = case.weeks();
+    let mut costs = Costs {
+        s1: staffing_cost(case, roster),
+        ..Costs::default()
+    };
+    for nurse in 0..case.nurses() {
+        let row = roster.row(nurse);
+        costs.s2 += working_run_cost(case, nurse, row) + shift_run_cost(case, nurse, row);
+        costs.s3 += free_run_cost(case, nurse, row);
+        costs.s4 += off_request_cost(case, nurse, row);
+        costs.s5 += split_cost(case, nurse, row, weeks);
+        costs.s6 += totals_cost(case, nurse, row);
+        costs.s7 += weekends_cost(case, nurse, row, weeks);
+    }
+    costs
+}

@@ -1,0 +1,142 @@
+//! The hard rules: the first breach of a roster.
+
+ghost use Rattle.std.specs.Prelude.{◌≡◌, ◌<◌, true, nat_lt, Option};
+ghost use Rattle.roster_instance.specs.Faults.{below, fault_if, first_fault};
+ghost use Rattle.roster_rules.specs.HardRules.{hard_faults, shift_before, skill_fault, skill_faults, staffing_fault, staffing_faults, succession_fault, succession_faults};
+ghost use Rattle.roster_rules.specs.declared.HardFault.TheVariants.{H2};
+ghost use Rattle.roster_instance.specs.Meaning.{day_count, nurse_at, nurse_count, past_of, shift_at, shift_count, skill_at, skill_count, forbids, minimum};
+ghost use Rattle.roster_instance.specs.Rosters.{choice_on, cover, days_of_nurse, fits_case, row_of};
+
+use crate::staffing::{covers, place};
+use roster_instance::{Case, Roster, Shift, Skill};
+use roster_rules::{HardFault, is_able, last_shift};
+
+/// The first breach of the hard rules: first too few nurses, by day, shift and skill; then forbidden successions, by nurse and
+/// day; then skills that a nurse lacks, by nurse and day. None where the roster keeps them all.
+#[tactic(auto, using(roster_rules::proofs::HardLemmas::first_fault_of_both), unfolding(roster_rules::specs::HardRules::hard_faults))]
+pub fn first_hard(case: &Case, roster: &Roster) -> Option<HardFault>
+    requires { fits_case case.now roster.now ≡ true }
+    ensures { result ≡ first_fault (hard_faults case.now roster.now) }
+{
+    match first_understaffed(case, roster) {
+        Some(fault) => Some(fault),
+        None => match first_succession(case, roster) {
+            Some(fault) => Some(fault),
+            None => first_unskilled(case, roster),
+        },
+    }
+}
+
+// ---- staffing
+
+#[tactic(auto, using(roster_rules::proofs::HardLemmas::below_more))]
+fn first_understaffed(case: &Case, roster: &Roster) -> Option<HardFault>
+    requires { fits_case case.now roster.now ≡ true }
+    ensures { result ≡ first_fault (staffing_faults case.now roster.now) }
+{
+    for day in 0..case.days() {
+        if let Some(fault) = understaffed_on(case, roster, day) {
+            return Some(fault);
+        }
+    }
+    None
+}
+
+/// The same of one day, whose nurses are counted once.
+fn understaffed_on(case: &Case, roster: &Roster, day: u16) -> Option<HardFault>
+    requires { fits_case case.now roster.now ≡ true }
+    ensures { result ≡ first_fault (below (shift_count case.now) (λ s. below (skill_count case.now) (λ k. staffing_fault case.now roster.now day s k))) }
+{
+    let (shifts, skills) = (case.shifts(), case.skills());
+    let covers = covers(case, roster, day);
+    for shift in 0..shifts {
+        for skill in 0..skills {
+            let have = covers[place(Shift(shift), Skill(skill))];
+            if let Some(fault) = understaffed(case, day, Shift(shift), Skill(skill), have) {
+                return Some(fault);
+            }
+        }
+    }
+    None
+}
+
+/// The breach where so many nurses are fewer than the minimum.
+fn understaffed(case: &Case, day: u16, shift: Shift, skill: Skill, have: u16) -> Option<HardFault>
+    ensures { result ≡ first_fault (fault_if (nat_lt have (minimum case.now day shift.0 skill.0)) (H2 day shift skill have (minimum case.now day shift.0 skill.0))) }
+{
+    let need = case.need(day, shift, skill).least;
+    if have >= need {
+        return None;
+    }
+    Some(HardFault::H2 {
+        day,
+        shift,
+        skill,
+        have,
+        need,
+    })
+}
+
+// ---- successions
+
+#[tactic(auto, using(roster_rules::proofs::HardLemmas::below_more))]
+fn first_succession(case: &Case, roster: &Roster) -> Option<HardFault>
+    requires { fits_case case.now roster.now ≡ true }
+    ensures { result ≡ first_fault (succession_faults case.now roster.now) }
+{
+    for nurse in 0..case.nurses() {
+        if let Some(fault) = succession_of(case, roster, nurse) {
+            return Some(fault);
+        }
+    }
+    None
+}
+
+/// The first forbidden succession of a nurse, the history's last shift included.
+fn succession_of(case: &Case, roster: &Roster, nurse: usize) -> Option<HardFault>
+    requires fitting { fits_case case.now roster.now ≡ true }
+    requires within { nurse < nurse_count case.now }
+    ensures { result ≡ first_fault (below (day_count case.now) (λ d. succession_fault case.now roster.now nurse d)) }
+{
+    let row = roster.row(nurse);
+    let mut last = last_shift(case.past(nurse).border);
+    for day in 0..case.days() {
+        let shift = row[day as usize].shift();
+        if case.forbids_next(last, shift) {
+            return Some(HardFault::H3 { nurse, day });
+        }
+        last = shift;
+    }
+    None
+}
+
+// ---- skills
+
+#[tactic(auto, using(roster_rules::proofs::HardLemmas::below_more))]
+fn first_unskilled(case: &Case, roster: &Roster) -> Option<HardFault>
+    requires { fits_case case.now roster.now ≡ true }
+    ensures { result ≡ first_fault (skill_faults case.now roster.now) }
+{
+    for nurse in 0..case.nurses() {
+        if let Some(fault) = unskilled_of(case, roster, nurse) {
+            return Some(fault);
+        }
+    }
+    None
+}
+
+#[tactic(auto, using(roster_rules::proofs::HardLemmas::below_more))]
+fn unskilled_of(case: &Case, roster: &Roster, nurse: usize) -> Option<HardFault>
+    requires fitting { fits_case case.now roster.now ≡ true }
+    requires within { nurse < nurse_count case.now }
+    ensures { result ≡ first_fault (below (day_count case.now) (λ d. skill_fault case.now roster.now nurse d)) }
+{
+    let row = roster.row(nurse);
+    let skills = case.skills_of(nurse);
+    for day in 0..case.days() {
+        if !is_able(skills, row[day as usize]) {
+            return Some(HardFault::H4 { nurse, day });
+        }
+    }
+    None
+}

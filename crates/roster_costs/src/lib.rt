@@ -1,0 +1,16 @@
+//! What is counted of a roster: the first breach of the hard rules, and what it costs by the soft rules.
+//!
+//! The rules are defined in `roster_rules`. `first_hard` promises the first breach, `costs` what a roster costs by each soft
+//! rule, and `nurse_cost` what a nurse's row costs. Runs are counted by a pass through a row, with no interval in sight; that
+//! this gives the penalties of runs as intervals is a law of `roster_rules`.
+#![tactic(auto)]
+
+mod costing;
+mod hard;
+mod runs;
+mod staffing;
+mod weekends;
+
+pub use costing::{costs, nurse_cost};
+pub use hard::first_hard;
+pub use staffing::{covers, place, staffing_cost};

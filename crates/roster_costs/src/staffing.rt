@@ -1,0 +1,70 @@
+//! The staffing of a roster against the optimum.
+
+ghost use Rattle.std.specs.Prelude.{◌≡◌, ◌+◌, ◌*◌, ◌<◌, ◌≤◌, true, length, slice_index_or, slice_set};
+ghost use Rattle.roster_rules.specs.Covers.{AreCovers};
+ghost use Rattle.roster_instance.specs.Limits.{most_days, most_shifts, most_skills};
+ghost use Rattle.roster_instance.specs.Meaning.{shift_count, skill_count};
+ghost use Rattle.roster_rules.specs.Penalties.{staffing_cost, staffing_cost_of_day};
+ghost use Rattle.roster_instance.specs.Rosters.{fits_case};
+
+use roster_instance::{Case, Choice, Roster, Shift, Skill, choice_on};
+use roster_rules::weights::STAFFING;
+
+/// The points for each nurse missing to the optimum of a day, shift and skill.
+#[tactic(auto, using(roster_rules::proofs::CountLemmas::sum_more))]
+pub fn staffing_cost(case: &Case, roster: &Roster) -> u64
+    requires { fits_case case.now roster.now ≡ true }
+    ensures cost { result ≡ staffing_cost case.now roster.now }
+    ensures within { result ≤ most_days * 134217728 }
+{
+    let mut cost = 0;
+    for day in 0..case.days() {
+        cost += staffing_cost_of_day(case, roster, day);
+    }
+    cost
+}
+
+/// The same of a day, whose nurses are counted once.
+#[tactic(auto, using(roster_rules::proofs::CountLemmas::sum_more))]
+fn staffing_cost_of_day(case: &Case, roster: &Roster, day: u16) -> u64
+    requires { fits_case case.now roster.now ≡ true }
+    ensures cost { result ≡ staffing_cost_of_day case.now roster.now day }
+    ensures within { result ≤ 134217728 }
+{
+    let (shifts, skills) = (case.shifts(), case.skills());
+    let covers = covers(case, roster, day);
+    let mut cost = 0;
+    for shift in 0..shifts {
+        for skill in 0..skills {
+            let optimum = case.need(day, Shift(shift), Skill(skill)).greatest;
+            let have = covers[place(Shift(shift), Skill(skill))];
+            cost += STAFFING as u64 * optimum.saturating_sub(have) as u64;
+        }
+    }
+    cost
+}
+
+/// How many nurses work each shift with each skill on a day, each at its place.
+pub fn covers(case: &Case, roster: &Roster, day: u16) -> [u16; 64]
+    requires fitting { fits_case case.now roster.now ≡ true }
+    requires shifts { shift_count case.now ≤ most_shifts }
+    requires skills { skill_count case.now ≤ most_skills }
+    ensures { AreCovers roster.now day result }
+{
+    let mut counts = [0; 64];
+    for nurse in 0..case.nurses() {
+        if let Choice::Work(shift, skill) = choice_on(roster.row(nurse), day) {
+            counts[place(shift, skill)] += 1;
+        }
+    }
+    counts
+}
+
+/// Where a table of a day has a shift and skill.
+pub fn place(shift: Shift, skill: Skill) -> usize
+    requires { shift.0 < 8 × skill.0 < 8 }
+    ensures place { result ≡ 8 * shift.0 + skill.0 }
+    ensures within { result < 64 }
+{
+    8 * shift.0 as usize + skill.0 as usize
+}

@@ -1,0 +1,44 @@
+-- A roster with one nurse's row replaced: what the other rows give, and what each day of the row adds.
+use Rattle.std.specs.Prelude.{ℕ, ◌+◌, Bool, not, ◌&&◌, ◌==◌, [], length, if◌then◌else◌}
+use Rattle.roster_instance.specs.declared.Choice.{Choice}
+use Rattle.roster_instance.specs.Choices.{days_of, shift_of}
+use Rattle.roster_instance.specs.Counting.{all_below, sum_below}
+use Rattle.roster_instance.specs.Meaning.{Meaning, day_count, nurse_at, nurse_count}
+use Rattle.roster_instance.specs.Rosters.{Row, Rows, choice_on, cover, days_of_nurse, row_of, with_row}
+use Rattle.roster_rules.specs.HardRules.{breaks_succession, is_able, keeps_skills, keeps_successions}
+use Rattle.roster_rules.specs.Penalties.{nurse_cost, off_request_cost_on}
+use Rattle.roster_laws.specs.Staffing.{meets, staffing_cost_by, with_choice}
+
+-- ---- the penalty
+
+-- what the rows of all other nurses cost
+abbrev pub rest_of : Meaning → Rows → ℕ → ℕ
+rest_of c r n = sum_below (nurse_count c) (λ m. if m == n then 0 else nurse_cost c m (days_of_nurse r m))
+
+-- how many of the other nurses work a day, shift and skill: a nurse without a row is off
+abbrev pub others : Rows → ℕ → ℕ → ℕ → ℕ → ℕ
+others r n d s k = cover (with_row r n []) d s k
+
+-- the price of a choice on a day: that day's staffing with it, and the nurse's own off requests
+abbrev pub price : Meaning → Rows → ℕ → ℕ → Choice → ℕ
+price c r n d choice = staffing_cost_by c d (with_choice (others r n d) choice) + off_request_cost_on c n d (shift_of choice)
+
+abbrev pub prices : Meaning → Rows → ℕ → Row → ℕ
+prices c r n row = sum_below (length row) (λ d. price c r n d (choice_on row d))
+
+-- ---- the hard rules
+
+-- no minimum is missed, and the row of each nurse keeps the successions and the skills
+abbrev pub keeps_by_parts : Meaning → Rows → Bool
+keeps_by_parts c r =
+    all_below (day_count c) (λ d. meets c d (cover r d))
+    && all_below (nurse_count c) (λ n. keeps_successions c n (days_of_nurse r n) (day_count c))
+    && all_below (nurse_count c) (λ n. keeps_skills c n (row_of r n) (day_count c))
+
+-- a choice is offered where the nurse has the skill, and no minimum of the day is missed with it
+abbrev pub is_offered : Meaning → Rows → ℕ → ℕ → Choice → Bool
+is_offered c r n d choice = is_able (nurse_at c n).skills choice && meets c d (with_choice (others r n d) choice)
+
+-- each choice of a row is offered on its day, and may follow the one before it
+abbrev pub is_offered_row : Meaning → Rows → ℕ → Row → ℕ → Bool
+is_offered_row c r n row m = all_below m (λ d. is_offered c r n d (choice_on row d) && not (breaks_succession c n (days_of row) d))

@@ -1,0 +1,23 @@
+-- The staffing of a day, by how many nurses work each shift with each skill.
+use Rattle.std.specs.Prelude.{ℕ, ◌+◌, ◌-◌, ◌*◌, Bool, not, nat_lt}
+use Rattle.roster_instance.specs.declared.Choice.{Choice}
+use Rattle.roster_instance.specs.declared.Choice.TheVariants.{Work}
+use Rattle.roster_instance.specs.Choices.{same_choice}
+use Rattle.roster_instance.specs.Counting.{all_below, one_if, sum_below}
+use Rattle.roster_instance.specs.Meaning.{Meaning, minimum, optimum, shift_at, shift_count, skill_at, skill_count}
+use Rattle.roster_rules.specs.Weights.{staffing_weight}
+
+-- one nurse more, with this choice
+abbrev pub with_choice : (ℕ → ℕ → ℕ) → Choice → ℕ → ℕ → ℕ
+with_choice have choice s k = have s k + one_if (same_choice choice (Work (shift_at s) (skill_at k)))
+
+-- what the missing nurses of a day cost, and whether no minimum is missed
+abbrev pub staffing_cost_by : Meaning → ℕ → (ℕ → ℕ → ℕ) → ℕ
+staffing_cost_by c d have = sum_below (shift_count c) (λ s. sum_below (skill_count c) (λ k. staffing_weight * (optimum c d s k - have s k)))
+
+abbrev pub meets : Meaning → ℕ → (ℕ → ℕ → ℕ) → Bool
+meets c d have = all_below (shift_count c) (λ s. all_below (skill_count c) (λ k. not (nat_lt (have s k) (minimum c d s k))))
+
+-- how many nurses are lacking to what is wanted
+abbrev pub lacking : Meaning → (want have : ℕ → ℕ → ℕ) → ℕ
+lacking c want have = sum_below (shift_count c) (λ s. sum_below (skill_count c) (λ k. want s k - have s k))
