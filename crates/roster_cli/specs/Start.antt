@@ -4,7 +4,7 @@ use Rattle.std.specs.Io.KnownBytes.{Appends}
 use Rattle.roster_text.specs.Io.{Watched}
 use Rattle.roster_answer.specs.Answer.{Logs}
 use Rattle.roster_answer.specs.Lines.{Text}
-use Rattle.roster_words.specs.CommandLine.{Refuses, asked_of, request_view}
+use Rattle.roster_words.specs.CommandLine.{IsAsked, Refuses}
 use Rattle.roster_words.specs.declared.request.CliFault.{CliFault}
 use Rattle.roster_words.specs.declared.request.CliFault.TheVariants as cli
 use Rattle.roster_words.specs.declared.request.Request.{Request}
@@ -24,7 +24,7 @@ TellsWords contents held logged (cli.Help text) status output output_after log l
 -- the words are those of a request; with status 0 all of the output was sent on, and nothing was logged
 pub record AnswersRequest {Out Log : Type 0} (held : Out → Text) (words : List Text) (status : ℕ) (output_after : Out) (log log_after : Watched Log) : Type 0 where
   pub request : Request
-  pub asked : asked_of words ≡ Some (request_view request)
+  pub asked : IsAsked words request
   pub done : status ≡ 0 → (held output_after ≡ []) × (log_after ≡ log)
 
 -- the words are no request, and that was told
