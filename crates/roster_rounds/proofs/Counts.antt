@@ -1,7 +1,9 @@
 -- What the steps of a run count on the meter, and the room that they leave in the workspace.
-use Rattle.std.proofs.Common.{◌≡◌, ◌∙◌, ◌+◌, ◌*◌, ◌<◌, ◌≤◌, ℕ, ap, arith}
+use Rattle.std.proofs.Common.{◌≡◌, ◌∙◌, ◌+◌, ◌*◌, ◌<◌, ◌≤◌, ℕ, ap, arith, map}
+use Rattle.std.specs.List.{range_with_len}
 use Rattle.std.proofs.lemmas.Nat.{mul-le}
 use Rattle.roster_instance.specs.Meaning.{Meaning, nurse_count}
+use Rattle.roster_instance.specs.Sizes.{greatest_of}
 use Rattle.roster_laws.specs.Greatest.{extension_count, greatest_extension_count}
 use Rattle.roster_laws.proofs.GreatestLemmas.{greatest_extensions}
 use Rattle.roster_best.specs.Workspaces.{SameRoom, Space}
@@ -49,3 +51,9 @@ pub counted_within : (c : Meaning) (made rounds start meter : ℕ) → made ≤ 
 counted_within c made rounds start meter within so_far =
     let all = nurse_count c * greatest_extension_count c in
     omega (arith, so_far, mul-le made all rounds all within (omega arith))
+
+-- ---- the greatest number of a nurse, when all nurses are looked at
+
+pub all_extensions : (c : Meaning) (greatest n : ℕ) → greatest ≡ greatest_of (map (extension_count c) (range_with_len 0 n)) → n ≡ nurse_count c → greatest ≡ greatest_extension_count c
+unfolding greatest_extension_count
+all_extensions c greatest n is all = is ∙ ap (λ m. greatest_of (map (extension_count c) (range_with_len 0 m))) all

@@ -7,8 +7,10 @@
 mod log;
 mod nurse;
 mod outcome;
+mod room;
 mod rounds;
 
 pub use nurse::step;
 pub use outcome::{LogFault, Outcome, Step};
+pub use room::most_extensions;
 pub use rounds::improve;
