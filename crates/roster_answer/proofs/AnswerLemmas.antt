@@ -1,16 +1,14 @@
 -- Which fault a failing reader or writer gives, and what a bundle means.
-use Rattle.std.proofs.Common.{◌≡◌, ◌∙◌, ◌∷◌, [], ◌<◌, ℕ, Err, List, Option, None, Some, Result, Ok, ap, ap₂, arith, get_or, length, lit<, map, nat_lt, refl, subst, sym, false, true, zero, suc}
+use Rattle.std.proofs.Common.{◌≡◌, ◌∙◌, ◌∷◌, [], ◌<◌, ℕ, Err, List, Option, None, Some, Result, Ok, ap, ap₂, length, lit<, refl, subst, sym, false}
 use Rattle.std.specs.Prelude.{Contains, IfErr, IfSome, IsErrOf, OnOk}
-use Rattle.std.proofs.lemmas.Bool.{ltb-true}
 use Rattle.std.proofs.lemmas.List.{length-map}
 use Rattle.roster_text.specs.Grammar.{Spells}
 use Rattle.roster_text.specs.Io.{IsReadFault, Stops, Watched, Writes, counted, is_read_failure}
 use Rattle.roster_text.specs.Limits.{most_bytes}
-use Rattle.roster_text.specs.Token.{all_seen, text_of, tokens_of}
+use Rattle.roster_text.specs.Token.{all_seen, tokens_of}
 use Rattle.roster_text.specs.declared.Bundle.{Bundle}
 use Rattle.roster_text.specs.declared.fault.TextFault.{TextFault}
 use Rattle.roster_text.specs.declared.fault.TextFault.TheVariants as text
-use Rattle.roster_text.specs.declared.Token.{Token}
 use Rattle.roster_case.specs.Bundles.{meaning_of, rows_of, week_meant}
 use Rattle.roster_case.specs.Checking.{IsFirst}
 use Rattle.roster_case.specs.Meaning.{Meaning, week_count}
@@ -39,19 +37,6 @@ as_many_solutions source b c spelled is = spelled.solution_parts ∙ sym spelled
 pub first_of_roster : (source : Text) (b : Bundle) (c : Meaning) (f : CaseFault) → c ≡ meaning_of source b → case_faults source b ≡ [] → IsFirst (roster_faults source c b) f → IsFirst (all_faults source b) f
 first_of_roster source b c f is none first =
     IsFirst-behind (case_faults source b) (roster_faults source (meaning_of source b) b) f none (subst (λ m. IsFirst (roster_faults source m b) f) is first)
-
--- the name of an item of the scenario, by its number
-name_at : {A : Type 0} (source : Text) (name : A → Token) (items : List A) (n : ℕ) (item : A) → item ≡ get_or items n item → n < length items
-    → text_of source (name item) ≡ get_or (map (text_of source) (map name items)) n []
-name_at source name [] n item is within = absurd (omega (arith, within))
-name_at source name (x ∷ xs) zero item is within = ap (λ y. text_of source (name y)) is
-name_at source name (x ∷ xs) (suc n) item is within = name_at source name xs n item is (omega (arith, within))
-
-pub name_found : {A : Type 0} (source : Text) (name : A → Token) (items shown : List A) (n : ℕ) (item : A) → shown ≡ items
-    → true ≡ nat_lt n (length shown) → item ≡ get_or shown n item → text_of source (name item) ≡ get_or (map (text_of source) (map name items)) n []
-name_found source name items shown n item shows found is =
-    name_at source name items n item (is ∙ ap (λ xs. get_or xs n item) shows)
-    (ltb-true n (length items) (sym (found ∙ ap (λ xs. nat_lt n (length xs)) shows)))
 
 -- ---- statuses
 

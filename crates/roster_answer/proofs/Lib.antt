@@ -1,3 +1,1 @@
-pub mod WeekLemmas
-pub mod PieceLemmas
 pub mod AnswerLemmas

@@ -21,7 +21,7 @@ use Rattle.roster_case.specs.declared.CaseFault.{CaseFault}
 use Rattle.roster_case.specs.declared.CaseFault.TheVariants.{Memory}
 use Rattle.roster_case.specs.declared.HardFault.{HardFault}
 use Rattle.roster_answer.specs.Lines.{IsFirstBreach, Text, costs_text, nurse_of, sizes_text}
-use Rattle.roster_answer.specs.declared.fault.BreachNames.{BreachNames}
+use Rattle.roster_lines.specs.declared.BreachNames.{BreachNames}
 use Rattle.roster_answer.specs.declared.fault.Fault.{Fault}
 use Rattle.roster_answer.specs.declared.fault.Fault.TheVariants as fault
 use Rattle.roster_answer.specs.declared.reading.Instance.{Instance}

@@ -9,13 +9,11 @@ ghost use Rattle.roster_case.specs.Shown.{weeks_text};
 ghost use Rattle.roster_answer.specs.Answer.{StopsOutput, StopsReport, breaches_of, holds, report_of};
 ghost use Rattle.roster_answer.specs.Lines.{costs_text, sizes_text};
 
-use crate::cost::write_costs;
 use crate::fault::Fault;
 use crate::held::hold;
 use crate::reading::Instance;
-use crate::sizes::write_sizes;
-use crate::weeks::write_weeks;
 use roster_case::{Case, Roster, costs};
+use roster_lines::{write_costs, write_sizes, write_weeks};
 use roster_text::Watch;
 use roster_words::Command;
 use std::alloc::Global;

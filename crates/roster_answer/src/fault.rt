@@ -1,6 +1,7 @@
 //! Why a command stops.
 
 use roster_case::{CaseFault, HardFault};
+use roster_lines::BreachNames;
 use roster_text::{TextFault, WriteFault};
 
 /// Why a command stopped.
@@ -17,14 +18,6 @@ pub(crate) enum Fault<'a> {
     Memory,
     /// The output failed.
     Output,
-}
-
-/// The names of which a breach of the hard rules speaks: a shift and a skill, or a nurse. The others are empty.
-#[derive(Clone, Copy)]
-pub(crate) struct BreachNames<'a> {
-    pub(crate) nurse: &'a [u8],
-    pub(crate) shift: &'a [u8],
-    pub(crate) skill: &'a [u8],
 }
 
 impl<'a> From<TextFault> for Fault<'a> {

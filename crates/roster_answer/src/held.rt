@@ -6,9 +6,9 @@ ghost use Rattle.roster_case.specs.Rosters.{fits_case};
 ghost use Rattle.roster_answer.specs.Answer.{IsUnheld};
 
 use crate::fault::Fault;
-use crate::names::names_of;
 use crate::reading::Instance;
 use roster_case::{Held, HeldFault};
+use roster_lines::names_of;
 use std::alloc::Global;
 
 /// Holds the roster of an instance. The fault is the first breach of the hard rules, or else want of memory.

@@ -3,14 +3,10 @@
 
 mod answer;
 mod commands;
-mod cost;
 mod fault;
 mod held;
 mod lines;
-mod names;
 mod reading;
-mod sizes;
-mod weeks;
 
 pub use answer::run;
 pub use lines::{refuse, refuse_output};

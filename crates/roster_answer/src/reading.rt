@@ -8,8 +8,8 @@ ghost use Rattle.roster_case.specs.Rosters.{fits_case};
 ghost use Rattle.roster_answer.specs.Answer.{HasFault, Says, SpellsBundle, StopsReading};
 
 use crate::fault::Fault;
-use crate::names::nurse_of;
 use roster_case::{Case, CaseFault, Roster};
+use roster_lines::nurse_of;
 use roster_text::{Bundle, TextFault, parse_bundle, tokens};
 use std::alloc::Global;
 

@@ -1,3 +1,1 @@
-pub mod Mini
 pub mod MiniText
-pub mod Tight

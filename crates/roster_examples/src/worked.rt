@@ -1,18 +1,14 @@
 //! Worked examples: what the definitions say of a small instance and of texts that differ from it in a few lines.
-#![tactic(auto, unfolding(roster_bundle::specs::Token::tokens_from, roster_bundle::specs::Token::token_at, roster_bundle::specs::Token::begins_at, roster_bundle::specs::Token::end_from, roster_bundle::specs::Token::is_separator, roster_bundle::specs::Token::is_mark, roster_bundle::specs::Token::is_word_byte, roster_bundle::specs::Token::follows_word_byte, roster_bundle::specs::Token::line_feeds, roster_text::specs::Reading::bundle_at, roster_text::specs::Reading::title_at, roster_text::specs::Reading::scenario_at, roster_text::specs::Reading::section_at, roster_text::specs::Reading::listed_at, roster_text::specs::Reading::times_at, roster_text::specs::Reading::shift_type_at, roster_text::specs::Reading::pair_at, roster_text::specs::Reading::until_with, roster_text::specs::Reading::succession_at, roster_text::specs::Reading::names_at, roster_text::specs::Reading::contract_at, roster_text::specs::Reading::nurse_at, roster_text::specs::Reading::history_at, roster_text::specs::Reading::nurse_history_at, roster_text::specs::Reading::week_data_at, roster_text::specs::Reading::requirement_at, roster_text::specs::Reading::week_pairs_at, roster_text::specs::Reading::solution_at, roster_text::specs::Reading::assignment_at, roster_text::specs::Reading::off_request_at, roster_instance::specs::Tables::table_of, roster_instance::specs::Bundles::off_requests_meant, roster_instance::specs::Bundles::meaning_of, roster_instance::specs::Bundles::rows_of, roster_instance::specs::Refusals::case_faults, roster_instance::specs::Refusals::roster_faults, roster_instance::specs::Sizes::state_count, roster_instance::specs::Sizes::choice_count, roster_rules::specs::HardRules::hard_faults, roster_rules::specs::Penalties::costs_of, roster_rules::specs::Penalties::penalty, roster_rules::specs::Runs::run_violations, roster_rules::specs::Runs::open_run, roster_instance::specs::Choices::all_rows, roster_rules::specs::Prefix::due, roster_rules::specs::Prefix::summary_of, roster_rules::specs::Penalties::own_cost, roster_rules::specs::Improver::log_of))]
+#![tactic(auto, unfolding(roster_bundle::specs::Token::tokens_from, roster_bundle::specs::Token::token_at, roster_bundle::specs::Token::begins_at, roster_bundle::specs::Token::end_from, roster_bundle::specs::Token::is_separator, roster_bundle::specs::Token::is_mark, roster_bundle::specs::Token::is_word_byte, roster_bundle::specs::Token::follows_word_byte, roster_bundle::specs::Token::line_feeds, roster_text::specs::Reading::bundle_at, roster_text::specs::Reading::title_at, roster_text::specs::Reading::scenario_at, roster_text::specs::Reading::section_at, roster_text::specs::Reading::listed_at, roster_text::specs::Reading::times_at, roster_text::specs::Reading::shift_type_at, roster_text::specs::Reading::pair_at, roster_text::specs::Reading::until_with, roster_text::specs::Reading::succession_at, roster_text::specs::Reading::names_at, roster_text::specs::Reading::contract_at, roster_text::specs::Reading::nurse_at, roster_text::specs::Reading::history_at, roster_text::specs::Reading::nurse_history_at, roster_text::specs::Reading::week_data_at, roster_text::specs::Reading::requirement_at, roster_text::specs::Reading::week_pairs_at, roster_text::specs::Reading::solution_at, roster_text::specs::Reading::assignment_at, roster_text::specs::Reading::off_request_at, roster_instance::specs::Tables::table_of, roster_instance::specs::Bundles::off_requests_meant, roster_instance::specs::Bundles::meaning_of, roster_instance::specs::Bundles::rows_of, roster_instance::specs::Refusals::case_faults, roster_instance::specs::Refusals::roster_faults, roster_instance::specs::Sizes::state_count, roster_instance::specs::Sizes::choice_count, roster_rules::specs::HardRules::hard_faults, roster_rules::specs::Penalties::costs_of, roster_rules::specs::Penalties::penalty, roster_rules::specs::Runs::run_violations, roster_rules::specs::Runs::open_run))]
 
-ghost use Rattle.std.specs.Prelude.{◌≡◌, ℕ, ◌++◌, [], ◌∷◌, codes, flat_map, map, replicate, take, true, false};
+ghost use Rattle.std.specs.Prelude.{◌≡◌, [], ◌∷◌, codes, take, true, false};
 ghost use Rattle.roster_rules.specs.declared.CaseFault.{CaseFault};
 ghost use Rattle.roster_rules.specs.declared.HardFault.{HardFault};
-ghost use Rattle.roster_rules.specs.Choices.{all_rows, days_of};
-ghost use Rattle.roster_rules.specs.Improver.{log_of, line_of};
-ghost use Rattle.roster_examples.specs.Mini.{mini, mini_of_one_shift, big, limits, is_among, early_on, early_but, free_week, all_free, ann, bob, costs};
+ghost use Rattle.roster_run_examples.specs.Mini.{mini, big, limits, is_among, early_on, early_but, free_week, all_free, ann, bob, costs};
 ghost use Rattle.roster_examples.specs.MiniText.{mini_lines, two_weeks, line, line_behind, solved, early_lines, case_in, roster_in, refusals_in, refusal_in, breaches_in, costs_in, total_in, sizes_in};
 ghost use Rattle.roster_rules.specs.Meaning.{shift_at, skill_at};
-ghost use Rattle.roster_rules.specs.Penalties.{penalty, own_cost};
-ghost use Rattle.roster_rules.specs.Prefix.{due, summary_of};
+ghost use Rattle.roster_rules.specs.Penalties.{penalty};
 ghost use Rattle.roster_rules.specs.Rosters.{fits_case};
-ghost use Rattle.roster_rules.specs.AllowedRows.{best_row, first_least, penalty_with};
 ghost use Rattle.roster_rules.specs.Runs.{run_violations, open_run};
 ghost use Rattle.roster_rules.specs.Sizes.{state_count, choice_count};
 
@@ -106,30 +102,4 @@ pub fn sizes_of_instances()
     ensures most { sizes_in (line 8 (codes "SHIFT_TYPES = 3") (line 11 (codes "Late (1,7)") (line 17 (codes "Full (2,511) (1,7) (1,5) 7 1") mini_lines))) ≡ Some ((1048576, 4) ∷ (1048576, 4) ∷ []) }
     ensures big_states { state_count big 0 ≡ 40500 }
     ensures big_choices { choice_count big 0 ≡ 5 }
-{}
-
-/// Rows in their order, and the first of the least: one day off in the week costs the same from Tuesday to Friday.
-pub fn rows_in_order()
-    ensures order { all_rows {A = ℕ} (0 ∷ 1 ∷ []) 2 ≡ (0 ∷ 0 ∷ []) ∷ (0 ∷ 1 ∷ []) ∷ (1 ∷ 0 ∷ []) ∷ (1 ∷ 1 ∷ []) ∷ [] }
-    ensures first_of_equals { first_least (penalty_with mini all_free ann) (map early_but (0 ∷ 1 ∷ 2 ∷ 3 ∷ 4 ∷ 5 ∷ 6 ∷ [])) ≡ Some (early_but 1) }
-    ensures best { best_row mini_of_one_shift all_free ann ≡ Some (early_but 1) }
-{}
-
-/// What a prefix owes, and its summary.
-pub fn prefixes_of_rows()
-    ensures before_monday { summary_of mini ann [] ≡ record { last = None; run = 1; shift_run = 0; assignments = 0; weekends = 0 } }
-    ensures nothing_due { due mini ann [] ≡ 0 }
-    ensures monday_worked { summary_of mini ann (Some (shift_at 0) ∷ []) ≡ record { last = Some (shift_at 0); run = 1; shift_run = 1; assignments = 1; weekends = 0 } }
-    ensures a_week_off { summary_of mini ann (replicate 7 None) ≡ record { last = None; run = 5; shift_run = 0; assignments = 0; weekends = 0 } }
-    ensures a_week_off_due { due mini ann (replicate 7 None) ≡ 90 }
-    ensures a_week_off_in_all { own_cost mini ann (replicate 7 None) ≡ 130 }
-    ensures a_long_week { due mini ann (days_of (early_but 1)) ≡ 20 }
-{}
-
-/// The log of a run of no rounds, and the logs of single rounds: the last changes nothing, so that the run is settled.
-pub fn logs_of_runs()
-    ensures no_rounds { flat_map (line_of mini) (log_of mini (best_row mini) 0 all_free) ≡ codes "start 470\nstopped 470\n" }
-    ensures one_round { flat_map (line_of mini_of_one_shift) (log_of mini_of_one_shift (best_row mini_of_one_shift) 1 all_free) ≡ codes "start 470\n1 Ann 180\n1 Bob 20\nround 1 20\nstopped 20\n" }
-    ensures second_round { flat_map (line_of mini_of_one_shift) (log_of mini_of_one_shift (best_row mini_of_one_shift) 1 (early_but 1 ∷ early_on (1 ∷ 5 ∷ 6 ∷ []) ∷ [])) ≡ codes "start 20\n1 Ann 0\nround 1 0\nstopped 0\n" }
-    ensures last_round { flat_map (line_of mini_of_one_shift) (log_of mini_of_one_shift (best_row mini_of_one_shift) 1 (early_on (0 ∷ 2 ∷ 3 ∷ 4 ∷ []) ∷ early_on (1 ∷ 5 ∷ 6 ∷ []) ∷ [])) ≡ codes "start 0\nround 1 0\nsettled 0\n" }
 {}

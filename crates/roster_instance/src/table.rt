@@ -30,11 +30,9 @@ impl<V: Copy> Table<V> {
     pub(crate) fn new(alloc: Global, places: usize) -> Result<Table<V>, AllocError>
         ensures { IfOk result (λ table. table ≡ replicate places None) }
     {
-        let mut cells = Vec::with_capacity(alloc, places)?;
-        for _ in 0..places {
-            cells.push(None)?;
-        }
-        Ok(Table { cells })
+        Ok(Table {
+            cells: vec![in alloc; None; places]?,
+        })
     }
 
     /// What stands at a place; nothing does behind the last.

@@ -207,11 +207,7 @@ fn request_off(off_requests: &mut [[bool; 8]], place: usize, shift: usize)
 fn no_off_requests(alloc: Global, places: usize) -> Result<Vec<[bool; 8]>, AllocError>
     ensures { IfOk result (λ off_requests. off_requests.items ≡ replicate places (replicate 8 false)) }
 {
-    let mut off_requests = Vec::with_capacity(alloc, places)?;
-    for _ in 0..places {
-        off_requests.push([false; 8])?;
-    }
-    Ok(off_requests)
+    vec![in alloc; [false; 8]; places]
 }
 
 fn off_requests_of(

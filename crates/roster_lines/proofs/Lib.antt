@@ -1,0 +1,3 @@
+pub mod WeekLemmas
+pub mod PieceLemmas
+pub mod NameLemmas

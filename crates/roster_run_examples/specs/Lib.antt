@@ -1,0 +1,2 @@
+pub mod Mini
+pub mod Tight
