@@ -19,6 +19,15 @@ use Rattle.roster_words.specs.CommandLine.{IsNameOf, IsRefused, Refuses, TellsKi
 use Rattle.roster_words.specs.declared.request.CliFault.{CliFault}
 use Rattle.roster_words.specs.declared.request.CliFault.TheVariants as fault
 
+-- ---- the definition
+
+-- a plain command has no argument that other commands share
+pub no_globals : (a b globals d : Bool) → (a && (b && (not globals && d))) ≡ true → globals ≡ false
+no_globals true true false d e = refl
+no_globals true true true d e = absurd (true≢false (sym e))
+no_globals true false globals d e = absurd (true≢false (sym e))
+no_globals false b globals d e = absurd (true≢false (sym e))
+
 -- ---- no fault
 
 both_empty : (a b : Kinds) → or_else a b ≡ [] → (a ≡ []) × (b ≡ [])

@@ -1,8 +1,8 @@
 -- What the words of a command line ask for, by clap's reading of them.
-use Rattle.std.specs.Prelude.{◌≡◌, ◌≢◌, ◌⊎◌, Bool, true, false, not, List, [], ◌∷◌, map, Option, Some, unwrap_or, option_map, codes, string_bytes}
+use Rattle.std.specs.Prelude.{◌≡◌, ◌≢◌, ◌⊎◌, Bool, true, false, not, List, [], ◌∷◌, map, Option, Some, unwrap_or, codes, string_bytes}
 use Rattle.std.specs.List.{fold, list_any}
 use Rattle.clap.specs.Lexer.{usize_max}
-use Rattle.clap.specs.Words.{App, Row, Rule, Shape, Text, all_of, fault_of, new_app, new_rule, subcommand_of, takes, with_rule, with_subcommand}
+use Rattle.clap.specs.Words.{App, Row, Rule, Shape, Text, all_of, fault_of, first_of, new_app, new_rule, subcommand_of, takes, with_rule, with_subcommand}
 use Rattle.clap.specs.declared.builder.action.ArgAction.TheVariants as action
 use Rattle.clap.specs.declared.error.kind.ErrorKind.{ErrorKind}
 use Rattle.clap.specs.declared.error.kind.ErrorKind.TheVariants as kind
@@ -19,9 +19,22 @@ files_rule = record (new_rule (codes "FILE")) {
   range = Some (record { start_inclusive = 0; end_inclusive = usize_max });
 }
 
+-- a nurse's name, which has to be given
+abbrev pub nurse_rule : Rule
+nurse_rule = record (new_rule (codes "nurse")) {
+  long = Some (codes "nurse");
+  action = Some action.Set;
+  value_names = 1;
+  required = true;
+}
+
 -- a command that reads files
 abbrev pub command_of : Text → App
 command_of name = with_rule (new_app name) files_rule
+
+-- one that is for a nurse
+abbrev pub nurse_command_of : Text → App
+nurse_command_of name = with_rule (with_rule (new_app name) nurse_rule) files_rule
 
 -- the program before its commands: it has a version, and one of its commands is wanted
 abbrev pub bare : App
@@ -32,7 +45,9 @@ bare = record {
 
 -- the commands, in the order of the help
 abbrev pub commands : List Shape
-commands = map (λ name. (command_of name).top) (codes "show" ∷ codes "cost" ∷ codes "sizes" ∷ [])
+commands =
+    (command_of (codes "show")).top ∷ (command_of (codes "cost")).top ∷ (command_of (codes "sizes")).top
+    ∷ (nurse_command_of (codes "best")).top ∷ []
 
 -- the program's definition for clap
 abbrev pub program : App
@@ -43,6 +58,7 @@ abbrev pub name_of : Command → Text
 name_of command.Show = codes "show"
 name_of command.Cost = codes "cost"
 name_of command.Sizes = codes "sizes"
+name_of (command.Best nurse) = codes "best"
 
 -- it is the name of one of these commands
 abbrev pub IsNameOf : List Shape → Text → Type 0
@@ -53,22 +69,21 @@ IsNameOf (first ∷ rest) name = (name ≡ first.name) ⊎ IsNameOf rest name
 abbrev pub files_in : List Row → List Text
 files_in rows = unwrap_or (all_of (codes "FILE") rows) []
 
--- what is asked for: a command, by its name, and files
-pub record Asked : Type 0 where
-  pub name : Text
-  pub files : List Text
+-- the command's own arguments are those among its matches
+abbrev pub HasArguments : Command → List Row → Type 0
+HasArguments (command.Best nurse) rows = first_of (codes "nurse") rows ≡ Some (string_bytes nurse)
+HasArguments _ rows = Unit {0}
 
--- the name and the files of the command that was met
-abbrev pub asked_in : Option (Text × List Row) → Option Asked
-asked_in = option_map (λ met. record { name = met.0; files = files_in met.1 })
+-- the command that was met, by its name and its matches, is that of the request, with its arguments and its files
+pub record IsAskedIn (met : Option (Text × List Row)) (r : Request) : Type 0 where
+  pub rows : List Row
+  pub command : met ≡ Some (name_of r.command, rows)
+  pub arguments : HasArguments r.command rows
+  pub files : map string_bytes r.files.items ≡ files_in rows
 
--- the command's name and the files that clap's matches give for the words
-abbrev pub asked_of : List Text → Option Asked
-asked_of words = asked_in (subcommand_of program words)
-
--- a request as a command's name and files
-abbrev pub request_view : Request → Asked
-request_view r = record { name = name_of r.command; files = map string_bytes r.files.items }
+-- the request is what clap's matches give for the words
+abbrev pub IsAsked : List Text → Request → Type 0
+IsAsked words r = IsAskedIn (subcommand_of program words) r
 
 -- help or the version was asked for
 abbrev pub is_help : ErrorKind → Bool

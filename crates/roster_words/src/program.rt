@@ -1,15 +1,21 @@
 //! The command line of the program, as `clap` reads it.
 
-ghost use Rattle.std.specs.Prelude.{◌≡◌, IfOk};
-ghost use Rattle.clap.specs.Words.{app_of, with_subcommand};
-ghost use Rattle.roster_words.specs.CommandLine.{command_of, program};
+ghost use Rattle.std.specs.Prelude.{◌≡◌, IfOk, false};
+ghost use Rattle.clap.specs.Words.{app_of, rule_of, with_subcommand};
+ghost use Rattle.roster_words.specs.CommandLine.{command_of, files_rule, nurse_command_of, nurse_rule, program};
 
-use crate::texts::{ABOUT, COST, COST_HELP, EXAMPLES, SHOW, SHOW_HELP, SIZES, SIZES_HELP, TEXTS};
+use crate::texts::{
+    ABOUT, BEST, BEST_HELP, COST, COST_HELP, EXAMPLES, NURSE_NAME, SHOW, SHOW_HELP, SIZES,
+    SIZES_HELP, TEXTS,
+};
 use clap::{Arg, ArgAction, Command};
 use std::alloc::{AllocError, Global};
 
 /// The name by which the files of a command are asked for.
 pub(crate) const FILES: &str = "FILE";
+
+/// The name by which the nurse of a command is asked for.
+pub(crate) const NURSE: &str = "nurse";
 
 /// The command line of the program.
 pub(crate) fn program<'a>(alloc: Global) -> Result<Command<'a>, AllocError>
@@ -23,7 +29,8 @@ pub(crate) fn program<'a>(alloc: Global) -> Result<Command<'a>, AllocError>
         .arg_required_else_help(true);
     let with_show = with_files_command(alloc, bare, "show", SHOW, SHOW_HELP)?;
     let with_cost = with_files_command(alloc, with_show, "cost", COST, COST_HELP)?;
-    with_files_command(alloc, with_cost, "sizes", SIZES, SIZES_HELP)
+    let with_sizes = with_files_command(alloc, with_cost, "sizes", SIZES, SIZES_HELP)?;
+    with_sizes.subcommand(nurse_command(alloc, "best", BEST, BEST_HELP)?)
 }
 
 /// A program with one more command that reads files.
@@ -48,12 +55,48 @@ fn files_command<'a>(
 ) -> Result<Command<'a>, AllocError>
     ensures { IfOk result (λ c. app_of c ≡ command_of name.now) }
 {
-    let files = Arg::new(alloc, FILES)
-        .action(ArgAction::Append)
-        .num_args(0..)
-        .help(TEXTS);
     Command::new(alloc, name)
         .about(about)
         .after_help(help)
-        .arg(files)
+        .arg(files_arg(alloc))
+}
+
+/// A command that reads files and is for a nurse, with what its help says.
+fn nurse_command<'a>(
+    alloc: Global,
+    name: &'a str,
+    about: &'a str,
+    help: &'a str,
+) -> Result<Command<'a>, AllocError>
+    ensures { IfOk result (λ c. app_of c ≡ nurse_command_of name.now) }
+{
+    Command::new(alloc, name)
+        .about(about)
+        .after_help(help)
+        .arg(nurse_arg(alloc))?
+        .arg(files_arg(alloc))
+}
+
+/// Any number of files.
+fn files_arg<'a>(alloc: Global) -> Arg<'a>
+    ensures rule { rule_of result ≡ files_rule }
+    ensures local { result.global ≡ false }
+{
+    Arg::new(alloc, FILES)
+        .action(ArgAction::Append)
+        .num_args(0..)
+        .help(TEXTS)
+}
+
+/// A nurse's name, which has to be given.
+fn nurse_arg<'a>(alloc: Global) -> Arg<'a>
+    ensures rule { rule_of result ≡ nurse_rule }
+    ensures local { result.global ≡ false }
+{
+    Arg::new(alloc, NURSE)
+        .long("nurse")
+        .value_name("NAME")
+        .action(ArgAction::Set)
+        .required(true)
+        .help(NURSE_NAME)
 }

@@ -5,7 +5,7 @@ ghost use Rattle.std.specs.Prelude.{◌≡◌};
 use std::alloc::{AllocError, AllocFailed};
 
 /// What the program is to do.
-#[derive(Clone, Copy, Debug, PartialEq, Eq)]
+#[derive(Debug, Drop)]
 pub enum Command {
     /// Writes the solutions that it was given, in canonical form.
     Show,
@@ -13,6 +13,8 @@ pub enum Command {
     Cost,
     /// Writes how much the search for each nurse takes.
     Sizes,
+    /// Writes the solutions with the best row of the nurse of this name put in, also where it isn't cheaper.
+    Best { nurse: String },
 }
 
 /// A command with the files that it reads, in order. With none it reads standard input.

@@ -1,8 +1,8 @@
 //! The texts of the help.
 
 pub(crate) const ABOUT: &str =
-    "Reads the texts of a nurse rostering instance, and writes its rosters, what they cost, or how \
-    much a search takes.";
+    "Reads the texts of a nurse rostering instance, and writes its rosters, what they cost, how \
+    much a search takes, or the rosters with the best row of a nurse.";
 
 pub(crate) const TEXTS: &str =
     "The texts of the instance: the scenario, the history, and then the weeks and the rosters, in \
@@ -65,9 +65,36 @@ Example:
 The files are read one after another, in the order given. Without a file, the
 texts are read from standard input.";
 
+pub(crate) const NURSE_NAME: &str = "The nurse of this name in the scenario, letter for letter";
+
+pub(crate) const BEST: &str = "Put a nurse's best row into the rosters, and write them";
+
+pub(crate) const BEST_HELP: &str =
+    "The best row of a nurse: of all rows of this nurse with which the hard rules are
+kept while the rows of the others stay as they are, the first of the cheapest.
+Of two that cost the same, the first is that with the earlier choice on the
+first day on which they differ: off, then by shift and skill in the order of
+the scenario. The row is put in also where the roster costs no less with it.
+
+The hard rules are asked first, as for 'roster cost'. To standard error go two
+lines, what the roster costs before, and what it costs with the row:
+  start 470
+  best Ann 180
+
+What isn't promised: that this is the best roster, since the others' rows stay;
+that it is best for two nurses at once; how long the search takes. For its
+memory and its greatest number of steps see 'roster sizes'.
+
+Example:
+  roster best --nurse Ann examples/mini.txt > better.txt
+
+The files are read one after another, in the order given. Without a file, the
+texts are read from standard input.";
+
 pub(crate) const EXAMPLES: &str = "Examples:
   roster show examples/mini.txt
   roster cost examples/mini.txt
   roster sizes examples/mini.txt
+  roster best --nurse Ann examples/mini.txt
 
 'roster COMMAND --help' says more about a command.";

@@ -1,10 +1,10 @@
 //! From words to a request.
 
-ghost use Rattle.std.specs.Prelude.{◌≡◌, ◌≢◌, [], Some, IfOk, IfErr, OnOk, IsSomeAnd, map, string_bytes};
-ghost use Rattle.clap.specs.Words.{fault_of, found_of, kind_of, rows_of, subcommand_rows_of};
-ghost use Rattle.roster_words.specs.CommandLine.{HasText, IsNameOf, Refuses, TellsKind, asked_in, asked_of, commands, files_in, program, request_view};
+ghost use Rattle.std.specs.Prelude.{◌≡◌, ◌≢◌, [], Some, codes, IfOk, IfErr, OnOk, IsSomeAnd, map, string_bytes};
+ghost use Rattle.clap.specs.Words.{fault_of, first_of, found_of, kind_of, rows_of, subcommand_rows_of};
+ghost use Rattle.roster_words.specs.CommandLine.{HasArguments, HasText, IsAsked, IsAskedIn, IsNameOf, Refuses, TellsKind, commands, files_in, name_of, program};
 
-use crate::program::{FILES, program};
+use crate::program::{FILES, NURSE, program};
 use crate::request::{CliFault, Command, Request};
 use crate::texts::EXAMPLES;
 use clap::ArgMatches;
@@ -14,8 +14,8 @@ use std::convert::AsStr;
 
 /// What the words of a command line ask for. The program's name is the first of them.
 pub fn request_of<S: AsStr>(alloc: Global, words: &[S]) -> Result<Request, CliFault>
-    // The command and the files are those that clap's matches give for the words.
-    ensures request { IfOk result (λ r. asked_of (map S.text words.now) ≡ Some (request_view r)) }
+    // The command with its arguments, and the files, are those that clap's matches give for the words.
+    ensures request { IfOk result (IsAsked (map S.text words.now)) }
     ensures faultless { OnOk result (fault_of program (map S.text words.now) ≡ []) }
     ensures refusal { IfErr result (Refuses (map S.text words.now)) }
     ensures text { IfErr result HasText }
@@ -28,19 +28,42 @@ pub fn request_of<S: AsStr>(alloc: Global, words: &[S]) -> Result<Request, CliFa
 
 fn request_in(alloc: Global, matches: &ArgMatches<'_>) -> Result<Request, CliFault>
     requires { IsSomeAnd (subcommand_rows_of matches.now) (λ met. IsNameOf commands met.0) }
-    ensures request { IfOk result (λ r. asked_in (subcommand_rows_of matches.now) ≡ Some (request_view r)) }
+    ensures request { IfOk result (IsAskedIn (subcommand_rows_of matches.now)) }
     ensures memory { IfErr result (λ e. e ≡ CliFault.Memory) }
 {
-    let (command, given) = match matches.subcommand() {
-        Some(("show", given)) => (Command::Show, given),
-        Some(("cost", given)) => (Command::Cost, given),
-        Some(("sizes", given)) => (Command::Sizes, given),
-        _ => unreachable!(),
+    let Some((name, given)) = matches.subcommand() else {
+        unreachable!()
     };
     Ok(Request {
-        command,
+        command: command_in(alloc, name, given)?,
         files: files_of(alloc, given)?,
     })
+}
+
+/// The command of this name, with its own arguments.
+fn command_in(alloc: Global, name: &str, given: &ArgMatches<'_>) -> Result<Command, AllocError>
+    requires { IsNameOf commands name.now }
+    ensures name { IfOk result (λ command. name_of command ≡ name.now) }
+    ensures arguments { IfOk result (λ command. HasArguments command (rows_of (found_of given.now))) }
+{
+    match name {
+        "show" => Ok(Command::Show),
+        "cost" => Ok(Command::Cost),
+        "sizes" => Ok(Command::Sizes),
+        "best" => Ok(Command::Best {
+            nurse: nurse_of(alloc, given)?,
+        }),
+        _ => unreachable!(),
+    }
+}
+
+fn nurse_of(alloc: Global, given: &ArgMatches<'_>) -> Result<String, AllocError>
+    ensures { IfOk result (λ nurse. first_of (codes "nurse") (rows_of (found_of given.now)) ≡ Some (string_bytes nurse)) }
+{
+    match given.get_str(NURSE) {
+        Some(nurse) => String::from_str(alloc, nurse),
+        None => Err(AllocError),
+    }
 }
 
 fn files_of(alloc: Global, given: &ArgMatches<'_>) -> Result<Vec<String>, AllocError>

@@ -1,8 +1,9 @@
-use Rattle.std.proofs.Common.{◌≡◌, ◌∙◌, true, ap, codes}
+use Rattle.std.proofs.Common.{◌≡◌, ◌∙◌, true, ap, ap₂, codes}
 use Rattle.std.proofs.lemmas.Result.{IfOk-weaker}
 use Rattle.clap.specs.Simple.{app_of_fields}
 use Rattle.clap.specs.Words.{App, Text, app_of, with_subcommand}
 use Rattle.roster_words.specs.CommandLine.{bare, command_of}
+use Rattle.roster_words.proofs.CommandLineLemmas.{no_globals}
 use Rattle.roster_words.proofs.program.program.Goals as goal
 
 abbrev with_command : Text → App → App
@@ -19,4 +20,7 @@ returns c =
     ∙ ap (λ (a : App). record a { top = record a.top { has_version = true } }) c.new.ensures.app)) in
     let with_show = c.in_ok-with_show.ensures ∙ ap (with_command (codes "show")) bare_is in
     let with_cost = c.in_ok-with_cost.ensures ∙ ap (with_command (codes "cost")) with_show in
-    IfOk-weaker c.with_files_command-3.result _ _ (λ made h. h ∙ ap (with_command (codes "sizes")) with_cost) c.with_files_command-3.ensures
+    let with_sizes = c.in_ok-with_sizes.ensures ∙ ap (with_command (codes "sizes")) with_cost in
+    let best_is = c.in_ok-nurse_command.ensures in
+    let local = no_globals _ _ _ _ (ap (λ (a : App). a.top.is_plain) best_is) in
+    IfOk-weaker c.subcommand.result _ _ (λ made h. h.shape local ∙ ap₂ (λ (a b : App). with_subcommand a b.top) with_sizes best_is) c.subcommand.ensures

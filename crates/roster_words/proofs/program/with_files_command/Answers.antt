@@ -1,14 +1,8 @@
-use Rattle.std.proofs.Common.{◌≡◌, ◌∙◌, ◌&&◌, Bool, true, false, not, true≢false, ap, refl, sym}
+use Rattle.std.proofs.Common.{◌∙◌, ap}
 use Rattle.std.proofs.lemmas.Result.{IfOk-weaker}
 use Rattle.clap.specs.Words.{App, app_of, with_subcommand}
+use Rattle.roster_words.proofs.CommandLineLemmas.{no_globals}
 use Rattle.roster_words.proofs.program.with_files_command.Goals as goal
-
--- a command that reads files has no argument that other commands share
-no_globals : (a b globals d : Bool) → (a && (b && (not globals && d))) ≡ true → globals ≡ false
-no_globals true true false d e = refl
-no_globals true true true d e = absurd (true≢false (sym e))
-no_globals true false globals d e = absurd (true≢false (sym e))
-no_globals false b globals d e = absurd (true≢false (sym e))
 
 pub returns : goal.returns
 returns c =
