@@ -22,6 +22,8 @@ use Rattle.roster_case.specs.Shown.{weeks_text}
 use Rattle.roster_case.specs.declared.CaseFault.{CaseFault}
 use Rattle.roster_case.specs.declared.CaseFault.TheVariants.{Memory}
 use Rattle.roster_case.specs.declared.HardFault.{HardFault}
+use Rattle.roster_rules.specs.Improver.{log_of, run}
+use Rattle.roster_rounds.specs.RunLogs.{text_of}
 use Rattle.roster_answer.specs.Lines.{IsFirstBreach, Text, best_log, costs_text, fault_line, nurse_of, output_line, sizes_text, status_of}
 use Rattle.roster_answer.specs.declared.fault.Fault.{Fault}
 use Rattle.roster_answer.specs.declared.fault.Fault.TheVariants as fault
@@ -163,6 +165,19 @@ best_report name c r =
       output = weeks_text c better;
       log = Some (best_log (penalty c r) name (penalty c better));
     }
+
+-- the roster behind a run of at most so many rounds
+abbrev pub improved : Meaning → ℕ → Rows → Rows
+improved c rounds r = (run c (best_row c) rounds r).roster
+
+-- the lines of the run's log
+abbrev pub run_log : Meaning → ℕ → Rows → Text
+run_log c rounds r = text_of c (log_of c (best_row c) rounds r)
+
+-- the run
+abbrev pub improve_report : ℕ → Meaning → Rows → Report
+improve_report rounds c r =
+    record (plain (weeks_text c (improved c rounds r))) { is_held = true; broken = hard_faults c r; log = Some (run_log c rounds r) }
 
 abbrev pub report_of : Command → Meaning → Rows → Report
 report_of command.Show c r = plain (weeks_text c r)

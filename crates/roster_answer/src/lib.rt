@@ -6,6 +6,7 @@ mod best;
 mod commands;
 mod fault;
 mod held;
+mod improve;
 mod lines;
 mod reading;
 
