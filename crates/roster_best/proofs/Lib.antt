@@ -1,2 +1,4 @@
 pub mod OfferLemmas
 pub mod RowLemmas
+pub mod SearchLaws
+pub mod BestLaws

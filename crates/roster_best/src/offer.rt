@@ -32,7 +32,8 @@ struct Lacking {
 pub fn choices(held: &Held, nurse: usize, day: u16) -> ArrayVec<Offer, 65>
     requires nurse { nurse < nurse_count held.now.case }
     requires day { day < day_count held.now.case }
-    ensures { result.items ≡ offers_of held.now.case held.now.roster nurse day }
+    ensures offers { result.items ≡ offers_of held.now.case held.now.roster nurse day }
+    ensures few { length result.items ≤ 65 }
 {
     let case = held.case();
     let shifts = case.shifts();

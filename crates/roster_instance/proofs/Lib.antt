@@ -3,7 +3,7 @@ pub mod Sections
 pub mod TableLemmas
 pub mod NameLemmas
 mod LineLemmas
-mod SizeLemmas
+pub mod SizeLemmas
 pub mod TableSteps
 pub mod WeekTableLemmas
 pub mod HistoryLemmas

@@ -17,7 +17,7 @@ loop-shift-preserved c =
       few = omega (arith, c.loop-skill.invariant.few, c.loop-shift.invariant.few, c.skills-skills.ensures.within);
     }
 
-pub returns : goal.returns
-returns c =
+pub returns-clause-offers : goal.returns-clause-offers
+returns-clause-offers c =
     let all : c.loop-shift.shift ≡ shift_count c.args.held.now.case = omega (arith, ap (λ (m : Meaning). shift_count m) c.case-case.ensures) in
     c.loop-shift.invariant.so_far ∙ ap (λ m. offers_among c.args.held.now.case c.args.held.now.roster c.args.nurse c.args.day (of_shifts c.args.held.now.case m)) all

@@ -1,0 +1,84 @@
+-- The best row in a workspace: what the room is, that the row is low and allowed, and what its label says.
+use Rattle.std.proofs.Common.{◌≡◌, ◌∙◌, ◌+◌, ◌*◌, ◌<◌, ◌≤◌, ◌&&◌, ◌==◌, ℕ, true, ap, arith, refl, subst, sym, List, [], ◌∷◌, nat_le, Contains, Option, Some, None, IfSome}
+use Rattle.std.proofs.lemmas.Bool.{and_parts, eqb-true, leb-true}
+use Rattle.std.proofs.lemmas.List.Elements.{Contains-append_right}
+use Rattle.roster_instance.specs.Limits.{most_nurses, most_shifts, most_skills, most_weeks}
+use Rattle.roster_instance.specs.Meaning.{Meaning, day_count, nurse_count, shift_count, skill_count, week_count}
+use Rattle.roster_instance.specs.Rosters.{Row, Rows, fits_case, is_row_of, with_row}
+use Rattle.roster_instance.specs.Sizes.{state_count}
+use Rattle.roster_instance.specs.Small.{HasSmallNumbers}
+use Rattle.roster_rules.specs.AllowedRows.{IsBestRow, penalty_with, row_keeps}
+use Rattle.roster_rules.specs.HardRules.{keeps_hard}
+use Rattle.roster_rules.specs.Penalties.{penalty}
+use Rattle.roster_rules.specs.Prefix.{Summary, due, summary_of}
+use Rattle.roster_rules.specs.Room.{penalty_room}
+use Rattle.roster_rules.proofs.Bounds.{penalty-within}
+use Rattle.roster_rules.proofs.RowFits.{fits-with_row}
+use Rattle.roster_laws.specs.OneRow.{rest_of}
+use Rattle.roster_laws.specs.Greatest.{greatest_state_count}
+use Rattle.roster_laws.proofs.Allowed.{allowed_keeps}
+use Rattle.roster_laws.proofs.GreatestLemmas.{greatest_states}
+use Rattle.roster_search.specs.declared.Offer.{Offer}
+use Rattle.roster_search.specs.Offers.{best_by_states, choices_of}
+use Rattle.roster_search.specs.Tables.{label_of, no_row}
+use Rattle.roster_search.proofs.Best.{best_some, is_best, penalty_is}
+use Rattle.roster_search.proofs.BestRoom.{cost_below}
+use Rattle.roster_search.proofs.ReadLaws.{LowRow, low_row}
+use Rattle.roster_best.specs.Workspaces.{Space, fits_space, onward}
+use Rattle.roster_best.proofs.SearchLaws.{onward-first}
+
+-- ---- the room of a workspace that fits
+
+pub record HasRoom (c : Meaning) (w : Space) : Type 0 where
+  pub labels : w.labels ≡ 2 * greatest_state_count c
+  pub pointers : w.pointers ≡ greatest_state_count c * day_count c
+  pub row : day_count c ≤ w.room
+
+pub room_of : (c : Meaning) (w : Space) → fits_space c w ≡ true → HasRoom c w
+room_of c w fits =
+    let both = and_parts ((w.labels == 2 * greatest_state_count c) && (w.pointers == greatest_state_count c * day_count c)) (nat_le (day_count c) w.room) fits in
+    let lengths = and_parts (w.labels == 2 * greatest_state_count c) (w.pointers == greatest_state_count c * day_count c) both.0 in
+    record { labels = eqb-true _ _ lengths.0; pointers = eqb-true _ _ lengths.1; row = leb-true _ _ both.1 }
+
+pub states_within : (c : Meaning) (n : ℕ) → n < nurse_count c → state_count c n ≤ greatest_state_count c
+states_within c n inside = (greatest_states c (omega (arith, inside))).above n inside
+
+-- ---- the best row
+
+pub best_keeps : (c : Meaning) (r : Rows) (n : ℕ) (row : Row) → IsBestRow c r n row → row_keeps c r n row ≡ true
+best_keeps c r n row best =
+    allowed_keeps c r n row (subst (λ xs. Contains xs row) (sym best.split) (Contains-append_right best.before (row ∷ best.after) row (0, omega arith, refl)))
+
+if_some_of : {X : Type 0} (o : Option X) (P : X → Type 0) → ((x : X) → o ≡ Some x → P x) → IfSome o P
+if_some_of None P each = tt
+if_some_of (Some x) P each = each x refl
+
+-- what a case keeps to
+pub record KeepsLimits (c : Meaning) : Type 0 where
+  pub small : HasSmallNumbers c
+  pub weeks : week_count c ≤ most_weeks
+  pub shifts : shift_count c ≤ most_shifts
+  pub skills : skill_count c ≤ most_skills
+  pub nurses : nurse_count c ≤ most_nurses
+
+module _ (c : Meaning) (r : Rows) (limits : KeepsLimits c) (fits : fits_case c r ≡ true) where
+  pub low_best : keeps_hard c r ≡ true → (n : ℕ) → n < nurse_count c → LowRow (best_by_states c r n)
+  low_best keeps n inside =
+      low_row (best_by_states c r n) (best_some c r fits keeps n inside)
+      (if_some_of (best_by_states c r n) (λ row. row.0 < no_row) (λ row is. cost_below c r fits keeps n inside row.0 row.1 is limits.small limits.shifts limits.skills limits.weeks))
+
+  pub best_within : (n : ℕ) (row : Row) → IsBestRow c r n row → penalty_with c r n row < penalty_room
+  unfolding penalty
+  best_within n row best =
+      penalty-within c (with_row r n row) limits.small limits.shifts limits.skills limits.weeks limits.nurses
+      (fits-with_row c r n row fits (and_parts (is_row_of c row) (keeps_hard c (with_row r n row)) (best_keeps c r n row best)).0)
+
+  -- what the search adds up is its penalty
+  pub sum_within : (keeps : keeps_hard c r ≡ true) (n : ℕ) (inside : n < nurse_count c) (cost : ℕ) (offers : List Offer) → best_by_states c r n ≡ Some (cost, offers) → rest_of c r n + due c n [] + cost < penalty_room
+  sum_within keeps n inside cost offers is =
+      omega (arith, penalty_is c r fits keeps n inside cost offers is, best_within n (choices_of offers) (is_best c r fits keeps n inside cost offers is))
+
+-- the first label is the cost of the best row
+pub first_label : (c : Meaning) (r : Rows) (n : ℕ) (s : Summary) (label cost : ℕ) (offers : List Offer) → s ≡ summary_of c n [] → label ≡ label_of (onward c r n 0 s) → best_by_states c r n ≡ Some (cost, offers) → cost < no_row → label ≡ cost
+first_label c r n s label cost offers start is best low =
+    is ∙ ap label_of (ap (onward c r n 0) start ∙ onward-first c r n ∙ best) ∙ omega (arith, low)

@@ -1,0 +1,60 @@
+use Rattle.std.proofs.Common.{◌≡◌, ◌∙◌, ◌+◌, ◌*◌, arith, ap, length, subst, sym}
+use Rattle.std.proofs.lemmas.Nat.{mul-le}
+use Rattle.roster_instance.specs.Meaning.{day_count}
+use Rattle.roster_instance.specs.Sizes.{choice_count}
+use Rattle.roster_state.specs.Codes.{product}
+use Rattle.roster_search.specs.Tables.{AreLabels, IsDayOf}
+use Rattle.roster_search.proofs.OfferLaws.{offers_few}
+use Rattle.roster_best.proofs.SearchLaws.{offers_taken}
+use Rattle.roster_best.proofs.search.label_before.Goals as goal
+
+pub label_day-requires : goal.label_day-requires
+label_day-requires g c =
+    let k = c.args.held.now.case in
+    let rows = c.args.held.now.roster in
+    let at = c.args.at.now in
+    let size = product at.ranges in
+    let r = c.requires in
+    let limits = c.keeps_limits.ensures in
+    let same : k ≡ c.case-case.result.now = sym c.case-case.ensures in
+    let offers = c.deref.ensures.0 ∙ c.choices-offers.ensures.offers in
+    let few = offers_few k rows at.nurse at.day in
+    let length_is = ap length offers in (
+      subst (λ m. IsDayOf m at) same r.0,
+      (
+        offers_taken k c.case-case.result.now same limits.small limits.shifts limits.skills rows at.nurse at.day c.deref.result.now offers,
+        (
+          omega (arith, ap length c.deref.ensures.0, c.choices-offers.ensures.few),
+          (
+            subst (λ m. AreLabels m at.nurse (at.day + 1) g.rest c.args.later.now) same r.1.1.0,
+            (
+              r.1.1.1.0,
+              (
+                r.1.1.1.1.0,
+                (
+                  omega (arith, r.1.1.1.1.1.0, c.product.ensures.product, ap (λ n. at.day * n) c.product.ensures.product, mul-le (at.day + 1) size (day_count k) size (omega (arith, r.0.day)) (omega arith)),
+                  omega (arith, r.1.1.1.1.1.1, length_is, mul-le size (length c.deref.result.now) size (choice_count k at.nurse) (omega arith) (omega (arith, few, length_is))),
+                ),
+              ),
+            ),
+          ),
+        ),
+      ),
+    )
+
+pub returns-clause-some : goal.returns-clause-some
+returns-clause-some g c =
+    let k = c.args.held.now.case in
+    let at = c.args.at.now in
+    let offers = c.deref.ensures.0 ∙ c.choices-offers.ensures.offers in
+    let one = mul-le 1 1 (product at.ranges) (length c.deref.result.now) (omega (arith, c.product.ensures.some, c.product.ensures.product)) (omega (arith, c.requires.1.0, ap length offers)) in
+    omega (arith, c.label_day.ensures.counted, one)
+
+pub returns-clause-counted : goal.returns-clause-counted
+returns-clause-counted g c =
+    let k = c.args.held.now.case in
+    let at = c.args.at.now in
+    let size = product at.ranges in
+    let offers = c.deref.ensures.0 ∙ c.choices-offers.ensures.offers in
+    let few = offers_few k c.args.held.now.roster at.nurse at.day in
+    omega (arith, c.label_day.ensures.counted, mul-le size (length c.deref.result.now) size (choice_count k at.nurse) (omega arith) (omega (arith, few, ap length offers)))

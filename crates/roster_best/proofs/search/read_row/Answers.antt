@@ -1,0 +1,74 @@
+use Rattle.std.proofs.Common.{◌≡◌, ◌∙◌, ◌+◌, ◌*◌, ◌<◌, ap, arith, [], refl, subst, sym}
+use Rattle.std.proofs.Math.Path.{transport}
+use Rattle.std.proofs.lemmas.List.{length-set}
+use Rattle.roster_instance.specs.Meaning.{Meaning, day_count}
+use Rattle.roster_rules.specs.Prefix.{summary_of}
+use Rattle.roster_state.specs.Codes.{Sizes, product}
+use Rattle.roster_search.specs.Offers.{best_by_states, offers_of}
+use Rattle.roster_search.specs.Tables.{ArePointers, BestOnward, Stands}
+use Rattle.roster_search.proofs.ReadLaws.{low_of, low_row}
+use Rattle.roster_best.specs.Workspaces.{onward, search_day}
+use Rattle.roster_best.proofs.SearchLaws.{IsReadTo, onward-day, read_first, read_last, read_on, reads_low, reads_some}
+use Rattle.roster_best.proofs.search.read_row.Goals as goal
+
+pub loop-day-init : goal.loop-day-init
+loop-day-init c =
+    let k = c.args.held.now.case in
+    let rows = c.args.held.now.roster in
+    let n = c.args.nurse in
+    record {
+      stands = transport (λ i. Stands (c.case-case.ensures i) n 0 c.start-state.result.0) c.start-state.ensures.fits;
+      read = λ cost best is. read_first k rows n cost best c.start-state.result.0 c.args.row.now (c.start-state.ensures.state ∙ ap (λ (m : Meaning). summary_of m n []) c.case-case.ensures) is (low_of _ (cost, best) is c.requires.low);
+      same_length = refl;
+    }
+
+pub read_choice-choice-requires : goal.read_choice-choice-requires
+read_choice-choice-requires c =
+    let k = c.args.held.now.case in
+    let rows = c.args.held.now.roster in
+    let n = c.args.nurse in
+    let day = c.loop-day.day in
+    let r = c.requires in
+    let low = low_row (best_by_states k rows n) r.some r.low in
+    let last : c.days-day-end.result ≡ day_count k = c.days-day-end.ensures.count ∙ ap day_count c.case-case.ensures in
+    let within : day < day_count k = omega (arith, c.loop-day-test.true, last) in
+    let read = c.loop-day.invariant.read low.row.0 low.row.1 low.is in (
+      record { nurse = r.nurse; day = within; ranges = r.ranges },
+      (
+        c.loop-day.invariant.stands,
+        (
+          subst (λ (z : Sizes). ArePointers k (search_day k n day) (offers_of k rows n day) (onward k rows n (day + 1)) (day * product z) c.args.pointers.now) (sym r.ranges) (r.pointers day (omega arith) within),
+          (
+            r.pointers_room,
+            (reads_some k rows n day within c.loop-day.state c.loop-day.row low.row.1 read, reads_low k rows n day within c.loop-day.state c.loop-day.row low.row.1 read),
+          ),
+        ),
+      ),
+    )
+
+pub loop-day-preserved : goal.loop-day-preserved
+loop-day-preserved c =
+    let k = c.args.held.now.case in
+    let rows = c.args.held.now.roster in
+    let n = c.args.nurse in
+    let day = c.loop-day.day in
+    let i = c.loop-day.invariant in
+    let last : c.days-day-end.result ≡ day_count k = c.days-day-end.ensures.count ∙ ap day_count c.case-case.ensures in
+    let within : day < day_count k = omega (arith, c.loop-day-test.true, last) in
+    record {
+      stands = c.read_choice-choice.ensures.stands;
+      read = λ cost best is.
+          let so_far = i.read cost best is in
+          read_on k rows n day c.loop-day.state c.read_choice-choice.result.1 c.loop-day.row c.read_choice-choice.result.0 best (omega (arith, within, i.same_length, c.requires.row_room)) so_far
+          (c.read_choice-choice.ensures.begins (so_far.cost, so_far.rest) (ap (λ (f : BestOnward). f c.loop-day.state) (sym (onward-day k rows n day within)) ∙ so_far.is));
+      same_length = length-set c.loop-day.row day c.read_choice-choice.result.0 ∙ i.same_length;
+    }
+
+pub returns-clause-row : goal.returns-clause-row
+returns-clause-row c cost best is =
+    let k = c.args.held.now.case in
+    let rows = c.args.held.now.roster in
+    let n = c.args.nurse in
+    let last : c.days-day-end.result ≡ day_count k = c.days-day-end.ensures.count ∙ ap day_count c.case-case.ensures in
+    let all : c.loop-day.day ≡ day_count k = omega (arith, c.loop-day-test.false, c.loop-day.auto.day-end, last) in
+    read_last k rows n c.loop-day.state c.loop-day.row best (subst (λ d. IsReadTo k rows n d c.loop-day.state c.loop-day.row best) all (c.loop-day.invariant.read cost best is))

@@ -1,0 +1,41 @@
+-- What a workspace has room for, and what a search leaves in its tables (our own).
+use Rattle.std.specs.Prelude.{◌≡◌, ℕ, ◌+◌, ◌-◌, ◌*◌, ◌<◌, ◌≤◌, ◌==◌, ◌&&◌, Bool, List, nat_le}
+use Rattle.roster_instance.specs.Meaning.{Meaning, day_count}
+use Rattle.roster_instance.specs.Rosters.{Row, Rows}
+use Rattle.roster_state.specs.Codes.{product, sizes_of}
+use Rattle.roster_laws.specs.Greatest.{greatest_state_count}
+use Rattle.roster_search.specs.declared.SearchDay.{SearchDay}
+use Rattle.roster_search.specs.Offers.{best_of_offers, offers_of}
+use Rattle.roster_search.specs.Tables.{ArePointers, BestOnward}
+
+-- how many labels its two tables have together, how many pointers and choices it has room for, and the row of the last search,
+-- which is empty before the first
+pub record Space : Type 0 where
+  pub labels : ℕ
+  pub pointers : ℕ
+  pub room : ℕ
+  pub row : Row
+
+-- the lengths are those of the case: twice the greatest number of states, and that number for each day; and there is room for a
+-- choice for each day
+abbrev pub fits_space : Meaning → Space → Bool
+fits_space c w = (w.labels == 2 * greatest_state_count c) && (w.pointers == greatest_state_count c * day_count c) && nat_le (day_count c) w.room
+
+-- the same room, whatever the row
+pub record SameRoom (old new : Space) : Type 0 where
+  pub labels : new.labels ≡ old.labels
+  pub pointers : new.pointers ≡ old.pointers
+  pub room : new.room ≡ old.room
+
+-- ---- the days of a search
+
+abbrev pub search_day : Meaning → ℕ → ℕ → SearchDay
+search_day c n day = record { nurse = n; day = day; ranges = sizes_of c n }
+
+-- the best row of the days from one on, from a state on
+abbrev pub onward : Meaning → Rows → ℕ → ℕ → BestOnward
+onward c r n day s = best_of_offers c n (offers_of c r n) (day_count c - day) day s
+
+-- the pointers of each day from one on are right. The days stand one after another.
+abbrev pub PointersFrom : Meaning → Rows → ℕ → ℕ → List ℕ → Type 0
+PointersFrom c r n from pointers = (day : ℕ) → from ≤ day → day < day_count c → ArePointers c (search_day c n day) (offers_of c r n day) (onward c r n (day + 1)) (day * product (sizes_of c n)) pointers

@@ -1,0 +1,132 @@
+//! The memory of a search.
+
+ghost use Rattle.std.specs.Prelude.{◌≡◌, ◌*◌, ◌≤◌, [], true, IfOk, take};
+ghost use Rattle.roster_instance.specs.Limits.{most_states};
+ghost use Rattle.roster_instance.specs.Meaning.{day_count};
+ghost use Rattle.roster_laws.specs.Greatest.{greatest_state_count};
+ghost use Rattle.roster_best.specs.Workspaces.{fits_space};
+
+use roster_case::{Case, Choice};
+use roster_search::Pointers;
+use std::alloc::{AllocError, Global};
+use std::marker::Model;
+
+/// What a search for a best row writes into: two tables of labels, one for the states of the day at hand and one for those of the
+/// next, a pointer for each state and day, and one row. One workspace serves all nurses of a case, one after another.
+pub struct Workspace {
+    pub(crate) labels: Vec<u32>,
+    pub(crate) later: Vec<u32>,
+    pub(crate) pointers: Pointers,
+    pub(crate) choices: Vec<Choice>,
+    /// How many of the choices are those of the last best row: none before the first.
+    pub(crate) filled: usize,
+}
+
+// By hand, so that who drops a workspace has one call to prove.
+impl Drop for Workspace {
+    fn drop(self) {
+        let Workspace {
+            labels: _,
+            later: _,
+            pointers: _,
+            choices: _,
+            filled: _,
+        } = self;
+    }
+}
+
+impl Model for Workspace {
+    ghost use Rattle.std.specs.Prelude.{◌≡◌, ◌+◌, ◌≤◌, length, take};
+    ghost use Rattle.roster_best.specs.Workspaces.{Space};
+
+    ghost Value = { Space };
+
+    ghost view = { λ w. record { labels = length w.labels.items + length w.later.items; pointers = length w.pointers; room = length w.choices.items; row = take w.filled w.choices.items } };
+
+    ghost invariant = { λ w. (length w.labels.items ≡ length w.later.items) × (w.filled ≤ length w.choices.items) };
+}
+
+/// Why there is no workspace.
+#[derive(Clone, Copy, Debug, PartialEq, Eq)]
+pub enum BestFault {
+    /// A growth was refused.
+    Memory,
+}
+
+impl From<AllocError> for BestFault {
+    ghost use Rattle.roster_best.specs.declared.workspace.BestFault.TheVariants.{Memory};
+
+    ghost from_gives = { λ _ e. e ≡ Memory };
+
+    fn from(_e: AllocError) -> BestFault {
+        BestFault::Memory
+    }
+}
+
+impl Workspace {
+    /// A workspace for the nurses of a case, by at most four growths. Its row is empty.
+    ///
+    /// # Errors
+    ///
+    /// A growth was refused.
+    pub fn for_case(alloc: Global, case: &Case) -> Result<Workspace, BestFault>
+        ensures labels { IfOk result (λ workspace. workspace.labels ≡ 2 * greatest_state_count case.now) }
+        ensures pointers { IfOk result (λ workspace. workspace.pointers ≡ greatest_state_count case.now * day_count case.now) }
+        ensures row { IfOk result (λ workspace. workspace.row ≡ []) }
+        ensures fits { IfOk result (λ workspace. fits_space case.now workspace ≡ true) }
+    {
+        let states = greatest_states(case) as usize;
+        let days = case.days() as usize;
+        Ok(Workspace {
+            labels: vec![in alloc; 0; states]?,
+            later: vec![in alloc; 0; states]?,
+            pointers: Pointers::new(alloc, states * days)?,
+            choices: vec![in alloc; Choice::Off; days]?,
+            filled: 0,
+        })
+    }
+
+    /// How many labels the two tables have together: twice as many as the nurse with the most states has states.
+    pub fn labels(&self) -> usize
+        ensures { result ≡ self.now.labels }
+    {
+        self.labels.len() + self.later.len()
+    }
+
+    /// How many pointers there are: one for each of these states and each day.
+    pub fn pointers(&self) -> usize
+        ensures { result ≡ self.now.pointers }
+    {
+        self.pointers.len()
+    }
+
+    /// Whether the numbers of labels and pointers are those of the case, and a row of it has room.
+    pub fn fits(&self, case: &Case) -> bool
+        ensures { result ≡ fits_space case.now self.now }
+    {
+        let states = greatest_states(case) as usize;
+        let days = case.days() as usize;
+        self.labels() == 2 * states
+            && self.pointers() == states * days
+            && days <= self.choices.len()
+    }
+
+    /// The row of the last `best_row`, with a choice for each day; empty before the first.
+    pub fn row(&self) -> &[Choice]
+        ensures { result.now ≡ self.now.row }
+    {
+        &self.choices[..self.filled]
+    }
+}
+
+/// The number of states of the nurse who has the most.
+fn greatest_states(case: &Case) -> u32
+    ensures greatest { result ≡ greatest_state_count case.now }
+    ensures within { result ≤ most_states }
+{
+    let mut greatest: u32 = 0;
+    for nurse in 0..case.nurses() {
+        greatest = greatest.max(case.states(nurse));
+    }
+    greatest
+}
