@@ -2,7 +2,7 @@
 
 ghost use Rattle.std.specs.Prelude.{◌≡◌, ◌+◌, ◌*◌, ◌<◌, ◌≤◌, ℕ, true, List, [], All, IfSome, Some, length, slice_index_or, take};
 ghost use Rattle.roster_rules.specs.Meaning.{day_count, nurse_count};
-ghost use Rattle.roster_state.specs.Codes.{fits_sizes, product, sizes_of};
+ghost use Rattle.roster_state.specs.Codes.{code_of, fits_sizes, product, sizes_of};
 ghost use Rattle.roster_state.specs.DayStep.{step_at};
 ghost use Rattle.roster_search.specs.Tables.{AreLabels, ArePointers, BestOnward, Cells, IsDayOf, IsOfferOf, LeastFrom, NoLeast, SameOutside, best_at_end, best_on, label_at, most_price, no_row};
 
@@ -15,13 +15,13 @@ use roster_state::{DayStep, Meter, Ranges, State, end_cost};
 /// The label of a state from which no row goes on. Each row costs less.
 pub const NO_ROW: u32 = 268_435_456;
 
-/// The states that differ in their assignments alone: that without assignments, its number, and the place of its pointer. The others
-/// stand behind it.
+/// The states that differ in their assignments alone: that without assignments, its number, and the first place of the day's
+/// pointers. The others stand behind it.
 #[derive(Clone, Copy)]
 struct Block {
     state: State,
-    code: usize,
-    first: usize,
+    code: u32,
+    first: u32,
 }
 
 /// The labels behind the last day: what is missing in the end.
@@ -67,21 +67,21 @@ pub fn label_day(
     ensures counted { meter.new ≡ meter.old + product at.now.ranges * length offers.now }
 {
     for number in 0..at.ranges.blocks() {
-        let code = (number * at.ranges.assignments()) as usize;
         let block = Block {
             state: State::of_block(&at.ranges, number),
-            code,
-            first: first as usize + code,
+            code: number * at.ranges.assignments(),
+            first,
         };
-        label_block(case, at, block, offers, later, labels, pointers, meter);
+        label_block(case, at, &block, offers, later, labels, pointers, meter);
     }
 }
 
 /// The labels and the pointers of a block, by all offers of the day. For each state and each offer the meter counts one.
+#[tactic(auto, using(crate::proofs::BlockLaws::least_from_none))]
 fn label_block(
     case: &Case,
     at: &SearchDay,
-    block: Block,
+    block: &Block,
     offers: &[Offer],
     later: &[u32],
     labels: &mut [u32],
@@ -90,19 +90,19 @@ fn label_block(
 )
     ghost rest: { BestOnward }
     requires day { IsDayOf case.now at.now }
-    requires fits { fits_sizes (sizes_of case.now at.now.nurse) block.state ≡ true }
+    requires fits { fits_sizes (sizes_of case.now at.now.nurse) block.now.state ≡ true }
     requires offers { All (IsOfferOf case.now) offers.now }
     requires few { length offers.now ≤ 256 }
     requires later { AreLabels case.now at.now.nurse (at.now.day + 1) rest later.now }
     requires all { product at.now.ranges ≤ length later.now }
-    requires labels_room { block.code + at.now.ranges.assignments ≤ length labels.old }
-    requires pointers_room { block.first + at.now.ranges.assignments ≤ length pointers.old }
-    requires room { meter.old + at.now.ranges.assignments * length offers.now ≤ 18446744073709551615 }
-    ensures least { Cells (LeastFrom case.now at.now rest block.state offers.now) block.code block.first 0 at.now.ranges.assignments labels.new pointers.new }
-    ensures labels_others { SameOutside block.code (block.code + at.now.ranges.assignments) labels.old labels.new }
-    ensures pointers_others { SameOutside block.first (block.first + at.now.ranges.assignments) pointers.old pointers.new }
+    requires labels_room { block.now.code + at.now.ranges.assignments ≤ length labels.old }
+    requires pointers_room { block.now.first + block.now.code + at.now.ranges.assignments ≤ length pointers.old }
+    requires room { meter.old + length offers.now * at.now.ranges.assignments ≤ 18446744073709551615 }
+    ensures least { Cells (LeastFrom case.now at.now rest block.now.state offers.now) block.now.code (block.now.first + block.now.code) 0 at.now.ranges.assignments labels.new pointers.new }
+    ensures labels_others { SameOutside block.now.code (block.now.code + at.now.ranges.assignments) labels.old labels.new }
+    ensures pointers_others { SameOutside (block.now.first + block.now.code) (block.now.first + block.now.code + at.now.ranges.assignments) pointers.old pointers.new }
     ensures lengths { (length labels.new ≡ length labels.old) × (length pointers.new ≡ length pointers.old) }
-    ensures counted { meter.new ≡ meter.old + at.now.ranges.assignments * length offers.now }
+    ensures counted { meter.new ≡ meter.old + length offers.now * at.now.ranges.assignments }
 {
     clear_block(at, block, labels, pointers);
     for place in 0..offers.len() {
@@ -113,17 +113,19 @@ fn label_block(
 }
 
 /// The labels and the pointers of a block by no offer.
-fn clear_block(at: &SearchDay, block: Block, labels: &mut [u32], pointers: &mut Pointers)
-    requires labels_room { block.code + at.now.ranges.assignments ≤ length labels.old }
-    requires pointers_room { block.first + at.now.ranges.assignments ≤ length pointers.old }
-    ensures cleared { Cells NoLeast block.code block.first 0 at.now.ranges.assignments labels.new pointers.new }
-    ensures labels_others { SameOutside block.code (block.code + at.now.ranges.assignments) labels.old labels.new }
-    ensures pointers_others { SameOutside block.first (block.first + at.now.ranges.assignments) pointers.old pointers.new }
+fn clear_block(at: &SearchDay, block: &Block, labels: &mut [u32], pointers: &mut Pointers)
+    requires labels_room { block.now.code + at.now.ranges.assignments ≤ length labels.old }
+    requires pointers_room { block.now.first + block.now.code + at.now.ranges.assignments ≤ length pointers.old }
+    ensures cleared { Cells NoLeast block.now.code (block.now.first + block.now.code) 0 at.now.ranges.assignments labels.new pointers.new }
+    ensures labels_others { SameOutside block.now.code (block.now.code + at.now.ranges.assignments) labels.old labels.new }
+    ensures pointers_others { SameOutside (block.now.first + block.now.code) (block.now.first + block.now.code + at.now.ranges.assignments) pointers.old pointers.new }
     ensures lengths { (length labels.new ≡ length labels.old) × (length pointers.new ≡ length pointers.old) }
 {
+    let code = block.code as usize;
+    let first = block.first as usize + code;
     for assignments in 0..at.ranges.assignments() {
-        labels[block.code + assignments as usize] = NO_ROW;
-        pointers.set(block.first + assignments as usize, 0);
+        labels[code + assignments as usize] = NO_ROW;
+        pointers.set(first + assignments as usize, 0);
     }
 }
 
@@ -132,7 +134,7 @@ fn clear_block(at: &SearchDay, block: Block, labels: &mut [u32], pointers: &mut 
 fn lower_by(
     case: &Case,
     at: &SearchDay,
-    block: Block,
+    block: &Block,
     offers: &[Offer],
     place: usize,
     later: &[u32],
@@ -142,30 +144,32 @@ fn lower_by(
 )
     ghost rest: { BestOnward }
     requires day { IsDayOf case.now at.now }
-    requires fits { fits_sizes (sizes_of case.now at.now.nurse) block.state ≡ true }
+    requires fits { fits_sizes (sizes_of case.now at.now.nurse) block.now.state ≡ true }
     requires offers { All (IsOfferOf case.now) offers.now }
     requires few { length offers.now ≤ 256 }
     requires place { place < length offers.now }
     requires later { AreLabels case.now at.now.nurse (at.now.day + 1) rest later.now }
     requires all { product at.now.ranges ≤ length later.now }
-    requires labels_room { block.code + at.now.ranges.assignments ≤ length labels.old }
-    requires pointers_room { block.first + at.now.ranges.assignments ≤ length pointers.old }
-    requires least { Cells (LeastFrom case.now at.now rest block.state (take place offers.now)) block.code block.first 0 at.now.ranges.assignments labels.old pointers.old }
+    requires labels_room { block.now.code + at.now.ranges.assignments ≤ length labels.old }
+    requires pointers_room { block.now.first + block.now.code + at.now.ranges.assignments ≤ length pointers.old }
+    requires least { Cells (LeastFrom case.now at.now rest block.now.state (take place offers.now)) block.now.code (block.now.first + block.now.code) 0 at.now.ranges.assignments labels.old pointers.old }
     requires room { meter.old + at.now.ranges.assignments ≤ 18446744073709551615 }
-    ensures least { Cells (LeastFrom case.now at.now rest block.state (take (place + 1) offers.now)) block.code block.first 0 at.now.ranges.assignments labels.new pointers.new }
-    ensures labels_others { SameOutside block.code (block.code + at.now.ranges.assignments) labels.old labels.new }
-    ensures pointers_others { SameOutside block.first (block.first + at.now.ranges.assignments) pointers.old pointers.new }
+    ensures least { Cells (LeastFrom case.now at.now rest block.now.state (take (place + 1) offers.now)) block.now.code (block.now.first + block.now.code) 0 at.now.ranges.assignments labels.new pointers.new }
+    ensures labels_others { SameOutside block.now.code (block.now.code + at.now.ranges.assignments) labels.old labels.new }
+    ensures pointers_others { SameOutside (block.now.first + block.now.code) (block.now.first + block.now.code + at.now.ranges.assignments) pointers.old pointers.new }
     ensures lengths { (length labels.new ≡ length labels.old) × (length pointers.new ≡ length pointers.old) }
     ensures counted { meter.new ≡ meter.old + at.now.ranges.assignments }
 {
     let ranges = at.ranges;
+    let code = block.code as usize;
+    let first = block.first as usize + code;
     let offer = offers[place];
     let step = DayStep::of(case, at.nurse, at.day, block.state, offer.choice.shift());
     for assignments in 0..ranges.assignments() as u16 {
         let label = label_by(&step, &ranges, offer.price, assignments, later, meter);
-        if label < labels[block.code + assignments as usize] {
-            labels[block.code + assignments as usize] = label;
-            pointers.set(block.first + assignments as usize, place as u8);
+        if label < labels[code + assignments as usize] {
+            labels[code + assignments as usize] = label;
+            pointers.set(first + assignments as usize, place as u8);
         }
     }
 }
@@ -182,7 +186,7 @@ fn label_by(
 ) -> u32
     requires fits { IfSome (step_at step.now assignments) (λ next. fits_sizes ranges.now next.0 ≡ true) }
     requires price { price ≤ most_price }
-    requires later { (code : ℕ) → code < product ranges.now → slice_index_or later.now code 0 ≤ no_row }
+    requires later { IfSome (step_at step.now assignments) (λ next. slice_index_or later.now (code_of ranges.now next.0) 0 ≤ no_row) }
     requires all { product ranges.now ≤ length later.now }
     requires room { meter.old < 18446744073709551615 }
     ensures label { result ≡ label_at ranges.now price later.now (step_at step.now assignments) }

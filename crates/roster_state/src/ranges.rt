@@ -74,6 +74,7 @@ impl Ranges {
     pub fn blocks(&self) -> u32
         ensures blocks { result ≡ blocks self.now }
         ensures all { result * self.now.assignments ≡ product self.now }
+        ensures within { product self.now ≤ most_states }
     {
         self.last * self.run * self.shift_run * self.weekends
     }

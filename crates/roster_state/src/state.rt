@@ -86,6 +86,7 @@ impl State {
         requires { block < blocks ranges.now }
         ensures states { (a : ℕ) → a < ranges.now.assignments → state_at ranges.now (block * ranges.now.assignments + a) ≡ Some (with_assignments result a) }
         ensures fit { (a : ℕ) → a < ranges.now.assignments → fits_sizes ranges.now (with_assignments result a) ≡ true }
+        ensures fits { fits_sizes ranges.now result ≡ true }
     {
         let shift_run = block / ranges.weekends;
         let run = shift_run / ranges.shift_run;

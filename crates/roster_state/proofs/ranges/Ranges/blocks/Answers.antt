@@ -1,6 +1,6 @@
-use Rattle.std.proofs.Common.{◌*◌, ◌≤◌, arith, subst}
-use Rattle.std.proofs.Common.{mul_right_comm}
+use Rattle.std.proofs.Common.{◌*◌, ◌≤◌, arith, mul_right_comm, subst}
 use Rattle.roster_rules.specs.Limits.{most_states}
+use Rattle.roster_state.specs.Codes.{Sizes, product}
 use Rattle.roster_state.proofs.CodeLemmas.{factor-within}
 use Rattle.roster_state.proofs.ranges.Ranges.blocks.Goals as goal
 
@@ -10,3 +10,6 @@ overflow_mul-result-3 c =
     let keep = c.self.invariant in
     let few = factor-within (r.last * r.run * r.shift_run * r.weekends) r.assignments most_states keep.assignments.some (subst (λ n. n ≤ most_states) (mul_right_comm (r.last * r.run * r.shift_run) r.assignments r.weekends) keep.states) in
     omega (arith, few)
+
+pub returns-clause-within : goal.returns-clause-within
+returns-clause-within c = subst (λ (z : Sizes). product z ≤ most_states) c.self.view_is c.self.invariant.states
