@@ -7,7 +7,7 @@ use Rattle.roster_rules.specs.declared.Shift.{Shift}
 use Rattle.roster_rules.specs.Choices.{shift_of}
 use Rattle.roster_rules.specs.Meaning.{Meaning}
 use Rattle.roster_rules.specs.Prefix.{Summary}
-use Rattle.roster_state.specs.Codes.{Sizes, fits_sizes, sizes_of, state_at}
+use Rattle.roster_state.specs.Codes.{fits_sizes, sizes_of, state_at}
 use Rattle.roster_state.specs.Step.{step_of, with_assignments}
 use Rattle.roster_search.specs.declared.day.SearchDay.{SearchDay}
 use Rattle.roster_search.specs.declared.offer.Offer.{Offer}

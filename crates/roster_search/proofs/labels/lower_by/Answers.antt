@@ -1,4 +1,4 @@
-use Rattle.std.proofs.Common.{◌≡◌, ◌∙◌, ◌+◌, ◌<◌, ◌≤◌, List, ℕ, arith, slice_set, subst, sym}
+use Rattle.std.proofs.Common.{◌∙◌, ◌+◌, ◌<◌, List, ℕ, arith, slice_set, subst, sym}
 use Rattle.roster_state.specs.DayStep.{step_at}
 use Rattle.roster_search.proofs.BlockLaws.{AreLowered, cells_lower, cells_same}
 use Rattle.roster_search.proofs.LabelLaws.{step_low}

@@ -1,4 +1,4 @@
-use Rattle.std.proofs.Common.{◌+◌, ◌≤◌, arith}
+use Rattle.std.proofs.Common.{arith}
 use Rattle.roster_state.proofs.DayStepLaw.{apart_within}
 use Rattle.roster_state.proofs.step.cost_apart.Goals as goal
 
