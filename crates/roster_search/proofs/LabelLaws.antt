@@ -9,14 +9,15 @@ use Rattle.roster_rules.specs.Choices.{shift_of}
 use Rattle.roster_rules.specs.Meaning.{Meaning, shift_count, skill_count}
 use Rattle.roster_rules.specs.Prefix.{Summary}
 use Rattle.roster_rules.specs.Rosters.{is_choice_of}
-use Rattle.roster_state.specs.Codes.{product, state_at}
+use Rattle.roster_state.specs.Codes.{code_of, fits_sizes, product, sizes_of, state_at}
 use Rattle.roster_state.specs.Step.{step_of}
+use Rattle.roster_state.proofs.CodeLemmas.{numbered-back, numbered-within}
 use Rattle.roster_search.specs.declared.day.SearchDay.{SearchDay}
 use Rattle.roster_search.specs.declared.offer.Offer.{Offer}
 use Rattle.roster_search.specs.ByStates.{best_behind}
 use Rattle.roster_search.specs.Cheapest.{Priced, cheaper, cheapest, raised}
 use Rattle.roster_search.specs.Offers.{dearer}
-use Rattle.roster_search.specs.Tables.{AreLabels, AreOfLeast, BestOnward, IsDayOf, PointsToBest, Stands, best_by, label_of, no_row}
+use Rattle.roster_search.specs.Tables.{AreLabels, AreOfLeast, BestOnward, IsDayOf, PointsToBest, Stands, best_by, label_at, label_of, no_row}
 use Rattle.roster_search.proofs.Cheapest.{cheapest_more, keeps_first, takes_second}
 
 pub label_within : {X : Type 0} (p : Priced X) → label_of p ≤ no_row
@@ -131,3 +132,22 @@ module _ (c : Meaning) (at : SearchDay) (day : IsDayOf c at) where
   pub label_of_next_within : (later : BestOnward) (labels : List ℕ) → AreLabels c at.nurse (at.day + 1) later labels → (next : Summary) (code : ℕ) → code < product at.ranges → state_at at.ranges code ≡ Some next → Stands c at.nurse (at.day + 1) next
       → slice_index_or labels code 0 ≤ no_row
   label_of_next_within later labels right next code within back stands = omega (arith, label_of_next later labels right next code within back stands, label_within (later next))
+
+  module _ (later : BestOnward) (labels : List ℕ) (right : AreLabels c at.nurse (at.day + 1) later labels) where
+    -- the state behind a step
+    pub step_fits : (o : Option (Summary × ℕ)) → IfSome o (λ t. fits_sizes (sizes_of c at.nurse) t.0 ≡ true) → IfSome o (λ t. fits_sizes at.ranges t.0 ≡ true)
+    step_fits o fit = subst (λ z. IfSome o (λ t. fits_sizes z t.0 ≡ true)) (sym day.ranges) fit
+
+    pub step_low : (o : Option (Summary × ℕ)) → IfSome o (λ t. fits_sizes (sizes_of c at.nurse) t.0 ≡ true) → IfSome o (λ t. slice_index_or labels (code_of at.ranges t.0) 0 ≤ no_row)
+    step_low None fit = tt
+    step_low (Some t) fit =
+        let there = step_fits (Some t) fit in
+        label_of_next_within later labels right t.0 (code_of at.ranges t.0) (numbered-within at.ranges t.0 there) (numbered-back at.ranges t.0 there) fit
+
+    pub label_at-is : (s : Summary) (offer : Offer) (o : Option (Summary × ℕ)) → step_of c at.nurse at.day s (shift_of offer.choice) ≡ o → IfSome o (λ t. fits_sizes (sizes_of c at.nurse) t.0 ≡ true)
+        → label_at at.ranges offer.price labels o ≡ label_of (best_by c at later s offer)
+    label_at-is s offer None e fit = label_refused c at later s offer e
+    label_at-is s offer (Some t) e fit =
+        let there = step_fits (Some t) fit in
+        label_by_offer c at later s offer t.0 t.1 (slice_index_or labels (code_of at.ranges t.0) 0) e
+        (label_of_next later labels right t.0 (code_of at.ranges t.0) (numbered-within at.ranges t.0 there) (numbered-back at.ranges t.0 there) fit)

@@ -4,6 +4,7 @@ pub mod RowCosts
 pub mod Best
 pub mod LabelLaws
 pub mod CellLaws
+pub mod BlockLaws
 pub mod ReadLaws
 pub mod OfferLaws
 pub mod BestRoom

@@ -1,14 +1,14 @@
 -- The tables of a day: at the number of each state its label, what the best row from there on costs, and its pointer, the place
 -- of the offer with which that row begins (our own).
-use Rattle.std.specs.Prelude.{◌≡◌, ◌+◌, ◌*◌, ◌<◌, ◌≤◌, ℕ, true, List, [], ◌∷◌, ◌++◌, length, min, Some, None, slice_index_or}
+use Rattle.std.specs.Prelude.{◌≡◌, ◌+◌, ◌*◌, ◌<◌, ◌≤◌, ℕ, true, List, [], ◌∷◌, ◌++◌, length, min, Option, Some, None, slice_index_or}
 use Rattle.roster_rules.specs.declared.Choice.{Choice}
 use Rattle.roster_rules.specs.Limits.{most_shifts, most_skills, most_small}
 use Rattle.roster_rules.specs.Meaning.{Meaning, day_count, nurse_count}
 use Rattle.roster_rules.specs.Prefix.{Summary}
 use Rattle.roster_rules.specs.Rosters.{is_choice_of}
 use Rattle.roster_rules.specs.Weights.{off_request_weight, staffing_weight}
-use Rattle.roster_state.specs.Codes.{Sizes, fits_sizes, product, sizes_of, state_at}
-use Rattle.roster_state.specs.Step.{end_cost_of}
+use Rattle.roster_state.specs.Codes.{Sizes, code_of, fits_sizes, product, sizes_of, state_at}
+use Rattle.roster_state.specs.Step.{end_cost_of, with_assignments}
 use Rattle.roster_search.specs.declared.day.SearchDay.{SearchDay}
 use Rattle.roster_search.specs.declared.offer.Offer.{Offer}
 use Rattle.roster_search.specs.ByStates.{best_behind}
@@ -97,6 +97,25 @@ PointersBelow c at offers later first k pointers =
 
 abbrev pub ArePointers : Meaning → SearchDay → List Offer → BestOnward → ℕ → List ℕ → Type 0
 ArePointers c at offers later first pointers = PointersBelow c at offers later first (product (sizes_of c at.nurse)) pointers
+
+-- ---- a block: states that differ in their assignments alone
+
+-- the label by a step at a price, none where the step is forbidden
+abbrev pub label_at : Sizes → ℕ → List ℕ → Option (Summary × ℕ) → ℕ
+label_at z price later None = no_row
+label_at z price later (Some step) = min (price + step.1 + slice_index_or later (code_of z step.0) 0) no_row
+
+-- for each number of assignments from k to m, what stands at its places in two tables is right
+abbrev pub Cells : (ℕ → ℕ → ℕ → Type 0) → (code first k m : ℕ) → List ℕ → List ℕ → Type 0
+Cells right code first k m labels pointers = (a : ℕ) → k ≤ a → a < m → right a (slice_index_or labels (code + a) 0) (slice_index_or pointers (first + a) 0)
+
+-- the label and the pointer of the state with so many assignments are those of the least of some offers
+abbrev pub LeastFrom : Meaning → SearchDay → BestOnward → Summary → List Offer → ℕ → ℕ → ℕ → Type 0
+LeastFrom c at later s offers a label pointer = AreOfLeast (best_by c at later (with_assignments s a)) offers label pointer
+
+-- those of no offers
+abbrev pub NoLeast : ℕ → ℕ → ℕ → Type 0
+NoLeast a label pointer = (label ≡ no_row) × (pointer ≡ 0)
 
 -- outside these places nothing has changed
 pub record SameOutside (first end : ℕ) (old new : List ℕ) : Type 0 where

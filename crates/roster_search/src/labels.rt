@@ -1,24 +1,27 @@
 //! The labels and pointers of a day: for each state what the best row from there on costs, and with which offer it begins.
 
-ghost use Rattle.std.specs.Prelude.{◌≡◌, ◌+◌, ◌*◌, ◌<◌, ◌≤◌, List, [], All, length};
+ghost use Rattle.std.specs.Prelude.{◌≡◌, ◌+◌, ◌*◌, ◌<◌, ◌≤◌, true, List, [], All, IfSome, length, slice_index_or, take};
 ghost use Rattle.roster_rules.specs.Meaning.{day_count, nurse_count};
-ghost use Rattle.roster_state.specs.Codes.{product, sizes_of};
-ghost use Rattle.roster_search.specs.Tables.{AreLabels, AreOfLeast, ArePointers, BestOnward, IsDayOf, IsOfferOf, SameOutside, Stands, best_at_end, best_by, best_on, label_of};
+ghost use Rattle.roster_state.specs.Codes.{code_of, fits_sizes, product, sizes_of};
+ghost use Rattle.roster_state.specs.DayStep.{step_at};
+ghost use Rattle.roster_search.specs.Tables.{AreLabels, ArePointers, BestOnward, Cells, IsDayOf, IsOfferOf, LeastFrom, NoLeast, SameOutside, best_at_end, best_on, label_at, most_price, no_row};
 
 use crate::day::SearchDay;
 use crate::offer::Offer;
 use crate::pointers::Pointers;
 use roster_rules::Case;
-use roster_state::{Meter, Ranges, State, end_cost, extend};
+use roster_state::{DayStep, Meter, Ranges, State, end_cost};
 
 /// The label of a state from which no row goes on. Each row costs less.
 pub const NO_ROW: u32 = 268_435_456;
 
-/// A label, and the place of the offer that gives it.
+/// The states that differ in their assignments alone: that without assignments, its number, and the first place of the day's
+/// pointers. The others stand behind it.
 #[derive(Clone, Copy)]
-struct Least {
-    label: u32,
-    pointer: u8,
+struct Block {
+    state: State,
+    code: u32,
+    first: u32,
 }
 
 /// The labels behind the last day: what is missing in the end.
@@ -63,80 +66,136 @@ pub fn label_day(
     ensures lengths { (length labels.new ≡ length labels.old) × (length pointers.new ≡ length pointers.old) }
     ensures counted { meter.new ≡ meter.old + product at.now.ranges * length offers.now }
 {
-    for code in 0..at.ranges.product() {
-        match State::from_code(&at.ranges, code) {
-            Some(state) => {
-                let least = least_of_offers(case, at, &state, offers, later, meter);
-                labels[code as usize] = least.label;
-                pointers.set(first as usize + code as usize, least.pointer);
-            }
-            None => unreachable!(),
-        }
+    for number in 0..at.ranges.blocks() {
+        let block = Block {
+            state: State::of_block(&at.ranges, number),
+            code: number * at.ranges.assignments(),
+            first,
+        };
+        label_block(case, at, &block, offers, later, labels, pointers, meter);
     }
 }
 
-/// The label and the pointer of a state: those of the least of the offers, of equal ones the first. The meter counts one for each
-/// offer.
-fn least_of_offers(
+/// The labels and the pointers of a block, by all offers of the day. For each state and each offer the meter counts one.
+#[tactic(auto, using(crate::proofs::BlockLaws::least_from_none))]
+fn label_block(
     case: &Case,
     at: &SearchDay,
-    state: &State,
+    block: &Block,
     offers: &[Offer],
     later: &[u32],
+    labels: &mut [u32],
+    pointers: &mut Pointers,
     meter: &mut Meter,
-) -> Least
+)
     ghost rest: { BestOnward }
     requires day { IsDayOf case.now at.now }
-    requires stands { Stands case.now at.now.nurse at.now.day state.now }
+    requires fits { fits_sizes (sizes_of case.now at.now.nurse) block.now.state ≡ true }
     requires offers { All (IsOfferOf case.now) offers.now }
     requires few { length offers.now ≤ 256 }
     requires later { AreLabels case.now at.now.nurse (at.now.day + 1) rest later.now }
     requires all { product at.now.ranges ≤ length later.now }
-    requires room { meter.old + length offers.now ≤ 18446744073709551615 }
-    ensures least { AreOfLeast (best_by case.now at.now rest state.now) offers.now result.label result.pointer }
-    ensures counted { meter.new ≡ meter.old + length offers.now }
+    requires labels_room { block.now.code + at.now.ranges.assignments ≤ length labels.old }
+    requires pointers_room { block.now.first + block.now.code + at.now.ranges.assignments ≤ length pointers.old }
+    requires room { meter.old + length offers.now * at.now.ranges.assignments ≤ 18446744073709551615 }
+    ensures least { Cells (LeastFrom case.now at.now rest block.now.state offers.now) block.now.code (block.now.first + block.now.code) 0 at.now.ranges.assignments labels.new pointers.new }
+    ensures labels_others { SameOutside block.now.code (block.now.code + at.now.ranges.assignments) labels.old labels.new }
+    ensures pointers_others { SameOutside (block.now.first + block.now.code) (block.now.first + block.now.code + at.now.ranges.assignments) pointers.old pointers.new }
+    ensures lengths { (length labels.new ≡ length labels.old) × (length pointers.new ≡ length pointers.old) }
+    ensures counted { meter.new ≡ meter.old + length offers.now * at.now.ranges.assignments }
 {
-    let mut least = Least {
-        label: NO_ROW,
-        pointer: 0,
-    };
+    clear_block(at, block, labels, pointers);
     for place in 0..offers.len() {
-        let label = label_by(case, at, state, offers[place], later, meter);
-        if label < least.label {
-            least = Least {
-                label,
-                pointer: place as u8,
-            };
-        }
+        lower_by(
+            case, at, block, offers, place, later, labels, pointers, meter,
+        );
     }
-    least
 }
 
-/// The label of a state by one offer: its price, what the day costs with it, and the label of the state behind it. The meter counts
-/// one.
-#[tactic(auto, using(crate::proofs::LabelLaws::label_by_offer, crate::proofs::LabelLaws::label_refused, crate::proofs::LabelLaws::label_within))]
-fn label_by(
+/// The labels and the pointers of a block by no offer.
+fn clear_block(at: &SearchDay, block: &Block, labels: &mut [u32], pointers: &mut Pointers)
+    requires labels_room { block.now.code + at.now.ranges.assignments ≤ length labels.old }
+    requires pointers_room { block.now.first + block.now.code + at.now.ranges.assignments ≤ length pointers.old }
+    ensures cleared { Cells NoLeast block.now.code (block.now.first + block.now.code) 0 at.now.ranges.assignments labels.new pointers.new }
+    ensures labels_others { SameOutside block.now.code (block.now.code + at.now.ranges.assignments) labels.old labels.new }
+    ensures pointers_others { SameOutside (block.now.first + block.now.code) (block.now.first + block.now.code + at.now.ranges.assignments) pointers.old pointers.new }
+    ensures lengths { (length labels.new ≡ length labels.old) × (length pointers.new ≡ length pointers.old) }
+{
+    let code = block.code as usize;
+    let first = block.first as usize + code;
+    for assignments in 0..at.ranges.assignments() {
+        labels[code + assignments as usize] = NO_ROW;
+        pointers.set(first + assignments as usize, 0);
+    }
+}
+
+/// Lowers the labels of a block to those by one offer more, and sets the pointers of those that are lower: of equally good offers the
+/// first stays. For each state the meter counts one.
+fn lower_by(
     case: &Case,
     at: &SearchDay,
-    state: &State,
-    offer: Offer,
+    block: &Block,
+    offers: &[Offer],
+    place: usize,
+    later: &[u32],
+    labels: &mut [u32],
+    pointers: &mut Pointers,
+    meter: &mut Meter,
+)
+    ghost rest: { BestOnward }
+    requires day { IsDayOf case.now at.now }
+    requires fits { fits_sizes (sizes_of case.now at.now.nurse) block.now.state ≡ true }
+    requires offers { All (IsOfferOf case.now) offers.now }
+    requires few { length offers.now ≤ 256 }
+    requires place { place < length offers.now }
+    requires later { AreLabels case.now at.now.nurse (at.now.day + 1) rest later.now }
+    requires all { product at.now.ranges ≤ length later.now }
+    requires labels_room { block.now.code + at.now.ranges.assignments ≤ length labels.old }
+    requires pointers_room { block.now.first + block.now.code + at.now.ranges.assignments ≤ length pointers.old }
+    requires least { Cells (LeastFrom case.now at.now rest block.now.state (take place offers.now)) block.now.code (block.now.first + block.now.code) 0 at.now.ranges.assignments labels.old pointers.old }
+    requires room { meter.old + at.now.ranges.assignments ≤ 18446744073709551615 }
+    ensures least { Cells (LeastFrom case.now at.now rest block.now.state (take (place + 1) offers.now)) block.now.code (block.now.first + block.now.code) 0 at.now.ranges.assignments labels.new pointers.new }
+    ensures labels_others { SameOutside block.now.code (block.now.code + at.now.ranges.assignments) labels.old labels.new }
+    ensures pointers_others { SameOutside (block.now.first + block.now.code) (block.now.first + block.now.code + at.now.ranges.assignments) pointers.old pointers.new }
+    ensures lengths { (length labels.new ≡ length labels.old) × (length pointers.new ≡ length pointers.old) }
+    ensures counted { meter.new ≡ meter.old + at.now.ranges.assignments }
+{
+    let ranges = at.ranges;
+    let code = block.code as usize;
+    let first = block.first as usize + code;
+    let offer = offers[place];
+    let step = DayStep::of(case, at.nurse, at.day, block.state, offer.choice.shift());
+    for assignments in 0..ranges.assignments() as u16 {
+        let label = label_by(&step, &ranges, offer.price, assignments, later, meter);
+        if label < labels[code + assignments as usize] {
+            labels[code + assignments as usize] = label;
+            pointers.set(first + assignments as usize, place as u8);
+        }
+    }
+}
+
+/// The label of the state with so many assignments by one offer: its price, what the day costs with it, and the label of the state
+/// behind it. The meter counts one.
+fn label_by(
+    step: &DayStep,
+    ranges: &Ranges,
+    price: u32,
+    assignments: u16,
     later: &[u32],
     meter: &mut Meter,
 ) -> u32
-    ghost rest: { BestOnward }
-    requires day { IsDayOf case.now at.now }
-    requires stands { Stands case.now at.now.nurse at.now.day state.now }
-    requires offer { IsOfferOf case.now offer }
-    requires later { AreLabels case.now at.now.nurse (at.now.day + 1) rest later.now }
-    requires all { product at.now.ranges ≤ length later.now }
+    requires fits { IfSome (step_at step.now assignments) (λ next. fits_sizes ranges.now next.0 ≡ true) }
+    requires price { price ≤ most_price }
+    requires later { IfSome (step_at step.now assignments) (λ next. slice_index_or later.now (code_of ranges.now next.0) 0 ≤ no_row) }
+    requires all { product ranges.now ≤ length later.now }
     requires room { meter.old < 18446744073709551615 }
-    ensures label { result ≡ label_of (best_by case.now at.now rest state.now offer) }
+    ensures label { result ≡ label_at ranges.now price later.now (step_at step.now assignments) }
     ensures counted { meter.new ≡ meter.old + 1 }
 {
-    match extend(case, at.nurse, at.day, *state, offer.choice.shift(), meter) {
+    match step.extend(assignments, meter) {
         Some((next, cost)) => {
-            let behind = later[next.code(&at.ranges) as usize];
-            (offer.price + cost + behind).min(NO_ROW)
+            let behind = later[next.code(ranges) as usize];
+            (price + cost + behind).min(NO_ROW)
         }
         None => NO_ROW,
     }

@@ -7,7 +7,7 @@ use Rattle.roster_rules.specs.Meaning.{Meaning, shift_at}
 use Rattle.roster_rules.specs.Prefix.{Summary}
 use Rattle.roster_rules.specs.Limits.{most_states}
 use Rattle.roster_rules.specs.Sizes.{state_count}
-use Rattle.roster_state.specs.Codes.{KeepLimits, Sizes, code_of, fits_sizes, product, shift_digit, shift_numbered, sizes_of, state_at, state_numbered}
+use Rattle.roster_state.specs.Codes.{KeepLimits, Sizes, blocks, code_of, fits_sizes, product, shift_digit, shift_numbered, sizes_of, state_at, state_numbered}
 
 -- ---- sizes
 
@@ -114,6 +114,13 @@ module _ (z : Sizes) (s : Summary) (f : Fits z s) where
   state_at-code : state_at z (code_of z s) ≡ Some s
   unfolding state_at
   state_at-code = ap (λ b. cond b (Some (state_numbered z (code_of z s))) None) (lt-ltb (code_of z s) (product z) code-within) ∙ ap Some numbered
+
+-- a state that fits has a number below the product, and is read back from it
+pub numbered-within : (z : Sizes) (s : Summary) → fits_sizes z s ≡ true → code_of z s < product z
+numbered-within z s fit = code-within z s (fits-all z s fit)
+
+pub numbered-back : (z : Sizes) (s : Summary) → fits_sizes z s ≡ true → state_at z (code_of z s) ≡ Some s
+numbered-back z s fit = state_at-code z s (fits-all z s fit)
 
 -- states with one number are one
 one_code : (z : Sizes) (s other : Summary) → Fits z s → Fits z other → code_of z other ≡ code_of z s → other ≡ s
@@ -224,3 +231,57 @@ module _ (z now : Sizes) (code : ℕ) (last : Option Shift) (sizes : z ≡ now) 
 
     pub read-state : Some read ≡ state_at now code
     read-state = ap Some read-is ∙ sym (state_at-some now code (subst KeepLimits sizes keep) below)
+
+-- ---- the states of a block, one for each number of assignments
+
+module _ (z now : Sizes) (block : ℕ) (sizes : z ≡ now) (keep : KeepLimits z) (below : block < blocks now) where
+  in-block : (a : ℕ) → a < z.assignments → block * z.assignments + a < product now
+  in-block a inside =
+      let few : block < blocks z = subst (λ n. block < n) (ap blocks (sym sizes)) below in
+      let all : block * z.assignments + a < blocks z * z.assignments = digit-below block z.assignments a (blocks z) few inside in
+      subst (λ n. block * z.assignments + a < n) (mul_right_comm (z.last * z.run * z.shift_run) z.weekends z.assignments ∙ ap product sizes) all
+
+  front : (a : ℕ) → a < z.assignments → (block * z.assignments + a) / z.assignments ≡ block
+  front a inside = div-mul-add block z.assignments a inside
+
+  pub first-small : block / z.weekends / z.shift_run / z.run ≤ 256
+  first-small =
+      subst (λ q. q / z.weekends / z.shift_run / z.run ≤ 256) (front 0 keep.assignments.some)
+      (last-small z now (block * z.assignments + 0) sizes keep (in-block 0 keep.assignments.some))
+
+  module _ (last : Option Shift) (last_is : last ≡ shift_numbered (block / z.weekends / z.shift_run / z.run)) where
+    abbrev of_block : ℕ → Summary
+    of_block a = record {
+      last = last;
+      run = block / z.weekends / z.shift_run % z.run;
+      shift_run = block / z.weekends % z.shift_run;
+      assignments = a;
+      weekends = block % z.weekends;
+    }
+
+    module _ (a : ℕ) (within : a < now.assignments) where
+      inside : a < z.assignments
+      inside = subst (λ y. a < y.assignments) (sym sizes) within
+
+      read_last : last ≡ shift_numbered ((block * z.assignments + a) / z.assignments / z.weekends / z.shift_run / z.run)
+      read_last = last_is ∙ ap (λ q. shift_numbered (q / z.weekends / z.shift_run / z.run)) (sym (front a inside))
+
+      read-is_block : read z now (block * z.assignments + a) last sizes read_last ≡ of_block a
+      read-is_block =
+          let q = front a inside in
+          let r = mod-mul-add block z.assignments a inside in
+          λ i. record {
+            last = last;
+            run = q i / z.weekends / z.shift_run % z.run;
+            shift_run = q i / z.weekends % z.shift_run;
+            assignments = r i;
+            weekends = q i % z.weekends;
+          }
+
+      pub block-fits : fits_sizes now (of_block a) ≡ true
+      block-fits = subst (λ s. fits_sizes now s ≡ true) read-is_block (read-fits z now (block * z.assignments + a) last sizes read_last keep (in-block a inside))
+
+      pub block-state : state_at now (block * now.assignments + a) ≡ Some (of_block a)
+      block-state =
+          subst (λ y. state_at now (block * y.assignments + a) ≡ Some (of_block a)) sizes
+          (sym (read-state z now (block * z.assignments + a) last sizes read_last keep (in-block a inside)) ∙ ap Some read-is_block)

@@ -3,7 +3,8 @@ pub mod ShiftLaw
 pub mod RowLemmas
 pub mod OpenRuns
 pub mod SumLaw
+pub mod DayStepLaw
 pub mod StartLaw
 pub mod StepBounds
-mod CodeLemmas
+pub mod CodeLemmas
 pub mod TriedDays

@@ -29,6 +29,10 @@ sizes_of c n = record {
 abbrev pub product : Sizes → ℕ
 product z = z.last * z.run * z.shift_run * z.assignments * z.weekends
 
+-- how many times as many as there are values of the assignments
+abbrev pub blocks : Sizes → ℕ
+blocks z = z.last * z.run * z.shift_run * z.weekends
+
 -- the last shift as a number: 0 where there is none
 abbrev pub shift_digit : Option Shift → ℕ
 shift_digit None = 0

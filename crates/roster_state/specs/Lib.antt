@@ -1,3 +1,4 @@
 pub mod Step
+pub mod DayStep
 pub mod Codes
 pub mod Room

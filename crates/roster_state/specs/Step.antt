@@ -62,6 +62,10 @@ total_more c n s shift = if nat_le (contract_of c n).total.greatest s.assignment
 abbrev pub weekend_more : Meaning → ℕ → ℕ → Summary → Option Shift → ℕ
 weekend_more c n day s shift = if nat_le (contract_of c n).weekends s.weekends then weekend_weight * weekends_more day (is_some s.last) (is_some shift) else 0
 
+-- all of it that doesn't depend on the assignments
+abbrev pub cost_apart : Meaning → ℕ → ℕ → Summary → Option Shift → ℕ
+cost_apart c n day s shift = working_more c n s shift + free_more c n s shift + shifts_more c s shift + split_more c n day s shift + weekend_more c n day s shift
+
 unfoldable pub step_cost : Meaning → ℕ → ℕ → Summary → Option Shift → ℕ
 step_cost c n day s shift = working_more c n s shift + free_more c n s shift + shifts_more c s shift + split_more c n day s shift + total_more c n s shift + weekend_more c n day s shift
 
@@ -87,6 +91,10 @@ next_of c n day s shift = record {
 -- the summary and the cost of one day more, none where the last shift forbids it
 abbrev pub step_of : Meaning → ℕ → ℕ → Summary → Option Shift → Option (Summary × ℕ)
 step_of c n day s shift = if forbids c.successions s.last shift then None else Some (next_of c n day s shift, step_cost c n day s shift)
+
+-- the same summary with so many assignments
+abbrev pub with_assignments : Summary → ℕ → Summary
+with_assignments s a = record s { assignments = a }
 
 -- points for each assignment missing to the least total, at the end
 abbrev pub end_cost_of : Meaning → ℕ → Summary → ℕ

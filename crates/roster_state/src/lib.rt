@@ -1,12 +1,14 @@
 //! The state of one nurse, from day to day: what the search for a row keeps of the days before.
 #![tactic(auto)]
 
+mod day_step;
 mod meter;
 mod ranges;
 mod row;
 mod state;
 mod step;
 
+pub use day_step::DayStep;
 pub use meter::Meter;
 pub use ranges::Ranges;
 pub use row::row_cost;

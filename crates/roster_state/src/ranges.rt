@@ -1,10 +1,10 @@
 //! The ranges of the five numbers of a state.
 
-ghost use Rattle.std.specs.Prelude.{◌≡◌, ◌<◌, ◌≤◌};
+ghost use Rattle.std.specs.Prelude.{◌≡◌, ◌*◌, ◌<◌, ◌≤◌};
 ghost use Rattle.roster_rules.specs.Limits.{most_states};
 ghost use Rattle.roster_rules.specs.Meaning.{nurse_count};
 ghost use Rattle.roster_rules.specs.Sizes.{state_count};
-ghost use Rattle.roster_state.specs.Codes.{product, sizes_of};
+ghost use Rattle.roster_state.specs.Codes.{blocks, product, sizes_of};
 
 use roster_rules::{Case, MAX_STATES};
 use std::cmp::max;
@@ -60,5 +60,22 @@ impl Ranges {
         ensures within { result ≤ most_states }
     {
         self.last * self.run * self.shift_run * self.assignments * self.weekends
+    }
+
+    /// How many states differ in their assignments alone: a block of numbers beside one another.
+    pub fn assignments(&self) -> u32
+        ensures assignments { result ≡ self.now.assignments }
+        ensures within { result ≤ 1000 }
+    {
+        self.assignments
+    }
+
+    /// How many blocks of such states there are.
+    pub fn blocks(&self) -> u32
+        ensures blocks { result ≡ blocks self.now }
+        ensures all { result * self.now.assignments ≡ product self.now }
+        ensures within { product self.now ≤ most_states }
+    {
+        self.last * self.run * self.shift_run * self.weekends
     }
 }

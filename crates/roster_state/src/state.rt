@@ -1,8 +1,9 @@
 //! The state of a nurse between two days.
 
-ghost use Rattle.std.specs.Prelude.{◌≡◌, ◌↔◌, ◌<◌, ◌≤◌, true, IfSome, IsNone};
+ghost use Rattle.std.specs.Prelude.{◌≡◌, ◌↔◌, ◌+◌, ◌*◌, ◌<◌, ◌≤◌, ℕ, true, IfSome, IsNone};
 ghost use Rattle.roster_rules.specs.Prefix.{Summary};
-ghost use Rattle.roster_state.specs.Codes.{code_of, fits_sizes, product, shift_digit, shift_numbered, state_at};
+ghost use Rattle.roster_state.specs.Codes.{blocks, code_of, fits_sizes, product, shift_digit, shift_numbered, state_at};
+ghost use Rattle.roster_state.specs.Step.{with_assignments};
 
 use crate::ranges::Ranges;
 use roster_rules::Shift;
@@ -78,6 +79,24 @@ impl State {
             assignments: (code % ranges.assignments) as u16,
             weekends: (weekends % ranges.weekends) as u16,
         })
+    }
+
+    /// The state without assignments of a block. With each number of assignments it is the next state of the block.
+    pub fn of_block(ranges: &Ranges, block: u32) -> State
+        requires { block < blocks ranges.now }
+        ensures states { (a : ℕ) → a < ranges.now.assignments → state_at ranges.now (block * ranges.now.assignments + a) ≡ Some (with_assignments result a) }
+        ensures fit { (a : ℕ) → a < ranges.now.assignments → fits_sizes ranges.now (with_assignments result a) ≡ true }
+        ensures fits { fits_sizes ranges.now result ≡ true }
+    {
+        let shift_run = block / ranges.weekends;
+        let run = shift_run / ranges.shift_run;
+        State {
+            last: shift_numbered(run / ranges.run),
+            run: (run % ranges.run) as u16,
+            shift_run: (shift_run % ranges.shift_run) as u16,
+            assignments: 0,
+            weekends: (block % ranges.weekends) as u16,
+        }
     }
 }
 

@@ -11,8 +11,9 @@ ghost use Rattle.roster_rules.specs.Sizes.{cap};
 ghost use Rattle.roster_state.specs.Codes.{fits_sizes, sizes_of};
 ghost use Rattle.roster_rules.specs.Weights.{assignment_weight, free_run_weight, shift_run_weight, split_weight, weekend_weight, working_run_weight};
 ghost use Rattle.roster_state.specs.Room.{most_at_end, most_at_start, most_of_step};
-ghost use Rattle.roster_state.specs.Step.{end_cost_of, ended, free_more, free_run, next_of, open_shift_run, shifts_more, split_more, step_cost, step_of, total_more, weekend_more, worked, working_more, working_run};
+ghost use Rattle.roster_state.specs.Step.{cost_apart, end_cost_of, ended, free_more, free_run, next_of, open_shift_run, shifts_more, split_more, step_of, weekend_more, worked, working_more, working_run};
 
+use crate::day_step::DayStep;
 use crate::meter::Meter;
 use crate::state::State;
 use roster_rules::weights::{ASSIGNMENT, FREE_RUN, SHIFT_RUN, SPLIT, WEEKEND, WORKING_RUN};
@@ -62,10 +63,7 @@ pub fn extend(
     ensures next_fits { IfSome result (λ step. fits_sizes (sizes_of case.now nurse) step.0 ≡ true) }
     ensures within { IfSome result (λ step. step.1 ≤ most_of_step) }
 {
-    meter.add_one();
-    case.keeps_limits();
-    let next = after(case, nurse, day, state, shift)?;
-    Some((next, step_cost(case, nurse, day, state, shift)))
+    DayStep::of(case, nurse, day, state, shift).extend(state.assignments, meter)
 }
 
 /// The state that `extend` gives, without its cost. It counts nothing.
@@ -156,7 +154,13 @@ fn missing_cost(case: &Case, nurse: usize, state: State) -> u32
 // ---- a step
 
 #[tactic(auto, unfolding(crate::specs::Step::next_of))]
-fn next_of(case: &Case, nurse: usize, day: u16, state: State, shift: Option<Shift>) -> State
+pub(crate) fn next_of(
+    case: &Case,
+    nurse: usize,
+    day: u16,
+    state: State,
+    shift: Option<Shift>,
+) -> State
     ensures { result ≡ next_of case.now nurse day state shift }
 {
     let rules = case.contract_rules(nurse);
@@ -178,16 +182,23 @@ fn next_of(case: &Case, nurse: usize, day: u16, state: State, shift: Option<Shif
     }
 }
 
-#[tactic(auto, unfolding(crate::specs::Step::step_cost))]
-fn step_cost(case: &Case, nurse: usize, day: u16, state: State, shift: Option<Shift>) -> u32
+/// What the day costs, but for an assignment above the greatest total.
+pub(crate) fn cost_apart(
+    case: &Case,
+    nurse: usize,
+    day: u16,
+    state: State,
+    shift: Option<Shift>,
+) -> u32
     requires last { IfSome state.last (λ s. s.0 < shift_count case.now) }
     requires shift { IfSome shift (λ s. s.0 < shift_count case.now) }
-    ensures { result ≡ step_cost case.now nurse day state shift }
+    ensures cost { result ≡ cost_apart case.now nurse day state shift }
+    ensures within { result + assignment_weight ≤ most_of_step }
 {
+    case.keeps_limits();
     runs_more(case, nurse, state, shift)
         + shifts_more(case, state, shift)
         + split_more(case, nurse, day, state, shift)
-        + total_more(case, nurse, state, shift)
         + weekend_more(case, nurse, day, state, shift)
 }
 
@@ -212,17 +223,6 @@ fn split_more(case: &Case, nurse: usize, day: u16, state: State, shift: Option<S
         return 0;
     }
     SPLIT * splits_more(day, state.last, shift)
-}
-
-/// The points for an assignment above the greatest total.
-fn total_more(case: &Case, nurse: usize, state: State, shift: Option<Shift>) -> u32
-    ensures cost { result ≡ total_more case.now nurse state shift }
-    ensures within { result ≤ assignment_weight }
-{
-    if state.assignments < case.contract_rules(nurse).total.greatest {
-        return 0;
-    }
-    ASSIGNMENT * shift.is_some() as u32
 }
 
 /// The points for a worked weekend above the greatest number.

@@ -1,40 +1,68 @@
-use Rattle.std.proofs.Common.{◌≡◌, ◌∙◌, ◌+◌, ◌<◌, ℕ, ap, arith, length, subst, sym, true}
-use Rattle.std.proofs.lemmas.List.{length-set}
-use Rattle.roster_state.specs.Codes.{fits_sizes, product, sizes_of}
-use Rattle.roster_search.specs.Tables.{PointersBelow, PointsWhereBest, SameOutside, Stands, best_by, best_on, label_of}
-use Rattle.roster_search.proofs.CellLaws.{cell_set, one_more_counted, room_for_more, set_outside, state_of}
+use Rattle.std.proofs.Common.{◌≡◌, ◌∙◌, ◌+◌, ◌*◌, ◌≤◌, ap, arith, length, subst, sym, true}
+use Rattle.roster_state.specs.Codes.{Sizes, fits_sizes, product}
+use Rattle.roster_search.proofs.BlockLaws.{all_counted, block_within, labels_more, pointers_more}
+use Rattle.roster_search.proofs.CellLaws.{one_more_counted, outside_then, outside_wider, room_for_more}
 use Rattle.roster_search.proofs.labels.label_day.Goals as goal
 
-pub least_of_offers-least-requires : goal.least_of_offers-least-requires
-least_of_offers-least-requires g c =
-    let r = c.requires in
-    let stands = subst (λ z. fits_sizes z c.in-Some.state ≡ true) r.0.ranges c.in-Some.ensures.fits in
-    let below : c.loop-code.code < product c.args.at.now.ranges = omega (arith, c.loop-code-test.true, c.product-code-end.ensures.product) in
-    let room = room_for_more c.loop-code.code (product c.args.at.now.ranges) (length c.args.offers.now) c.args.meter.now c.loop-code.meter 18446744073709551615 below c.loop-code.invariant.counted r.1.1.1.1.1.1.1 in
-    (r.0, (stands, (r.1.0, (r.1.1.0, (r.1.1.1.0, (r.1.1.1.1.0, room))))))
+pub overflow_mul-block : goal.overflow_mul-block
+overflow_mul-block g c =
+    let number = c.loop-number.number in
+    let size = c.args.at.now.ranges.assignments in
+    let code_is = ap (λ m. number * m) c.assignments.ensures.assignments in
+    let within = block_within number c.blocks-number-end.result size (product c.args.at.now.ranges) c.blocks-number-end.ensures.all c.loop-number-test.true in
+    omega (arith, code_is, within, c.blocks-number-end.ensures.within)
 
-pub loop-code-preserved : goal.loop-code-preserved
-loop-code-preserved g c =
+pub label_block-requires : goal.label_block-requires
+label_block-requires g c =
+    let r = c.requires in
+    let at = c.args.at.now in
+    let old = c.loop-number.invariant in
+    let number = c.loop-number.number in
+    let count = c.blocks-number-end.result in
+    let size = at.ranges.assignments in
+    let long = length c.args.offers.now in
+    let code = number * c.assignments.result in
+    let code_is : code ≡ number * size = ap (λ m. number * m) c.assignments.ensures.assignments in
+    let within = block_within number count size (product at.ranges) c.blocks-number-end.ensures.all c.loop-number-test.true in
+    let fits = subst (λ (z : Sizes). fits_sizes z c.of_block.result ≡ true) r.0.ranges c.of_block.ensures.fits in
+    let labels_room : code + size ≤ length c.loop-number.labels = omega (arith, code_is, within, old.labels_length, r.1.1.1.1.1.0) in
+    let pointers_room : c.args.first + code + size ≤ length c.loop-number.pointers = omega (arith, code_is, within, old.pointers_length, r.1.1.1.1.1.1.0) in
+    let all_room : c.args.meter.now + count * (long * size) ≤ 18446744073709551615 = subst (λ n. c.args.meter.now + n ≤ 18446744073709551615) (sym (all_counted count size long (product at.ranges) c.blocks-number-end.ensures.all)) r.1.1.1.1.1.1.1 in
+    let room = room_for_more number count (long * size) c.args.meter.now c.loop-number.meter 18446744073709551615 c.loop-number-test.true old.counted all_room in
+    (r.0, (fits, (r.1.0, (r.1.1.0, (r.1.1.1.0, (r.1.1.1.1.0, (labels_room, (pointers_room, room))))))))
+
+pub loop-number-preserved : goal.loop-number-preserved
+loop-number-preserved g c =
+    let r = c.requires in
     let k = c.args.case.now in
     let at = c.args.at.now in
     let offers = c.args.offers.now in
-    let code = c.loop-code.code in
     let first = c.args.first in
-    let s = c.in-Some.state in
-    let old = c.loop-code.invariant in
-    let least = c.least_of_offers-least.result in
-    let right = c.least_of_offers-least.ensures.least in
-    let place : ℕ → ℕ = λ j. first + j in
-    let below : code < product at.ranges = omega (arith, c.loop-code-test.true, c.product-code-end.ensures.product) in
-    let is = state_of (sizes_of k at.nurse) at.ranges code c.from_code.result s c.requires.0.ranges c.from_code.ensures.state c.in-Some.is in
-    let labels_in : code < length c.loop-code.labels = omega (arith, below, old.labels_length, c.requires.1.1.1.1.1.0) in
-    let pointers_in : first + code < length c.loop-code.pointers = omega (arith, below, old.pointers_length, c.requires.1.1.1.1.1.1.0) in
+    let old = c.loop-number.invariant in
+    let e = c.label_block.ensures in
+    let number = c.loop-number.number in
+    let size = at.ranges.assignments in
+    let code = number * c.assignments.result in
+    let code_is : code ≡ number * size = ap (λ m. number * m) c.assignments.ensures.assignments in
+    let within = block_within number c.blocks-number-end.result size (product at.ranges) c.blocks-number-end.ensures.all c.loop-number-test.true in
+    let end_within : first + code + size ≤ first + product at.ranges = omega (arith, code_is, within) in
     record {
-      labels = cell_set (Stands k at.nurse at.day) (sizes_of k at.nurse) (λ t label. label ≡ label_of (best_on k at offers g.rest t)) (λ j. j) c.loop-code.labels code s least.label (λ j e. e) labels_in is (λ stands. right.least) old.labels;
-      pointers = subst (PointersBelow k at offers g.rest first (code + 1)) (sym c.set.ensures)
-          (cell_set (Stands k at.nurse at.day) (sizes_of k at.nurse) (λ t. PointsWhereBest (best_by k at g.rest t) offers (best_on k at offers g.rest t)) place c.loop-code.pointers code s least.pointer (λ j e. omega (arith, e)) pointers_in is (λ stands. right.points) old.pointers);
-      others = subst (SameOutside first (first + product at.ranges) c.args.pointers.now) (sym c.set.ensures) (set_outside first (first + product at.ranges) c.args.pointers.now c.loop-code.pointers (first + code) least.pointer (omega arith) (omega (arith, below)) old.others);
-      labels_length = length-set c.loop-code.labels code least.label ∙ old.labels_length;
-      pointers_length = ap length c.set.ensures ∙ length-set c.loop-code.pointers (first + code) least.pointer ∙ old.pointers_length;
-      counted = one_more_counted code (length offers) c.args.meter.now c.loop-code.meter _ old.counted c.least_of_offers-least.ensures.counted;
+      labels = labels_more k at r.0 offers g.rest c.of_block.result number first code code_is c.of_block.ensures.states c.loop-number.labels c.label_block.new.labels c.loop-number.pointers c.label_block.new.pointers e.least e.labels_others old.labels;
+      pointers = pointers_more k at r.0 offers g.rest c.of_block.result number first code code_is c.of_block.ensures.states c.loop-number.labels c.label_block.new.labels c.loop-number.pointers c.label_block.new.pointers e.least e.pointers_others old.pointers;
+      others = outside_then first (first + product at.ranges) c.args.pointers.now c.loop-number.pointers c.label_block.new.pointers old.others
+          (outside_wider (first + code) (first + code + size) first (first + product at.ranges) c.loop-number.pointers c.label_block.new.pointers (omega arith) end_within e.pointers_others);
+      labels_length = e.lengths.0 ∙ old.labels_length;
+      pointers_length = e.lengths.1 ∙ old.pointers_length;
+      counted = one_more_counted number (length offers * size) c.args.meter.now c.loop-number.meter _ old.counted e.counted;
     }
+
+pub returns-clause-counted : goal.returns-clause-counted
+returns-clause-counted g c =
+    let at = c.args.at.now in
+    let count = c.blocks-number-end.result in
+    let size = at.ranges.assignments in
+    let long = length c.args.offers.now in
+    let all : c.loop-number.number ≡ count = omega (arith, c.loop-number-test.false, c.loop-number.auto.number-end) in
+    c.loop-number.invariant.counted
+    ∙ ap (λ n. c.args.meter.now + n * (long * size)) all
+    ∙ ap (λ n. c.args.meter.now + n) (all_counted count size long (product at.ranges) c.blocks-number-end.ensures.all)

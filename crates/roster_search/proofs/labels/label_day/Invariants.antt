@@ -3,15 +3,15 @@ use Rattle.roster_state.specs.Codes.{product}
 use Rattle.roster_search.specs.Tables.{LabelsBelow, PointersBelow, SameOutside, best_on}
 use Rattle.roster_search.proofs.labels.label_day.Given as goal
 
-abbrev pub ghost-least_of_offers : goal.ghost-least_of_offers
-ghost-least_of_offers g a = g.rest
+abbrev pub ghost-label_block : goal.ghost-label_block
+ghost-label_block g a = g.rest
 
-abbrev pub invariant-loop-code : goal.invariant-loop-code
-invariant-loop-code g l = record {
-  labels : LabelsBelow l.case l.at.nurse l.at.day (best_on l.case l.at l.offers g.rest) l.code l.labels;
-  pointers : PointersBelow l.case l.at l.offers g.rest l.first l.code l.pointers;
+abbrev pub invariant-loop-number : goal.invariant-loop-number
+invariant-loop-number g l = record {
+  labels : LabelsBelow l.case l.at.nurse l.at.day (best_on l.case l.at l.offers g.rest) (l.number * l.at.ranges.assignments) l.labels;
+  pointers : PointersBelow l.case l.at l.offers g.rest l.first (l.number * l.at.ranges.assignments) l.pointers;
   others : SameOutside l.first (l.first + product l.at.ranges) l.fn.pointers l.pointers;
   labels_length : length l.labels ≡ length l.fn.labels;
   pointers_length : length l.pointers ≡ length l.fn.pointers;
-  counted : l.meter ≡ l.fn.meter + l.code * length l.offers;
+  counted : l.meter ≡ l.fn.meter + l.number * (length l.offers * l.at.ranges.assignments);
 }

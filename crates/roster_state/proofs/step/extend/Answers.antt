@@ -1,12 +1,26 @@
-use Rattle.std.proofs.Common.{◌≤◌, ℕ, subst, sym}
-use Rattle.roster_state.specs.Room.{most_of_step}
-use Rattle.roster_state.proofs.StepBounds.{step_within}
-use Rattle.roster_state.proofs.SumLaw.{step_owes}
+use Rattle.std.proofs.Common.{◌≡◌, ◌∙◌, ◌+◌, ◌++◌, ◌∷◌, [], ap, length, refl}
+use Rattle.roster_rules.specs.Days.{Days}
+use Rattle.roster_rules.specs.Meaning.{forbids}
+use Rattle.roster_rules.specs.Prefix.{Summary, due, summary_of}
+use Rattle.roster_state.specs.Step.{next_of, step_cost, step_of, with_assignments}
+use Rattle.roster_state.proofs.DayStepLaw.{where_some}
+use Rattle.roster_state.proofs.SumLaw.{step_leads, step_owes}
 use Rattle.roster_state.proofs.step.extend.Goals as goal
 
-pub returns-clause-owed : goal.returns-clause-owed
-returns-clause-owed c days long is = step_owes c.args.case.now c.args.nurse c.args.state days is c.args.day c.args.shift _ long c.step_cost.ensures
+pub returns-clause-summary : goal.returns-clause-summary
+returns-clause-summary c =
+    let k = c.args.case.now in
+    let n = c.args.nurse in
+    let is : c.extend.result ≡ step_of k n c.args.day c.args.state c.args.shift = c.extend.ensures.step ∙ c.of.ensures.steps _ ∙ ap (λ (s : Summary). step_of k n c.args.day (with_assignments c.args.state s.assignments) c.args.shift) c.state.view_is in
+    where_some (forbids k.successions c.args.state.last c.args.shift) (next_of k n c.args.day c.args.state c.args.shift, step_cost k n c.args.day c.args.state c.args.shift) c.extend.result is
+    (λ step. (days : Days) → length days ≡ c.args.day → c.args.state ≡ summary_of k n days → step.0 ≡ summary_of k n (days ++ c.args.shift ∷ []))
+    (λ days long at. step_leads k n c.args.state days at c.args.day c.args.shift _ long refl)
 
-pub returns-clause-within : goal.returns-clause-within
-returns-clause-within c =
-    subst (λ (x : ℕ). x ≤ most_of_step) (sym c.step_cost.ensures) (step_within c.args.case.now c.args.nurse c.args.day c.args.state c.args.shift c.keeps_limits.ensures.small)
+pub returns-clause-owed : goal.returns-clause-owed
+returns-clause-owed c =
+    let k = c.args.case.now in
+    let n = c.args.nurse in
+    let is : c.extend.result ≡ step_of k n c.args.day c.args.state c.args.shift = c.extend.ensures.step ∙ c.of.ensures.steps _ ∙ ap (λ (s : Summary). step_of k n c.args.day (with_assignments c.args.state s.assignments) c.args.shift) c.state.view_is in
+    where_some (forbids k.successions c.args.state.last c.args.shift) (next_of k n c.args.day c.args.state c.args.shift, step_cost k n c.args.day c.args.state c.args.shift) c.extend.result is
+    (λ step. (days : Days) → length days ≡ c.args.day → c.args.state ≡ summary_of k n days → due k n (days ++ c.args.shift ∷ []) ≡ due k n days + step.1)
+    (λ days long at. step_owes k n c.args.state days at c.args.day c.args.shift _ long refl)

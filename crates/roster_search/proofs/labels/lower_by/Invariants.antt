@@ -1,0 +1,14 @@
+use Rattle.std.proofs.Common.{◌≡◌, ◌+◌, length, take}
+use Rattle.roster_search.specs.Tables.{Cells, LeastFrom, SameOutside}
+use Rattle.roster_search.proofs.labels.lower_by.Given as goal
+
+abbrev pub invariant-loop-assignments : goal.invariant-loop-assignments
+invariant-loop-assignments g l = record {
+  lowered : Cells (LeastFrom l.case l.at g.rest l.block.state (take (l.place + 1) l.offers)) l.block.code (l.block.first + l.block.code) 0 l.assignments l.labels l.pointers;
+  left : Cells (LeastFrom l.case l.at g.rest l.block.state (take l.place l.offers)) l.block.code (l.block.first + l.block.code) l.assignments l.at.ranges.assignments l.labels l.pointers;
+  labels_others : SameOutside l.block.code (l.block.code + l.at.ranges.assignments) l.fn.labels l.labels;
+  pointers_others : SameOutside (l.block.first + l.block.code) (l.block.first + l.block.code + l.at.ranges.assignments) l.fn.pointers l.pointers;
+  labels_length : length l.labels ≡ length l.fn.labels;
+  pointers_length : length l.pointers ≡ length l.fn.pointers;
+  counted : l.meter ≡ l.fn.meter + l.assignments;
+}

@@ -1,0 +1,15 @@
+use Rattle.std.proofs.Common.{◌*◌, ◌≤◌, arith, mul_right_comm, subst}
+use Rattle.roster_rules.specs.Limits.{most_states}
+use Rattle.roster_state.specs.Codes.{Sizes, product}
+use Rattle.roster_state.proofs.CodeLemmas.{factor-within}
+use Rattle.roster_state.proofs.ranges.Ranges.blocks.Goals as goal
+
+pub overflow_mul-result-3 : goal.overflow_mul-result-3
+overflow_mul-result-3 c =
+    let r = c.self.inside in
+    let keep = c.self.invariant in
+    let few = factor-within (r.last * r.run * r.shift_run * r.weekends) r.assignments most_states keep.assignments.some (subst (λ n. n ≤ most_states) (mul_right_comm (r.last * r.run * r.shift_run) r.assignments r.weekends) keep.states) in
+    omega (arith, few)
+
+pub returns-clause-within : goal.returns-clause-within
+returns-clause-within c = subst (λ (z : Sizes). product z ≤ most_states) c.self.view_is c.self.invariant.states
