@@ -1,10 +1,10 @@
 -- Which fault a failing reader or writer gives, and what a bundle means.
-use Rattle.std.proofs.Common.{◌≡◌, ◌∙◌, ◌∷◌, [], ◌<◌, ℕ, Err, List, Option, None, Some, Result, Ok, ap, ap₂, arith, get_or, length, lit<, map, nat_lt, refl, subst, sym, false, true, zero, suc}
+use Rattle.std.proofs.Common.{◌≡◌, ◌∙◌, ◌∷◌, [], ◌<◌, ℕ, Err, List, Option, None, Some, Result, Ok, ap, ap₂, arith, get_or, length, lit<, map, nat_lt, refl, subst, sym, true≢false, is_some, true, zero, suc}
 use Rattle.std.specs.Prelude.{Contains, IfErr, IfSome, IsErrOf, OnOk}
 use Rattle.std.proofs.lemmas.Bool.{ltb-true}
 use Rattle.std.proofs.lemmas.List.{length-map}
 use Rattle.roster_text.specs.Grammar.{Spells}
-use Rattle.roster_text.specs.Io.{IsReadFault, Stops, Watched, Writes, counted, is_read_failure}
+use Rattle.roster_text.specs.Io.{IsReadFault, Writes, counted, is_read_failure}
 use Rattle.roster_text.specs.Limits.{most_bytes}
 use Rattle.roster_text.specs.Token.{all_seen, text_of, tokens_of}
 use Rattle.roster_text.specs.declared.Bundle.{Bundle}
@@ -19,8 +19,9 @@ use Rattle.roster_case.specs.Refusals.{all_faults, case_faults, roster_faults}
 use Rattle.roster_case.specs.declared.CaseFault.{CaseFault}
 use Rattle.roster_case.specs.declared.CaseFault.TheVariants as case
 use Rattle.roster_case.proofs.Sections.{IsFirst-behind}
-use Rattle.roster_answer.specs.Answer.{Answers, Input, IsUnread, Output, Says, StopsOutput, StopsReport, answered_text, breaches, breaches_of, holds, report_of, roster_of}
-use Rattle.roster_answer.specs.Lines.{IsFirstBreach, Text, status_of}
+use Rattle.roster_case.specs.declared.HardFault.{HardFault}
+use Rattle.roster_answer.specs.Answer.{Answers, Ends, Input, IsOutcomeOf, IsUnheld, IsUnread, Leaves, LeavesLog, Outcome, Output, Report, Says, StopsOutput, StopsReading, Untouched, answered, outcome_of, plain, report_of}
+use Rattle.roster_answer.specs.Lines.{Text, status_of}
 use Rattle.roster_answer.specs.declared.fault.Fault.{Fault}
 use Rattle.roster_answer.specs.declared.fault.Fault.TheVariants as fault
 use Rattle.roster_answer.specs.declared.reading.Instance.{Instance}
@@ -74,8 +75,10 @@ status_listed (fault.Case (case.Limit line) nurse) = (1, lit< tt, refl)
 status_listed (fault.Case (case.TooManyStates number name) nurse) = (1, lit< tt, refl)
 status_listed (fault.Case (case.H1 number day) nurse) = (1, lit< tt, refl)
 status_listed (fault.Hard f names) = (1, lit< tt, refl)
+status_listed (fault.Nurse name) = (1, lit< tt, refl)
 status_listed fault.Memory = (3, lit< tt, refl)
 status_listed fault.Output = (2, lit< tt, refl)
+status_listed fault.Log = (2, lit< tt, refl)
 
 -- ---- an input that was not read to its end
 
@@ -89,62 +92,85 @@ module _ {R : Type 0} (A : Type 0) (input : Input R) where
   unread (text.NumberRange line) is failures long = absurd is
   unread (text.AfterEnd line) is failures long = absurd is
 
+-- ---- the bytes are refused by every command
+
+pub refused_reading : {W L : Type 0} (output : Output W) (log : Output L) (command : Command) (source : Text) (f : Fault) → StopsReading source f → Untouched output → Untouched log
+    → Answers output log command source (Some f)
+refused_reading output log command source (fault.Text f) h o l = (h, o, l)
+refused_reading output log command source (fault.Case f nurse) h o l = record { bundle = h.bundle; spelled = h.spelled; ends = h.refused; left = o; logged = l }
+refused_reading output log command source (fault.Hard f names) h o l = absurd h
+refused_reading output log command source (fault.Nurse name) h o l = absurd h
+refused_reading output log command source fault.Memory h o l = absurd h
+refused_reading output log command source fault.Output h o l = absurd h
+refused_reading output log command source fault.Log h o l = absurd h
+
 -- ---- an instance, once it is read
 
-module _ {W : Type 0} (output : Output W) (command : Command) (source : Text) (i : Instance) (says : Says source i) where
-  rows_meant : i.roster ≡ roster_of source i.bundle
-  rows_meant = says.roster ∙ ap (λ m. rows_of source m i.bundle) says.case
+module _ {W L : Type 0} (output : Output W) (log : Output L) (command : Command) (source : Text) (i : Instance) (says : Says source i) where
+  report_meant : report_of command i.case i.roster ≡ answered command source i.bundle
+  report_meant = ap₂ (report_of command) says.case (says.roster ∙ ap (λ m. rows_of source m i.bundle) says.case)
 
-  breaches_meant : breaches_of command i.case i.roster ≡ breaches command source i.bundle
-  breaches_meant = ap₂ (breaches_of command) says.case rows_meant
+  as_taken : (outcome : Outcome) → IsOutcomeOf (answered command source i.bundle) source i.bundle outcome → Leaves output (answered command source i.bundle).output outcome
+      → LeavesLog log (answered command source i.bundle).log outcome → Answers output log command source outcome
+  as_taken None h o l = record { bundle = i.bundle; spelled = says.spelled; ends = record { taken = says.taken; ends = h }; left = o; logged = l }
+  as_taken (Some (fault.Text f)) h o l = absurd h
+  as_taken (Some (fault.Case f nurse)) h o l = absurd h
+  as_taken (Some (fault.Hard f names)) h o l = record { bundle = i.bundle; spelled = says.spelled; ends = record { taken = says.taken; ends = h }; left = o; logged = l }
+  as_taken (Some (fault.Nurse name)) h o l = record { bundle = i.bundle; spelled = says.spelled; ends = record { taken = says.taken; ends = h }; left = o; logged = l }
+  as_taken (Some fault.Memory) h o l = record { bundle = i.bundle; spelled = says.spelled; ends = record { taken = says.taken; ends = h }; left = o; logged = l }
+  as_taken (Some fault.Output) h o l = record { bundle = i.bundle; spelled = says.spelled; ends = record { taken = says.taken; ends = h }; left = o; logged = l }
+  as_taken (Some fault.Log) h o l = record { bundle = i.bundle; spelled = says.spelled; ends = record { taken = says.taken; ends = h }; left = o; logged = l }
 
-  report_meant : report_of command i.case i.roster ≡ answered_text command source i.bundle
-  report_meant = ap₂ (report_of command) says.case rows_meant
+  pub answers : (outcome : Outcome) → Ends output (report_of command i.case i.roster) source i.bundle outcome → LeavesLog log (report_of command i.case i.roster).log outcome
+      → Answers output log command source outcome
+  answers outcome e l =
+      as_taken outcome (subst (λ p. IsOutcomeOf p source i.bundle outcome) report_meant e.ends) (subst (λ (p : Report). Leaves output p.output outcome) report_meant e.left)
+      (subst (λ (p : Report). LeavesLog log p.log outcome) report_meant l)
 
-  pub answers : {X : Type 0} (result : Result X Fault) → OnOk result (breaches_of command i.case i.roster ≡ [])
-      → OnOk result (Writes output.contents output.before output.after (report_of command i.case i.roster)) → OnOk result (Answers output command source None)
-  answers (Ok x) kept written = record {
-    bundle = i.bundle;
-    spelled = says.spelled;
-    ends = record { taken = says.taken; kept = sym breaches_meant ∙ kept };
-    left = subst (Writes output.contents output.before output.after) report_meant written;
-  }
-  answers (Err f) kept written = tt
+-- ---- a command for an instance
 
-  refuses_for : (f : Fault) → StopsReport output.contents (holds command) (breaches_of command i.case i.roster) (report_of command i.case i.roster) source i.bundle output.before output.after f
-      → Answers output command source (Some f)
-  refuses_for (fault.Text f) h = absurd h
-  refuses_for (fault.Case f nurse) h = absurd h
-  refuses_for (fault.Hard f names) h = record {
-    bundle = i.bundle;
-    spelled = says.spelled;
-    ends = record { taken = says.taken; breach = subst (λ broken. IsFirstBreach source i.bundle broken (fault.Hard f names)) breaches_meant h.0 };
-    left = h.1;
-  }
-  refuses_for fault.Memory h = record {
-    bundle = i.bundle;
-    spelled = says.spelled;
-    ends = record { held = h.held; taken = record { taken = says.taken; kept = sym breaches_meant ∙ h.kept } };
-    left = h.unwritten;
-  }
-  refuses_for fault.Output h = record {
-    bundle = i.bundle;
-    spelled = says.spelled;
-    ends = record { taken = says.taken; kept = sym breaches_meant ∙ h.0 };
-    left = subst (Stops output.contents output.before output.after) report_meant h.1;
-  }
+-- one that only writes a text
+pub plain_ends : {W X : Type 0} (output : Output W) (text source : Text) (b : Bundle) (result : Result X Fault) → OnOk result (Writes output.contents output.before output.after text)
+    → IfErr result (StopsOutput output.contents output.before output.after text) → Ends output (plain text) source b (outcome_of result)
+plain_ends output text source b (Ok x) ok err = record { ends = record { kept = refl; known = refl }; left = ok }
+plain_ends output text source b (Err (fault.Text f)) ok err = absurd err
+plain_ends output text source b (Err (fault.Case f nurse)) ok err = absurd err
+plain_ends output text source b (Err (fault.Hard f names)) ok err = absurd err
+plain_ends output text source b (Err (fault.Nurse name)) ok err = absurd err
+plain_ends output text source b (Err fault.Memory) ok err = absurd err
+plain_ends output text source b (Err fault.Output) ok err = record { ends = record { kept = refl; known = refl }; left = err }
+plain_ends output text source b (Err fault.Log) ok err = absurd err
 
-  pub refuses : {X : Type 0} (result : Result X Fault)
-      → IfErr result (StopsReport output.contents (holds command) (breaches_of command i.case i.roster) (report_of command i.case i.roster) source i.bundle output.before output.after)
-      → IfErr result (λ f. Answers output command source (Some f))
-  refuses (Ok x) stopped = tt
-  refuses (Err f) stopped = refuses_for f stopped
+-- one that tells nothing leaves the log as it was
+pub silent_log : {W L : Type 0} (output : Output W) (log : Output L) (p : Report) (source : Text) (b : Bundle) (outcome : Outcome) → p.log ≡ None → Ends output p source b outcome
+    → Untouched log → LeavesLog log p.log outcome
+silent_log output log p source b None none e same = rw none same
+silent_log output log p source b (Some (fault.Text f)) none e same = same
+silent_log output log p source b (Some (fault.Case f nurse)) none e same = same
+silent_log output log p source b (Some (fault.Hard f names)) none e same = same
+silent_log output log p source b (Some (fault.Nurse name)) none e same = same
+silent_log output log p source b (Some fault.Memory) none e same = same
+silent_log output log p source b (Some fault.Output) none e same = rw none same
+silent_log output log p source b (Some fault.Log) none e same = absurd (true≢false (sym e.ends.1 ∙ ap is_some none))
 
--- a text of a command that refuses no breaches
-pub stops_report : {W : Type 0} (contents : W → Option (List ℕ)) (report source : Text) (b : Bundle) (old new : Watched W) (f : Fault) → StopsOutput contents old new report f
-    → StopsReport contents false [] report source b old new f
-stops_report contents report source b old new (fault.Text f) h = absurd h
-stops_report contents report source b old new (fault.Case f nurse) h = absurd h
-stops_report contents report source b old new (fault.Hard f names) h = absurd h
-stops_report contents report source b old new fault.Memory h = absurd h
-stops_report contents report source b old new fault.Output h = (refl, h)
+-- a roster that is not held
+pub unheld_ends : {W : Type 0} (output : Output W) (p : Report) (source : Text) (b : Bundle) (f : Fault) → p.is_held ≡ true → IsUnheld source b p.broken f → Untouched output
+    → Ends output p source b (Some f)
+unheld_ends output p source b (fault.Text f) held h same = absurd h
+unheld_ends output p source b (fault.Case f nurse) held h same = absurd h
+unheld_ends output p source b (fault.Hard f names) held h same = record { ends = h; left = same }
+unheld_ends output p source b (fault.Nurse name) held h same = absurd h
+unheld_ends output p source b fault.Memory held h same = record { ends = (h, held); left = same }
+unheld_ends output p source b fault.Output held h same = absurd h
+unheld_ends output p source b fault.Log held h same = absurd h
+
+-- and so the log is as it was
+pub unheld_log : {L : Type 0} (log : Output L) (told : Option Text) (source : Text) (b : Bundle) (broken : List HardFault) (f : Fault) → IsUnheld source b broken f → Untouched log
+    → LeavesLog log told (Some f)
+unheld_log log told source b broken (fault.Text f) h same = absurd h
+unheld_log log told source b broken (fault.Case f nurse) h same = absurd h
+unheld_log log told source b broken (fault.Hard f names) h same = same
+unheld_log log told source b broken (fault.Nurse name) h same = absurd h
+unheld_log log told source b broken fault.Memory h same = same
+unheld_log log told source b broken fault.Output h same = absurd h
+unheld_log log told source b broken fault.Log h same = absurd h

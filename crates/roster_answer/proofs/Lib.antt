@@ -1,3 +1,5 @@
 pub mod WeekLemmas
 pub mod PieceLemmas
 pub mod AnswerLemmas
+pub mod RunLemmas
+pub mod BestLemmas

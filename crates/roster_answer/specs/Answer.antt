@@ -1,5 +1,5 @@
 -- What a run answers.
-use Rattle.std.specs.Prelude.{◌≡◌, ◌≢◌, ℕ, ◌<◌, ◌≤◌, ◌⊎◌, Bool, true, false, List, [], IfSome, Option, None, Some, length}
+use Rattle.std.specs.Prelude.{◌≡◌, ◌≢◌, ℕ, ◌<◌, ◌≤◌, ◌⊎◌, Bool, true, false, List, [], IfSome, Ok, Err, Option, None, Some, Result, if◌then◌else◌, is_some, length, string_bytes, unwrap_or}
 use Rattle.std.specs.Io.KnownBytes.{IsAtEnd}
 use Rattle.roster_text.specs.FirstFault.{IsFirstFault}
 use Rattle.roster_text.specs.Grammar.{Spells}
@@ -9,28 +9,25 @@ use Rattle.roster_text.specs.Token.{all_seen, line_at_end, tokens_of}
 use Rattle.roster_text.specs.declared.Bundle.{Bundle}
 use Rattle.roster_text.specs.declared.fault.TextFault.{TextFault}
 use Rattle.roster_text.specs.declared.fault.TextFault.TheVariants as text
+use Rattle.roster_case.specs.AllowedRows.{best_row}
 use Rattle.roster_case.specs.Bundles.{meaning_of, rows_of}
 use Rattle.roster_case.specs.Faults.{first_fault}
 use Rattle.roster_case.specs.HardRules.{hard_faults}
 use Rattle.roster_case.specs.Meaning.{Meaning}
-use Rattle.roster_case.specs.Penalties.{costs_of}
+use Rattle.roster_case.specs.Names.{find_name}
+use Rattle.roster_case.specs.Penalties.{costs_of, penalty}
 use Rattle.roster_case.specs.Refusals.{all_faults}
-use Rattle.roster_case.specs.Rosters.{Rows, fits_case}
+use Rattle.roster_case.specs.Rosters.{Rows, fits_case, with_row}
 use Rattle.roster_case.specs.Shown.{weeks_text}
 use Rattle.roster_case.specs.declared.CaseFault.{CaseFault}
 use Rattle.roster_case.specs.declared.CaseFault.TheVariants.{Memory}
 use Rattle.roster_case.specs.declared.HardFault.{HardFault}
-use Rattle.roster_answer.specs.Lines.{IsFirstBreach, Text, costs_text, nurse_of, sizes_text}
-use Rattle.roster_answer.specs.declared.fault.BreachNames.{BreachNames}
+use Rattle.roster_answer.specs.Lines.{IsFirstBreach, Text, best_log, costs_text, fault_line, nurse_of, output_line, sizes_text, status_of}
 use Rattle.roster_answer.specs.declared.fault.Fault.{Fault}
 use Rattle.roster_answer.specs.declared.fault.Fault.TheVariants as fault
 use Rattle.roster_answer.specs.declared.reading.Instance.{Instance}
 use Rattle.roster_words.specs.declared.request.Command.{Command}
 use Rattle.roster_words.specs.declared.request.Command.TheVariants as command
-
--- the log has the line, or a write failed inside it
-abbrev pub Logs : {W : Type 0} → (W → Option (List ℕ)) → Watched W → Watched W → Text → Type 0
-Logs contents old new line = Writes contents old new line ⊎ Stops contents old new line
 
 -- ---- the devices of a run
 
@@ -40,7 +37,7 @@ pub record Input (R : Type 0) : Type 0 where
   pub before : Watched R
   pub after : Watched R
 
--- an output before and behind a run; `contents` is what a writer holds
+-- an output or a log before and behind a run; `contents` is what a writer holds
 pub record Output (W : Type 0) : Type 0 where
   pub contents : W → Option Text
   pub before : Watched W
@@ -53,18 +50,60 @@ pub record ReadsAll {R : Type 0} (input : Input R) (bytes : Text) : Type 0 where
   pub kept : length bytes ≤ most_bytes
   pub failures : input.after.failures ≡ input.before.failures
 
--- how a run ends: it is done, or it stops for a fault
+-- nothing was written to it
+abbrev pub Untouched : {W : Type 0} → Output W → Type 0
+Untouched output = output.after ≡ output.before
+
+-- the log has all that a command tells of its work, if it tells any
+abbrev pub Logged : {L : Type 0} → Output L → Option Text → Type 0
+Logged log None = Untouched log
+Logged log (Some told) = Writes log.contents log.before log.after told
+
+-- a write failed inside it
+abbrev pub StopsLog : {L : Type 0} → Output L → Option Text → Type 0
+StopsLog log None = ⊥
+StopsLog log (Some told) = Stops log.contents log.before log.after told
+
+-- the log has the line, or a write failed inside it
+abbrev pub Logs : {L : Type 0} → (L → Option (List ℕ)) → Watched L → Watched L → Text → Type 0
+Logs contents old new line = Writes contents old new line ⊎ Stops contents old new line
+
+-- a fault is told by its line; where the log itself had failed, nothing more is written
+abbrev pub Tells : {L : Type 0} → (L → Option (List ℕ)) → Watched L → Watched L → Fault → Type 0
+Tells contents old new fault.Log = new ≡ old
+Tells contents old new f = Logs contents old new (fault_line f)
+
+-- ---- how a run ends: it is done, or it stops for a fault
+
 abbrev pub Outcome : Type 0
 Outcome = Option Fault
+
+abbrev pub outcome_of : {X : Type 0} → Result X Fault → Outcome
+outcome_of (Ok x) = None
+outcome_of (Err f) = Some f
 
 -- what a run leaves of its text: all, where it is done; some, where the output failed; else none
 abbrev pub Leaves : {W : Type 0} → Output W → Text → Outcome → Type 0
 Leaves output text None = Writes output.contents output.before output.after text
 Leaves output text (Some fault.Output) = Stops output.contents output.before output.after text
-Leaves output text (Some (fault.Text f)) = output.after ≡ output.before
-Leaves output text (Some (fault.Case f nurse)) = output.after ≡ output.before
-Leaves output text (Some (fault.Hard f names)) = output.after ≡ output.before
-Leaves output text (Some fault.Memory) = output.after ≡ output.before
+Leaves output text (Some (fault.Text f)) = Untouched output
+Leaves output text (Some (fault.Case f nurse)) = Untouched output
+Leaves output text (Some (fault.Hard f names)) = Untouched output
+Leaves output text (Some (fault.Nurse name)) = Untouched output
+Leaves output text (Some fault.Memory) = Untouched output
+Leaves output text (Some fault.Log) = Untouched output
+
+-- what it leaves of its log before a fault is told: all, where it is done or the output failed; some, where the log failed;
+-- else none
+abbrev pub LeavesLog : {L : Type 0} → Output L → Option Text → Outcome → Type 0
+LeavesLog log told None = Logged log told
+LeavesLog log told (Some fault.Output) = Logged log told
+LeavesLog log told (Some fault.Log) = StopsLog log told
+LeavesLog log told (Some (fault.Text f)) = Untouched log
+LeavesLog log told (Some (fault.Case f nurse)) = Untouched log
+LeavesLog log told (Some (fault.Hard f names)) = Untouched log
+LeavesLog log told (Some (fault.Nurse name)) = Untouched log
+LeavesLog log told (Some fault.Memory) = Untouched log
 
 -- ---- the bytes
 
@@ -79,48 +118,97 @@ HasFault bytes text.ReadFailed = ⊥
 HasFault bytes text.TooLong = ⊥
 HasFault bytes f = IsFirstFault (line_at_end bytes) (all_seen bytes (tokens_of bytes)) f
 
--- ---- a case and its roster: what a command answers for them, and why it stops
+-- ---- a case and its roster: what a command answers for them
 
--- what a command writes for them
-abbrev pub report_of : Command → Meaning → Rows → Text
-report_of command.Show c r = weeks_text c r
-report_of command.Cost c r = costs_text (costs_of c r)
-report_of command.Sizes c r = sizes_text c
+-- what a command asks of them and writes for them
+pub record Report : Type 0 where
+  -- it holds the roster, so that it takes memory for what it keeps of it
+  pub is_held : Bool
+  -- the breaches of the hard rules for which it refuses them, in their order
+  pub broken : List HardFault
+  -- the name of the nurse whom it is for, where the case has none of that name
+  pub unknown : Option Text
+  pub output : Text
+  -- what it tells of its work, if it tells any
+  pub log : Option Text
 
--- the breaches of the hard rules for which a command refuses them, in their order
-abbrev pub breaches_of : Command → Meaning → Rows → List HardFault
-breaches_of command.Show c r = []
-breaches_of command.Cost c r = hard_faults c r
-breaches_of command.Sizes c r = []
+-- one that writes a text and asks for nothing
+abbrev pub plain : Text → Report
+plain text = record { is_held = false; broken = []; unknown = None; output = text; log = None }
 
--- whether a command holds the roster, so that it takes memory for what it keeps of it
-abbrev pub holds : Command → Bool
-holds command.Show = false
-holds command.Cost = true
-holds command.Sizes = false
+-- the number of the nurse of this name; it is asked for only where the case has one
+abbrev pub number_of : Meaning → Text → ℕ
+number_of c name = unwrap_or (find_name c.nurse_names name) 0
+
+-- the name, where the case has no nurse of this name
+abbrev pub unknown_in : Meaning → Text → Option Text
+unknown_in c name = if is_some (find_name c.nurse_names name) then None else Some name
+
+-- the roster with the best row of this nurse put in
+abbrev pub with_best : Meaning → Rows → ℕ → Rows
+with_best c r n = with_row r n (unwrap_or (best_row c r n) [])
+
+-- what each soft rule costs
+abbrev pub cost_report : Meaning → Rows → Report
+cost_report c r = record (plain (costs_text (costs_of c r))) { is_held = true; broken = hard_faults c r }
+
+-- the best row of the nurse of this name
+abbrev pub best_report : Text → Meaning → Rows → Report
+best_report name c r =
+    let better = with_best c r (number_of c name) in
+    record {
+      is_held = true;
+      broken = hard_faults c r;
+      unknown = unknown_in c name;
+      output = weeks_text c better;
+      log = Some (best_log (penalty c r) name (penalty c better));
+    }
+
+abbrev pub report_of : Command → Meaning → Rows → Report
+report_of command.Show c r = plain (weeks_text c r)
+report_of command.Cost c r = cost_report c r
+report_of command.Sizes c r = plain (sizes_text c)
+report_of (command.Best nurse) c r = best_report (string_bytes nurse) c r
+
+-- a command that tells nothing of its work
+abbrev pub IsSilent : Command → Type 0
+IsSilent command = (c : Meaning) (r : Rows) → (report_of command c r).log ≡ None
+
+-- nothing is refused
+pub record IsAllowed (p : Report) : Type 0 where
+  pub kept : p.broken ≡ []
+  pub known : p.unknown ≡ None
+
+-- how a command ends for them; of its faults the first is told
+abbrev pub IsOutcomeOf : Report → Text → Bundle → Outcome → Type 0
+IsOutcomeOf p bytes b None = IsAllowed p
+IsOutcomeOf p bytes b (Some fault.Output) = IsAllowed p
+IsOutcomeOf p bytes b (Some fault.Log) = IsAllowed p × (is_some p.log ≡ true)
+IsOutcomeOf p bytes b (Some (fault.Hard f names)) = IsFirstBreach bytes b p.broken (fault.Hard f names)
+IsOutcomeOf p bytes b (Some (fault.Nurse name)) = (p.broken ≡ []) × (p.unknown ≡ Some name.now)
+IsOutcomeOf p bytes b (Some fault.Memory) = (p.broken ≡ []) × (p.is_held ≡ true)
+IsOutcomeOf p bytes b (Some (fault.Text f)) = ⊥
+IsOutcomeOf p bytes b (Some (fault.Case f nurse)) = ⊥
+
+-- the same with what it leaves of its text
+pub record Ends {W : Type 0} (output : Output W) (p : Report) (bytes : Text) (b : Bundle) (outcome : Outcome) : Type 0 where
+  pub ends : IsOutcomeOf p bytes b outcome
+  pub left : Leaves output p.output outcome
 
 -- why a text was not all written, and what was written
 abbrev pub StopsOutput : {W : Type 0} → (W → Option (List ℕ)) → Watched W → Watched W → Text → Fault → Type 0
 StopsOutput contents old new text fault.Output = Stops contents old new text
 StopsOutput contents old new text _ = ⊥
 
+-- the same of a search that tells of its work
+abbrev pub StopsSearch : {L : Type 0} → (L → Option (List ℕ)) → Watched L → Watched L → Text → Fault → Type 0
+StopsSearch contents old new told fault.Log = Stops contents old new told
+StopsSearch contents old new told _ = ⊥
+
 -- why a roster is not held: for the first of these breaches, or for want of memory where there is none
 abbrev pub IsUnheld : Text → Bundle → List HardFault → Fault → Type 0
 IsUnheld bytes b broken fault.Memory = broken ≡ []
 IsUnheld bytes b broken f = IsFirstBreach bytes b broken f
-
--- memory was wanted for a roster that is held, in which nothing is refused, and nothing was written
-pub record WantsMemory {W : Type 0} (is_held : Bool) (broken : List HardFault) (old new : Watched W) : Type 0 where
-  pub held : is_held ≡ true
-  pub kept : broken ≡ []
-  pub unwritten : new ≡ old
-
--- why a report was not all written, where these breaches are refused, and what was written
-abbrev pub StopsReport : {W : Type 0} → (W → Option (List ℕ)) → Bool → List HardFault → Text → Text → Bundle → Watched W → Watched W → Fault → Type 0
-StopsReport contents is_held broken report bytes b old new (fault.Hard f names) = IsFirstBreach bytes b broken (fault.Hard f names) × (new ≡ old)
-StopsReport contents is_held broken report bytes b old new fault.Memory = WantsMemory is_held broken old new
-StopsReport contents is_held broken report bytes b old new fault.Output = (broken ≡ []) × Stops contents old new report
-StopsReport contents is_held broken report bytes b old new _ = ⊥
 
 -- ---- a bundle: the same, and why it is refused
 
@@ -128,56 +216,39 @@ StopsReport contents is_held broken report bytes b old new _ = ⊥
 abbrev pub roster_of : Text → Bundle → Rows
 roster_of bytes b = rows_of bytes (meaning_of bytes b) b
 
--- what a command writes for it
-abbrev pub answered_text : Command → Text → Bundle → Text
-answered_text command bytes b = report_of command (meaning_of bytes b) (roster_of bytes b)
-
--- the breaches of the hard rules for which a command refuses it, in their order
-abbrev pub breaches : Command → Text → Bundle → List HardFault
-breaches command bytes b = breaches_of command (meaning_of bytes b) (roster_of bytes b)
+-- what a command asks of it and writes for it
+abbrev pub answered : Command → Text → Bundle → Report
+answered command bytes b = report_of command (meaning_of bytes b) (roster_of bytes b)
 
 -- the first fault of its case and its solutions, want of memory aside, with the name of the nurse of which it speaks
 pub record IsRefusedFor (bytes : Text) (b : Bundle) (f : CaseFault) (nurse : Text) : Type 0 where
   pub first : f ≢ Memory → first_fault (all_faults bytes b) ≡ Some f
   pub nurse_is : nurse ≡ nurse_of bytes b f
 
--- nothing in it is refused
-pub record IsTaken (command : Command) (bytes : Text) (b : Bundle) : Type 0 where
+-- its case and its roster are taken, and the command ends so for them
+pub record IsTaken (command : Command) (bytes : Text) (b : Bundle) (outcome : Outcome) : Type 0 where
   pub taken : all_faults bytes b ≡ []
-  pub kept : breaches command bytes b ≡ []
-
--- nothing else is refused, and this is its first breach
-pub record IsBreachedBy (command : Command) (bytes : Text) (b : Bundle) (f : HardFault) (names : BreachNames) : Type 0 where
-  pub taken : all_faults bytes b ≡ []
-  pub breach : IsFirstBreach bytes b (breaches command bytes b) (fault.Hard f names)
-
--- nothing in it is refused, but memory is wanted to hold it
-pub record IsTooLarge (command : Command) (bytes : Text) (b : Bundle) : Type 0 where
-  pub held : holds command ≡ true
-  pub taken : IsTaken command bytes b
+  pub ends : IsOutcomeOf (answered command bytes b) bytes b outcome
 
 -- how a command ends for it
 abbrev pub IsOutcomeFor : Command → Text → Bundle → Outcome → Type 0
-IsOutcomeFor command bytes b None = IsTaken command bytes b
-IsOutcomeFor command bytes b (Some fault.Output) = IsTaken command bytes b
 IsOutcomeFor command bytes b (Some (fault.Case f nurse)) = IsRefusedFor bytes b f nurse.now
-IsOutcomeFor command bytes b (Some (fault.Hard f names)) = IsBreachedBy command bytes b f names
-IsOutcomeFor command bytes b (Some fault.Memory) = IsTooLarge command bytes b
-IsOutcomeFor command bytes b (Some (fault.Text f)) = ⊥
+IsOutcomeFor command bytes b outcome = IsTaken command bytes b outcome
 
 -- ---- a command, from the bytes
 
--- the bytes spell a bundle, for which the command ends so, with what it writes
-pub record AnswersBundle {W : Type 0} (output : Output W) (command : Command) (bytes : Text) (outcome : Outcome) : Type 0 where
+-- the bytes spell a bundle, for which the command ends so, with what it leaves of its text and of its log
+pub record AnswersBundle {W L : Type 0} (output : Output W) (log : Output L) (command : Command) (bytes : Text) (outcome : Outcome) : Type 0 where
   pub bundle : Bundle
   pub spelled : SpellsBundle bytes bundle
   pub ends : IsOutcomeFor command bytes bundle outcome
-  pub left : Leaves output (answered_text command bytes bundle) outcome
+  pub left : Leaves output (answered command bytes bundle).output outcome
+  pub logged : LeavesLog log (answered command bytes bundle).log outcome
 
 -- the command ends so for the bytes
-abbrev pub Answers : {W : Type 0} → Output W → Command → Text → Outcome → Type 0
-Answers output command bytes (Some (fault.Text f)) = HasFault bytes f × (output.after ≡ output.before)
-Answers output command bytes outcome = AnswersBundle output command bytes outcome
+abbrev pub Answers : {W L : Type 0} → Output W → Output L → Command → Text → Outcome → Type 0
+Answers output log command bytes (Some (fault.Text f)) = HasFault bytes f × Untouched output × Untouched log
+Answers output log command bytes outcome = AnswersBundle output log command bytes outcome
 
 -- the bytes spell a bundle whose case or solutions have this fault first
 pub record HasCaseFault (bytes : Text) (f : CaseFault) (nurse : Text) : Type 0 where
@@ -202,10 +273,10 @@ StopsReading bytes _ = ⊥
 -- ---- from the reader
 
 -- the input was read, and the command ends so for its bytes
-pub record ReadsAndAnswers {R W : Type 0} (input : Input R) (output : Output W) (command : Command) (outcome : Outcome) : Type 0 where
+pub record ReadsAndAnswers {R W L : Type 0} (input : Input R) (output : Output W) (log : Output L) (command : Command) (outcome : Outcome) : Type 0 where
   pub bytes : Text
   pub read : ReadsAll input bytes
-  pub answers : Answers output command bytes outcome
+  pub answers : Answers output log command bytes outcome
 
 -- the input was not read to its end
 abbrev pub IsUnread : {R : Type 0} → Input R → Fault → Type 0
@@ -214,7 +285,26 @@ IsUnread input (fault.Text text.ReadFailed) = input.after.failures ≡ one_more 
 IsUnread input (fault.Text text.TooLong) = (input.after.failures ≡ input.before.failures) × IfSome (input.remaining input.before.inner) (λ given. most_bytes < length given)
 IsUnread input _ = ⊥
 
--- why the command stopped
-abbrev pub Refuses : {R W : Type 0} → Input R → Output W → Command → Fault → Type 0
-Refuses input output command f =
-    (IsUnread input f × (output.after ≡ output.before)) ⊎ ReadsAndAnswers input output command (Some f)
+-- why the command stopped, and what it left on the output and on the log
+abbrev pub Refuses : {R W L : Type 0} → Input R → Output W → Output L → Command → Fault → Type 0
+Refuses input output log command f =
+    (IsUnread input f × Untouched output × Untouched log) ⊎ ReadsAndAnswers input output log command (Some f)
+
+-- The run stopped for a fault, with its status. `met` is the log when the fault came, and behind that the fault is told.
+pub record StopsRun {R W L : Type 0} (input : Input R) (output : Output W) (log : Output L) (command : Command) (status : ℕ) : Type 0 where
+  pub fault : Fault
+  pub status_is : status ≡ status_of fault
+  pub met : Watched L
+  pub refused : Refuses input output (record log { after = met }) command fault
+  pub told : Tells log.contents met log.after fault
+
+-- an output that failed was told behind the command's log
+pub record TellsOutput {L : Type 0} (log : Output L) (command : Command) : Type 0 where
+  pub met : Watched L
+  pub silent : IsSilent command → met ≡ log.before
+  pub line : Logs log.contents met log.after output_line
+
+-- the log has failed, of a command that has one
+pub record IsLogFailed {L : Type 0} (log : Output L) (command : Command) : Type 0 where
+  pub tells : IsSilent command → ⊥
+  pub failures : log.after.failures ≡ one_more log.before.failures

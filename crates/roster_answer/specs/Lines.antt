@@ -87,13 +87,19 @@ abbrev pub IsFirstBreach : Text → Bundle → List HardFault → Fault → Type
 IsFirstBreach source b faults (fault.Hard f names) = (first_fault faults ≡ Some f) × AreNamesOf source b f names
 IsFirstBreach source b faults _ = ⊥
 
--- the line of a fault
+-- the line of an output that failed
+abbrev pub output_line : Text
+output_line = codes "write failed\n"
+
+-- the line of a fault; a log that failed gets none
 abbrev pub fault_line : Fault → Text
 fault_line (fault.Text f) = text_line f
 fault_line (fault.Case f nurse) = case_line f nurse.now
 fault_line (fault.Hard f names) = hard_line f names
+fault_line (fault.Nurse name) = codes "unknown nurse " ++ name.now ++ codes "\n"
 fault_line fault.Memory = memory_line
-fault_line fault.Output = codes "write failed\n"
+fault_line fault.Output = output_line
+fault_line fault.Log = []
 
 -- ---- reports
 
@@ -121,6 +127,10 @@ sizes_line c n = search_line (nurse_name c n) (state_count c n) (day_count c) (c
 unfoldable pub sizes_text : Meaning → Text
 sizes_text c = flat_map (sizes_line c) (range_with_len 0 (nurse_count c))
 
+-- the log of a search for a nurse's best row: what the roster costs before, and what it costs with that row
+abbrev pub best_log : ℕ → Text → ℕ → Text
+best_log before name after = report_line (codes "start") before ++ report_line (codes "best " ++ name) after
+
 -- ---- statuses: 4 is want of memory, 3 a reader or a writer, 1 the input
 
 abbrev pub text_status : TextFault → ℕ
@@ -136,5 +146,7 @@ abbrev pub status_of : Fault → ℕ
 status_of (fault.Text f) = text_status f
 status_of (fault.Case f nurse) = case_status f
 status_of (fault.Hard f names) = 1
+status_of (fault.Nurse name) = 1
 status_of fault.Memory = 4
 status_of fault.Output = 3
+status_of fault.Log = 3

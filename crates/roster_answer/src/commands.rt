@@ -6,9 +6,10 @@ ghost use Rattle.roster_case.specs.HardRules.{hard_faults};
 ghost use Rattle.roster_case.specs.Penalties.{costs_of};
 ghost use Rattle.roster_case.specs.Rosters.{fits_case};
 ghost use Rattle.roster_case.specs.Shown.{weeks_text};
-ghost use Rattle.roster_answer.specs.Answer.{StopsOutput, StopsReport, breaches_of, holds, report_of};
+ghost use Rattle.roster_answer.specs.Answer.{Ends, LeavesLog, StopsOutput, cost_report, outcome_of, report_of};
 ghost use Rattle.roster_answer.specs.Lines.{costs_text, sizes_text};
 
+use crate::best::best;
 use crate::cost::write_costs;
 use crate::fault::Fault;
 use crate::held::hold;
@@ -21,24 +22,25 @@ use roster_words::Command;
 use std::alloc::Global;
 use std::io::Write;
 
-/// Writes what a command reports of an instance, or says why it is refused, with the names that the source has.
-pub(crate) fn report<'a, Out: Write>(
+/// Writes what a command reports of an instance, or says why it is refused, with the names that the source has. What the
+/// command tells of its work goes to the log.
+pub(crate) fn report<'a, Out: Write, Log: Write>(
     alloc: Global,
-    command: &Command,
+    command: &'a Command,
     source: &'a [u8],
     instance: Instance,
     output: &mut Watch<Out>,
+    log: &mut Watch<Log>,
 ) -> Result<(), Fault<'a>>
     requires { fits_case instance.case instance.roster ≡ true }
-    ensures kept { OnOk result (breaches_of command.now instance.case instance.roster ≡ []) }
-    ensures ok { OnOk result (Writes Out.contents output.old output.new (report_of command.now instance.case instance.roster)) }
-    ensures err { IfErr result (StopsReport Out.contents (holds command.now) (breaches_of command.now instance.case instance.roster)
-        (report_of command.now instance.case instance.roster) source.now instance.bundle output.old output.new) }
+    ensures ends { Ends (record { contents = Out.contents; before = output.old; after = output.new }) (report_of command.now instance.case instance.roster) source.now instance.bundle (outcome_of result) }
+    ensures logged { LeavesLog (record { contents = Log.contents; before = log.old; after = log.new }) (report_of command.now instance.case instance.roster).log (outcome_of result) }
 {
     match command {
         Command::Show => show(&instance.case, &instance.roster, output),
         Command::Cost => cost(alloc, source, instance, output),
         Command::Sizes => sizes(&instance.case, output),
+        Command::Best { nurse } => best(alloc, nurse.as_bytes(), source, instance, output, log),
     }
 }
 
@@ -61,10 +63,7 @@ fn cost<'a, Out: Write>(
     output: &mut Watch<Out>,
 ) -> Result<(), Fault<'a>>
     requires { fits_case instance.case instance.roster ≡ true }
-    ensures kept { OnOk result (hard_faults instance.case instance.roster ≡ []) }
-    ensures ok { OnOk result (Writes Out.contents output.old output.new (costs_text (costs_of instance.case instance.roster))) }
-    ensures err { IfErr result (StopsReport Out.contents true (hard_faults instance.case instance.roster)
-        (costs_text (costs_of instance.case instance.roster)) source.now instance.bundle output.old output.new) }
+    ensures ends { Ends (record { contents = Out.contents; before = output.old; after = output.new }) (cost_report instance.case instance.roster) source.now instance.bundle (outcome_of result) }
 {
     let held = hold(alloc, source, instance)?;
     Ok(write_costs(output, costs(held.case(), held.roster()))?)

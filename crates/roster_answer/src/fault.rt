@@ -13,10 +13,14 @@ pub(crate) enum Fault<'a> {
     Case(CaseFault, &'a [u8]),
     /// The roster breaks a hard rule that the command asks for.
     Hard(HardFault, BreachNames<'a>),
+    /// The case has no nurse of this name, for whom the command is.
+    Nurse(&'a [u8]),
     /// A growth was refused for what a command keeps of a roster that it holds.
     Memory,
     /// The output failed.
     Output,
+    /// The log failed, inside what the command tells of its work.
+    Log,
 }
 
 /// The names of which a breach of the hard rules speaks: a shift and a skill, or a nurse. The others are empty.

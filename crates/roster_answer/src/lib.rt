@@ -2,6 +2,7 @@
 #![tactic(auto)]
 
 mod answer;
+mod best;
 mod commands;
 mod cost;
 mod fault;

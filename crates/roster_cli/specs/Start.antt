@@ -2,7 +2,7 @@
 use Rattle.std.specs.Prelude.{◌≡◌, ℕ, ◌⊎◌, List, [], Option, Some, codes, string_bytes}
 use Rattle.std.specs.Io.KnownBytes.{Appends}
 use Rattle.roster_text.specs.Io.{Watched}
-use Rattle.roster_answer.specs.Answer.{Logs}
+use Rattle.roster_answer.specs.Answer.{IsSilent, Logs}
 use Rattle.roster_answer.specs.Lines.{Text}
 use Rattle.roster_words.specs.CommandLine.{IsAsked, Refuses}
 use Rattle.roster_words.specs.declared.request.CliFault.{CliFault}
@@ -21,11 +21,11 @@ TellsWords contents held logged cli.Memory status output output_after log log_af
 TellsWords contents held logged (cli.Usage text) status output output_after log log_after = (status ≡ 2) × (output_after ≡ output) × Logs logged log log_after (string_bytes text)
 TellsWords contents held logged (cli.Help text) status output output_after log log_after = Sends contents held logged (string_bytes text) status output output_after log log_after
 
--- the words are those of a request; with status 0 all of the output was sent on, and nothing was logged
+-- the words are those of a request; with status 0 all of the output was sent on, and a silent command logged nothing
 pub record AnswersRequest {Out Log : Type 0} (held : Out → Text) (words : List Text) (status : ℕ) (output_after : Out) (log log_after : Watched Log) : Type 0 where
   pub request : Request
   pub asked : IsAsked words request
-  pub done : status ≡ 0 → (held output_after ≡ []) × (log_after ≡ log)
+  pub done : status ≡ 0 → (held output_after ≡ []) × (IsSilent request.command → log_after ≡ log)
 
 -- the words are no request, and that was told
 pub record RefusesWords {Out Log : Type 0} (contents : Out → Option Text) (held : Out → Text) (logged : Log → Option Text) (words : List Text) (status : ℕ) (output output_after : Out) (log log_after : Watched Log) : Type 0 where

@@ -3,7 +3,7 @@
 ghost use Rattle.std.specs.Prelude.{◌≡◌, [], codes, map, string_bytes};
 ghost use Rattle.std.specs.Io.KnownBytes.{Keeps};
 ghost use Rattle.std.specs.Io.Buffered.{writer_buffer, writer_contents};
-ghost use Rattle.roster_answer.specs.Answer.{Logs};
+ghost use Rattle.roster_answer.specs.Answer.{IsSilent, Logs};
 ghost use Rattle.roster_cli.specs.Start.{AnswersWords, Sends, TellsWords};
 
 use roster_answer::{refuse, refuse_output, run};
@@ -103,7 +103,7 @@ fn answer_request<R: Files + AllocGlobal, In: Read + Drop, Out: Write + Drop, Lo
     output: &mut BufWriter<Out>,
     log: &mut Watch<Log>,
 ) -> u8
-    ensures done { result ≡ 0 → (writer_buffer output.new ≡ []) × (log.new ≡ log.old) }
+    ensures done { result ≡ 0 → (writer_buffer output.new ≡ []) × (IsSilent request.now.command → log.new ≡ log.old) }
 {
     let alloc = rt.alloc();
     if request.files.is_empty() {
@@ -141,7 +141,7 @@ fn answer<In: Read + Drop, Out: Write + Drop, Log: Write>(
     output: &mut BufWriter<Out>,
     log: &mut Watch<Log>,
 ) -> u8
-    ensures done { result ≡ 0 → (writer_buffer output.new ≡ []) × (log.new ≡ log.old) }
+    ensures done { result ≡ 0 → (writer_buffer output.new ≡ []) × (IsSilent request.now.command → log.new ≡ log.old) }
 {
     let mut input = Watch::new(input);
     let mut watched = Watch::new(&mut *output);

@@ -1,0 +1,48 @@
+-- The best row that a search finds, and what is told of the search.
+use Rattle.std.proofs.Common.{◌≡◌, ◌∙◌, ◌∷◌, ◌++◌, [], ℕ, List, Option, ap, arith, refl, sym, true, unwrap_or}
+use Rattle.std.proofs.lemmas.List.Elements.{Contains-append_right}
+use Rattle.roster_text.specs.Io.{Watched, Writes}
+use Rattle.roster_text.proofs.Texts.{Stops-after, Stops-append}
+use Rattle.roster_case.specs.AllowedRows.{IsBestRow, allowed_rows, penalty_with, row_keeps}
+use Rattle.roster_case.specs.Meaning.{Meaning}
+use Rattle.roster_case.specs.Penalties.{penalty}
+use Rattle.roster_case.specs.Rosters.{Row, Rows, with_row}
+use Rattle.roster_rules.proofs.FirstLeast.{only}
+use Rattle.roster_laws.proofs.Allowed.{allowed_keeps}
+use Rattle.roster_answer.specs.Answer.{StopsSearch, with_best}
+use Rattle.roster_answer.specs.Lines.{Text}
+use Rattle.roster_answer.specs.declared.fault.Fault.{Fault}
+use Rattle.roster_answer.specs.declared.fault.Fault.TheVariants as fault
+
+module _ (c : Meaning) (r : Rows) (n : ℕ) (row : Row) (best : IsBestRow c r n row) where
+  -- it may be put in
+  pub best_keeps : row_keeps c r n row ≡ true
+  best_keeps = allowed_keeps c r n row (rw best.split (Contains-append_right best.before (row ∷ best.after) row (0, omega arith, refl)))
+
+  -- it is the one of the definition
+  pub best_put : with_row r n row ≡ with_best c r n
+  best_put = ap (λ o. with_row r n (unwrap_or o [])) (sym (only (penalty_with c r n) (allowed_rows c r n) row best))
+
+  pub total_put : (total : ℕ) → total ≡ penalty_with c r n row → total ≡ penalty c (with_best c r n)
+  total_put total is = is ∙ ap (penalty c) best_put
+
+-- ---- a log that fails in one of two texts
+
+module _ {L : Type 0} (contents : L → Option (List ℕ)) (old mid new : Watched L) (xs ys : Text) where
+  pub stops_before : (f : Fault) → StopsSearch contents old mid xs f → StopsSearch contents old mid (xs ++ ys) f
+  stops_before (fault.Text f) h = absurd h
+  stops_before (fault.Case f nurse) h = absurd h
+  stops_before (fault.Hard f names) h = absurd h
+  stops_before (fault.Nurse name) h = absurd h
+  stops_before fault.Memory h = absurd h
+  stops_before fault.Output h = absurd h
+  stops_before fault.Log h = Stops-append contents old mid xs ys h
+
+  pub stops_behind : (f : Fault) → Writes contents old mid xs → StopsSearch contents mid new ys f → StopsSearch contents old new (xs ++ ys) f
+  stops_behind (fault.Text f) before h = absurd h
+  stops_behind (fault.Case f nurse) before h = absurd h
+  stops_behind (fault.Hard f names) before h = absurd h
+  stops_behind (fault.Nurse name) before h = absurd h
+  stops_behind fault.Memory before h = absurd h
+  stops_behind fault.Output before h = absurd h
+  stops_behind fault.Log before h = Stops-after contents old mid new xs ys before h
