@@ -30,7 +30,7 @@ no_globals false b globals d e = absurd (true≢false (sym e))
 
 -- ---- no fault
 
-both_empty : (a b : Kinds) → or_else a b ≡ [] → (a ≡ []) × (b ≡ [])
+pub both_empty : (a b : Kinds) → or_else a b ≡ [] → (a ≡ []) × (b ≡ [])
 both_empty [] b e = (refl, e)
 both_empty (k ∷ ks) b e = absurd (cc)
 
