@@ -184,6 +184,7 @@ report_of command.Show c r = plain (weeks_text c r)
 report_of command.Cost c r = cost_report c r
 report_of command.Sizes c r = plain (sizes_text c)
 report_of (command.Best nurse) c r = best_report (string_bytes nurse) c r
+report_of (command.Improve rounds) c r = improve_report rounds c r
 
 -- a command that tells nothing of its work
 abbrev pub IsSilent : Command → Type 0

@@ -12,6 +12,7 @@ ghost use Rattle.roster_answer.specs.Lines.{costs_text, sizes_text};
 use crate::best::best;
 use crate::fault::Fault;
 use crate::held::hold;
+use crate::improve::improve;
 use crate::reading::Instance;
 use roster_case::{Case, Roster, costs};
 use roster_lines::{write_costs, write_sizes, write_weeks};
@@ -39,6 +40,7 @@ pub(crate) fn report<'a, Out: Write, Log: Write>(
         Command::Cost => cost(alloc, source, instance, output),
         Command::Sizes => sizes(&instance.case, output),
         Command::Best { nurse } => best(alloc, nurse.as_bytes(), source, instance, output, log),
+        Command::Improve { rounds } => improve(alloc, *rounds, source, instance, output, log),
     }
 }
 
