@@ -1,9 +1,10 @@
-//! What a nurse may do on each day while the others' rows stay, and what it costs.
+//! The best row of a nurse, and what a nurse may do on each day while the others' rows stay.
 //!
-//! Which choices are offered at which price is defined below (`is_offered` and `price` of `roster_case`, `offers_of` of
-//! `roster_search`), and rows of which each choice is offered in `specs/Offers.antt`. `choices` promises the offers of a day
-//! in the order of the choices, and `offers_tell_the_allowed_rows` that they tell a nurse's allowed rows and the prices of
-//! these.
+//! Which choices are offered at which price is defined below (`is_offered` and `price` of `roster_laws`, `offers_of` of
+//! `roster_search`), rows of which each choice is offered in `specs/Offers.antt`, and what a workspace has room for in
+//! `specs/Workspaces.antt`. `choices` promises the offers of a day in the order of the choices, and
+//! `offers_tell_the_allowed_rows` that they tell a nurse's allowed rows and the prices of these. `best_row` promises that the
+//! workspace then shows the nurse's best row, within the stated numbers of labels, pointers and steps.
 #![tactic(auto)]
 
 mod laws;

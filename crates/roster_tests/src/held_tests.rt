@@ -100,7 +100,7 @@ fn row_of(week: &[u8; 7], skill: u8) -> [Choice; 56] {
 }
 
 /// Puts a row in the place of a nurse's where the roster keeps the hard rules with it, and says whether it does.
-fn put(held: &mut Held, nurse: usize, row: &[Choice]) -> bool
+pub(crate) fn put(held: &mut Held, nurse: usize, row: &[Choice]) -> bool
     requires { nurse < nurse_count held.old.case }
     ensures { held.new.case ≡ held.old.case }
 {

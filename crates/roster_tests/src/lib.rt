@@ -2,6 +2,8 @@
 #![tactic(auto)]
 
 #[cfg(test)]
+mod best_tests;
+#[cfg(test)]
 mod devices_tests;
 #[cfg(test)]
 mod held_tests;
