@@ -1,5 +1,5 @@
 -- How the program ends. `contents` is all that an output has taken, and `held` what it has not sent on of that.
-use Rattle.std.specs.Prelude.{◌≡◌, ℕ, ◌⊎◌, List, [], Option, Some, codes, string_bytes}
+use Rattle.std.specs.Prelude.{◌≡◌, ℕ, ◌⊎◌, List, [], Option, codes, string_bytes}
 use Rattle.std.specs.Io.KnownBytes.{Appends}
 use Rattle.roster_text.specs.Io.{Watched}
 use Rattle.roster_answer.specs.Answer.{IsSilent, Logs}
