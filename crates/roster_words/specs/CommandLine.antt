@@ -1,9 +1,12 @@
 -- What the words of a command line ask for, by clap's reading of them.
-use Rattle.std.specs.Prelude.{◌≡◌, ◌≢◌, ◌⊎◌, Bool, true, false, not, List, [], ◌∷◌, map, Option, Some, unwrap_or, codes, string_bytes}
+use Rattle.std.specs.Prelude.{◌≡◌, ◌≢◌, ◌⊎◌, ◌<◌, ◌≤◌, ◌^◌, ℕ, pos, Bool, true, false, not, List, [], ◌∷◌, map, Option, Some, unwrap_or, codes, string_bytes}
 use Rattle.std.specs.List.{fold, list_any}
-use Rattle.clap.specs.Lexer.{usize_max}
-use Rattle.clap.specs.Words.{App, Row, Rule, Shape, Text, all_of, fault_of, first_of, new_app, new_rule, subcommand_of, takes, with_rule, with_subcommand}
+use Rattle.std.specs.Str.Parse.{IsNumeral, digits_value, without_leading_plus}
+use Rattle.clap.specs.Lexer.{usize_max, without_minus}
+use Rattle.clap.specs.Values.{IsSignedIn}
+use Rattle.clap.specs.Words.{App, Row, Rule, Shape, Text, all_of, fault_of, first_of, new_app, new_rule, one_of, subcommand_of, takes, with_rule, with_subcommand}
 use Rattle.clap.specs.declared.builder.action.ArgAction.TheVariants as action
+use Rattle.clap.specs.declared.builder.value_parser.ValueParser.TheVariants as parser
 use Rattle.clap.specs.declared.error.kind.ErrorKind.{ErrorKind}
 use Rattle.clap.specs.declared.error.kind.ErrorKind.TheVariants as kind
 use Rattle.roster_words.specs.declared.request.Command.{Command}
@@ -28,13 +31,23 @@ nurse_rule = record (new_rule (codes "nurse")) {
   required = true;
 }
 
+-- how many rounds a run may make, 0 to 1000; where it isn't given, 100
+abbrev pub rounds_rule : Rule
+rounds_rule = record (new_rule (codes "rounds")) {
+  long = Some (codes "rounds");
+  action = Some action.Set;
+  value_names = 1;
+  parser = Some (parser.Signed (pos 0) (pos 1000));
+  defaults = codes "100" ∷ [];
+}
+
 -- a command that reads files
 abbrev pub command_of : Text → App
 command_of name = with_rule (new_app name) files_rule
 
--- one that is for a nurse
-abbrev pub nurse_command_of : Text → App
-nurse_command_of name = with_rule (with_rule (new_app name) nurse_rule) files_rule
+-- one with an argument of its own
+abbrev pub own_command_of : Rule → Text → App
+own_command_of rule name = with_rule (with_rule (new_app name) rule) files_rule
 
 -- the program before its commands: it has a version, and one of its commands is wanted
 abbrev pub bare : App
@@ -47,7 +60,7 @@ bare = record {
 abbrev pub commands : List Shape
 commands =
     (command_of (codes "show")).top ∷ (command_of (codes "cost")).top ∷ (command_of (codes "sizes")).top
-    ∷ (nurse_command_of (codes "best")).top ∷ []
+    ∷ (own_command_of nurse_rule (codes "best")).top ∷ (own_command_of rounds_rule (codes "improve")).top ∷ []
 
 -- the program's definition for clap
 abbrev pub program : App
@@ -59,6 +72,7 @@ name_of command.Show = codes "show"
 name_of command.Cost = codes "cost"
 name_of command.Sizes = codes "sizes"
 name_of (command.Best nurse) = codes "best"
+name_of (command.Improve rounds) = codes "improve"
 
 -- it is the name of one of these commands
 abbrev pub IsNameOf : List Shape → Text → Type 0
@@ -69,10 +83,30 @@ IsNameOf (first ∷ rest) name = (name ≡ first.name) ⊎ IsNameOf rest name
 abbrev pub files_in : List Row → List Text
 files_in rows = unwrap_or (all_of (codes "FILE") rows) []
 
+-- the text that clap has for the rounds, as it was given and as it is read, is a number from 0 to 1000
+pub record HasRounds (rows : List Row) : Type 0 where
+  pub text : Text
+  pub read : one_of (codes "rounds") rows ≡ Some (without_minus text)
+  pub within : IsSignedIn (pos 0) (pos 1000) text
+
+-- the number of the text that clap reads for the rounds: the text given, or else that of its rule's default
+pub record AreRounds (rounds : ℕ) (rows : List Row) : Type 0 where
+  pub text : Text
+  pub read : one_of (codes "rounds") rows ≡ Some text
+  pub numeral : IsNumeral 10 (without_leading_plus text)
+  pub fits : rounds < 2 ^ 16
+  pub number : rounds ≡ digits_value 10 (without_leading_plus text)
+
 -- the command's own arguments are those among its matches
 abbrev pub HasArguments : Command → List Row → Type 0
 HasArguments (command.Best nurse) rows = first_of (codes "nurse") rows ≡ Some (string_bytes nurse)
+HasArguments (command.Improve rounds) rows = AreRounds rounds rows
 HasArguments _ rows = Unit {0}
+
+-- the rounds of a command that has some are at most 1000
+abbrev pub IsInRange : Command → Type 0
+IsInRange (command.Improve rounds) = rounds ≤ 1000
+IsInRange _ = Unit {0}
 
 -- the command that was met, by its name and its matches, is that of the request, with its arguments and its files
 pub record IsAskedIn (met : Option (Text × List Row)) (r : Request) : Type 0 where

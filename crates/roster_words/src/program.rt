@@ -2,13 +2,13 @@
 
 ghost use Rattle.std.specs.Prelude.{◌≡◌, IfOk, false};
 ghost use Rattle.clap.specs.Words.{app_of, rule_of, with_subcommand};
-ghost use Rattle.roster_words.specs.CommandLine.{command_of, files_rule, nurse_command_of, nurse_rule, program};
+ghost use Rattle.roster_words.specs.CommandLine.{command_of, files_rule, nurse_rule, own_command_of, program, rounds_rule};
 
 use crate::texts::{
-    ABOUT, BEST, BEST_HELP, COST, COST_HELP, EXAMPLES, NURSE_NAME, SHOW, SHOW_HELP, SIZES,
-    SIZES_HELP, TEXTS,
+    ABOUT, BEST, BEST_HELP, COST, COST_HELP, EXAMPLES, IMPROVE, IMPROVE_HELP, NURSE_NAME,
+    ROUND_COUNT, SHOW, SHOW_HELP, SIZES, SIZES_HELP, TEXTS,
 };
-use clap::{Arg, ArgAction, Command};
+use clap::{Arg, ArgAction, Command, value_parser};
 use std::alloc::{AllocError, Global};
 
 /// The name by which the files of a command are asked for.
@@ -16,6 +16,9 @@ pub(crate) const FILES: &str = "FILE";
 
 /// The name by which the nurse of a command is asked for.
 pub(crate) const NURSE: &str = "nurse";
+
+/// The name by which the rounds of a command are asked for.
+pub(crate) const ROUNDS: &str = "rounds";
 
 /// The command line of the program.
 pub(crate) fn program<'a>(alloc: Global) -> Result<Command<'a>, AllocError>
@@ -30,7 +33,9 @@ pub(crate) fn program<'a>(alloc: Global) -> Result<Command<'a>, AllocError>
     let with_show = with_files_command(alloc, bare, "show", SHOW, SHOW_HELP)?;
     let with_cost = with_files_command(alloc, with_show, "cost", COST, COST_HELP)?;
     let with_sizes = with_files_command(alloc, with_cost, "sizes", SIZES, SIZES_HELP)?;
-    with_sizes.subcommand(nurse_command(alloc, "best", BEST, BEST_HELP)?)
+    let best = own_command(alloc, "best", BEST, BEST_HELP, nurse_arg(alloc))?;
+    let improve = own_command(alloc, "improve", IMPROVE, IMPROVE_HELP, rounds_arg(alloc))?;
+    with_sizes.subcommand(best)?.subcommand(improve)
 }
 
 /// A program with one more command that reads files.
@@ -61,19 +66,21 @@ fn files_command<'a>(
         .arg(files_arg(alloc))
 }
 
-/// A command that reads files and is for a nurse, with what its help says.
-fn nurse_command<'a>(
+/// A command that reads files and has an argument of its own, with what its help says.
+fn own_command<'a>(
     alloc: Global,
     name: &'a str,
     about: &'a str,
     help: &'a str,
+    own: Arg<'a>,
 ) -> Result<Command<'a>, AllocError>
-    ensures { IfOk result (λ c. app_of c ≡ nurse_command_of name.now) }
+    requires local { own.global ≡ false }
+    ensures { IfOk result (λ c. app_of c ≡ own_command_of (rule_of own.entry) name.now) }
 {
     Command::new(alloc, name)
         .about(about)
         .after_help(help)
-        .arg(nurse_arg(alloc))?
+        .arg(own)?
         .arg(files_arg(alloc))
 }
 
@@ -99,4 +106,18 @@ fn nurse_arg<'a>(alloc: Global) -> Arg<'a>
         .action(ArgAction::Set)
         .required(true)
         .help(NURSE_NAME)
+}
+
+/// How many rounds a run may make, 0 to 1000. Where it isn't given, 100.
+fn rounds_arg<'a>(alloc: Global) -> Arg<'a>
+    ensures rule { rule_of result ≡ rounds_rule }
+    ensures local { result.global ≡ false }
+{
+    Arg::new(alloc, ROUNDS)
+        .long("rounds")
+        .value_name("N")
+        .action(ArgAction::Set)
+        .value_parser(value_parser!(u16).range(0..=1000))
+        .default_value("100")
+        .help(ROUND_COUNT)
 }

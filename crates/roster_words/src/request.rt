@@ -15,6 +15,8 @@ pub enum Command {
     Sizes,
     /// Writes the solutions with the best row of the nurse of this name put in, also where it isn't cheaper.
     Best { nurse: String },
+    /// Writes the solutions after a run of the improver of at most so many rounds, 0 to 1000.
+    Improve { rounds: u16 },
 }
 
 /// A command with the files that it reads, in order. With none it reads standard input.

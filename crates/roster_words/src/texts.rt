@@ -2,7 +2,7 @@
 
 pub(crate) const ABOUT: &str =
     "Reads the texts of a nurse rostering instance, and writes its rosters, what they cost, how \
-    much a search takes, or the rosters with the best row of a nurse.";
+    much a search takes, the rosters with the best row of a nurse, or better rosters.";
 
 pub(crate) const TEXTS: &str =
     "The texts of the instance: the scenario, the history, and then the weeks and the rosters, in \
@@ -91,10 +91,49 @@ Example:
 The files are read one after another, in the order given. Without a file, the
 texts are read from standard input.";
 
+pub(crate) const ROUND_COUNT: &str = "The run makes so many rounds at most, 0 to 1000";
+
+pub(crate) const IMPROVE: &str = "Make the rosters cheaper, nurse by nurse, and write them";
+
+pub(crate) const IMPROVE_HELP: &str =
+    "A step takes one nurse and puts the best row of this nurse in where the roster
+becomes cheaper by it; else it changes nothing. 'roster best --help' says what
+the best row is. A round is one step for each nurse, in the order of the
+scenario. A run makes rounds until one changes nothing, or as many as --rounds
+allows.
+
+The hard rules are asked first, as for 'roster cost', and the rosters written
+keep them too. To standard error goes a log, each line as soon as it is known:
+  start 470     what the roster costs before the run
+  1 Ann 180     in round 1 Ann's row was replaced: the roster costs 180 now
+  1 Bob 20
+  round 1 20    what it costs when the round is over
+  2 Ann 0
+  round 2 0
+  round 3 0
+  settled 0     how the run ended, and what the rosters written cost
+The last line begins with one of two words:
+  settled  the last round changed nothing: for no nurse is there a cheaper row
+           while the rows of the others stay. More rounds would change nothing.
+  stopped  all rounds were made, and the last one still changed something, or
+           there was none to make. More rounds may make the rosters cheaper.
+
+What isn't promised: that these are the best rosters of all, settled or not,
+since two rows changed at once may still save something; how long the run takes.
+For its memory and the greatest number of steps for a nurse see 'roster sizes'.
+
+Example:
+  roster improve examples/ward.txt > better.txt
+  roster improve --rounds 5 examples/ward.txt > better.txt
+
+The files are read one after another, in the order given. Without a file, the
+texts are read from standard input.";
+
 pub(crate) const EXAMPLES: &str = "Examples:
   roster show examples/mini.txt
   roster cost examples/mini.txt
   roster sizes examples/mini.txt
   roster best --nurse Ann examples/mini.txt
+  roster improve examples/ward.txt
 
 'roster COMMAND --help' says more about a command.";

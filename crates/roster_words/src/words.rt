@@ -2,9 +2,9 @@
 
 ghost use Rattle.std.specs.Prelude.{◌≡◌, ◌≢◌, [], Some, codes, IfOk, IfErr, OnOk, IsSomeAnd, map, string_bytes};
 ghost use Rattle.clap.specs.Words.{fault_of, first_of, found_of, kind_of, rows_of, subcommand_rows_of};
-ghost use Rattle.roster_words.specs.CommandLine.{HasArguments, HasText, IsAsked, IsAskedIn, IsNameOf, Refuses, TellsKind, commands, files_in, name_of, program};
+ghost use Rattle.roster_words.specs.CommandLine.{AreRounds, HasArguments, HasText, IsAsked, IsAskedIn, IsInRange, IsNameOf, Refuses, TellsKind, commands, files_in, name_of, program};
 
-use crate::program::{FILES, NURSE, program};
+use crate::program::{FILES, NURSE, ROUNDS, program};
 use crate::request::{CliFault, Command, Request};
 use crate::texts::EXAMPLES;
 use clap::ArgMatches;
@@ -16,6 +16,8 @@ use std::convert::AsStr;
 pub fn request_of<S: AsStr>(alloc: Global, words: &[S]) -> Result<Request, CliFault>
     // The command with its arguments, and the files, are those that clap's matches give for the words.
     ensures request { IfOk result (IsAsked (map S.text words.now)) }
+    // A run of the improver may make 0 to 1000 rounds.
+    ensures range { IfOk result (λ r. IsInRange r.command) }
     ensures faultless { OnOk result (fault_of program (map S.text words.now) ≡ []) }
     ensures refusal { IfErr result (Refuses (map S.text words.now)) }
     ensures text { IfErr result HasText }
@@ -53,6 +55,9 @@ fn command_in(alloc: Global, name: &str, given: &ArgMatches<'_>) -> Result<Comma
         "best" => Ok(Command::Best {
             nurse: nurse_of(alloc, given)?,
         }),
+        "improve" => Ok(Command::Improve {
+            rounds: rounds_of(given)?,
+        }),
         _ => unreachable!(),
     }
 }
@@ -64,6 +69,12 @@ fn nurse_of(alloc: Global, given: &ArgMatches<'_>) -> Result<String, AllocError>
         Some(nurse) => String::from_str(alloc, nurse),
         None => Err(AllocError),
     }
+}
+
+fn rounds_of(given: &ArgMatches<'_>) -> Result<u16, AllocError>
+    ensures { IfOk result (λ rounds. AreRounds rounds (rows_of (found_of given.now))) }
+{
+    given.get_one::<u16>(ROUNDS).ok_or(AllocError)
 }
 
 fn files_of(alloc: Global, given: &ArgMatches<'_>) -> Result<Vec<String>, AllocError>

@@ -1,0 +1,477 @@
+-- That the rounds of a command line without a fault are a number of their range: along clap's walk over the words each
+-- use of the argument keeps to its rule, and where there is none, the default does.
+use Rattle.std.proofs.Common.{arith, ◌≡◌, ◌<◌, ◌≤◌, ◌^◌, ◌∙◌, ◌+◌, ◌&&◌, ◌||◌, ℕ, zero, suc, get_or, Bool, cond, true, false, not, refl, sym, ap, ap₂, subst, List, [], ◌∷◌, ◌++◌, length, drop, Option, Some, None, is_some, codes, true≢false}
+use Rattle.std.specs.Prelude.{IfSome, Result, encode_utf8, find, min, option_map, option_and_then, pos, slice_get, ⊤}
+use Rattle.std.specs.List.{fold, list_any}
+use Rattle.std.specs.Option.{option_map_or}
+use Rattle.std.specs.Str.{bytes_eq, chars}
+use Rattle.std.specs.Str.Parse.{IsNumeral, ParsesUnsigned, digits_value, without_leading_plus}
+use Rattle.std.proofs.lemmas.Slice.Eq.{bytes_eq-Decides}
+use Rattle.clap.specs.Kinds.{Kinds, or_else, range_kinds, value_kinds}
+use Rattle.clap.specs.Lexer.{long_of, short_of, without_minus}
+use Rattle.clap.specs.Matches.{count_text}
+use Rattle.clap.specs.Values.{IsSignedIn, read_as}
+use Rattle.clap.specs.ValueTests.{accepts}
+use Rattle.clap.proofs.ValueTestLemmas.{accepts-Accepts}
+use Rattle.clap.specs.Walk.{Held, Outcome, Row, Rule, Step, Text, Waiting, Walk, after_flag, after_step, answers_to, arg_by_id, arg_by_index, arg_by_long, arg_by_short, at_row, attached_value, bundle, bundle_met, bundle_step, counted, default_rows, done, finished, has_row, idle, long_met, long_or_other, more_values, new_count, next, nothing_held, one_of, option, option_met, option_word, plain, plain_word, positional, reacted, reading_by, refused, row_text, settled, settled_rows, short_met, short_or_plain, subcommand, subcommand_met, subcommand_or_other, takes_values, takes_several, is_pending, to_positional, positional_held, pushed, trailing, used, used_as, used_by_id, value, values_or_missing, waits, walk, walk_from, walked, walked_from, with_count, with_default, with_values, without, flag_met, count_of, action_of, rows_after, stop_after}
+use Rattle.clap.specs.Faults.{bundle_fault, bundle_step_fault, entered_fault, flag_word_fault, flags_fault, level_fault, long_fault, option_fault, other_fault, positional_fault, react_fault, repeat_fault, settle_fault, short_fault, step_fault, stray_fault, turn_fault, use_fault, values_fault, walk_fault}
+use Rattle.clap.specs.Facts.{parser_of_value}
+use Rattle.clap.specs.Simple.{Shape, argument_words, built, entered, help_shape, label_of, names_of, rows_at}
+use Rattle.clap.specs.declared.builder.action.ArgAction.{ArgAction}
+use Rattle.clap.specs.declared.builder.action.ArgAction.TheVariants as action
+use Rattle.clap.specs.declared.builder.value_parser.Reading.{Reading}
+use Rattle.clap.specs.declared.error.kind.ErrorKind.{ErrorKind}
+use Rattle.clap.specs.declared.error.kind.ErrorKind.TheVariants as kind
+use Rattle.clap.specs.declared.parser.matches.ValueSource.{ValueSource}
+use Rattle.clap.specs.declared.parser.matches.ValueSource.TheVariants.{CommandLine, DefaultValue}
+use Rattle.clap.specs.Words.{fault_of, subcommand_of}
+use Rattle.clap.proofs.CallerReads.{signed_reads}
+use Rattle.roster_words.specs.CommandLine.{AreRounds, HasArguments, HasRounds, IsAsked, IsInRange, name_of, program, rounds_rule}
+use Rattle.roster_words.specs.declared.request.Command.{Command}
+use Rattle.roster_words.specs.declared.request.Command.TheVariants as command
+use Rattle.roster_words.specs.declared.request.Request.{Request}
+
+-- ---- lists
+
+-- each item of a list
+abbrev Each : {X : Type 0} → (X → Type 0) → List X → Type 0
+Each P [] = ⊤
+Each P (x ∷ xs) = P x × Each P xs
+
+each_append : {X : Type 0} (P : X → Type 0) (xs ys : List X) → Each P xs → Each P ys → Each P (xs ++ ys)
+each_append P [] ys h k = k
+each_append P (x ∷ xs) ys h k = (h.0, each_append P xs ys h.1 k)
+
+-- what holds of each item holds of one that is found
+found_has : {X : Type 0} (P : X → Type 0) (test : X → Bool) (xs : List X) → Each P xs → (x : X) → find test xs ≡ Some x → P x
+found_has P test [] h x e = absurd (cc)
+found_has P test (y ∷ ys) h x e = go (test y) (λ later. found_has P test ys h.1 x later) e
+  where
+    go : (t : Bool) → (find test ys ≡ Some x → P x) → cond t (Some y) (find test ys) ≡ Some x → P x
+    go true rest same =
+        let one : Some y ≡ Some x = same in
+        let is : y ≡ x = cc in
+        subst P is h.0
+    go false rest later = rest later
+
+both_none : (a b : Kinds) → or_else a b ≡ [] → (a ≡ []) × (b ≡ [])
+both_none [] b e = (refl, e)
+both_none (k ∷ ks) b e = absurd (cc)
+
+-- ---- rows
+
+-- the first value passes the rule
+abbrev FirstPasses : Rule → List Text → Type 0
+FirstPasses a [] = ⊥
+FirstPasses a (v ∷ vs) = value_kinds a.ignore_case (parser_of_value a.parser) v ≡ []
+
+first_stays : (a : Rule) (vs ws : List Text) → FirstPasses a vs → FirstPasses a (vs ++ ws)
+first_stays a [] ws h = absurd h
+first_stays a (v ∷ vs) ws h = h
+
+-- a row of the argument has a first value that passes, and is read by the rule
+abbrev Keeps : Rule → Row → Type 0
+Keeps a r = bytes_eq r.id a.id ≡ true → (r.reading ≡ reading_by a) × FirstPasses a r.values
+
+at_row_keeps : (P : Row → Type 0) (id : Text) (change : Row → List Row) (missing rows : List Row)
+    → ((r : Row) → bytes_eq r.id id ≡ true → P r → Each P (change r)) → Each P missing → Each P rows → Each P (at_row id change missing rows)
+at_row_keeps P id change missing [] changed new h = new
+at_row_keeps P id change missing (r ∷ rs) changed new h = go (bytes_eq r.id id) refl (at_row_keeps P id change missing rs changed new h.1)
+  where
+    go : (t : Bool) → bytes_eq r.id id ≡ t → Each P (at_row id change missing rs) → Each P (cond t (change r ++ rs) (r ∷ at_row id change missing rs))
+    go true e rest = each_append P (change r) rs (changed r e h.0) h.1
+    go false e rest = (h.0, rest)
+
+without_keeps : (P : Row → Type 0) (id : Text) (rows : List Row) → Each P rows → Each P (without id rows)
+without_keeps P id rows h = at_row_keeps P id (λ r. []) [] rows (λ r e k. tt) tt h
+
+-- two names that differ aren't both that of a row
+apart : {A : Type 0} (r b a : Text) → bytes_eq b a ≡ false → bytes_eq r b ≡ true → bytes_eq r a ≡ true → A
+apart r b a differ same other = absurd (true≢false (sym other ∙ ap (λ n. bytes_eq n a) ((bytes_eq-Decides r b).0 same) ∙ differ))
+
+-- the rows that a first use makes
+abbrev new_row : Text → Reading → ValueSource → List Text → Row
+new_row id how s vs = record { id = id; values = vs; count = None; source = Some s; reading = how }
+
+abbrev count_row : Text → Reading → ValueSource → ℕ → Row
+count_row id how s n = record { id = id; values = count_text n ∷ []; count = Some n; source = Some s; reading = how }
+
+-- the row of another argument
+module _ (a : Rule) (id : Text) (differ : bytes_eq id a.id ≡ false) where
+  other_row : (r : Row) → r.id ≡ id → Keeps a r
+  other_row r named e = absurd (true≢false (sym e ∙ ap (λ n. bytes_eq n a.id) named ∙ differ))
+
+  other_values : (how : Reading) (s : ValueSource) (vs : List Text) (rows : List Row) → Each (Keeps a) rows → Each (Keeps a) (with_values id how s vs rows)
+  other_values how s vs rows h =
+      at_row_keeps (Keeps a) id (more_values s vs) (new_row id how s vs ∷ []) rows (λ r e k. ((λ same. apart r.id id a.id differ e same), tt)) (other_row (new_row id how s vs) refl, tt) h
+
+  other_count : (how : Reading) (s : ValueSource) (n : ℕ) (rows : List Row) → Each (Keeps a) rows → Each (Keeps a) (with_count id how s n rows)
+  other_count how s n rows h =
+      at_row_keeps (Keeps a) id (new_count s n) (count_row id how s n ∷ []) rows (λ r e k. ((λ same. apart r.id id a.id differ e same), tt)) (other_row (count_row id how s n) refl, tt) h
+
+  other_counted : (how : Reading) (vs : List Text) (rows : List Row) → Each (Keeps a) rows → Each (Keeps a) (counted id how vs rows)
+  other_counted how [] rows h = other_count how CommandLine (min (count_of id rows + 1) 255) (without id rows) (without_keeps (Keeps a) id rows h)
+  other_counted how (v ∷ vs) rows h = other_values how CommandLine (v ∷ vs) (without id rows) (without_keeps (Keeps a) id rows h)
+
+  other_used : (x : ArgAction) (how : Reading) (vs : List Text) (rows : List Row) → Each (Keeps a) rows → Each (Keeps a) (used_as x id how vs rows)
+  other_used action.Set how vs rows h = other_values how CommandLine vs (without id rows) (without_keeps (Keeps a) id rows h)
+  other_used action.SetTrue how vs rows h = other_values how CommandLine vs (without id rows) (without_keeps (Keeps a) id rows h)
+  other_used action.SetFalse how vs rows h = other_values how CommandLine vs (without id rows) (without_keeps (Keeps a) id rows h)
+  other_used action.Append how vs rows h = other_values how CommandLine vs rows h
+  other_used action.Count how vs rows h = other_counted how vs rows h
+  other_used action.Help how vs rows h = h
+  other_used action.HelpShort how vs rows h = h
+  other_used action.HelpLong how vs rows h = h
+  other_used action.Version how vs rows h = h
+
+-- values of the argument itself, the first of which passes
+own_values : (a : Rule) (s : ValueSource) (vs : List Text) (rows : List Row) → FirstPasses a vs → Each (Keeps a) rows
+    → Each (Keeps a) (with_values a.id (reading_by a) s vs rows)
+own_values a s vs rows first h =
+    at_row_keeps (Keeps a) a.id (more_values s vs) (new_row a.id (reading_by a) s vs ∷ []) rows (λ r e k. ((λ same. ((k same).0, first_stays a r.values vs (k same).1)), tt)) ((λ same. (refl, first)), tt) h
+
+-- ---- the walk, for a rule whose uses keep it
+
+-- no other rule has its name
+abbrev IsOnly : Rule → Rule → Type 0
+IsOnly a b = bytes_eq b.id a.id ≡ true → b ≡ a
+
+-- a use of it that is no fault gives a first value that passes
+abbrev UsesPass : Bool → Rule → Type 0
+UsesPass again a = (values : List Text) (rows : List Row) → Each (Keeps a) rows → use_fault again a values rows ≡ [] → Each (Keeps a) (used a values rows)
+
+module _ (s : Shape) (a : Rule) (only : Each (IsOnly a) s.rules) (passes : UsesPass s.args_override_self a) where
+  abbrev c : List Rule
+  c = s.rules
+
+  abbrev again : Bool
+  again = s.args_override_self
+
+  abbrev Kept : List Row → Type 0
+  Kept rows = Each (Keeps a) rows
+
+  use_keeps : (b : Rule) → IsOnly a b → (values : List Text) (rows : List Row) → Kept rows → use_fault again b values rows ≡ [] → Kept (used b values rows)
+  use_keeps b is values rows h none = go (bytes_eq b.id a.id) refl
+    where
+      go : (t : Bool) → bytes_eq b.id a.id ≡ t → Kept (used b values rows)
+      go true e =
+          let same = is e in
+          subst (λ (r : Rule). Kept (used r values rows)) (sym same) (passes values rows h (subst (λ (r : Rule). use_fault again r values rows ≡ []) same none))
+      go false e = other_used a b.id e (action_of b) (reading_by b) (values_or_missing b values) rows h
+
+  settle_keeps : (h : Held) → Kept h.rows → settle_fault c again h ≡ [] → Kept (settled c h).rows
+  settle_keeps h kept none = go h.pending none
+    where
+      by_id : (p : Text × List Text) (o : Option Rule) → arg_by_id c p.0 ≡ o → option_map_or (λ (b : Rule). use_fault again b p.1 h.rows) o [] ≡ [] → Kept (used_by_id o p.1 h.rows)
+      by_id p None found e = kept
+      by_id p (Some b) found e = use_keeps b (found_has (IsOnly a) _ c only b found) p.1 h.rows kept e
+
+      go : (pending : Option (Text × List Text))
+          → option_map_or (λ (p : Text × List Text). option_map_or (λ (b : Rule). use_fault again b p.1 h.rows) (arg_by_id c p.0) []) pending [] ≡ [] → Kept (settled_rows c pending h.rows)
+      go None e = kept
+      go (Some p) e = by_id p (arg_by_id c p.0) refl e
+
+  react_keeps : (b : Rule) → IsOnly a b → (values : List Text) (h : Held) → Kept h.rows → react_fault c again b values h ≡ [] → Kept (reacted c b values h).rows
+  react_keeps b is values h kept none =
+      let e = both_none (settle_fault c again h) (use_fault again b values (settled c h).rows) none in
+      use_keeps b is values (settled c h).rows (settle_keeps h kept e.0) e.1
+
+  option_keeps : (b : Rule) → IsOnly a b → (v : Option Text) (h : Held) → Kept h.rows → option_fault c again b v h ≡ [] → Kept (option_met c b v h).0.rows
+  option_keeps b is (Some v) h kept none = react_keeps b is (v ∷ []) h kept none
+  option_keeps b is None h kept none = settle_keeps h kept none
+
+  long_keeps : (o : Option Rule) (v : Option Text) (name : Text) → arg_by_long c name ≡ o → (h : Held) → Kept h.rows → long_fault c again o v h ≡ []
+      → Kept (long_met c o v h).0.rows
+  long_keeps None v name found h kept none = kept
+  long_keeps (Some b) v name found h kept none = go (takes_values b) v (found_has (IsOnly a) _ c only b found) none
+    where
+      go : (t : Bool) (w : Option Text) → IsOnly a b → cond t (option_fault c again b w h) (cond (is_some w) (kind.TooManyValues ∷ []) (react_fault c again b [] h)) ≡ []
+          → Kept (cond t (option_met c b w h) (flag_met c b w h)).0.rows
+      go true w is e = option_keeps b is w h kept e
+      go false (Some w) is e = kept
+      go false None is e = react_keeps b is [] h kept e
+
+  plain_keeps : (waiting : Waiting) (word : Text) (h : Held) → Kept h.rows → Kept (plain_word c waiting word h).0.rows
+  plain_keeps idle word h kept = kept
+  plain_keeps (option id) word h kept = go (arg_by_id c id)
+    where
+      go : (o : Option Rule) → Kept (option_word o id word h).0.rows
+      go None = kept
+      go (Some b) = kept
+  plain_keeps positional word h kept = kept
+
+  flag_keeps : (waiting : Waiting) (word : Text) (h : Held) (met : Outcome) → Kept h.rows → Kept (after_flag c waiting word h met).0.rows
+  flag_keeps waiting word h done kept = kept
+  flag_keeps waiting word h (waits id) kept = kept
+  flag_keeps waiting word h plain kept = plain_keeps waiting word h kept
+  flag_keeps waiting word h refused kept = plain_keeps waiting word h kept
+
+  -- one flag of a bundle, where those after it keep the rows
+  short_keeps : (after : Held → Held × Outcome) (fault : Held → Kinds) → ((g : Held) → Kept g.rows → fault g ≡ [] → Kept (after g).0.rows)
+      → (o : Option Rule) (x : ℕ) → arg_by_short c x ≡ o → (rest : Text) (h : Held) → Kept h.rows → short_fault c again o rest h fault ≡ []
+      → Kept (short_met c o rest h after).0.rows
+  short_keeps after fault later None x found rest h kept none = kept
+  short_keeps after fault later (Some b) x found rest h kept none = go (takes_values b) (found_has (IsOnly a) _ c only b found) none
+    where
+      go : (t : Bool) → IsOnly a b → cond t (option_fault c again b (attached_value rest) h) (or_else (react_fault c again b [] h) (fault (reacted c b [] h))) ≡ []
+          → Kept (cond t (option_met c b (attached_value rest) h) (after (reacted c b [] h))).0.rows
+      go true is e = option_keeps b is (attached_value rest) h kept e
+      go false is e =
+          let both = both_none (react_fault c again b [] h) (fault (reacted c b [] h)) e in
+          later (reacted c b [] h) (react_keeps b is [] h kept both.0) both.1
+
+  character_keeps : (after : Text → ℕ → Outcome → Held → Held × Outcome) (fault : Text → ℕ → Held → Kinds)
+      → ((f : Text) (n : ℕ) (met : Outcome) (g : Held) → Kept g.rows → fault f n g ≡ [] → Kept (after f n met g).0.rows)
+      → (x : Option ℕ) (flags : Text) (skip : ℕ) (so_far : Outcome) (h : Held) → Kept h.rows → bundle_step_fault c again x flags skip h fault ≡ []
+      → Kept (bundle_step c x flags skip so_far h after).0.rows
+  character_keeps after fault later None flags skip so_far h kept none = kept
+  character_keeps after fault later (Some x) flags zero so_far h kept none =
+      let rest = drop (length (encode_utf8 x)) flags in
+      short_keeps (after rest 0 done) (fault rest 0) (λ g k e. later rest 0 done g k e) (arg_by_short c x) x refl rest h kept none
+  character_keeps after fault later (Some x) flags (suc skip) so_far h kept none = later (drop (length (encode_utf8 x)) flags) skip so_far h kept none
+
+  bundle_keeps : (k : ℕ) (flags : Text) (skip : ℕ) (so_far : Outcome) (h : Held) → Kept h.rows → flags_fault c again k flags skip h ≡ []
+      → Kept (bundle_met c k flags skip so_far h).0.rows
+  unfolding bundle_met flags_fault
+  bundle_keeps zero flags skip so_far h kept none = kept
+  bundle_keeps (suc k) flags skip so_far h kept none =
+      character_keeps (bundle_met c k) (flags_fault c again k) (λ f n met g held e. bundle_keeps k f n met g held e) (slice_get (chars flags) 0) flags skip so_far h kept none
+
+  word_keeps : (met : Option Text) (waiting : Waiting) (position : ℕ) (word : Text) (h : Held) → Kept h.rows → other_fault s met word h ≡ []
+      → Kept (subcommand_or_other c met waiting position word h).0.rows
+  word_keeps (Some name) waiting position word h kept none = kept
+  word_keeps None waiting position word h kept none = go (bytes_eq word (45 ∷ 45 ∷ [])) none
+    where
+      short : (flags : Option Text) → option_map_or (λ (f : Text). bundle_fault c again f h) flags [] ≡ [] → Kept (short_or_plain c waiting word flags h).0.rows
+      short None e = plain_keeps waiting word h kept
+      short (Some flags) e =
+          flag_keeps waiting word (bundle c flags h).0 (bundle c flags h).1 (bundle_keeps (length flags) flags h.skip plain (record h { skip = 0 }) kept e)
+
+      long : (flag : Option (Text × Option Text)) → flag_word_fault c again flag word h ≡ [] → Kept (long_or_other c waiting word flag h).0.rows
+      long None e = short (short_of word) e
+      long (Some p) e =
+          let met = long_met c (arg_by_long c p.0) p.1 h in
+          flag_keeps waiting word met.0 met.1 (long_keeps (arg_by_long c p.0) p.1 p.0 refl h kept e)
+
+      go : (t : Bool) → cond t [] (flag_word_fault c again (long_of word) word h) ≡ [] → Kept (cond t (h, trailing position) (long_or_other c waiting word (long_of word) h)).0.rows
+      go true e = kept
+      go false e = long (long_of word) e
+
+  step_keeps : (word : Text) (w : Walk) (h : Held) (step : Step) → Kept h.rows → step_fault s w.position h step ≡ [] → Kept (after_step c word w h step).held.rows
+  step_keeps word w h (next waiting) kept none = kept
+  step_keeps word w h (trailing position) kept none = kept
+  step_keeps word w h (subcommand name) kept none = kept
+  step_keeps word w h value kept none = go (arg_by_index c w.position) none
+    where
+      held : (b : Rule) (t : Bool) → cond t [] (settle_fault c again h) ≡ [] → Kept (pushed b.id word (cond t h (settled c h))).rows
+      held b true e = kept
+      held b false e = settle_keeps h kept e
+
+      go : (o : Option Rule) → option_map_or (λ (b : Rule). positional_fault c again b h) o (stray_fault s) ≡ [] → Kept (to_positional c o word w h).held.rows
+      go None e = kept
+      go (Some b) e = held b (is_pending b h.pending && takes_several b) e
+
+  turn_keeps : (w : Walk) (word : Text) → Kept w.held.rows → turn_fault s [] w word ≡ [] → Kept (walked s.rules [] w word).held.rows
+  unfolding walked
+  turn_keeps w word kept none = go w.stopped none
+    where
+      met : (t : Bool) (m : Option Text)
+          → or_else (cond t [] (other_fault s m word w.held)) (step_fault s w.position (cond t (w.held, value) (subcommand_or_other c m w.waiting w.position word w.held)).0 (cond t (w.held, value) (subcommand_or_other c m w.waiting w.position word w.held)).1) ≡ []
+          → Kept (after_step c word w (cond t (w.held, value) (subcommand_or_other c m w.waiting w.position word w.held)).0 (cond t (w.held, value) (subcommand_or_other c m w.waiting w.position word w.held)).1).held.rows
+      met true m e = step_keeps word w w.held value kept e
+      met false m e =
+          let both = both_none (other_fault s m word w.held) _ e in
+          let x = subcommand_or_other c m w.waiting w.position word w.held in
+          step_keeps word w x.0 x.1 (word_keeps m w.waiting w.position word w.held kept both.0) both.1
+
+      go : (stopped : Option (Text × List Text))
+          → cond (is_some stopped) [] (or_else (cond w.is_trailing [] (other_fault s (subcommand_met [] w.waiting word) word w.held)) (step_fault s w.position (cond w.is_trailing (w.held, value) (subcommand_or_other c (subcommand_met [] w.waiting word) w.waiting w.position word w.held)).0 (cond w.is_trailing (w.held, value) (subcommand_or_other c (subcommand_met [] w.waiting word) w.waiting w.position word w.held)).1)) ≡ []
+          → Kept (walked_from c [] stopped w word).held.rows
+      go (Some p) e = kept
+      go None e = met w.is_trailing (subcommand_met [] w.waiting word) e
+
+  walk_keeps : (words : List Text) (w : Walk) → Kept w.held.rows → walk_fault s [] w words ≡ [] → Kept (fold (walked s.rules []) w words).held.rows
+  unfolding walk_fault
+  walk_keeps [] w kept none = kept
+  walk_keeps (word ∷ rest) w kept none =
+      let both = both_none (turn_fault s [] w word) _ none in
+      walk_keeps rest (walked s.rules [] w word) (turn_keeps w word kept both.0) both.1
+
+  -- the rows at the end of the words, before the defaults
+  pub rows_keep : (words : List Text) → level_fault s [] nothing_held words false [] ≡ [] → Kept (settled c (walk c [] nothing_held words).held).rows
+  rows_keep words none =
+      let first = both_none (walk_fault s [] (walk_from nothing_held) words) _ none in
+      let second = both_none (settle_fault c again (walk c [] nothing_held words).held) _ first.1 in
+      settle_keeps (walk c [] nothing_held words).held (walk_keeps words (walk_from nothing_held) tt first.0) second.0
+
+-- ---- the rounds
+
+-- the commands as clap completes them, with `help` behind them
+abbrev subs : List Shape
+subs = (built program).subs
+
+abbrev improve : Shape
+improve = get_or subs 4 help_shape
+
+abbrev rounds : Rule
+rounds = get_or improve.rules 0 rounds_rule
+
+only_rounds : Each (IsOnly rounds) improve.rules
+only_rounds = ((λ e. refl), ((λ e. absurd (true≢false (sym e))), ((λ e. absurd (true≢false (sym e))), tt)))
+
+rounds_pass : UsesPass improve.args_override_self rounds
+rounds_pass [] rows kept none =
+    let bad : kind.InvalidValue ∷ [] ≡ [] = none in
+    absurd (cc)
+rounds_pass (v ∷ vs) rows kept none =
+    let one = both_none (range_kinds 1 1 (length (v ∷ vs))) _ none in
+    let fresh = both_none (repeat_fault improve.args_override_self rounds.id rows) (values_fault rounds (v ∷ vs)) one.1 in
+    let first = both_none (value_kinds rounds.ignore_case (parser_of_value rounds.parser) v) _ fresh.1 in
+    own_values rounds CommandLine (v ∷ vs) (without rounds.id rows) first.0 (without_keeps (Keeps rounds) rounds.id rows kept)
+
+-- the row of a rule that has one
+record HasRow (a : Rule) (rows : List Row) : Type 0 where
+  pub row : Row
+  pub found : find (λ (r : Row). bytes_eq r.id a.id) rows ≡ Some row
+  pub reading : row.reading ≡ reading_by a
+  pub first : FirstPasses a row.values
+
+row_by_rule : (a : Rule) (rows : List Row) → Each (Keeps a) rows → has_row a.id rows ≡ true → HasRow a rows
+row_by_rule a [] kept has = absurd (true≢false (sym has))
+row_by_rule a (r ∷ rs) kept has = go (bytes_eq r.id a.id) refl (λ later. row_by_rule a rs kept.1 later) has
+  where
+    go : (t : Bool) → bytes_eq r.id a.id ≡ t → (has_row a.id rs ≡ true → HasRow a rs) → (t || has_row a.id rs) ≡ true → HasRow a (r ∷ rs)
+    go true e later h =
+        record { row = r; found = ap (λ b. cond b (Some r) (find (λ (x : Row). bytes_eq x.id a.id) rs)) e; reading = (kept.0 e).0; first = (kept.0 e).1 }
+    go false e later h =
+        let rest = later h in
+        record {
+          row = rest.row;
+          found = ap (λ b. cond b (Some r) (find (λ (x : Row). bytes_eq x.id a.id) rs)) e ∙ rest.found;
+          reading = rest.reading;
+          first = rest.first;
+        }
+
+passed : (t : Bool) (k : ErrorKind) → cond t [] (k ∷ []) ≡ [] → t ≡ true
+passed true k e = refl
+passed false k e = absurd (cc)
+
+has_rounds : (rows : List Row) → HasRow rounds rows → HasRounds rows
+has_rounds rows h = go h.row.values refl h.first
+  where
+    go : (values : List Text) → h.row.values ≡ values → FirstPasses rounds values → HasRounds rows
+    go [] same first = absurd first
+    go (v ∷ vs) same first = record {
+      text = v;
+      read = ap (option_and_then row_text) h.found ∙ ap₂ (λ how (vals : List Text). option_map (read_as how) (slice_get vals 0)) h.reading same;
+      within = accepts-Accepts rounds.ignore_case (parser_of_value rounds.parser) v (passed (accepts rounds.ignore_case (parser_of_value rounds.parser) v) _ first);
+    }
+
+there : (vs : List Text) (r : Row) (rs later : List Row) (t : Bool) → bytes_eq r.id rounds.id ≡ t → has_row rounds.id later ≡ true
+    → has_row rounds.id (cond t (more_values DefaultValue vs r ++ rs) (r ∷ later)) ≡ true
+there vs r rs later true e rest = ap (λ b. b || has_row rounds.id rs) e
+there vs r rs later false e rest = ap (λ b. b || has_row rounds.id later) e ∙ rest
+
+default_there : (rows : List Row) → has_row rounds.id (with_values rounds.id (reading_by rounds) DefaultValue (codes "100" ∷ []) rows) ≡ true
+default_there [] = refl
+default_there (r ∷ rs) =
+    there (codes "100" ∷ []) r rs (with_values rounds.id (reading_by rounds) DefaultValue (codes "100" ∷ []) rs) (bytes_eq r.id rounds.id) refl (default_there rs)
+
+default_row : (rows : List Row) → Each (Keeps rounds) rows → HasRow rounds (with_default rows rounds)
+default_row rows kept = go (has_row rounds.id rows) refl
+  where
+    go : (t : Bool) → has_row rounds.id rows ≡ t → HasRow rounds (cond t rows (with_values rounds.id (reading_by rounds) DefaultValue (codes "100" ∷ []) rows))
+    go true e = row_by_rule rounds rows kept e
+    go false e =
+        row_by_rule rounds (with_values rounds.id (reading_by rounds) DefaultValue (codes "100" ∷ []) rows)
+        (own_values rounds DefaultValue (codes "100" ∷ []) rows refl kept) (default_there rows)
+
+no_default : (b : Rule) (rows : List Row) → b.defaults ≡ [] → with_default rows b ≡ rows
+no_default b rows e = ap (λ ds. cond (has_row b.id rows) rows (default_rows b.id (reading_by b) ds rows)) e ∙ same (has_row b.id rows)
+  where
+    same : (t : Bool) → cond t rows rows ≡ rows
+    same true = refl
+    same false = refl
+
+improve_rounds : (words : List Text) → level_fault improve [] nothing_held words false [] ≡ [] → HasRounds (rows_after improve.rules [] words)
+improve_rounds words none =
+    let rows = (settled improve.rules (walk improve.rules [] nothing_held words).held).rows in
+    let kept = rows_keep improve rounds only_rounds rounds_pass words none in
+    let first = with_default rows rounds in
+    let second = with_default first (get_or improve.rules 1 rounds_rule) in
+    let same = no_default (get_or improve.rules 2 rounds_rule) second refl ∙ no_default (get_or improve.rules 1 rounds_rule) first refl in
+    subst HasRounds (sym same) (has_rounds first (default_row rows kept))
+
+-- ---- the command that was met
+
+abbrev RoundsAt : Shape → Type 0
+RoundsAt s = (words : List Text) → level_fault s [] nothing_held words false [] ≡ [] → s.name ≡ codes "improve" → HasRounds (rows_after s.rules [] words)
+
+not_improve : (s : Shape) → bytes_eq s.name (codes "improve") ≡ false → RoundsAt s
+not_improve s other words none e = absurd (true≢false (sym (ap (λ n. bytes_eq n (codes "improve")) e) ∙ other))
+
+each_command : Each RoundsAt subs
+each_command = (
+  not_improve (get_or subs 0 help_shape) refl,
+  (
+    not_improve (get_or subs 1 help_shape) refl,
+    (
+      not_improve (get_or subs 2 help_shape) refl,
+      (not_improve (get_or subs 3 help_shape) refl, ((λ words none e. improve_rounds words none), (not_improve (get_or subs 5 help_shape) refl, tt))),
+    ),
+  ),
+)
+
+entered_rounds : (stop : Option (Text × List Text)) → entered_fault (built program) stop ≡ []
+    → IfSome (entered (built program) stop) (λ (met : Text × List Row). met.0 ≡ codes "improve" → HasRounds met.1)
+entered_rounds None e = tt
+entered_rounds (Some p) e =
+    go (find (λ (s : Shape). answers_to p.0 (label_of s)) subs) (λ s found. found_has RoundsAt (λ (s : Shape). answers_to p.0 (label_of s)) subs each_command s found) e
+  where
+    go : (o : Option Shape) → ((s : Shape) → o ≡ Some s → RoundsAt s) → option_map_or (λ (s : Shape). level_fault s [] nothing_held p.1 false []) o [] ≡ []
+        → IfSome (option_map (λ (s : Shape). rows_at s p.1) o) (λ (met : Text × List Row). met.0 ≡ codes "improve" → HasRounds met.1)
+    go None each e = tt
+    go (Some s) each e = each s refl p.1 e
+
+-- where words without a fault name `improve`, its rounds are a number of their range
+pub meets_rounds : (words : List Text) → fault_of program words ≡ []
+    → IfSome (subcommand_of program words) (λ (met : Text × List Row). met.0 ≡ codes "improve" → HasRounds met.1)
+meets_rounds words none =
+    let top = (built program).top in
+    let names = names_of (built program) in
+    let given = argument_words program words in
+    let stop = stop_after top.rules names given in
+    let first = both_none (walk_fault top names (walk_from nothing_held) given) _ none in
+    let below = both_none (entered_fault (built program) stop) _ first.1 in
+    entered_rounds stop below.0
+
+-- ---- the request
+
+small : (t u : Text) (n : ℕ) → without_minus t ≡ u → IsSignedIn (pos 0) (pos 1000) t → IsNumeral 10 (without_leading_plus u) → n < 2 ^ 16
+    → n ≡ digits_value 10 (without_leading_plus u) → n ≤ 1000
+small t u n same within numeral fits number =
+    let low : digits_value 10 (without_leading_plus u) < 2 ^ 16 = subst (λ m. m < 2 ^ 16) number fits in
+    let read = subst (λ (w : Text). (IsNumeral 10 (without_leading_plus w) × (digits_value 10 (without_leading_plus w) < 2 ^ 16)) × (n ≡ digits_value 10 (without_leading_plus w))) (sym same) ((numeral, low), number) in
+    let got = signed_reads Bool (λ (w : Text) (r : Result ℕ Bool). ParsesUnsigned 16 10 w r) 16 0 1000 t (Some n) read (λ w x g. g) (omega arith) within in
+    let one : Some n ≡ Some got.0 = got.1 in
+    let is : n ≡ got.0 = cc in
+    subst (λ m. m ≤ 1000) (sym is) got.3
+
+range_of : (n : ℕ) (rows : List Row) → HasRounds rows → AreRounds n rows → n ≤ 1000
+range_of n rows has are =
+    let both : Some (without_minus has.text) ≡ Some are.text = sym has.read ∙ are.read in
+    let same : without_minus has.text ≡ are.text = cc in
+    small has.text are.text n same has.within are.numeral are.fits are.number
+
+by_command : (x : Command) (rows : List Row) → (name_of x ≡ codes "improve" → HasRounds rows) → HasArguments x rows → IsInRange x
+by_command command.Show rows has arguments = tt
+by_command command.Cost rows has arguments = tt
+by_command command.Sizes rows has arguments = tt
+by_command (command.Best nurse) rows has arguments = tt
+by_command (command.Improve n) rows has arguments = range_of n rows (has refl) arguments
+
+-- what words without a fault ask for is in range
+pub in_range : (words : List Text) (r : Request) → fault_of program words ≡ [] → IsAsked words r → IsInRange r.command
+in_range words r none asked =
+    let met = subst (λ (o : Option (Text × List Row)). IfSome o (λ (m : Text × List Row). m.0 ≡ codes "improve" → HasRounds m.1)) asked.command (meets_rounds words none) in
+    by_command r.command asked.rows met asked.arguments
