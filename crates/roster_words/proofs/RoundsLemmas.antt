@@ -1,8 +1,8 @@
 -- That the rounds of a command line without a fault are a number of their range: along clap's walk over the words each
 -- use of the argument keeps to its rule, and where there is none, the default does.
-use Rattle.std.proofs.Common.{arith, ◌≡◌, ◌<◌, ◌≤◌, ◌^◌, ◌∙◌, ◌+◌, ◌&&◌, ◌||◌, ℕ, zero, suc, get_or, Bool, cond, true, false, not, refl, sym, ap, ap₂, subst, List, [], ◌∷◌, ◌++◌, length, drop, Option, Some, None, is_some, codes, true≢false}
+use Rattle.std.proofs.Common.{arith, ◌≡◌, ◌<◌, ◌≤◌, ◌^◌, ◌∙◌, ◌+◌, ◌&&◌, ◌||◌, ℕ, zero, suc, get_or, Bool, cond, true, false, refl, sym, ap, ap₂, subst, List, [], ◌∷◌, ◌++◌, length, drop, Option, Some, None, is_some, codes, true≢false}
 use Rattle.std.specs.Prelude.{IfSome, Result, encode_utf8, find, min, option_map, option_and_then, pos, slice_get, ⊤}
-use Rattle.std.specs.List.{fold, list_any}
+use Rattle.std.specs.List.{fold}
 use Rattle.std.specs.Option.{option_map_or}
 use Rattle.std.specs.Str.{bytes_eq, chars}
 use Rattle.std.specs.Str.Parse.{IsNumeral, ParsesUnsigned, digits_value, without_leading_plus}
@@ -13,7 +13,7 @@ use Rattle.clap.specs.Matches.{count_text}
 use Rattle.clap.specs.Values.{IsSignedIn, read_as}
 use Rattle.clap.specs.ValueTests.{accepts}
 use Rattle.clap.proofs.ValueTestLemmas.{accepts-Accepts}
-use Rattle.clap.specs.Walk.{Held, Outcome, Row, Rule, Step, Text, Waiting, Walk, after_flag, after_step, answers_to, arg_by_id, arg_by_index, arg_by_long, arg_by_short, at_row, attached_value, bundle, bundle_met, bundle_step, counted, default_rows, done, finished, has_row, idle, long_met, long_or_other, more_values, new_count, next, nothing_held, one_of, option, option_met, option_word, plain, plain_word, positional, reacted, reading_by, refused, row_text, settled, settled_rows, short_met, short_or_plain, subcommand, subcommand_met, subcommand_or_other, takes_values, takes_several, is_pending, to_positional, positional_held, pushed, trailing, used, used_as, used_by_id, value, values_or_missing, waits, walk, walk_from, walked, walked_from, with_count, with_default, with_values, without, flag_met, count_of, action_of, rows_after, stop_after}
+use Rattle.clap.specs.Walk.{Held, Outcome, Row, Rule, Step, Text, Waiting, Walk, after_flag, after_step, answers_to, arg_by_id, arg_by_index, arg_by_long, arg_by_short, at_row, attached_value, bundle, bundle_met, bundle_step, counted, default_rows, done, has_row, idle, long_met, long_or_other, more_values, new_count, next, nothing_held, one_of, option, option_met, option_word, plain, plain_word, positional, reacted, reading_by, refused, row_text, settled, settled_rows, short_met, short_or_plain, subcommand, subcommand_met, subcommand_or_other, takes_values, takes_several, is_pending, to_positional, pushed, trailing, used, used_as, used_by_id, value, values_or_missing, waits, walk, walk_from, walked, walked_from, with_count, with_default, with_values, without, flag_met, count_of, action_of, rows_after, stop_after}
 use Rattle.clap.specs.Faults.{bundle_fault, bundle_step_fault, entered_fault, flag_word_fault, flags_fault, level_fault, long_fault, option_fault, other_fault, positional_fault, react_fault, repeat_fault, settle_fault, short_fault, step_fault, stray_fault, turn_fault, use_fault, values_fault, walk_fault}
 use Rattle.clap.specs.Facts.{parser_of_value}
 use Rattle.clap.specs.Simple.{Shape, argument_words, built, entered, help_shape, label_of, names_of, rows_at}
@@ -26,7 +26,7 @@ use Rattle.clap.specs.declared.parser.matches.ValueSource.{ValueSource}
 use Rattle.clap.specs.declared.parser.matches.ValueSource.TheVariants.{CommandLine, DefaultValue}
 use Rattle.clap.specs.Words.{fault_of, subcommand_of}
 use Rattle.clap.proofs.CallerReads.{signed_reads}
-use Rattle.roster_words.specs.CommandLine.{AreRounds, HasArguments, HasRounds, IsAsked, IsInRange, name_of, program, rounds_rule}
+use Rattle.roster_words.specs.CommandLine.{AreRounds, HasArguments, IsAsked, IsInRange, name_of, program, rounds_rule}
 use Rattle.roster_words.specs.declared.request.Command.{Command}
 use Rattle.roster_words.specs.declared.request.Command.TheVariants as command
 use Rattle.roster_words.specs.declared.request.Request.{Request}
@@ -298,7 +298,7 @@ module _ (s : Shape) (a : Rule) (only : Each (IsOnly a) s.rules) (passes : UsesP
       walk_keeps rest (walked s.rules [] w word) (turn_keeps w word kept both.0) both.1
 
   -- the rows at the end of the words, before the defaults
-  pub rows_keep : (words : List Text) → level_fault s [] nothing_held words false [] ≡ [] → Kept (settled c (walk c [] nothing_held words).held).rows
+  rows_keep : (words : List Text) → level_fault s [] nothing_held words false [] ≡ [] → Kept (settled c (walk c [] nothing_held words).held).rows
   rows_keep words none =
       let first = both_none (walk_fault s [] (walk_from nothing_held) words) _ none in
       let second = both_none (settle_fault c again (walk c [] nothing_held words).held) _ first.1 in
@@ -328,6 +328,12 @@ rounds_pass (v ∷ vs) rows kept none =
     let fresh = both_none (repeat_fault improve.args_override_self rounds.id rows) (values_fault rounds (v ∷ vs)) one.1 in
     let first = both_none (value_kinds rounds.ignore_case (parser_of_value rounds.parser) v) _ fresh.1 in
     own_values rounds CommandLine (v ∷ vs) (without rounds.id rows) first.0 (without_keeps (Keeps rounds) rounds.id rows kept)
+
+-- the text that clap has for the rounds, as it was given and as it is read, is a number from 0 to 1000
+record HasRounds (rows : List Row) : Type 0 where
+  pub text : Text
+  pub read : one_of (codes "rounds") rows ≡ Some (without_minus text)
+  pub within : IsSignedIn (pos 0) (pos 1000) text
 
 -- the row of a rule that has one
 record HasRow (a : Rule) (rows : List Row) : Type 0 where
@@ -434,7 +440,7 @@ entered_rounds (Some p) e =
     go (Some s) each e = each s refl p.1 e
 
 -- where words without a fault name `improve`, its rounds are a number of their range
-pub meets_rounds : (words : List Text) → fault_of program words ≡ []
+meets_rounds : (words : List Text) → fault_of program words ≡ []
     → IfSome (subcommand_of program words) (λ (met : Text × List Row). met.0 ≡ codes "improve" → HasRounds met.1)
 meets_rounds words none =
     let top = (built program).top in

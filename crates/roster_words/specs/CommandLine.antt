@@ -2,8 +2,7 @@
 use Rattle.std.specs.Prelude.{◌≡◌, ◌≢◌, ◌⊎◌, ◌<◌, ◌≤◌, ◌^◌, ℕ, pos, Bool, true, false, not, List, [], ◌∷◌, map, Option, Some, unwrap_or, codes, string_bytes}
 use Rattle.std.specs.List.{fold, list_any}
 use Rattle.std.specs.Str.Parse.{IsNumeral, digits_value, without_leading_plus}
-use Rattle.clap.specs.Lexer.{usize_max, without_minus}
-use Rattle.clap.specs.Values.{IsSignedIn}
+use Rattle.clap.specs.Lexer.{usize_max}
 use Rattle.clap.specs.Words.{App, Row, Rule, Shape, Text, all_of, fault_of, first_of, new_app, new_rule, one_of, subcommand_of, takes, with_rule, with_subcommand}
 use Rattle.clap.specs.declared.builder.action.ArgAction.TheVariants as action
 use Rattle.clap.specs.declared.builder.value_parser.ValueParser.TheVariants as parser
@@ -83,13 +82,7 @@ IsNameOf (first ∷ rest) name = (name ≡ first.name) ⊎ IsNameOf rest name
 abbrev pub files_in : List Row → List Text
 files_in rows = unwrap_or (all_of (codes "FILE") rows) []
 
--- the text that clap has for the rounds, as it was given and as it is read, is a number from 0 to 1000
-pub record HasRounds (rows : List Row) : Type 0 where
-  pub text : Text
-  pub read : one_of (codes "rounds") rows ≡ Some (without_minus text)
-  pub within : IsSignedIn (pos 0) (pos 1000) text
-
--- the number of the text that clap reads for the rounds: the text given, or else that of its rule's default
+-- they are the number, of 16 bits, of the text that clap reads for the rounds: the text given, or else its rule's default
 pub record AreRounds (rounds : ℕ) (rows : List Row) : Type 0 where
   pub text : Text
   pub read : one_of (codes "rounds") rows ≡ Some text

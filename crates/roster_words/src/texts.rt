@@ -122,7 +122,7 @@ What isn't promised: that these are the best rosters of all, settled or not,
 since two rows changed at once may still save something; how long the run takes.
 For its memory and the greatest number of steps for a nurse see 'roster sizes'.
 
-Example:
+Examples:
   roster improve examples/ward.txt > better.txt
   roster improve --rounds 5 examples/ward.txt > better.txt
 
