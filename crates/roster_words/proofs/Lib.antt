@@ -1,2 +1,3 @@
 pub mod CommandLineLemmas
 pub mod RoundsLemmas
+pub mod NurseLemmas

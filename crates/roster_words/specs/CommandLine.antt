@@ -1,5 +1,5 @@
 -- What the words of a command line ask for, by clap's reading of them.
-use Rattle.std.specs.Prelude.{◌≡◌, ◌≢◌, ◌⊎◌, ◌<◌, ◌≤◌, ◌^◌, ℕ, pos, Bool, true, false, not, List, [], ◌∷◌, map, Option, Some, unwrap_or, codes, string_bytes}
+use Rattle.std.specs.Prelude.{◌≡◌, ◌≢◌, ◌⊎◌, ◌<◌, ◌≤◌, ◌^◌, ℕ, pos, Bool, true, false, not, List, [], ◌∷◌, map, Option, Some, unwrap_or, codes, string_bytes, None, is_some}
 use Rattle.std.specs.List.{fold, list_any}
 use Rattle.std.specs.Str.Parse.{IsNumeral, digits_value, without_leading_plus}
 use Rattle.clap.specs.Lexer.{usize_max}
@@ -77,6 +77,11 @@ name_of (command.Improve rounds) = codes "improve"
 abbrev pub IsNameOf : List Shape → Text → Type 0
 IsNameOf [] name = ⊥
 IsNameOf (first ∷ rest) name = (name ≡ first.name) ⊎ IsNameOf rest name
+
+-- where a command was met that is for a nurse, its matches have the nurse's name
+abbrev pub HasNurse : Option (Text × List Row) → Type 0
+HasNurse None = Unit {0}
+HasNurse (Some met) = met.0 ≡ codes "best" → is_some (first_of (codes "nurse") met.1) ≡ true
 
 -- the files among the matches of a command
 abbrev pub files_in : List Row → List Text

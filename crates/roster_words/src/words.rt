@@ -1,8 +1,8 @@
 //! From words to a request.
 
-ghost use Rattle.std.specs.Prelude.{◌≡◌, ◌≢◌, [], Some, codes, IfOk, IfErr, OnOk, IsSomeAnd, map, string_bytes};
+ghost use Rattle.std.specs.Prelude.{◌≡◌, ◌≢◌, [], Some, codes, IfOk, IfErr, OnOk, IsSomeAnd, is_some, true, map, string_bytes};
 ghost use Rattle.clap.specs.Words.{fault_of, first_of, found_of, kind_of, rows_of, subcommand_rows_of};
-ghost use Rattle.roster_words.specs.CommandLine.{AreRounds, HasArguments, HasText, IsAsked, IsAskedIn, IsInRange, IsNameOf, Refuses, TellsKind, commands, files_in, name_of, program};
+ghost use Rattle.roster_words.specs.CommandLine.{AreRounds, HasArguments, HasText, IsAsked, IsAskedIn, IsInRange, IsNameOf, Refuses, TellsKind, commands, files_in, name_of, program, HasNurse};
 
 use crate::program::{FILES, NURSE, ROUNDS, program};
 use crate::request::{CliFault, Command, Request};
@@ -29,7 +29,8 @@ pub fn request_of<S: AsStr>(alloc: Global, words: &[S]) -> Result<Request, CliFa
 }
 
 fn request_in(alloc: Global, matches: &ArgMatches<'_>) -> Result<Request, CliFault>
-    requires { IsSomeAnd (subcommand_rows_of matches.now) (λ met. IsNameOf commands met.0) }
+    requires met { IsSomeAnd (subcommand_rows_of matches.now) (λ met. IsNameOf commands met.0) }
+    requires nurse { HasNurse (subcommand_rows_of matches.now) }
     ensures request { IfOk result (IsAskedIn (subcommand_rows_of matches.now)) }
     ensures memory { IfErr result (λ e. e ≡ CliFault.Memory) }
 {
@@ -44,7 +45,8 @@ fn request_in(alloc: Global, matches: &ArgMatches<'_>) -> Result<Request, CliFau
 
 /// The command of this name, with its own arguments.
 fn command_in(alloc: Global, name: &str, given: &ArgMatches<'_>) -> Result<Command, AllocError>
-    requires { IsNameOf commands name.now }
+    requires name { IsNameOf commands name.now }
+    requires nurse { name.now ≡ codes "best" → is_some (first_of (codes "nurse") (rows_of (found_of given.now))) ≡ true }
     ensures name { IfOk result (λ command. name_of command ≡ name.now) }
     ensures arguments { IfOk result (λ command. HasArguments command (rows_of (found_of given.now))) }
 {
@@ -62,13 +64,15 @@ fn command_in(alloc: Global, name: &str, given: &ArgMatches<'_>) -> Result<Comma
     }
 }
 
+/// The nurse's name, which `clap` asks for.
 fn nurse_of(alloc: Global, given: &ArgMatches<'_>) -> Result<String, AllocError>
+    requires { is_some (first_of (codes "nurse") (rows_of (found_of given.now))) ≡ true }
     ensures { IfOk result (λ nurse. first_of (codes "nurse") (rows_of (found_of given.now)) ≡ Some (string_bytes nurse)) }
 {
-    match given.get_str(NURSE) {
-        Some(nurse) => String::from_str(alloc, nurse),
-        None => Err(AllocError),
-    }
+    let Some(nurse) = given.get_str(NURSE) else {
+        unreachable!()
+    };
+    String::from_str(alloc, nurse)
 }
 
 fn rounds_of(given: &ArgMatches<'_>) -> Result<u16, AllocError>

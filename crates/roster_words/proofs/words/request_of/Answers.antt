@@ -2,9 +2,10 @@ use Rattle.std.proofs.Common.{◌≡◌, ◌∙◌, ap, map, refl, subst, sym, t
 use Rattle.std.specs.Prelude.{IsSomeAnd, OnOk}
 use Rattle.std.proofs.lemmas.Result.{IfOk-weaker}
 use Rattle.clap.specs.Words.{App, HasKind, fault_of, is_simple, is_simple_and_free, kind_of, subcommand_of, takes}
-use Rattle.roster_words.specs.CommandLine.{IsAskedIn, IsNameOf, commands, program}
+use Rattle.roster_words.specs.CommandLine.{IsAskedIn, IsNameOf, commands, program, HasNurse}
 use Rattle.roster_words.proofs.CommandLineLemmas.{meets_command, refuses}
 use Rattle.roster_words.proofs.RoundsLemmas.{in_range}
+use Rattle.roster_words.proofs.NurseLemmas.{meets_nurse}
 use Rattle.roster_words.proofs.words.request_of.Goals as goal
 
 simple : is_simple program ≡ true
@@ -17,8 +18,8 @@ OnOk-always : {X E : Type 0} (r : Result X E) (P : Type 0) → P → OnOk r P
 OnOk-always (Ok x) P p = p
 OnOk-always (Err e) P p = tt
 
-pub request_in-requires : goal.request_in-requires
-request_in-requires g c =
+pub request_in-requires-clause-met : goal.request_in-requires-clause-met
+request_in-requires-clause-met g c =
     let words = map g.S.AsStr.text c.args.words.now in
     let none = c.in-Ok.ensures.kinds (ap is_simple_and_free c.in_ok-program.ensures ∙ free) in
     let met = (c.in-Ok.ensures.matches (ap is_simple c.in_ok-program.ensures ∙ simple)).1 ∙ ap (λ (a : App). subcommand_of a words) c.in_ok-program.ensures in
@@ -32,6 +33,13 @@ returns-in-Ok-clause-range g c =
     IfOk-weaker c.request_in.result _ _
     (λ r asked. in_range words r (ap (λ (a : App). fault_of a words) (sym c.in_ok-program.ensures) ∙ none) (subst (λ rows. IsAskedIn rows r) met asked))
     c.request_in.ensures.request
+
+pub request_in-requires-clause-nurse : goal.request_in-requires-clause-nurse
+request_in-requires-clause-nurse g c =
+    let words = map g.S.AsStr.text c.args.words.now in
+    let none = c.in-Ok.ensures.kinds (ap is_simple_and_free c.in_ok-program.ensures ∙ free) in
+    let met = (c.in-Ok.ensures.matches (ap is_simple c.in_ok-program.ensures ∙ simple)).1 ∙ ap (λ (a : App). subcommand_of a words) c.in_ok-program.ensures in
+    subst HasNurse (sym met) (meets_nurse words (ap (λ (a : App). fault_of a words) (sym c.in_ok-program.ensures) ∙ none))
 
 pub returns-in-Ok-clause-faultless : goal.returns-in-Ok-clause-faultless
 returns-in-Ok-clause-faultless g c =
