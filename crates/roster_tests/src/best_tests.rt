@@ -13,7 +13,10 @@ use std::alloc::Global;
 use std::test::Fail;
 
 /// The instance mini with other lines, held, and what a search in it writes into and counts on.
-fn ready(alloc: Global, changes: &[(&str, &str)]) -> Result<(Held, Workspace, Meter), Fail> {
+pub(crate) fn ready(
+    alloc: Global,
+    changes: &[(&str, &str)],
+) -> Result<(Held, Workspace, Meter), Fail> {
     let text = changed(alloc, changes)?;
     let (mut case, roster) = read(alloc, text.as_bytes())?;
     let meter = Meter::new(&mut case);
@@ -28,7 +31,7 @@ fn ready(alloc: Global, changes: &[(&str, &str)]) -> Result<(Held, Workspace, Me
 
 /// The most steps that the search for a nurse takes.
 #[tactic(auto, unfolding(roster_laws::specs::Greatest::extension_count))]
-fn most_steps(case: &Case, nurse: usize) -> u64
+pub(crate) fn most_steps(case: &Case, nurse: usize) -> u64
     requires { nurse < nurse_count case.now }
     ensures { result ≡ extension_count case.now nurse }
 {

@@ -10,6 +10,8 @@ mod held_tests;
 #[cfg(test)]
 mod library_tests;
 #[cfg(test)]
+mod rounds_tests;
+#[cfg(test)]
 mod start_tests;
 #[cfg(test)]
 mod state_tests;
