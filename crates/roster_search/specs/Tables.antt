@@ -1,6 +1,6 @@
 -- The tables of a day: at the number of each state its label, what the best row from there on costs, and its pointer, the place
 -- of the offer with which that row begins (our own).
-use Rattle.std.specs.Prelude.{◌≡◌, ◌+◌, ◌*◌, ◌<◌, ◌≤◌, ℕ, true, List, [], ◌∷◌, ◌++◌, length, min, Option, Some, None, slice_index_or}
+use Rattle.std.specs.Prelude.{◌≡◌, ◌+◌, ◌*◌, ◌<◌, ◌≤◌, ℕ, true, List, [], ◌∷◌, ◌++◌, length, min, nat_lt, if◌then◌else◌, Option, Some, None, slice_index_or}
 use Rattle.roster_rules.specs.declared.Choice.{Choice}
 use Rattle.roster_rules.specs.Limits.{most_shifts, most_skills, most_small}
 use Rattle.roster_rules.specs.Meaning.{Meaning, day_count, nurse_count}
@@ -100,11 +100,6 @@ ArePointers c at offers later first pointers = PointersBelow c at offers later f
 
 -- ---- a block: states that differ in their assignments alone
 
--- the label by a step at a price, none where the step is forbidden
-abbrev pub label_at : Sizes → ℕ → List ℕ → Option (Summary × ℕ) → ℕ
-label_at z price later None = no_row
-label_at z price later (Some step) = min (price + step.1 + slice_index_or later (code_of z step.0) 0) no_row
-
 -- for each number of assignments from k to m, what stands at its places in two tables is right
 abbrev pub Cells : (ℕ → ℕ → ℕ → Type 0) → (code first k m : ℕ) → List ℕ → List ℕ → Type 0
 Cells right code first k m labels pointers = (a : ℕ) → k ≤ a → a < m → right a (slice_index_or labels (code + a) 0) (slice_index_or pointers (first + a) 0)
@@ -113,9 +108,11 @@ Cells right code first k m labels pointers = (a : ℕ) → k ≤ a → a < m →
 abbrev pub LeastFrom : Meaning → SearchDay → BestOnward → Summary → List Offer → ℕ → ℕ → ℕ → Type 0
 LeastFrom c at later s offers a label pointer = AreOfLeast (best_by c at later (with_assignments s a)) offers label pointer
 
--- those of no offers
-abbrev pub NoLeast : ℕ → ℕ → ℕ → Type 0
-NoLeast a label pointer = (label ≡ no_row) × (pointer ≡ 0)
+-- the places from one to another by a number for each: the label is the smaller of the two, and the pointer is set exactly where
+-- the number is strictly smaller
+pub record AreLowered (from end : ℕ) (others : ℕ → ℕ) (number : ℕ) (labels_old pointers_old labels pointers : List ℕ) : Type 0 where
+  pub label : (a : ℕ) → from ≤ a → a < end → slice_index_or labels a 0 ≡ min (slice_index_or labels_old a 0) (others a)
+  pub pointer : (a : ℕ) → from ≤ a → a < end → slice_index_or pointers a 0 ≡ (if nat_lt (others a) (slice_index_or labels_old a 0) then number else slice_index_or pointers_old a 0)
 
 -- outside these places nothing has changed
 pub record SameOutside (first end : ℕ) (old new : List ℕ) : Type 0 where

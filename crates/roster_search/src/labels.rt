@@ -1,28 +1,23 @@
 //! The labels and pointers of a day: for each state what the best row from there on costs, and with which offer it begins.
 
-ghost use Rattle.std.specs.Prelude.{◌≡◌, ◌+◌, ◌*◌, ◌<◌, ◌≤◌, true, List, [], All, IfSome, length, slice_index_or, take};
+ghost use Rattle.std.specs.Prelude.{◌≡◌, ◌+◌, ◌-◌, ◌*◌, ◌<◌, ◌≤◌, true, ℕ, List, [], All, length, slice_index_or, take};
 ghost use Rattle.roster_rules.specs.Meaning.{day_count, nurse_count};
+ghost use Rattle.roster_rules.specs.Weights.{assignment_weight};
 ghost use Rattle.roster_state.specs.Codes.{code_of, fits_sizes, product, sizes_of};
-ghost use Rattle.roster_state.specs.DayStep.{step_at};
-ghost use Rattle.roster_search.specs.Tables.{AreLabels, ArePointers, BestOnward, Cells, IsDayOf, IsOfferOf, LeastFrom, NoLeast, SameOutside, best_at_end, best_on, label_at, most_price, no_row};
+ghost use Rattle.roster_state.specs.Room.{most_of_step};
+ghost use Rattle.roster_search.specs.Blocks.{place_behind, place_cost};
+ghost use Rattle.roster_search.specs.Tables.{AreLabels, AreLowered, ArePointers, BestOnward, Cells, IsDayOf, IsOfferOf, LeastFrom, SameOutside, best_at_end, best_on, most_price, no_row};
 
 use crate::day::SearchDay;
 use crate::offer::Offer;
 use crate::pointers::Pointers;
+use crate::stub::{Block, BlockStep, extend_block, lower_all};
 use roster_rules::Case;
-use roster_state::{DayStep, Meter, Ranges, State, end_cost};
+use roster_rules::weights::ASSIGNMENT;
+use roster_state::{Meter, Ranges, State, end_cost};
 
 /// The label of a state from which no row goes on. Each row costs less.
 pub const NO_ROW: u32 = 268_435_456;
-
-/// The states that differ in their assignments alone: that without assignments, its number, and the first place of the day's
-/// pointers. The others stand behind it.
-#[derive(Clone, Copy)]
-struct Block {
-    state: State,
-    code: u32,
-    first: u32,
-}
 
 /// The labels behind the last day: what is missing in the end.
 pub fn label_end(case: &Case, nurse: usize, ranges: &Ranges, labels: &mut [u32])
@@ -39,6 +34,9 @@ pub fn label_end(case: &Case, nurse: usize, ranges: &Ranges, labels: &mut [u32])
     }
 }
 
+/// The greatest number of places of a block.
+const MOST_PLACES: usize = 1000;
+
 /// The labels and the pointers of all states on a day, by its offers and by the labels of the day behind it. The pointers stand
 /// from the first place on. For each state and each offer the meter counts one.
 pub fn label_day(
@@ -54,7 +52,7 @@ pub fn label_day(
     ghost rest: { BestOnward }
     requires day { IsDayOf case.now at.now }
     requires offers { All (IsOfferOf case.now) offers.now }
-    requires few { length offers.now ≤ 256 }
+    requires few { length offers.now ≤ 16 }
     requires later { AreLabels case.now at.now.nurse (at.now.day + 1) rest later.now }
     requires all { product at.now.ranges ≤ length later.now }
     requires labels_room { product at.now.ranges ≤ length labels.old }
@@ -66,137 +64,214 @@ pub fn label_day(
     ensures lengths { (length labels.new ≡ length labels.old) × (length pointers.new ≡ length pointers.old) }
     ensures counted { meter.new ≡ meter.old + product at.now.ranges * length offers.now }
 {
+    let mut numbers = [0; MOST_PLACES];
     for number in 0..at.ranges.blocks() {
-        let block = Block {
-            state: State::of_block(&at.ranges, number),
-            code: number * at.ranges.assignments(),
+        let block = Block::numbered(&at.ranges, number);
+        label_block(
+            case,
+            at,
+            block,
+            offers,
+            later,
+            labels,
+            pointers,
             first,
-        };
-        label_block(case, at, &block, offers, later, labels, pointers, meter);
-    }
-}
-
-/// The labels and the pointers of a block, by all offers of the day. For each state and each offer the meter counts one.
-#[tactic(auto, using(crate::proofs::BlockLaws::least_from_none))]
-fn label_block(
-    case: &Case,
-    at: &SearchDay,
-    block: &Block,
-    offers: &[Offer],
-    later: &[u32],
-    labels: &mut [u32],
-    pointers: &mut Pointers,
-    meter: &mut Meter,
-)
-    ghost rest: { BestOnward }
-    requires day { IsDayOf case.now at.now }
-    requires fits { fits_sizes (sizes_of case.now at.now.nurse) block.now.state ≡ true }
-    requires offers { All (IsOfferOf case.now) offers.now }
-    requires few { length offers.now ≤ 256 }
-    requires later { AreLabels case.now at.now.nurse (at.now.day + 1) rest later.now }
-    requires all { product at.now.ranges ≤ length later.now }
-    requires labels_room { block.now.code + at.now.ranges.assignments ≤ length labels.old }
-    requires pointers_room { block.now.first + block.now.code + at.now.ranges.assignments ≤ length pointers.old }
-    requires room { meter.old + length offers.now * at.now.ranges.assignments ≤ 18446744073709551615 }
-    ensures least { Cells (LeastFrom case.now at.now rest block.now.state offers.now) block.now.code (block.now.first + block.now.code) 0 at.now.ranges.assignments labels.new pointers.new }
-    ensures labels_others { SameOutside block.now.code (block.now.code + at.now.ranges.assignments) labels.old labels.new }
-    ensures pointers_others { SameOutside (block.now.first + block.now.code) (block.now.first + block.now.code + at.now.ranges.assignments) pointers.old pointers.new }
-    ensures lengths { (length labels.new ≡ length labels.old) × (length pointers.new ≡ length pointers.old) }
-    ensures counted { meter.new ≡ meter.old + length offers.now * at.now.ranges.assignments }
-{
-    clear_block(at, block, labels, pointers);
-    for place in 0..offers.len() {
-        lower_by(
-            case, at, block, offers, place, later, labels, pointers, meter,
+            &mut numbers,
+            meter,
         );
     }
 }
 
-/// The labels and the pointers of a block by no offer.
-fn clear_block(at: &SearchDay, block: &Block, labels: &mut [u32], pointers: &mut Pointers)
-    requires labels_room { block.now.code + at.now.ranges.assignments ≤ length labels.old }
-    requires pointers_room { block.now.first + block.now.code + at.now.ranges.assignments ≤ length pointers.old }
-    ensures cleared { Cells NoLeast block.now.code (block.now.first + block.now.code) 0 at.now.ranges.assignments labels.new pointers.new }
-    ensures labels_others { SameOutside block.now.code (block.now.code + at.now.ranges.assignments) labels.old labels.new }
-    ensures pointers_others { SameOutside (block.now.first + block.now.code) (block.now.first + block.now.code + at.now.ranges.assignments) pointers.old pointers.new }
-    ensures lengths { (length labels.new ≡ length labels.old) × (length pointers.new ≡ length pointers.old) }
-{
-    let code = block.code as usize;
-    let first = block.first as usize + code;
-    for assignments in 0..at.ranges.assignments() {
-        labels[code + assignments as usize] = NO_ROW;
-        pointers.set(first + assignments as usize, 0);
-    }
-}
-
-/// Lowers the labels of a block to those by one offer more, and sets the pointers of those that are lower: of equally good offers the
-/// first stays. For each state the meter counts one.
-fn lower_by(
+/// The labels and the pointers of a block, by all offers of the day. The pointers are set in a list of numbers first, and all of
+/// them at once then. For each state and each offer the meter counts one.
+fn label_block(
     case: &Case,
     at: &SearchDay,
-    block: &Block,
+    block: Block,
     offers: &[Offer],
-    place: usize,
     later: &[u32],
     labels: &mut [u32],
     pointers: &mut Pointers,
+    first: u32,
+    numbers: &mut [u8],
     meter: &mut Meter,
 )
     ghost rest: { BestOnward }
     requires day { IsDayOf case.now at.now }
-    requires fits { fits_sizes (sizes_of case.now at.now.nurse) block.now.state ≡ true }
+    requires fits { fits_sizes at.now.ranges block ≡ true }
     requires offers { All (IsOfferOf case.now) offers.now }
-    requires few { length offers.now ≤ 256 }
-    requires place { place < length offers.now }
+    requires few { length offers.now ≤ 16 }
     requires later { AreLabels case.now at.now.nurse (at.now.day + 1) rest later.now }
     requires all { product at.now.ranges ≤ length later.now }
-    requires labels_room { block.now.code + at.now.ranges.assignments ≤ length labels.old }
-    requires pointers_room { block.now.first + block.now.code + at.now.ranges.assignments ≤ length pointers.old }
-    requires least { Cells (LeastFrom case.now at.now rest block.now.state (take place offers.now)) block.now.code (block.now.first + block.now.code) 0 at.now.ranges.assignments labels.old pointers.old }
-    requires room { meter.old + at.now.ranges.assignments ≤ 18446744073709551615 }
-    ensures least { Cells (LeastFrom case.now at.now rest block.now.state (take (place + 1) offers.now)) block.now.code (block.now.first + block.now.code) 0 at.now.ranges.assignments labels.new pointers.new }
-    ensures labels_others { SameOutside block.now.code (block.now.code + at.now.ranges.assignments) labels.old labels.new }
-    ensures pointers_others { SameOutside (block.now.first + block.now.code) (block.now.first + block.now.code + at.now.ranges.assignments) pointers.old pointers.new }
+    requires labels_room { product at.now.ranges ≤ length labels.old }
+    requires pointers_room { first + product at.now.ranges ≤ length pointers.old }
+    requires numbers_room { 1000 ≤ length numbers.old }
+    requires room { meter.old + length offers.now * at.now.ranges.assignments ≤ 18446744073709551615 }
+    ensures least { Cells (LeastFrom case.now at.now rest block offers.now) (code_of at.now.ranges block) (first + code_of at.now.ranges block) 0 at.now.ranges.assignments labels.new pointers.new }
+    ensures labels_others { SameOutside (code_of at.now.ranges block) (code_of at.now.ranges block + at.now.ranges.assignments) labels.old labels.new }
+    ensures pointers_others { SameOutside (first + code_of at.now.ranges block) (first + code_of at.now.ranges block + at.now.ranges.assignments) pointers.old pointers.new }
     ensures lengths { (length labels.new ≡ length labels.old) × (length pointers.new ≡ length pointers.old) }
-    ensures counted { meter.new ≡ meter.old + at.now.ranges.assignments }
+    ensures numbers { length numbers.new ≡ length numbers.old }
+    ensures counted { meter.new ≡ meter.old + length offers.now * at.now.ranges.assignments }
 {
-    let ranges = at.ranges;
-    let code = block.code as usize;
-    let first = block.first as usize + code;
-    let offer = offers[place];
-    let step = DayStep::of(case, at.nurse, at.day, block.state, offer.choice.shift());
-    for assignments in 0..ranges.assignments() as u16 {
-        let label = label_by(&step, &ranges, offer.price, assignments, later, meter);
-        if label < labels[code + assignments as usize] {
-            labels[code + assignments as usize] = label;
-            pointers.set(first + assignments as usize, place as u8);
-        }
+    let places = block.places(&at.ranges) as usize;
+    let code = block.first(&at.ranges) as usize;
+    let numbers = &mut numbers[..places];
+    label_places(
+        case,
+        at,
+        block,
+        offers,
+        later,
+        &mut labels[code..code + places],
+        numbers,
+        meter,
+    );
+    pointers.set_run(first as usize + code, numbers);
+}
+
+/// The labels of the places of a block, and for each place the number of the offer with which the best row begins, by all offers of
+/// the day.
+fn label_places(
+    case: &Case,
+    at: &SearchDay,
+    block: Block,
+    offers: &[Offer],
+    later: &[u32],
+    labels: &mut [u32],
+    numbers: &mut [u8],
+    meter: &mut Meter,
+)
+    ghost rest: { BestOnward }
+    requires day { IsDayOf case.now at.now }
+    requires fits { fits_sizes at.now.ranges block ≡ true }
+    requires offers { All (IsOfferOf case.now) offers.now }
+    requires few { length offers.now ≤ 16 }
+    requires later { AreLabels case.now at.now.nurse (at.now.day + 1) rest later.now }
+    requires all { product at.now.ranges ≤ length later.now }
+    requires labels_length { length labels.old ≡ at.now.ranges.assignments }
+    requires numbers_length { length numbers.old ≡ at.now.ranges.assignments }
+    requires room { meter.old + length offers.now * at.now.ranges.assignments ≤ 18446744073709551615 }
+    ensures least { Cells (LeastFrom case.now at.now rest block offers.now) 0 0 0 at.now.ranges.assignments labels.new numbers.new }
+    ensures small { All (λ number. number < 16) numbers.new }
+    ensures lengths { (length labels.new ≡ length labels.old) × (length numbers.new ≡ length numbers.old) }
+    ensures counted { meter.new ≡ meter.old + length offers.now * at.now.ranges.assignments }
+{
+    labels.fill(NO_ROW);
+    numbers.fill(0);
+    for place in 0..offers.len() {
+        lower_by(
+            case, at, block, offers, place, later, labels, numbers, meter,
+        );
     }
 }
 
-/// The label of the state with so many assignments by one offer: its price, what the day costs with it, and the label of the state
-/// behind it. The meter counts one.
-fn label_by(
-    step: &DayStep,
-    ranges: &Ranges,
-    price: u32,
-    assignments: u16,
+/// Lowers the labels of the places of a block to those by one offer more, and sets the numbers of those that are lower: of equally
+/// good offers the first stays. For each state the meter counts one.
+fn lower_by(
+    case: &Case,
+    at: &SearchDay,
+    block: Block,
+    offers: &[Offer],
+    place: usize,
     later: &[u32],
+    labels: &mut [u32],
+    numbers: &mut [u8],
     meter: &mut Meter,
-) -> u32
-    requires fits { IfSome (step_at step.now assignments) (λ next. fits_sizes ranges.now next.0 ≡ true) }
-    requires price { price ≤ most_price }
-    requires later { IfSome (step_at step.now assignments) (λ next. slice_index_or later.now (code_of ranges.now next.0) 0 ≤ no_row) }
-    requires all { product ranges.now ≤ length later.now }
-    requires room { meter.old < 18446744073709551615 }
-    ensures label { result ≡ label_at ranges.now price later.now (step_at step.now assignments) }
-    ensures counted { meter.new ≡ meter.old + 1 }
+)
+    ghost rest: { BestOnward }
+    requires day { IsDayOf case.now at.now }
+    requires fits { fits_sizes at.now.ranges block ≡ true }
+    requires offers { All (IsOfferOf case.now) offers.now }
+    requires few { length offers.now ≤ 16 }
+    requires place { place < length offers.now }
+    requires later { AreLabels case.now at.now.nurse (at.now.day + 1) rest later.now }
+    requires all { product at.now.ranges ≤ length later.now }
+    requires labels_length { length labels.old ≡ at.now.ranges.assignments }
+    requires numbers_length { length numbers.old ≡ at.now.ranges.assignments }
+    requires least { Cells (LeastFrom case.now at.now rest block (take place offers.now)) 0 0 0 at.now.ranges.assignments labels.old numbers.old }
+    requires small { All (λ number. number < 16) numbers.old }
+    requires room { meter.old + at.now.ranges.assignments ≤ 18446744073709551615 }
+    ensures least { Cells (LeastFrom case.now at.now rest block (take (place + 1) offers.now)) 0 0 0 at.now.ranges.assignments labels.new numbers.new }
+    ensures small { All (λ number. number < 16) numbers.new }
+    ensures lengths { (length labels.new ≡ length labels.old) × (length numbers.new ≡ length numbers.old) }
+    ensures counted { meter.new ≡ meter.old + at.now.ranges.assignments }
 {
-    match step.extend(assignments, meter) {
-        Some((next, cost)) => {
-            let behind = later[next.code(ranges) as usize];
-            (price + cost + behind).min(NO_ROW)
-        }
-        None => NO_ROW,
+    let offer = offers[place];
+    let shift = offer.choice.shift();
+    if let Some(step) = extend_block(case, at.nurse, at.day, block, shift, meter) {
+        let first = step.next.first(&at.ranges) as usize;
+        let behind = &later[first..first + labels.len()];
+        lower_places(labels, numbers, behind, &step, offer.price, place as u8);
     }
+}
+
+/// Lowers the labels of the places of a block by a step at a price, where the labels behind are those of the next block.
+fn lower_places(
+    labels: &mut [u32],
+    numbers: &mut [u8],
+    behind: &[u32],
+    step: &BlockStep,
+    price: u32,
+    number: u8,
+)
+    requires some { 0 < length labels.old }
+    requires numbers { length numbers.old ≡ length labels.old }
+    requires behind { length behind.now ≡ length labels.old }
+    requires low { (a : ℕ) → a < length behind.now → slice_index_or behind.now a 0 ≤ no_row }
+    requires price { price ≤ most_price }
+    requires cost { step.now.cost + assignment_weight ≤ most_of_step }
+    ensures lowered { AreLowered 0 (length labels.old) (λ a. price + place_cost step.now a + slice_index_or behind.now (place_behind (length labels.old) step.now.moves a) 0) number labels.old numbers.old labels.new numbers.new }
+    ensures lengths { (length labels.new ≡ length labels.old) × (length numbers.new ≡ length numbers.old) }
+{
+    let last = labels.len() - 1;
+    let dearer = last.min(step.dearer_from as usize);
+    let moved = step.moves as usize;
+    let points = price + step.cost;
+    let at_last = points + ASSIGNMENT * (step.dearer_from as usize <= last) as u32;
+    lower_stretch(labels, numbers, 0, dearer, behind, moved, points, number);
+    let dearer_points = points + ASSIGNMENT;
+    lower_stretch(
+        labels,
+        numbers,
+        dearer,
+        last,
+        behind,
+        moved,
+        dearer_points,
+        number,
+    );
+    lower_stretch(labels, numbers, last, last + 1, behind, 0, at_last, number);
+}
+
+/// Lowers the labels of the places from one up to another, by the labels behind, so many places further, at some points.
+fn lower_stretch(
+    labels: &mut [u32],
+    numbers: &mut [u8],
+    from: usize,
+    end: usize,
+    behind: &[u32],
+    moved: usize,
+    points: u32,
+    number: u8,
+)
+    requires order { from ≤ end }
+    requires room { end ≤ length labels.old }
+    requires numbers { length numbers.old ≡ length labels.old }
+    requires behind { end + moved ≤ length behind.now }
+    requires low { (a : ℕ) → a < length behind.now → slice_index_or behind.now a 0 ≤ no_row }
+    requires points { points + no_row ≤ 4294967295 }
+    ensures lowered { AreLowered from end (λ a. points + slice_index_or behind.now (a + moved) 0) number labels.old numbers.old labels.new numbers.new }
+    ensures labels_others { SameOutside from end labels.old labels.new }
+    ensures numbers_others { SameOutside from end numbers.old numbers.new }
+    ensures lengths { (length labels.new ≡ length labels.old) × (length numbers.new ≡ length numbers.old) }
+{
+    let others = &behind[from + moved..end + moved];
+    lower_all(
+        &mut labels[from..end],
+        &mut numbers[from..end],
+        others,
+        points,
+        number,
+    );
 }
