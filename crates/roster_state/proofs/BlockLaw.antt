@@ -12,6 +12,7 @@ use Rattle.roster_state.specs.Blocks.{place_behind, place_step}
 use Rattle.roster_state.specs.Codes.{fits_sizes, sizes_of}
 use Rattle.roster_state.specs.Room.{most_of_step}
 use Rattle.roster_state.specs.Step.{cost_apart, next_of, step_cost, step_of, with_assignments}
+use Rattle.roster_state.proofs.CodeLemmas.{place-fits}
 use Rattle.roster_state.proofs.RangeLemmas.{next_fits}
 use Rattle.roster_state.proofs.StepBounds.{runs_more_within, shifts_more_within, split_more_within, weekend_more_within}
 
@@ -59,8 +60,8 @@ module _ (c : Meaning) (n day : ℕ) (s : Summary) where
   behind_at (Some t) a inside = omega arith
 
   more_at : (shift : Option Shift) (a : ℕ) → a < places → (if nat_le (dearer shift) a then assignment_weight else 0) ≡ total_more shift a
-  more_at None a inside = ?
-  more_at (Some t) a inside = ?
+  more_at None a inside = grind (arith, inside)
+  more_at (Some t) a inside = refl
 
   -- the fields of a block's step
   module _ (shift : Option Shift) (x : Summary) (m : Bool) (k d : ℕ) (next : x ≡ with_assignments (next_of c n day s shift) 0) (moves : m ≡ is_some shift) (cost : k ≡ cost_apart c n day s shift) (from : d ≡ dearer shift) where
@@ -77,4 +78,4 @@ module _ (c : Meaning) (n day : ℕ) (s : Summary) where
     places_step allowed a inside = ap Some (place a inside) ∙ (λ i. if sym allowed i then None else Some (next_of c n day (with_assignments s a) shift, step_cost c n day (with_assignments s a) shift))
 
     pub block_fits : IfSome shift (λ u. u.0 < shift_count c) → fits_sizes (sizes_of c n) x ≡ true
-    block_fits known = ?
+    block_fits known = subst (λ (y : Summary). fits_sizes (sizes_of c n) y ≡ true) (sym next) (place-fits (sizes_of c n) (next_of c n day s shift) 0 (omega arith) (next_fits c n day s shift known))

@@ -294,6 +294,18 @@ module _ (z now : Sizes) (block : ℕ) (sizes : z ≡ now) (keep : KeepLimits z)
 
 -- ---- the places of a block
 
+-- a state fits with any number of assignments that is one of its values
+pub place-fits : (z : Sizes) (s : Summary) (a : ℕ) → a < z.assignments → fits_sizes z s ≡ true → fits_sizes z (with_assignments s a) ≡ true
+place-fits z s a inside fit =
+    let f = fits-all z s fit in
+    all-fit z (with_assignments s a) (record {
+      last = f.last;
+      run = f.run;
+      shift_run = f.shift_run;
+      assignments = inside;
+      weekends = f.weekends;
+    })
+
 module _ (z : Sizes) (s : Summary) (first : s.assignments ≡ 0) where
   pub place-code : (a : ℕ) → code_of z (with_assignments s a) ≡ code_of z s + a
   unfolding code_of
@@ -301,13 +313,6 @@ module _ (z : Sizes) (s : Summary) (first : s.assignments ≡ 0) where
 
   pub places-within : fits_sizes z s ≡ true → code_of z s + z.assignments ≤ product z
   places-within fit =
-      let f = fits-all z s fit in
+      let some = (fits-all z s fit).assignments in
       let last = z.assignments - 1 in
-      let last-fits : Fits z (with_assignments s last) = record {
-        last = f.last;
-        run = f.run;
-        shift_run = f.shift_run;
-        assignments = omega (arith, f.assignments);
-        weekends = f.weekends;
-      } in
-      omega (arith, f.assignments, place-code last, code-within z (with_assignments s last) last-fits)
+      omega (arith, some, place-code last, numbered-within z (with_assignments s last) (place-fits z s last (omega (arith, some)) fit))
