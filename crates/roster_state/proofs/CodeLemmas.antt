@@ -8,6 +8,7 @@ use Rattle.roster_rules.specs.Prefix.{Summary}
 use Rattle.roster_rules.specs.Limits.{most_states}
 use Rattle.roster_rules.specs.Sizes.{state_count}
 use Rattle.roster_state.specs.Codes.{KeepLimits, Sizes, blocks, code_of, fits_sizes, product, shift_digit, shift_numbered, sizes_of, state_at, state_numbered}
+use Rattle.roster_state.specs.Step.{with_assignments}
 
 -- ---- sizes
 
@@ -285,3 +286,33 @@ module _ (z now : Sizes) (block : ℕ) (sizes : z ≡ now) (keep : KeepLimits z)
       block-state =
           subst (λ y. state_at now (block * y.assignments + a) ≡ Some (of_block a)) sizes
           (sym (read-state z now (block * z.assignments + a) last sizes read_last keep (in-block a inside)) ∙ ap Some read-is_block)
+
+      pub block-code : code_of now (of_block a) ≡ block * now.assignments + a
+      block-code =
+          subst (λ y. code_of now (of_block a) ≡ block * y.assignments + a) sizes
+          (subst (λ s. code_of now s ≡ block * z.assignments + a) read-is_block (read-back z now (block * z.assignments + a) last sizes read_last))
+
+-- ---- the places of a block
+
+-- a state fits with any number of assignments that is one of its values
+pub place-fits : (z : Sizes) (s : Summary) (a : ℕ) → a < z.assignments → fits_sizes z s ≡ true → fits_sizes z (with_assignments s a) ≡ true
+place-fits z s a inside fit =
+    let f = fits-all z s fit in
+    all-fit z (with_assignments s a) (record {
+      last = f.last;
+      run = f.run;
+      shift_run = f.shift_run;
+      assignments = inside;
+      weekends = f.weekends;
+    })
+
+module _ (z : Sizes) (s : Summary) (first : s.assignments ≡ 0) where
+  pub place-code : (a : ℕ) → code_of z (with_assignments s a) ≡ code_of z s + a
+  unfolding code_of
+  place-code a = omega (arith, first)
+
+  pub places-within : fits_sizes z s ≡ true → code_of z s + z.assignments ≤ product z
+  places-within fit =
+      let some = (fits-all z s fit).assignments in
+      let last = z.assignments - 1 in
+      omega (arith, some, place-code last, numbered-within z (with_assignments s last) (place-fits z s last (omega (arith, some)) fit))

@@ -3,6 +3,7 @@ pub mod ShiftLaw
 pub mod RowLemmas
 pub mod OpenRuns
 pub mod SumLaw
+pub mod BlockLaw
 pub mod DayStepLaw
 pub mod StartLaw
 pub mod StepBounds

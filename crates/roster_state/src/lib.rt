@@ -1,6 +1,7 @@
 //! The state of one nurse, from day to day: what the search for a row keeps of the days before.
 #![tactic(auto)]
 
+mod block;
 mod day_step;
 mod meter;
 mod ranges;
@@ -8,6 +9,7 @@ mod row;
 mod state;
 mod step;
 
+pub use block::{Block, BlockStep, extend_block};
 pub use day_step::DayStep;
 pub use meter::Meter;
 pub use ranges::Ranges;

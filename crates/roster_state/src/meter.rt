@@ -1,6 +1,6 @@
 //! How many extensions a search has made.
 
-ghost use Rattle.std.specs.Prelude.{◌≡◌, ◌+◌, ◌<◌};
+ghost use Rattle.std.specs.Prelude.{◌≡◌, ◌+◌, ◌<◌, ◌≤◌};
 
 use roster_rules::Case;
 use std::marker::Model;
@@ -57,5 +57,13 @@ impl Meter {
         ensures { self.new ≡ self.old + 1 }
     {
         self.count += 1;
+    }
+
+    /// Counts so many extensions.
+    pub(crate) fn add(&mut self, more: u64)
+        requires { self.old + more ≤ 18446744073709551615 }
+        ensures { self.new ≡ self.old + more }
+    {
+        self.count += more;
     }
 }

@@ -111,7 +111,7 @@ fn shift_digit(last: Option<Shift>) -> u32
     }
 }
 
-fn shift_numbered(number: u32) -> Option<Shift>
+pub(crate) fn shift_numbered(number: u32) -> Option<Shift>
     requires { number ≤ 256 }
     ensures { result ≡ shift_numbered number }
 {

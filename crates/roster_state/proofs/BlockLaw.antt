@@ -1,0 +1,81 @@
+-- What a day does to the places of a block is what it does to their states.
+use Rattle.std.proofs.Common.{◌≡◌, ◌∙◌, ap, ap₂, arith, refl, subst, sym, ℕ, ◌+◌, ◌-◌, ◌*◌, ◌<◌, ◌≤◌, Bool, true, false, min, nat_le, lt-ltb, if◌then◌else◌, Option, Some, None, is_some, IfSome, option_map}
+use Rattle.roster_rules.specs.declared.Shift.{Shift}
+use Rattle.roster_rules.specs.Counting.{one_if}
+use Rattle.roster_rules.specs.Meaning.{Meaning, contract_of, forbids, shift_count}
+use Rattle.roster_rules.specs.Prefix.{Summary}
+use Rattle.roster_rules.specs.Sizes.{cap}
+use Rattle.roster_rules.specs.Small.{HasSmallNumbers}
+use Rattle.roster_rules.specs.Weights.{assignment_weight}
+use Rattle.roster_state.specs.declared.block.BlockStep.{BlockStep}
+use Rattle.roster_state.specs.Blocks.{place_behind, place_step}
+use Rattle.roster_state.specs.Codes.{fits_sizes, sizes_of}
+use Rattle.roster_state.specs.Room.{most_of_step}
+use Rattle.roster_state.specs.Step.{cost_apart, next_of, step_cost, step_of, with_assignments}
+use Rattle.roster_state.proofs.CodeLemmas.{place-fits}
+use Rattle.roster_state.proofs.RangeLemmas.{next_fits}
+use Rattle.roster_state.proofs.StepBounds.{runs_more_within, shifts_more_within, split_more_within, weekend_more_within}
+
+-- ---- a step that may be forbidden
+
+-- what holds of the step holds where there is one
+pub where_some : {X : Type 0} (forbidden : Bool) (x : X) (o : Option X) → o ≡ (if forbidden then None else Some x) → (P : X → Type 0) → P x → IfSome o P
+where_some true x o is P holds = subst (λ p. IfSome p P) (sym is) tt
+where_some false x o is P holds = subst (λ p. IfSome p P) (sym is) holds
+
+-- ---- the parts of a step
+
+module _ (c : Meaning) (n day : ℕ) (s : Summary) where
+  module _ (shift : Option Shift) where
+    abbrev pub assignments_behind : ℕ → ℕ
+    assignments_behind a = min (a + one_if (is_some shift)) (cap (contract_of c n).total)
+
+    abbrev pub total_more : ℕ → ℕ
+    total_more a = if nat_le (contract_of c n).total.greatest a then assignment_weight * one_if (is_some shift) else 0
+
+    pub cost_at : (a : ℕ) → cost_apart c n day s shift + total_more a ≡ step_cost c n day (with_assignments s a) shift
+    unfolding step_cost
+    cost_at a = omega arith
+
+    pub apart_within : HasSmallNumbers c → cost_apart c n day s shift + assignment_weight ≤ most_of_step
+    apart_within small =
+        omega (arith, runs_more_within c n s shift small, shifts_more_within c n s shift small, split_more_within c n s shift day, weekend_more_within c n s shift day)
+
+  pub next_at : (shift : Option Shift) (a : ℕ) → with_assignments (next_of c n day s shift) (assignments_behind shift a) ≡ next_of c n day (with_assignments s a) shift
+  unfolding next_of
+  next_at None a = refl
+  next_at (Some t) a = refl
+
+  -- ---- the places
+
+  abbrev places : ℕ
+  places = cap (contract_of c n).total + 1
+
+  -- from which place on the day costs more
+  abbrev pub dearer : Option Shift → ℕ
+  dearer shift = if is_some shift then (contract_of c n).total.greatest else places
+
+  behind_at : (shift : Option Shift) (a : ℕ) → a < places → place_behind places (is_some shift) a ≡ assignments_behind shift a
+  behind_at None a inside = omega (arith, inside)
+  behind_at (Some t) a inside = omega arith
+
+  more_at : (shift : Option Shift) (a : ℕ) → a < places → (if nat_le (dearer shift) a then assignment_weight else 0) ≡ total_more shift a
+  more_at None a inside = grind (arith, inside)
+  more_at (Some t) a inside = refl
+
+  -- the fields of a block's step
+  module _ (shift : Option Shift) (x : Summary) (m : Bool) (k d : ℕ) (next : x ≡ with_assignments (next_of c n day s shift) 0) (moves : m ≡ is_some shift) (cost : k ≡ cost_apart c n day s shift) (from : d ≡ dearer shift) where
+    abbrev step : BlockStep
+    step = record { next = x; moves = m; cost = k; dearer_from = d }
+
+    place : (a : ℕ) → a < places → place_step places a step ≡ (next_of c n day (with_assignments s a) shift, step_cost c n day (with_assignments s a) shift)
+    place a inside =
+        (λ i. (with_assignments (next i) (place_behind places (moves i) a), cost i + (if nat_le (from i) a then assignment_weight else 0)))
+        ∙ ap₂ (λ b m. (with_assignments (next_of c n day s shift) b, cost_apart c n day s shift + m)) (behind_at shift a inside) (more_at shift a inside)
+        ∙ ap₂ (λ y k. (y, k)) (next_at shift a) (cost_at shift a)
+
+    pub places_step : forbids c.successions s.last shift ≡ false → (a : ℕ) → a < places → option_map (place_step places a) (Some step) ≡ step_of c n day (with_assignments s a) shift
+    places_step allowed a inside = ap Some (place a inside) ∙ (λ i. if sym allowed i then None else Some (next_of c n day (with_assignments s a) shift, step_cost c n day (with_assignments s a) shift))
+
+    pub block_fits : IfSome shift (λ u. u.0 < shift_count c) → fits_sizes (sizes_of c n) x ≡ true
+    block_fits known = subst (λ (y : Summary). fits_sizes (sizes_of c n) y ≡ true) (sym next) (place-fits (sizes_of c n) (next_of c n day s shift) 0 (omega arith) (next_fits c n day s shift known))

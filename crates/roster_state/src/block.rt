@@ -1,0 +1,164 @@
+//! The states that differ in their assignments alone, and one day more from all of them at once.
+
+ghost use Rattle.std.specs.Prelude.{◌≡◌, ◌↔◌, ◌+◌, ◌*◌, ◌<◌, ◌≤◌, ℕ, true, IfSome, IsNone, Some, if◌then◌else◌, is_some, option_map};
+ghost use Rattle.roster_rules.specs.Meaning.{day_count, forbids, nurse_count, shift_count};
+ghost use Rattle.roster_rules.specs.Sizes.{cap};
+ghost use Rattle.roster_rules.specs.Weights.{assignment_weight};
+ghost use Rattle.roster_state.specs.Blocks.{place_step};
+ghost use Rattle.roster_state.specs.Codes.{blocks, code_of, fits_sizes, product, sizes_of, state_at};
+ghost use Rattle.roster_state.specs.Room.{most_of_step};
+ghost use Rattle.roster_state.specs.Step.{step_of, with_assignments};
+
+use crate::meter::Meter;
+use crate::ranges::Ranges;
+use crate::state::{State, shift_numbered};
+use crate::step::{cost_apart, next_of};
+use roster_rules::{Case, Limits, Shift};
+use std::marker::Model;
+
+/// The states that differ in their assignments alone: place i is the state with i assignments.
+#[derive(Clone, Copy, Debug, PartialEq, Eq)]
+pub struct Block {
+    /// Place 0.
+    state: State,
+}
+
+impl Model for Block {
+    ghost use Rattle.std.specs.Prelude.{◌≡◌};
+    ghost use Rattle.roster_rules.specs.Prefix.{Summary};
+
+    ghost Value = { Summary };
+
+    ghost view = { λ b. b.state };
+
+    ghost inverse = { λ s. record { state = s } };
+
+    ghost invariant = { λ b. b.state.assignments ≡ 0 };
+}
+
+impl Block {
+    /// The block of a state.
+    pub fn of(state: State) -> Block
+        ensures { result ≡ with_assignments state 0 }
+    {
+        Block {
+            state: State {
+                assignments: 0,
+                ..state
+            },
+        }
+    }
+
+    /// The block with a number: that many blocks are before it. The places of the blocks together are all states, in the order
+    /// of their codes.
+    pub fn numbered(ranges: &Ranges, number: u32) -> Block
+        requires { number < blocks ranges.now }
+        ensures states { (a : ℕ) → a < ranges.now.assignments → state_at ranges.now (number * ranges.now.assignments + a) ≡ Some (with_assignments result a) }
+        ensures fit { (a : ℕ) → a < ranges.now.assignments → fits_sizes ranges.now (with_assignments result a) ≡ true }
+        ensures fits { fits_sizes ranges.now result ≡ true }
+        ensures first { code_of ranges.now result ≡ number * ranges.now.assignments }
+    {
+        let shift_run = number / ranges.weekends;
+        let run = shift_run / ranges.shift_run;
+        Block {
+            state: State {
+                last: shift_numbered(run / ranges.run),
+                run: (run % ranges.run) as u16,
+                shift_run: (shift_run % ranges.shift_run) as u16,
+                assignments: 0,
+                weekends: (number % ranges.weekends) as u16,
+            },
+        }
+    }
+
+    /// Whether its states fit.
+    pub fn fits(&self, ranges: &Ranges) -> bool
+        ensures first { result ≡ fits_sizes ranges.now self.now }
+        ensures each { (a : ℕ) → a < ranges.now.assignments → fits_sizes ranges.now (with_assignments self.now a) ≡ result }
+    {
+        self.state.fits(ranges)
+    }
+
+    /// How many places a block has: the greater of the least and the greatest total, and one more.
+    pub fn places(&self, ranges: &Ranges) -> u32
+        ensures places { result ≡ ranges.now.assignments }
+        ensures within { result ≤ 1000 }
+    {
+        ranges.assignments()
+    }
+
+    /// The code of place 0. That of place i is i more.
+    pub fn first(&self, ranges: &Ranges) -> u32
+        requires { fits_sizes ranges.now self.now ≡ true }
+        ensures first { result ≡ code_of ranges.now self.now }
+        ensures each { (a : ℕ) → a < ranges.now.assignments → code_of ranges.now (with_assignments self.now a) ≡ result + a }
+        ensures within { result + ranges.now.assignments ≤ product ranges.now }
+    {
+        self.state.code(ranges)
+    }
+}
+
+/// What a day does to the places of a block.
+#[derive(Clone, Copy, Debug, PartialEq, Eq)]
+pub struct BlockStep {
+    /// The block behind the day.
+    pub next: Block,
+
+    /// Whether each place goes to the next one, while the last place stays; else each stays where it is.
+    pub moves: bool,
+
+    /// What the day costs each place, in penalty points, but for an assignment above the greatest total.
+    pub cost: u32,
+
+    /// From this place on the day costs the points for an assignment above the greatest total besides, 20. The number of places
+    /// where it does at none.
+    pub dearer_from: u32,
+}
+
+/// One day more from all states of a block, on which the nurse works this shift or is off. None exactly where the last shift forbids
+/// the next. Either way the meter counts one for each place.
+pub fn extend_block(
+    case: &Case,
+    nurse: usize,
+    day: u16,
+    block: Block,
+    shift: Option<Shift>,
+    meter: &mut Meter,
+) -> Option<BlockStep>
+    requires nurse { nurse < nurse_count case.now }
+    requires day { day < day_count case.now }
+    requires shift { IfSome shift (λ s. s.0 < shift_count case.now) }
+    requires fits { fits_sizes (sizes_of case.now nurse) block ≡ true }
+    requires room { meter.old + (sizes_of case.now nurse).assignments ≤ 18446744073709551615 }
+    ensures counted { meter.new ≡ meter.old + (sizes_of case.now nurse).assignments }
+    ensures forbidden { IsNone result ↔ forbids case.now.successions block.last shift ≡ true }
+
+    // Each place goes where its state goes, at the same cost.
+    ensures steps { (a : ℕ) → a < (sizes_of case.now nurse).assignments → option_map (place_step (sizes_of case.now nurse).assignments a) result ≡ step_of case.now nurse day (with_assignments block a) shift }
+    ensures next_fits { IfSome result (λ step. fits_sizes (sizes_of case.now nurse) step.next ≡ true) }
+    ensures dearer { IfSome result (λ step. step.dearer_from ≤ (sizes_of case.now nurse).assignments) }
+    ensures within { IfSome result (λ step. step.cost + assignment_weight ≤ most_of_step) }
+{
+    let total = case.contract_rules(nurse).total;
+    let places = total.cap() as u32 + 1;
+    meter.add(places as u64);
+    if case.forbids_next(block.state.last, shift) {
+        return None;
+    }
+    Some(BlockStep {
+        next: Block::of(next_of(case, nurse, day, block.state, shift)),
+        moves: shift.is_some(),
+        cost: cost_apart(case, nurse, day, block.state, shift),
+        dearer_from: dearer_from(total, shift),
+    })
+}
+
+/// From which place on an assignment of the day is above the greatest total. The number of places where the nurse is off.
+fn dearer_from(total: Limits, shift: Option<Shift>) -> u32
+    ensures { result ≡ (if is_some shift then total.greatest else cap total + 1) }
+{
+    match shift {
+        Some(_) => total.greatest as u32,
+        None => total.cap() as u32 + 1,
+    }
+}
