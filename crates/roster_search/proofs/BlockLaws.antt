@@ -1,75 +1,102 @@
 -- A block of states that differ in their assignments alone: its cells by one offer more, and a table with one block more.
-use Rattle.std.proofs.Common.{◌≡◌, ◌∙◌, ◌+◌, ◌*◌, ◌<◌, ◌≤◌, ℕ, suc, true, ap, arith, mul_comm, mul_right_comm, subst, sym, List, [], length, slice_index_or, slice_set, take, Option, Some, IfSome}
+use Rattle.std.proofs.Common.{◌≡◌, ◌∙◌, ◌+◌, ◌*◌, ◌<◌, ◌≤◌, ◌⊎◌, ℕ, Bool, suc, true, false, inl, inr, ap, arith, mul_comm, mul_right_comm, subst, sym, List, [], length, min, nat_lt, if◌then◌else◌, slice_index_or, take, Option, Some, None}
 use Rattle.std.proofs.Math.Nat.{suc-mul}
-use Rattle.std.proofs.lemmas.List.{length-set}
+use Rattle.std.proofs.lemmas.Bool.{cases_lt, le-ltb, lt-ltb}
 use Rattle.std.proofs.lemmas.Nat.{mul-le}
 use Rattle.roster_rules.specs.declared.Shift.{Shift}
 use Rattle.roster_rules.specs.Choices.{shift_of}
 use Rattle.roster_rules.specs.Meaning.{Meaning}
 use Rattle.roster_rules.specs.Prefix.{Summary}
-use Rattle.roster_state.specs.Codes.{fits_sizes, sizes_of, state_at}
+use Rattle.roster_state.specs.declared.block.BlockStep.{BlockStep}
+use Rattle.roster_state.specs.Blocks.{place_behind, place_cost, place_step}
+use Rattle.roster_state.specs.Codes.{code_of, fits_sizes, sizes_of, state_at}
 use Rattle.roster_state.specs.Step.{step_of, with_assignments}
 use Rattle.roster_search.specs.declared.day.SearchDay.{SearchDay}
 use Rattle.roster_search.specs.declared.offer.Offer.{Offer}
-use Rattle.roster_search.specs.Tables.{AreLabels, AreOfLeast, BestOnward, Cells, IsDayOf, LabelsBelow, LeastFrom, NoLeast, PointersBelow, PointsWhereBest, SameOutside, Stands, best_by, best_on, label_at, label_of, no_row}
-use Rattle.roster_search.proofs.CellLaws.{block_more, cells_fewer, cells_kept, cells_left, cells_set, set_outside}
-use Rattle.roster_search.proofs.LabelLaws.{label_at-is, least_of_none, taken_kept, taken_lower}
+use Rattle.roster_search.specs.Cheapest.{Priced, cheapest}
+use Rattle.roster_state.proofs.CodeLemmas.{place-fits}
+use Rattle.roster_search.specs.Tables.{AreLabels, AreOfLeast, BestOnward, AreLowered, Cells, IsDayOf, LabelsBelow, LeastFrom, PointersBelow, PointsWhereBest, SameOutside, Stands, best_by, best_on, label_of, no_row}
+use Rattle.roster_search.proofs.CellLaws.{block_more}
+use Rattle.roster_search.proofs.LabelLaws.{label_at, label_at-is, label_refused, label_within, least_of_none, step_low, taken_kept, taken_lower}
+
+-- ---- a place by one offer more
+
+module _ {O X : Type 0} (by : O → Priced X) (offers : List O) (place : ℕ) (inside : place < length offers) (d : O) (label number : ℕ) (old : AreOfLeast by (take place offers) label number) where
+  -- by a number that isn't capped: it is lower than the label just where the capped one is
+  pub place_lowered : (other : ℕ) → min other no_row ≡ label_of (by (slice_index_or offers place d)) → AreOfLeast by (take (place + 1) offers) (min label other) (if nat_lt other label then place else number)
+  place_lowered other is = go (cases_lt other label)
+    where
+      low : label ≤ no_row
+      low = omega (arith, old.least, label_within (cheapest by (take place offers)))
+
+      go : (other < label) ⊎ (label ≤ other) → AreOfLeast by (take (place + 1) offers) (min label other) (if nat_lt other label then place else number)
+      go (inl h) =
+          subst (λ (b : Bool). AreOfLeast by (take (place + 1) offers) (min label other) (if b then place else number)) (sym (lt-ltb other label h))
+          (subst (λ l. AreOfLeast by (take (place + 1) offers) l place) (omega (arith, h)) (taken_lower by offers place inside d label number old other (omega (arith, is, h, low)) h))
+      go (inr h) =
+          subst (λ (b : Bool). AreOfLeast by (take (place + 1) offers) (min label other) (if b then place else number)) (sym (le-ltb other label h))
+          (subst (λ l. AreOfLeast by (take (place + 1) offers) l number) (omega (arith, h)) (taken_kept by offers place inside d label number old (min other no_row) is (omega (arith, h, low))))
+
+  pub place_kept : no_row ≡ label_of (by (slice_index_or offers place d)) → AreOfLeast by (take (place + 1) offers) label number
+  place_kept is = taken_kept by offers place inside d label number old no_row is (omega (arith, old.least, label_within (cheapest by (take place offers))))
+
+-- ---- the places of a block by one offer more
 
 module _ (c : Meaning) (at : SearchDay) (later : BestOnward) (s : Summary) where
-  pub least_from_none : (code first m : ℕ) (labels pointers : List ℕ) → Cells NoLeast code first 0 m labels pointers → Cells (LeastFrom c at later s []) code first 0 m labels pointers
-  least_from_none code first m labels pointers none a from below =
+  pub least_from_none : (m : ℕ) (labels numbers : List ℕ) → ((a : ℕ) → a < m → slice_index_or labels a 0 ≡ no_row) → ((a : ℕ) → a < m → slice_index_or numbers a 0 ≡ 0) → Cells (LeastFrom c at later s []) 0 0 0 m labels numbers
+  least_from_none m labels numbers no_label no_number a from below =
       let by = best_by c at later (with_assignments s a) in
-      let is = none a from below in
-      subst (λ l. AreOfLeast by [] l (slice_index_or pointers (first + a) 0)) (sym is.0) (subst (λ p. AreOfLeast by [] no_row p) (sym is.1) (least_of_none by))
+      let l : slice_index_or labels (0 + a) 0 ≡ no_row = ap (λ j. slice_index_or labels j 0) (omega arith) ∙ no_label a below in
+      let p : slice_index_or numbers (0 + a) 0 ≡ 0 = ap (λ j. slice_index_or numbers j 0) (omega arith) ∙ no_number a below in
+      subst (λ l. AreOfLeast by [] l (slice_index_or numbers (0 + a) 0)) (sym l) (subst (λ p. AreOfLeast by [] no_row p) (sym p) (least_of_none by))
 
-  -- the tables where the states with fewer than k assignments have one offer more than the others
-  pub record AreLowered (offers : List Offer) (place code first m : ℕ) (labels_old pointers_old : List ℕ) (k : ℕ) (labels pointers : List ℕ) : Type 0 where
-    pub lowered : Cells (LeastFrom c at later s (take (place + 1) offers)) code first 0 k labels pointers
-    pub left : Cells (LeastFrom c at later s (take place offers)) code first k m labels pointers
-    pub labels_others : SameOutside code (code + m) labels_old labels
-    pub pointers_others : SameOutside first (first + m) pointers_old pointers
-    pub labels_length : length labels ≡ length labels_old
-    pub pointers_length : length pointers ≡ length pointers_old
+module _ (c : Meaning) (at : SearchDay) (later : BestOnward) (s : Summary) (offers : List Offer) (place : ℕ) (inside : place < length offers) (d : Offer) (shift : Option Shift) (chosen : shift ≡ shift_of (slice_index_or offers place d).choice)
+    (m : ℕ) (labels numbers : List ℕ) (old : Cells (LeastFrom c at later s (take place offers)) 0 0 0 m labels numbers) where
+  by_choice : (a : ℕ) (o : Option (Summary × ℕ)) → o ≡ step_of c at.nurse at.day (with_assignments s a) shift → step_of c at.nurse at.day (with_assignments s a) (shift_of (slice_index_or offers place d).choice) ≡ o
+  by_choice a o is = sym (is ∙ ap (λ (x : Option Shift). step_of c at.nurse at.day (with_assignments s a) x) chosen)
 
--- one offer more, of the state with k assignments
-module _ (c : Meaning) (at : SearchDay) (day : IsDayOf c at) (later : BestOnward) (behind : List ℕ) (right : AreLabels c at.nurse (at.day + 1) later behind) (s : Summary) (offers : List Offer) (place : ℕ) (inside : place < length offers) (d : Offer) (shift : Option Shift)
-    (chosen : shift ≡ shift_of (slice_index_or offers place d).choice) (k m : ℕ) (below : k < m) (step : Option (Summary × ℕ)) (steps : step ≡ step_of c at.nurse at.day (with_assignments s k) shift) (fit : IfSome step (λ t. fits_sizes (sizes_of c at.nurse) t.0 ≡ true)) (label : ℕ)
-    (label_is : label ≡ label_at at.ranges (slice_index_or offers place d).price behind step) where
-  is : label ≡ label_of (best_by c at later (with_assignments s k) (slice_index_or offers place d))
-  is =
-      label_is
-      ∙ label_at-is c at day later behind right (with_assignments s k) (slice_index_or offers place d) step (sym (steps ∙ ap (λ (o : Option Shift). step_of c at.nurse at.day (with_assignments s k) o) chosen)) fit
+  -- a forbidden offer leaves all as it is
+  pub cells_same : ((a : ℕ) → a < m → None ≡ step_of c at.nurse at.day (with_assignments s a) shift) → Cells (LeastFrom c at later s (take (place + 1) offers)) 0 0 0 m labels numbers
+  cells_same none a from below =
+      place_kept (best_by c at later (with_assignments s a)) offers place inside d (slice_index_or labels (0 + a) 0) (slice_index_or numbers (0 + a) 0) (old a from below)
+      (label_refused c at later (with_assignments s a) (slice_index_or offers place d) (by_choice a None (none a below)))
 
-  module _ (code first : ℕ) (labels_old pointers_old labels pointers : List ℕ) (old : AreLowered c at later s offers place code first m labels_old pointers_old k labels pointers) where
-    here : AreOfLeast (best_by c at later (with_assignments s k)) (take place offers) (slice_index_or labels (code + k) 0) (slice_index_or pointers (first + k) 0)
-    here = old.left k (omega arith) below
+  -- an allowed one lowers the places by the labels behind
+  module _ (day : IsDayOf c at) (behind : List ℕ) (right : AreLabels c at.nurse (at.day + 1) later behind) (size : m ≡ at.ranges.assignments) (step : BlockStep) (steps : (a : ℕ) → a < m → Some (place_step m a step) ≡ step_of c at.nurse at.day (with_assignments s a) shift)
+      (fits : fits_sizes at.ranges step.next ≡ true) (first : ℕ) (codes : (a : ℕ) → a < m → code_of at.ranges (with_assignments step.next a) ≡ first + a) (window : List ℕ) (shown : (a : ℕ) → a < m → slice_index_or window a 0 ≡ slice_index_or behind (first + a) 0) where
+    place_inside : (a : ℕ) → a < m → place_behind m step.moves a < m
+    place_inside a below = go step.moves
+      where
+        go : (moves : Bool) → place_behind m moves a < m
+        go true = omega (arith, below)
+        go false = below
 
-    pub cells_lower : code + m ≤ length labels_old → first + m ≤ length pointers_old → label < slice_index_or labels (code + k) 0
-        → AreLowered c at later s offers place code first m labels_old pointers_old (k + 1) (slice_set labels (code + k) label) (slice_set pointers (first + k) place)
-    cells_lower labels_room pointers_room lower =
-        let in_labels : code + k < length labels = omega (arith, below, labels_room, old.labels_length) in
-        let in_pointers : first + k < length pointers = omega (arith, below, pointers_room, old.pointers_length) in
-        let least = taken_lower (best_by c at later (with_assignments s k)) offers place inside d (slice_index_or labels (code + k) 0) (slice_index_or pointers (first + k) 0) here label is lower in
-        record {
-          lowered = cells_set (LeastFrom c at later s (take (place + 1) offers)) code first labels pointers k label place in_labels in_pointers least old.lowered;
-          left = cells_left (LeastFrom c at later s (take place offers)) code first labels pointers k label place in_labels in_pointers m old.left;
-          labels_others = set_outside code (code + m) labels_old labels (code + k) label (omega arith) (omega (arith, below)) old.labels_others;
-          pointers_others = set_outside first (first + m) pointers_old pointers (first + k) place (omega arith) (omega (arith, below)) old.pointers_others;
-          labels_length = length-set labels (code + k) label ∙ old.labels_length;
-          pointers_length = length-set pointers (first + k) place ∙ old.pointers_length;
-        }
+    abbrev other : ℕ → ℕ
+    other a = (slice_index_or offers place d).price + place_cost step a + slice_index_or window (place_behind m step.moves a) 0
 
-    pub cells_same : slice_index_or labels (code + k) 0 ≤ label → AreLowered c at later s offers place code first m labels_old pointers_old (k + 1) labels pointers
-    cells_same kept =
-        let least = taken_kept (best_by c at later (with_assignments s k)) offers place inside d (slice_index_or labels (code + k) 0) (slice_index_or pointers (first + k) 0) here label is kept in
-        record {
-          lowered = cells_kept (LeastFrom c at later s (take (place + 1) offers)) code first labels pointers k least old.lowered;
-          left = cells_fewer (LeastFrom c at later s (take place offers)) code first labels pointers k m old.left;
-          labels_others = old.labels_others;
-          pointers_others = old.pointers_others;
-          labels_length = old.labels_length;
-          pointers_length = old.pointers_length;
-        }
+    label_behind : (a : ℕ) → a < m → min (other a) no_row ≡ label_of (best_by c at later (with_assignments s a) (slice_index_or offers place d))
+    label_behind a below =
+        let b = place_behind m step.moves a in
+        let there = place_inside a below in
+        let fits_there : fits_sizes at.ranges (with_assignments step.next b) ≡ true = place-fits at.ranges step.next b (subst (λ k. b < k) size there) fits in
+        let of_nurse : fits_sizes (sizes_of c at.nurse) (with_assignments step.next b) ≡ true = subst (λ z. fits_sizes z (with_assignments step.next b) ≡ true) day.ranges fits_there in
+        ap (λ l. min ((slice_index_or offers place d).price + place_cost step a + l) no_row) (shown b there ∙ ap (λ k. slice_index_or behind k 0) (sym (codes b there)))
+        ∙ label_at-is c at day later behind right (with_assignments s a) (slice_index_or offers place d) (Some (place_step m a step)) (by_choice a (Some (place_step m a step)) (steps a below)) of_nurse
+
+    pub cells_lowered : (labels_new numbers_new : List ℕ) → AreLowered 0 m (λ a. (slice_index_or offers place d).price + place_cost step a + slice_index_or window (place_behind m step.moves a) 0) place labels numbers labels_new numbers_new → Cells (LeastFrom c at later s (take (place + 1) offers)) 0 0 0 m labels_new numbers_new
+    cells_lowered labels_new numbers_new lowered a from below =
+        let by = best_by c at later (with_assignments s a) in
+        let here : AreOfLeast by (take place offers) (slice_index_or labels a 0) (slice_index_or numbers a 0) = subst (λ j. AreOfLeast by (take place offers) (slice_index_or labels j 0) (slice_index_or numbers j 0)) (omega arith) (old a from below) in
+        let new = place_lowered by offers place inside d (slice_index_or labels a 0) (slice_index_or numbers a 0) here (other a) (label_behind a below) in
+        subst (λ j. AreOfLeast by (take (place + 1) offers) (slice_index_or labels_new j 0) (slice_index_or numbers_new j 0)) (omega arith)
+        (subst (λ l. AreOfLeast by (take (place + 1) offers) l (slice_index_or numbers_new a 0)) (sym (lowered.label a from below))
+        (subst (λ p. AreOfLeast by (take (place + 1) offers) (min (slice_index_or labels a 0) (other a)) p) (sym (lowered.pointer a from below)) new))
+
+    pub behind_low : (a : ℕ) → a < m → slice_index_or window a 0 ≤ no_row
+    behind_low a below =
+        let fits_there : fits_sizes at.ranges (with_assignments step.next a) ≡ true = place-fits at.ranges step.next a (subst (λ k. a < k) size below) fits in
+        let of_nurse : fits_sizes (sizes_of c at.nurse) (with_assignments step.next a) ≡ true = subst (λ z. fits_sizes z (with_assignments step.next a) ≡ true) day.ranges fits_there in
+        omega (arith, shown a below ∙ ap (λ k. slice_index_or behind k 0) (sym (codes a below)), step_low c at day later behind right (Some (with_assignments step.next a, 0)) of_nurse)
 
 -- ---- blocks beside one another
 

@@ -9,7 +9,7 @@ use Rattle.roster_rules.specs.Choices.{shift_of}
 use Rattle.roster_rules.specs.Meaning.{Meaning, shift_count, skill_count}
 use Rattle.roster_rules.specs.Prefix.{Summary}
 use Rattle.roster_rules.specs.Rosters.{is_choice_of}
-use Rattle.roster_state.specs.Codes.{code_of, fits_sizes, product, sizes_of, state_at}
+use Rattle.roster_state.specs.Codes.{Sizes, code_of, fits_sizes, product, sizes_of, state_at}
 use Rattle.roster_state.specs.Step.{step_of}
 use Rattle.roster_state.proofs.CodeLemmas.{numbered-back, numbered-within}
 use Rattle.roster_search.specs.declared.day.SearchDay.{SearchDay}
@@ -17,7 +17,7 @@ use Rattle.roster_search.specs.declared.offer.Offer.{Offer}
 use Rattle.roster_search.specs.ByStates.{best_behind}
 use Rattle.roster_search.specs.Cheapest.{Priced, cheaper, cheapest, raised}
 use Rattle.roster_search.specs.Offers.{dearer}
-use Rattle.roster_search.specs.Tables.{AreLabels, AreOfLeast, BestOnward, IsDayOf, PointsToBest, Stands, best_by, label_at, label_of, no_row}
+use Rattle.roster_search.specs.Tables.{AreLabels, AreOfLeast, BestOnward, IsDayOf, PointsToBest, Stands, best_by, label_of, no_row}
 use Rattle.roster_search.proofs.Cheapest.{cheapest_more, keeps_first, takes_second}
 
 pub label_within : {X : Type 0} (p : Priced X) → label_of p ≤ no_row
@@ -123,6 +123,11 @@ module _ {O X : Type 0} (by : O → Priced X) where
     taken_kept kept = subst (λ xs. AreOfLeast by xs label pointer) (sym one_more) (least_kept (take place offers) (slice_index_or offers place d) label pointer old more is kept)
 
 -- ---- the label of the next state
+
+-- the label by a step at a price, none where the step is forbidden
+abbrev pub label_at : Sizes → ℕ → List ℕ → Option (Summary × ℕ) → ℕ
+label_at z price later None = no_row
+label_at z price later (Some step) = min (price + step.1 + slice_index_or later (code_of z step.0) 0) no_row
 
 module _ (c : Meaning) (at : SearchDay) (day : IsDayOf c at) where
   pub label_of_next : (later : BestOnward) (labels : List ℕ) → AreLabels c at.nurse (at.day + 1) later labels → (next : Summary) (code : ℕ) → code < product at.ranges → state_at at.ranges code ≡ Some next → Stands c at.nurse (at.day + 1) next

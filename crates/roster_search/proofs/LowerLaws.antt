@@ -3,8 +3,8 @@ use Rattle.std.proofs.Common.{◌≡◌, ◌∙◌, ◌+◌, ◌-◌, ◌*◌, �
 use Rattle.std.proofs.lemmas.Bool.{cases_lt, le-leb, lt-leb}
 use mir.Val.{bool_byte}
 use Rattle.roster_rules.specs.Weights.{assignment_weight}
-use Rattle.roster_search.specs.Blocks.{place_behind, place_cost}
-use Rattle.roster_search.specs.declared.stub.BlockStep.{BlockStep}
+use Rattle.roster_state.specs.Blocks.{place_behind, place_cost}
+use Rattle.roster_state.specs.declared.block.BlockStep.{BlockStep}
 use Rattle.roster_search.specs.Tables.{AreLowered, SameOutside}
 
 -- the same, by numbers that agree on the stretch
@@ -115,3 +115,12 @@ module _ (step : BlockStep) (behind : List ℕ) (n price : ℕ) where
       let second : Stretch dearer (n - 1) others number l1 p1 l2 p2 = stretch_alike dearer (n - 1) (n - 1) _ others number l1 p1 l2 p2 refl (λ a low below. at_place moved (price + step.cost + assignment_weight) a is_moved (cost_from step price a (omega (arith, low, below, is_dearer))) below) two in
       let third : Stretch (n - 1) n others number l2 p2 l3 p3 = stretch_alike (n - 1) (n - 1 + 1) n _ others number l2 p2 l3 p3 (omega (arith, some)) (λ a low below. at_last at_end a (is_end ∙ cost_at step price (n - 1) ∙ ap (λ k. price + place_cost step k) (omega (arith, low, below))) low below) three in
       (stretch_then 0 (n - 1) n others number l p l2 p2 l3 p3 (omega arith) (omega arith) (stretch_then 0 dearer (n - 1) others number l p l1 p1 l2 p2 (omega arith) (omega (arith, is_dearer)) first second) third).lowered
+
+-- ---- the numbers stay small
+
+pub small_lowered : (n : ℕ) (f : ℕ → ℕ) (number : ℕ) (l p l1 p1 : List ℕ) → number < 16 → length p ≡ n → length p1 ≡ n → ((a : ℕ) → a < length p → slice_index_or p a 0 < 16) → AreLowered 0 n f number l p l1 p1 → (a : ℕ) → a < length p1 → slice_index_or p1 a 0 < 16
+small_lowered n f number l p l1 p1 few long long_1 old lowered a below = subst (λ k. k < 16) (sym (lowered.pointer a (omega arith) (omega (arith, below, long_1)))) (go (nat_lt (f a) (slice_index_or l a 0)))
+  where
+    go : (b : Bool) → (if b then number else slice_index_or p a 0) < 16
+    go true = few
+    go false = old a (omega (arith, below, long, long_1))

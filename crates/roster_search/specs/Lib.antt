@@ -2,4 +2,3 @@ pub mod Cheapest
 pub mod ByStates
 pub mod Offers
 pub mod Tables
-pub mod Blocks

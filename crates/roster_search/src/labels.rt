@@ -5,16 +5,16 @@ ghost use Rattle.roster_rules.specs.Meaning.{day_count, nurse_count};
 ghost use Rattle.roster_rules.specs.Weights.{assignment_weight};
 ghost use Rattle.roster_state.specs.Codes.{code_of, fits_sizes, product, sizes_of};
 ghost use Rattle.roster_state.specs.Room.{most_of_step};
-ghost use Rattle.roster_search.specs.Blocks.{place_behind, place_cost};
+ghost use Rattle.roster_state.specs.Blocks.{place_behind, place_cost};
 ghost use Rattle.roster_search.specs.Tables.{AreLabels, AreLowered, ArePointers, BestOnward, Cells, IsDayOf, IsOfferOf, LeastFrom, SameOutside, best_at_end, best_on, most_price, no_row};
 
 use crate::day::SearchDay;
 use crate::offer::Offer;
 use crate::pointers::Pointers;
-use crate::stub::{Block, BlockStep, extend_block, lower_all};
+use crate::stub::lower_all;
 use roster_rules::Case;
 use roster_rules::weights::ASSIGNMENT;
-use roster_state::{Meter, Ranges, State, end_cost};
+use roster_state::{Block, BlockStep, Meter, Ranges, State, end_cost, extend_block};
 
 /// The label of a state from which no row goes on. Each row costs less.
 pub const NO_ROW: u32 = 268_435_456;
@@ -153,7 +153,7 @@ fn label_places(
     requires numbers_length { length numbers.old ≡ at.now.ranges.assignments }
     requires room { meter.old + length offers.now * at.now.ranges.assignments ≤ 18446744073709551615 }
     ensures least { Cells (LeastFrom case.now at.now rest block offers.now) 0 0 0 at.now.ranges.assignments labels.new numbers.new }
-    ensures small { All (λ number. number < 16) numbers.new }
+    ensures small { (a : ℕ) → a < length numbers.new → slice_index_or numbers.new a 0 < 16 }
     ensures lengths { (length labels.new ≡ length labels.old) × (length numbers.new ≡ length numbers.old) }
     ensures counted { meter.new ≡ meter.old + length offers.now * at.now.ranges.assignments }
 {
@@ -190,10 +190,10 @@ fn lower_by(
     requires labels_length { length labels.old ≡ at.now.ranges.assignments }
     requires numbers_length { length numbers.old ≡ at.now.ranges.assignments }
     requires least { Cells (LeastFrom case.now at.now rest block (take place offers.now)) 0 0 0 at.now.ranges.assignments labels.old numbers.old }
-    requires small { All (λ number. number < 16) numbers.old }
+    requires small { (a : ℕ) → a < length numbers.old → slice_index_or numbers.old a 0 < 16 }
     requires room { meter.old + at.now.ranges.assignments ≤ 18446744073709551615 }
     ensures least { Cells (LeastFrom case.now at.now rest block (take (place + 1) offers.now)) 0 0 0 at.now.ranges.assignments labels.new numbers.new }
-    ensures small { All (λ number. number < 16) numbers.new }
+    ensures small { (a : ℕ) → a < length numbers.new → slice_index_or numbers.new a 0 < 16 }
     ensures lengths { (length labels.new ≡ length labels.old) × (length numbers.new ≡ length numbers.old) }
     ensures counted { meter.new ≡ meter.old + at.now.ranges.assignments }
 {

@@ -1,6 +1,6 @@
 //! Which offer is the best of each state.
 
-ghost use Rattle.std.specs.Prelude.{◌≡◌, ◌+◌, ◌<◌, ◌≤◌, ℕ, All, IfOk, length, slice_index_or, slice_set};
+ghost use Rattle.std.specs.Prelude.{◌≡◌, ◌+◌, ◌<◌, ◌≤◌, ℕ, IfOk, length, slice_index_or, slice_set};
 ghost use Rattle.roster_search.specs.Tables.{SameOutside};
 
 use std::alloc::{AllocError, Global};
@@ -57,9 +57,9 @@ impl Pointers {
 
     /// Sets the pointers of a stretch of places; the others stay.
     pub fn set_run(&mut self, first: usize, run: &[u8])
-        requires small { All (λ pointer. pointer < 16) run.now }
         requires room { first + length run.now ≤ length self.old }
-        ensures run { (i : ℕ) → i < length run.now → slice_index_or self.new (first + i) 0 ≡ slice_index_or run.now i 0 }
+        requires small { (i : ℕ) → i < length run.now → slice_index_or run.now i 0 < 16 }
+        ensures inside { (i : ℕ) → i < length run.now → slice_index_or self.new (first + i) 0 ≡ slice_index_or run.now i 0 }
         ensures others { SameOutside first (first + length run.now) self.old self.new }
         ensures length { length self.new ≡ length self.old }
     {

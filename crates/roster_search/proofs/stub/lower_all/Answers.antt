@@ -4,7 +4,6 @@ use Rattle.roster_state.specs.Codes.{blocks, code_of, fits_sizes, product, sizes
 use Rattle.roster_state.specs.Step.{step_of, with_assignments}
 use Rattle.roster_rules.specs.Weights.{assignment_weight}
 use Rattle.roster_state.specs.Room.{most_of_step}
-use Rattle.roster_search.specs.Blocks.{place_step}
 use Rattle.roster_search.proofs.stub.lower_all.Goals as goal
 
 -- src/stub.rt:91:1
