@@ -1,8 +1,5 @@
 -- Labels that are lowered to others where these are smaller, each with the pointer that says by what it was lowered (our own).
-use Rattle.std.specs.Prelude.{◌≡◌, ◌+◌, ◌/◌, ◌%◌, ◌^◌, ◌<◌, ◌≤◌, ◌==◌, ℕ, Bool, List, min, nat_lt, slice_index_or, if◌then◌else◌}
-
-abbrev pub has_bit : ℕ → ℕ → Bool
-has_bit bits i = bits / 2 ^ i % 2 == 1
+use Rattle.std.specs.Prelude.{◌≡◌, ◌+◌, ◌<◌, ◌≤◌, ℕ, List, min, nat_lt, slice_index_or, if◌then◌else◌}
 
 -- what a label at a place may become: the other one there, with so much more
 abbrev pub raised : List ℕ → ℕ → ℕ → ℕ

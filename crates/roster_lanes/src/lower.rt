@@ -1,7 +1,8 @@
 //! Lowering labels by vectors of 16.
 
-ghost use Rattle.std.specs.Prelude.{◌≡◌, ℕ, ◌+◌, ◌<◌, ◌≤◌, length, min, nat_lt, slice_index_or};
-ghost use Rattle.roster_lanes.specs.Lanes.{LabelsLowered, PointersSet, SameOutside, has_bit, pointer_by, raised};
+ghost use Rattle.std.specs.Prelude.{◌≡◌, ℕ, ◌+◌, ◌<◌, ◌≤◌, length, min, nat_lt, slice_index_or, if◌then◌else◌};
+ghost use Rattle.std.specs.Int.{bit_at};
+ghost use Rattle.roster_lanes.specs.Lanes.{LabelsLowered, PointersSet, SameOutside, pointer_by, raised};
 
 use std::simd::prelude::*;
 
@@ -12,7 +13,7 @@ const LANES: usize = 16;
 #[inline(always)]
 pub fn lower16(labels: &mut [u32; 16], others: &[u32; 16]) -> u16
     ensures labels { (i : ℕ) → i < 16 → slice_index_or labels.new i 0 ≡ min (slice_index_or labels.old i 0) (slice_index_or others.now i 0) }
-    ensures bits { (i : ℕ) → i < 16 → has_bit result i ≡ nat_lt (slice_index_or others.now i 0) (slice_index_or labels.old i 0) }
+    ensures bits { (i : ℕ) → i < 16 → bit_at result i ≡ (if nat_lt (slice_index_or others.now i 0) (slice_index_or labels.old i 0) then 1 else 0) }
 {
     let old = u32x16::from_slice(&labels[..]);
     let other = u32x16::from_slice(&others[..]);
@@ -82,7 +83,7 @@ fn lower_at(
 {
     let old = load(labels, first);
     let candidates = raised_at(others, first, more);
-    if lower_labels(labels, first, &candidates) != 0 {
+    if lower_labels(&mut labels[first..first + LANES], &candidates) != 0 {
         set_pointers(
             &mut pointers[first..first + LANES],
             &old,
@@ -111,18 +112,17 @@ fn raised_at(others: &[u32], first: usize, more: u32) -> [u32; 16]
     (u32x16::from_slice(&others[first..]) + u32x16::splat(more)).to_array()
 }
 
-/// Lowers the 16 labels from a place on. The answer is 0 where none becomes smaller.
+/// Lowers 16 labels. The answer is 0 where none becomes smaller.
 #[inline(always)]
-fn lower_labels(labels: &mut [u32], first: usize, candidates: &[u32; 16]) -> u16
-    requires { first + 16 ≤ length labels.old }
-    ensures labels { (i : ℕ) → i < 16 → slice_index_or labels.new (first + i) 0 ≡ min (slice_index_or labels.old (first + i) 0) (slice_index_or candidates.now i 0) }
-    ensures others { SameOutside first (first + 16) labels.old labels.new }
-    ensures bits { (i : ℕ) → i < 16 → has_bit result i ≡ nat_lt (slice_index_or candidates.now i 0) (slice_index_or labels.old (first + i) 0) }
+fn lower_labels(labels: &mut [u32], candidates: &[u32; 16]) -> u16
+    requires { length labels.old ≡ 16 }
+    ensures labels { (i : ℕ) → i < 16 → slice_index_or labels.new i 0 ≡ min (slice_index_or labels.old i 0) (slice_index_or candidates.now i 0) }
+    ensures bits { (i : ℕ) → i < 16 → bit_at result i ≡ (if nat_lt (slice_index_or candidates.now i 0) (slice_index_or labels.old i 0) then 1 else 0) }
 {
-    let Some(window) = labels[first..first + LANES].as_mut_array() else {
+    let Some(places) = labels.as_mut_array() else {
         unreachable!()
     };
-    lower16(window, candidates)
+    lower16(places, candidates)
 }
 
 /// Sets the pointers where the candidate is strictly smaller than the label.
