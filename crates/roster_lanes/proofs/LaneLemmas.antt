@@ -2,7 +2,7 @@
 use Rattle.std.proofs.Common.{◌≡◌, ℕ, ◌+◌, ◌-◌, ◌/◌, ◌%◌, ◌^◌, ◌<◌, ◌≤◌, min, Bool, true, false, cond, leb, ltb, List, [], ◌∷◌, map, length, take, drop, get_or, replicate, Fits, w32, refl, sym, ap, ap₂, ◌∙◌, subst, arith, ltb-true, ltb-false}
 use Rattle.std.specs.Int.{bit_at}
 use Rattle.std.proofs.lemmas.List.{take_all, length-map, get_or-map}
-use Rattle.std.proofs.Math.Nat.{mod-eq_of_lt}
+use Rattle.std.proofs.Math.Nat.{mod-eq_of_lt, zero-div}
 use Rattle.std.proofs.lemmas.Simd.{tops_compared, length-zip2, get_or-zip2, length-sel_l, get_or-sel_l, put_chunk_whole, mask_l-lt, mask_l-mod, bit_mask_l, length-chunk, get_or-chunk, get_or-replicate, Each1-zip2, Each2-splat, Each2-all}
 use lib.Lanes.{Each1, zip2, sel_l, mask_l, top, put_chunk, chunk}
 
@@ -105,3 +105,15 @@ module _ (sign : ℕ → ℕ → ℕ) (narrow : ℕ → ℕ) where
       go : (t : Bool) → P (sign (cond t (2 ^ 32 - 1) 0) 0)
       go true = high
       go false = low
+
+-- ---- where no bit is set, nothing is lower
+
+pub none_lower : (bits j a b : ℕ) → bits ≡ 0 → bit_at bits j ≡ cond (ltb a b) 1 0 → ltb a b ≡ false
+none_lower bits j a b none bit = go (ltb a b) (sym (ap (λ (n : ℕ). n / 2 ^ j % 2) none ∙ ap (λ (n : ℕ). n % 2) (zero-div (2 ^ j))) ∙ bit)
+  where
+    go : (t : Bool) → 0 % 2 ≡ cond t 1 0 → t ≡ false
+    go true e = absurd (omega arith)
+    go false e = refl
+
+pub stays : (bits j a b c d old new : ℕ) → bits ≡ 0 → bit_at bits j ≡ cond (ltb a b) 1 0 → a ≡ c → b ≡ d → old ≡ cond (ltb c d) new old
+stays bits j a b c d old new none bit p q = sym (ap (λ (t : Bool). cond t new old) (ap₂ ltb (sym p) (sym q) ∙ none_lower bits j a b none bit))
