@@ -1,5 +1,5 @@
 -- Vectors of 16 places: what is lowered, which bits are set, and which pointers are chosen.
-use Rattle.std.proofs.Common.{◌≡◌, ℕ, ◌+◌, ◌-◌, ◌/◌, ◌%◌, ◌^◌, ◌<◌, ◌≤◌, min, Bool, true, false, cond, leb, ltb, List, [], ◌∷◌, map, length, take, drop, get_or, replicate, Fits, w32, refl, sym, ap, ap₂, ◌∙◌, subst, arith, ltb-true, ltb-false}
+use Rattle.std.proofs.Common.{◌≡◌, ℕ, ◌+◌, ◌-◌, ◌/◌, ◌%◌, ◌^◌, ◌<◌, ◌≤◌, min, Bool, true, false, cond, ltb, List, map, length, take, get_or, replicate, w32, refl, sym, ap, ap₂, ◌∙◌, subst, arith, ltb-true, ltb-false}
 use Rattle.std.specs.Int.{bit_at}
 use Rattle.std.proofs.lemmas.List.{take_all, length-map, get_or-map}
 use Rattle.std.proofs.Math.Nat.{mod-eq_of_lt, zero-div}

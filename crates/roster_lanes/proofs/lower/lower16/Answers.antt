@@ -1,6 +1,3 @@
-use Rattle.std.proofs.Common.{◌≡◌, ℕ, ◌%◌, ◌^◌, ◌<◌, min, ltb, cond, List, length, slice_index_or, subst, sym, arith}
-use Rattle.std.specs.Int.{bit_at}
-use lib.Lanes.{mask_l, put_chunk, sel_l}
 use Rattle.roster_lanes.proofs.LaneLemmas.{array_whole, bits_at, bits_fit, least_at, length-marks, marks}
 use Rattle.roster_lanes.proofs.lower.lower16.Goals as goal
 

@@ -1,4 +1,4 @@
-use Rattle.std.proofs.Common.{◌≡◌, ◌*◌, length}
+use Rattle.std.proofs.Common.{◌*◌}
 use Rattle.roster_lanes.specs.Lanes.{LabelsLowered, PointersSet, SameOutside}
 use Rattle.roster_lanes.proofs.lower.lower_all.Given as goal
 

@@ -1,4 +1,3 @@
-use Rattle.std.proofs.Common.{◌≡◌, length}
 use Rattle.roster_lanes.specs.Lanes.{LabelsLowered, PointersSet, SameOutside}
 use Rattle.roster_lanes.proofs.lower.lower_few.Given as goal
 

@@ -1,4 +1,4 @@
-use Rattle.std.proofs.Common.{◌+◌, ◌<◌, ◌≤◌, arith}
+use Rattle.std.proofs.Common.{◌+◌, arith}
 use Rattle.roster_lanes.proofs.LaneLemmas.{raised_at}
 use Rattle.roster_lanes.proofs.lower.raised_at.Goals as goal
 
