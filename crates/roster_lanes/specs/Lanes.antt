@@ -1,0 +1,25 @@
+-- Labels that are lowered to others where these are smaller, each with the pointer that says by what it was lowered (our own).
+use Rattle.std.specs.Prelude.{◌≡◌, ◌+◌, ◌<◌, ◌≤◌, ℕ, List, min, nat_lt, slice_index_or, if◌then◌else◌}
+
+-- what a label at a place may become: the other one there, with so much more
+abbrev pub raised : List ℕ → ℕ → ℕ → ℕ
+raised others more i = slice_index_or others i 0 + more
+
+-- the pointer of a label: the new one just where the label becomes smaller
+abbrev pub pointer_by : (label candidate old new : ℕ) → ℕ
+pointer_by label candidate old new = if nat_lt candidate label then new else old
+
+-- the labels at the places from first up to end are lowered
+abbrev pub LabelsLowered : (first end : ℕ) (others : List ℕ) (more : ℕ) (old new : List ℕ) → Type 0
+LabelsLowered first end others more old new =
+    (i : ℕ) → first ≤ i → i < end → slice_index_or new i 0 ≡ min (slice_index_or old i 0) (raised others more i)
+
+-- and the pointers of those that became smaller are set
+abbrev pub PointersSet : (first end : ℕ) (others : List ℕ) (more pointer : ℕ) (labels old new : List ℕ) → Type 0
+PointersSet first end others more pointer labels old new =
+    (i : ℕ) → first ≤ i → i < end → slice_index_or new i 0 ≡ pointer_by (slice_index_or labels i 0) (raised others more i) (slice_index_or old i 0) pointer
+
+-- outside these places nothing has changed
+pub record SameOutside (first end : ℕ) (old new : List ℕ) : Type 0 where
+  pub before : (i : ℕ) → i < first → slice_index_or new i 0 ≡ slice_index_or old i 0
+  pub behind : (i : ℕ) → end ≤ i → slice_index_or new i 0 ≡ slice_index_or old i 0

@@ -1,0 +1,139 @@
+//! Lowering labels by vectors of 16.
+
+ghost use Rattle.std.specs.Prelude.{◌≡◌, ℕ, ◌+◌, ◌<◌, ◌≤◌, length, min, nat_lt, slice_index_or, if◌then◌else◌};
+ghost use Rattle.std.specs.Int.{bit_at};
+ghost use Rattle.roster_lanes.specs.Lanes.{LabelsLowered, PointersSet, SameOutside, pointer_by, raised};
+
+use std::simd::prelude::*;
+
+// How many places one vector holds.
+const LANES: usize = 16;
+
+/// Each place becomes the smaller of the two. Bit i of the answer is set just where the second was strictly smaller at place i.
+#[inline(always)]
+pub fn lower16(labels: &mut [u32; 16], others: &[u32; 16]) -> u16
+    ensures labels { (i : ℕ) → i < 16 → slice_index_or labels.new i 0 ≡ min (slice_index_or labels.old i 0) (slice_index_or others.now i 0) }
+    ensures bits { (i : ℕ) → i < 16 → bit_at result i ≡ (if nat_lt (slice_index_or others.now i 0) (slice_index_or labels.old i 0) then 1 else 0) }
+{
+    let old = u32x16::from_slice(&labels[..]);
+    let other = u32x16::from_slice(&others[..]);
+    old.simd_min(other).copy_to_slice(&mut labels[..]);
+    other.simd_lt(old).to_bitmask() as u16
+}
+
+/// Lowers each label to the other one at its place with so much more, where that is strictly smaller, and sets the label's pointer
+/// there. All other pointers stay.
+pub fn lower_all(labels: &mut [u32], pointers: &mut [u8], others: &[u32], more: u32, pointer: u8)
+    requires pointers { length pointers.old ≡ length labels.old }
+    requires others { length others.now ≡ length labels.old }
+    requires within { (i : ℕ) → i < length labels.old → slice_index_or others.now i 0 + more ≤ 4294967295 }
+    ensures labels { (i : ℕ) → i < length labels.old → slice_index_or labels.new i 0 ≡ min (slice_index_or labels.old i 0) (slice_index_or others.now i 0 + more) }
+    ensures pointers { (i : ℕ) → i < length labels.old → slice_index_or pointers.new i 0 ≡ pointer_by (slice_index_or labels.old i 0) (slice_index_or others.now i 0 + more) (slice_index_or pointers.old i 0) pointer }
+    ensures lengths { (length labels.new ≡ length labels.old) × (length pointers.new ≡ length pointers.old) }
+{
+    let count = labels.len();
+    if count < LANES {
+        lower_few(labels, pointers, others, more, pointer);
+        return;
+    }
+    'vectors: for vector in 0..count / LANES {
+        lower_at(labels, pointers, others, vector * LANES, more, pointer);
+    }
+    // The places behind the last whole vector, with some once more: what is lowered twice stays as it was.
+    if count % LANES != 0 {
+        lower_at(labels, pointers, others, count - LANES, more, pointer);
+    }
+}
+
+/// The same, one place after the other.
+fn lower_few(labels: &mut [u32], pointers: &mut [u8], others: &[u32], more: u32, pointer: u8)
+    requires pointers { length pointers.old ≡ length labels.old }
+    requires others { length others.now ≡ length labels.old }
+    requires within { (i : ℕ) → i < length labels.old → slice_index_or others.now i 0 + more ≤ 4294967295 }
+    ensures labels { LabelsLowered 0 (length labels.old) others.now more labels.old labels.new }
+    ensures pointers { PointersSet 0 (length labels.old) others.now more pointer labels.old pointers.old pointers.new }
+{
+    'places: for i in 0..labels.len() {
+        let candidate = others[i] + more;
+        if candidate < labels[i] {
+            labels[i] = candidate;
+            pointers[i] = pointer;
+        }
+    }
+}
+
+/// The same for 16 places from a first one on.
+#[inline(always)]
+fn lower_at(
+    labels: &mut [u32],
+    pointers: &mut [u8],
+    others: &[u32],
+    first: usize,
+    more: u32,
+    pointer: u8,
+)
+    requires labels { first + 16 ≤ length labels.old }
+    requires pointers { first + 16 ≤ length pointers.old }
+    requires others { first + 16 ≤ length others.now }
+    requires within { (i : ℕ) → first ≤ i → i < first + 16 → slice_index_or others.now i 0 + more ≤ 4294967295 }
+    ensures labels { LabelsLowered first (first + 16) others.now more labels.old labels.new }
+    ensures pointers { PointersSet first (first + 16) others.now more pointer labels.old pointers.old pointers.new }
+    ensures labels_others { SameOutside first (first + 16) labels.old labels.new }
+    ensures pointers_others { SameOutside first (first + 16) pointers.old pointers.new }
+{
+    let old = load(labels, first);
+    let candidates = raised_at(others, first, more);
+    if lower_labels(&mut labels[first..first + LANES], &candidates) != 0 {
+        set_pointers(
+            &mut pointers[first..first + LANES],
+            &old,
+            &candidates,
+            pointer,
+        );
+    }
+}
+
+/// The 16 numbers from a place on.
+#[inline(always)]
+fn load(numbers: &[u32], first: usize) -> [u32; 16]
+    requires { first + 16 ≤ length numbers.now }
+    ensures { (i : ℕ) → i < 16 → slice_index_or result i 0 ≡ slice_index_or numbers.now (first + i) 0 }
+{
+    u32x16::from_slice(&numbers[first..]).to_array()
+}
+
+/// The 16 numbers from a place on, each with so much more.
+#[inline(always)]
+fn raised_at(others: &[u32], first: usize, more: u32) -> [u32; 16]
+    requires room { first + 16 ≤ length others.now }
+    requires within { (i : ℕ) → first ≤ i → i < first + 16 → slice_index_or others.now i 0 + more ≤ 4294967295 }
+    ensures { (i : ℕ) → i < 16 → slice_index_or result i 0 ≡ raised others.now more (first + i) }
+{
+    (u32x16::from_slice(&others[first..]) + u32x16::splat(more)).to_array()
+}
+
+/// Lowers 16 labels. The answer is 0 where none becomes smaller.
+#[inline(always)]
+fn lower_labels(labels: &mut [u32], candidates: &[u32; 16]) -> u16
+    requires { length labels.old ≡ 16 }
+    ensures labels { (i : ℕ) → i < 16 → slice_index_or labels.new i 0 ≡ min (slice_index_or labels.old i 0) (slice_index_or candidates.now i 0) }
+    ensures bits { (i : ℕ) → i < 16 → bit_at result i ≡ (if nat_lt (slice_index_or candidates.now i 0) (slice_index_or labels.old i 0) then 1 else 0) }
+{
+    let Some(places) = labels.as_mut_array() else {
+        unreachable!()
+    };
+    lower16(places, candidates)
+}
+
+/// Sets the pointers where the candidate is strictly smaller than the label.
+#[inline(always)]
+fn set_pointers(pointers: &mut [u8], labels: &[u32; 16], candidates: &[u32; 16], pointer: u8)
+    requires { length pointers.old ≡ 16 }
+    ensures { (i : ℕ) → i < 16 → slice_index_or pointers.new i 0 ≡ pointer_by (slice_index_or labels.now i 0) (slice_index_or candidates.now i 0) (slice_index_or pointers.old i 0) pointer }
+{
+    let is_lower = u32x16::from_slice(&candidates[..]).simd_lt(u32x16::from_slice(&labels[..]));
+    is_lower
+        .cast::<i8>()
+        .select(u8x16::splat(pointer), u8x16::from_slice(pointers))
+        .copy_to_slice(pointers);
+}
