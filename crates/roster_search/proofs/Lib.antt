@@ -8,4 +8,5 @@ pub mod BlockLaws
 pub mod ReadLaws
 pub mod OfferLaws
 pub mod BestRoom
-mod LowerLaws
+pub mod LowerLaws
+pub mod PartLaws

@@ -11,7 +11,7 @@ ghost use Rattle.roster_search.specs.Tables.{AreLabels, AreLowered, ArePointers,
 use crate::day::SearchDay;
 use crate::offer::Offer;
 use crate::pointers::Pointers;
-use crate::stub::lower_all;
+use roster_lanes::lower_all;
 use roster_rules::Case;
 use roster_rules::weights::ASSIGNMENT;
 use roster_state::{Block, BlockStep, Meter, Ranges, State, end_cost, extend_block};

@@ -12,7 +12,6 @@ mod laws;
 mod offer;
 mod pointers;
 mod read;
-pub mod stub;
 
 pub use day::SearchDay;
 pub use labels::{NO_ROW, label_day, label_end};

@@ -1,7 +1,6 @@
 //! Which offer is the best of each state.
 
-ghost use Rattle.std.specs.Prelude.{◌≡◌, ◌+◌, ◌<◌, ◌≤◌, ℕ, IfOk, length, slice_index_or, slice_set};
-ghost use Rattle.roster_search.specs.Tables.{SameOutside};
+ghost use Rattle.std.specs.Prelude.{◌≡◌, ◌<◌, IfOk, length, slice_index_or, slice_set};
 
 use std::alloc::{AllocError, Global};
 use std::marker::Model;
@@ -53,18 +52,6 @@ impl Pointers {
         ensures { result ≡ slice_index_or self.now place 0 }
     {
         self.bytes[place]
-    }
-
-    /// Sets the pointers of a stretch of places; the others stay.
-    pub fn set_run(&mut self, first: usize, run: &[u8])
-        requires room { first + length run.now ≤ length self.old }
-        requires small { (i : ℕ) → i < length run.now → slice_index_or run.now i 0 < 16 }
-        ensures inside { (i : ℕ) → i < length run.now → slice_index_or self.new (first + i) 0 ≡ slice_index_or run.now i 0 }
-        ensures others { SameOutside first (first + length run.now) self.old self.new }
-        ensures length { length self.new ≡ length self.old }
-    {
-        let _ = run;
-        let _ = first;
     }
 
     /// Sets the pointer at a place; the others stay.

@@ -13,5 +13,6 @@ invariant-loop-number g l = record {
   others : SameOutside l.first (l.first + product l.at.ranges) l.fn.pointers l.pointers;
   labels_length : length l.labels ≡ length l.fn.labels;
   pointers_length : length l.pointers ≡ length l.fn.pointers;
+  numbers_length : length l.numbers ≡ 1000;
   counted : l.meter ≡ l.fn.meter + l.number * (length l.offers * l.at.ranges.assignments);
 }

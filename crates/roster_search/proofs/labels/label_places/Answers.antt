@@ -1,12 +1,14 @@
-use Rattle.std.proofs.Common.{rules, ◌≡◌, ◌+◌, ◌-◌, ◌*◌, ◌<◌, ◌≤◌, true, ℕ, List, [], All, length, slice_index_or, take, ◌/◌, ◌%◌, Bool, false, nat_eq, nat_lt, ◌∷◌, ◌++◌, slice_set, bit_and, bit_or, Fits, w8, w32, w64, Bor, MutBor}
-use Rattle.roster_rules.specs.Meaning.{day_count, nurse_count}
-use Rattle.roster_rules.specs.Weights.{assignment_weight}
-use Rattle.roster_state.specs.Codes.{code_of, fits_sizes, product, sizes_of}
-use Rattle.roster_state.specs.Room.{most_of_step}
-use Rattle.roster_state.specs.Blocks.{place_behind, place_cost}
-use Rattle.roster_search.specs.Tables.{AreLabels, AreLowered, ArePointers, BestOnward, Cells, IsDayOf, IsOfferOf, LeastFrom, SameOutside, best_at_end, best_on, most_price, no_row}
+use Rattle.std.proofs.Common.{◌≡◌, ◌∙◌, ◌+◌, ◌≤◌, arith, length, slice_index_or}
+use Rattle.roster_search.proofs.BlockLaws.{least_from_none}
+use Rattle.roster_search.proofs.CellLaws.{one_more_counted, room_for_more}
 use Rattle.roster_search.proofs.labels.label_places.Goals as goal
 
--- src/labels.rt:163:9
 pub lower_by-requires : goal.lower_by-requires
-lower_by-requires g c = ?
+lower_by-requires g c =
+    let r = c.requires in
+    let old = c.loop-place.invariant in
+    let m = c.args.at.now.ranges.assignments in
+    let labels_length : length c.loop-place.labels ≡ m = old.labels_length ∙ r.1.1.1.1.1.1.0 in
+    let numbers_length : length c.loop-place.numbers ≡ m = old.numbers_length ∙ r.1.1.1.1.1.1.1.0 in
+    let room = room_for_more c.loop-place.place (length c.args.offers.now) m c.args.meter.now c.loop-place.meter 18446744073709551615 c.loop-place-test.true old.counted r.1.1.1.1.1.1.1.1 in
+    (r.0, (r.1.0, (r.1.1.0, (r.1.1.1.0, (c.loop-place-test.true, (r.1.1.1.1.0, (r.1.1.1.1.1.0, (labels_length, (numbers_length, (old.least, (old.small, room)))))))))))
