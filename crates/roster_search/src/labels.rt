@@ -54,7 +54,7 @@ pub fn label_day(
     ghost rest: { BestOnward }
     requires day { IsDayOf case.now at.now }
     requires offers { All (IsOfferOf case.now) offers.now }
-    requires few { length offers.now ≤ 256 }
+    requires few { length offers.now ≤ 16 }
     requires later { AreLabels case.now at.now.nurse (at.now.day + 1) rest later.now }
     requires all { product at.now.ranges ≤ length later.now }
     requires labels_room { product at.now.ranges ≤ length labels.old }
@@ -92,7 +92,7 @@ fn label_block(
     requires day { IsDayOf case.now at.now }
     requires fits { fits_sizes (sizes_of case.now at.now.nurse) block.now.state ≡ true }
     requires offers { All (IsOfferOf case.now) offers.now }
-    requires few { length offers.now ≤ 256 }
+    requires few { length offers.now ≤ 16 }
     requires later { AreLabels case.now at.now.nurse (at.now.day + 1) rest later.now }
     requires all { product at.now.ranges ≤ length later.now }
     requires labels_room { block.now.code + at.now.ranges.assignments ≤ length labels.old }
@@ -146,7 +146,7 @@ fn lower_by(
     requires day { IsDayOf case.now at.now }
     requires fits { fits_sizes (sizes_of case.now at.now.nurse) block.now.state ≡ true }
     requires offers { All (IsOfferOf case.now) offers.now }
-    requires few { length offers.now ≤ 256 }
+    requires few { length offers.now ≤ 16 }
     requires place { place < length offers.now }
     requires later { AreLabels case.now at.now.nurse (at.now.day + 1) rest later.now }
     requires all { product at.now.ranges ≤ length later.now }
