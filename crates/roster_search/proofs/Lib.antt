@@ -8,3 +8,4 @@ pub mod BlockLaws
 pub mod ReadLaws
 pub mod OfferLaws
 pub mod BestRoom
+pub mod HalfLaws

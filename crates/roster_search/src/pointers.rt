@@ -87,17 +87,26 @@ impl Pointers {
         ensures others { SameOutside first (first + length run.now) self.old self.new }
         ensures length { length self.new ≡ length self.old }
     {
-        let half = self.bytes.len();
-        let end = first + run.len();
-        if end <= half {
-            set_low_run(&mut self.bytes, first, run);
-        } else if half <= first {
-            set_high_run(&mut self.bytes, first - half, run);
-        } else {
-            let (front, back) = run.split_at(half - first);
-            set_low_run(&mut self.bytes, first, front);
-            set_high_run(&mut self.bytes, 0, back);
-        }
+        set_stretch(&mut self.bytes, first, run);
+    }
+}
+
+/// Sets a stretch of pointers in the halves of bytes: it may begin in the low ones and end in the high ones.
+fn set_stretch(bytes: &mut [u8], first: usize, run: &[u8])
+    requires room { first + length run.now ≤ length (halves bytes.old) }
+    requires small { (i : ℕ) → i < length run.now → slice_index_or run.now i 0 < 16 }
+    ensures { IsWritten first run.now (halves bytes.old) (halves bytes.new) }
+{
+    let half = bytes.len();
+    let end = first + run.len();
+    if end <= half {
+        set_low_run(bytes, first, run);
+    } else if half <= first {
+        set_high_run(bytes, first - half, run);
+    } else {
+        let (front, back) = run.split_at(half - first);
+        set_low_run(bytes, first, front);
+        set_high_run(bytes, 0, back);
     }
 }
 
@@ -126,8 +135,8 @@ fn set_low(bytes: &mut [u8], run: &[u8])
     ensures low { map low bytes.new ≡ run.now }
     ensures high { map high bytes.new ≡ map high bytes.old }
 {
-    for (byte, pointer) in bytes.iter_mut().zip(run) {
-        *byte = *byte / 16 * 16 + *pointer;
+    for i in 0..run.len() {
+        bytes[i] = bytes[i] / 16 * 16 + run[i];
     }
 }
 
@@ -138,7 +147,7 @@ fn set_high(bytes: &mut [u8], run: &[u8])
     ensures high { map high bytes.new ≡ run.now }
     ensures low { map low bytes.new ≡ map low bytes.old }
 {
-    for (byte, pointer) in bytes.iter_mut().zip(run) {
-        *byte = *pointer * 16 + *byte % 16;
+    for i in 0..run.len() {
+        bytes[i] = run[i] * 16 + bytes[i] % 16;
     }
 }
