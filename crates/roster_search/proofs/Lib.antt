@@ -10,3 +10,4 @@ pub mod OfferLaws
 pub mod BestRoom
 pub mod LowerLaws
 pub mod PartLaws
+pub mod HalfLaws

@@ -2,3 +2,4 @@ pub mod Cheapest
 pub mod ByStates
 pub mod Offers
 pub mod Tables
+pub mod Halves

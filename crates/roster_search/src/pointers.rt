@@ -1,28 +1,37 @@
 //! Which offer is the best of each state.
+//!
+//! A pointer takes half a byte. Of so many pointers the first half stands in the low halves of the bytes, the second in the high
+//! ones: a stretch of pointers is a stretch of bytes, or two, and is set by whole vectors.
 
-ghost use Rattle.std.specs.Prelude.{◌≡◌, ◌<◌, IfOk, length, slice_index_or, slice_set};
+ghost use Rattle.std.specs.Prelude.{◌≡◌, ◌+◌, ◌<◌, ◌≤◌, ℕ, IfOk, length, map, slice_index_or, slice_set};
+ghost use Rattle.roster_search.specs.Halves.{IsWritten, halves, high, low};
+ghost use Rattle.roster_search.specs.Tables.{SameOutside};
 
 use std::alloc::{AllocError, Global};
 use std::marker::Model;
 
-/// For each place a pointer: the place of an offer among those of its day, at most 255.
+/// For each place a pointer: the place of an offer among those of its day, at most 15.
 pub struct Pointers {
+    count: usize,
     bytes: Vec<u8>,
 }
 
 // By hand, so that who drops the pointers has one call to prove.
 impl Drop for Pointers {
     fn drop(self) {
-        let Pointers { bytes: _ } = self;
+        let Pointers { count: _, bytes: _ } = self;
     }
 }
 
 impl Model for Pointers {
-    ghost use Rattle.std.specs.Prelude.{ℕ, List};
+    ghost use Rattle.std.specs.Prelude.{◌≡◌, ℕ, List, length};
+    ghost use Rattle.roster_search.specs.Halves.{bytes_for, pointers_in};
 
     ghost Value = { List ℕ };
 
-    ghost view = { λ p. p.bytes.items };
+    ghost view = { λ p. pointers_in p.count p.bytes.items };
+
+    ghost invariant = { λ p. length p.bytes.items ≡ bytes_for p.count };
 }
 
 impl Pointers {
@@ -35,7 +44,8 @@ impl Pointers {
         ensures { IfOk result (λ pointers. length pointers ≡ count) }
     {
         Ok(Pointers {
-            bytes: vec![in alloc; 0; count]?,
+            count,
+            bytes: vec![in alloc; 0; count / 2 + count % 2]?,
         })
     }
 
@@ -43,22 +53,101 @@ impl Pointers {
     pub fn len(&self) -> usize
         ensures { result ≡ length self.now }
     {
-        self.bytes.len()
+        self.count
     }
 
     /// The pointer at a place.
     pub fn get(&self, place: usize) -> u8
         requires { place < length self.now }
-        ensures { result ≡ slice_index_or self.now place 0 }
+        ensures value { result ≡ slice_index_or self.now place 0 }
+        ensures small { result < 16 }
     {
-        self.bytes[place]
+        let half = self.bytes.len();
+        if place < half {
+            self.bytes[place] % 16
+        } else {
+            self.bytes[place - half] / 16
+        }
     }
 
-    /// Sets the pointer at a place; the others stay.
+    /// Sets the pointer at a place, below 16; the others stay.
     pub fn set(&mut self, place: usize, pointer: u8)
-        requires { place < length self.old }
+        requires place { place < length self.old }
+        requires pointer { pointer < 16 }
         ensures { self.new ≡ slice_set self.old place pointer }
     {
-        self.bytes[place] = pointer;
+        self.set_run(place, &[pointer]);
+    }
+
+    /// Sets the pointers of consecutive places, each below 16; the others stay.
+    pub fn set_run(&mut self, first: usize, run: &[u8])
+        requires room { first + length run.now ≤ length self.old }
+        requires small { (i : ℕ) → i < length run.now → slice_index_or run.now i 0 < 16 }
+        ensures inside { (i : ℕ) → i < length run.now → slice_index_or self.new (first + i) 0 ≡ slice_index_or run.now i 0 }
+        ensures others { SameOutside first (first + length run.now) self.old self.new }
+        ensures length { length self.new ≡ length self.old }
+    {
+        set_stretch(&mut self.bytes, first, run);
+    }
+}
+
+/// Sets a stretch of pointers in the halves of bytes: it may begin in the low ones and end in the high ones.
+fn set_stretch(bytes: &mut [u8], first: usize, run: &[u8])
+    requires room { first + length run.now ≤ length (halves bytes.old) }
+    requires small { (i : ℕ) → i < length run.now → slice_index_or run.now i 0 < 16 }
+    ensures { IsWritten first run.now (halves bytes.old) (halves bytes.new) }
+{
+    let half = bytes.len();
+    let end = first + run.len();
+    if end <= half {
+        set_low_run(bytes, first, run);
+    } else if half <= first {
+        set_high_run(bytes, first - half, run);
+    } else {
+        let (front, back) = run.split_at(half - first);
+        set_low_run(bytes, first, front);
+        set_high_run(bytes, 0, back);
+    }
+}
+
+/// Sets the low halves of a stretch of bytes.
+fn set_low_run(bytes: &mut [u8], first: usize, run: &[u8])
+    requires room { first + length run.now ≤ length bytes.old }
+    requires small { (i : ℕ) → i < length run.now → slice_index_or run.now i 0 < 16 }
+    ensures { IsWritten first run.now (halves bytes.old) (halves bytes.new) }
+{
+    set_low(&mut bytes[first..first + run.len()], run);
+}
+
+/// Sets the high halves of a stretch of bytes.
+fn set_high_run(bytes: &mut [u8], first: usize, run: &[u8])
+    requires room { first + length run.now ≤ length bytes.old }
+    requires small { (i : ℕ) → i < length run.now → slice_index_or run.now i 0 < 16 }
+    ensures { IsWritten (length bytes.old + first) run.now (halves bytes.old) (halves bytes.new) }
+{
+    set_high(&mut bytes[first..first + run.len()], run);
+}
+
+/// Sets the low halves of bytes; the high ones stay.
+fn set_low(bytes: &mut [u8], run: &[u8])
+    requires length { length run.now ≡ length bytes.old }
+    requires small { (i : ℕ) → i < length run.now → slice_index_or run.now i 0 < 16 }
+    ensures low { map low bytes.new ≡ run.now }
+    ensures high { map high bytes.new ≡ map high bytes.old }
+{
+    for i in 0..run.len() {
+        bytes[i] = bytes[i] / 16 * 16 + run[i];
+    }
+}
+
+/// Sets the high halves of bytes; the low ones stay.
+fn set_high(bytes: &mut [u8], run: &[u8])
+    requires length { length run.now ≡ length bytes.old }
+    requires small { (i : ℕ) → i < length run.now → slice_index_or run.now i 0 < 16 }
+    ensures high { map high bytes.new ≡ run.now }
+    ensures low { map low bytes.new ≡ map low bytes.old }
+{
+    for i in 0..run.len() {
+        bytes[i] = run[i] * 16 + bytes[i] % 16;
     }
 }

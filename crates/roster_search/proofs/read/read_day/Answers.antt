@@ -12,7 +12,7 @@ bounds-offers-pointer g c =
     let r = c.requires in
     let low = low_row (best_on k at offers g.rest s) r.1.1.1.1.1.0 r.1.1.1.1.1.1 in
     let points = points_at k at r.0 offers g.rest c.args.first c.args.pointers.now r.1.1.1.0 s c.code.result c.code.ensures.within c.code.ensures.back r.1.0 low.row low.is low.low in
-    omega (arith, c.get-pointer.ensures, pointer_within (best_by k at g.rest s) offers low.row (slice_index_or c.args.pointers.now (c.args.first + c.code.result) 0) points)
+    omega (arith, c.get-pointer.ensures.value, pointer_within (best_by k at g.rest s) offers low.row (slice_index_or c.args.pointers.now (c.args.first + c.code.result) 0) points)
 
 pub unreachable-requires : goal.unreachable-requires
 unreachable-requires g c =
@@ -23,7 +23,7 @@ unreachable-requires g c =
     let r = c.requires in
     let low = low_row (best_on k at offers g.rest s) r.1.1.1.1.1.0 r.1.1.1.1.1.1 in
     let points = points_at k at r.0 offers g.rest c.args.first c.args.pointers.now r.1.1.1.0 s c.code.result c.code.ensures.within c.code.ensures.back r.1.0 low.row low.is low.low in
-    read_goes_on k at g.rest s offers low.row c.get-pointer.result (subst (PointsToBest (best_by k at g.rest s) offers low.row) (sym c.get-pointer.ensures) points) _ c.shift.result c.shift.ensures c.after.result c.after.ensures.state c.in-None.is
+    read_goes_on k at g.rest s offers low.row c.get-pointer.result (subst (PointsToBest (best_by k at g.rest s) offers low.row) (sym c.get-pointer.ensures.value) points) _ c.shift.result c.shift.ensures c.after.result c.after.ensures.state c.in-None.is
 
 pub returns-clause-begins : goal.returns-clause-begins
 returns-clause-begins g c row best =
@@ -34,4 +34,4 @@ returns-clause-begins g c row best =
     let r = c.requires in
     let below = low_of (best_on k at offers g.rest s) row best r.1.1.1.1.1.1 in
     let points = points_at k at r.0 offers g.rest c.args.first c.args.pointers.now r.1.1.1.0 s c.code.result c.code.ensures.within c.code.ensures.back r.1.0 row best below in
-    read_begins k at g.rest s offers row c.get-pointer.result (subst (PointsToBest (best_by k at g.rest s) offers row) (sym c.get-pointer.ensures) points) _ c.shift.result c.shift.ensures c.after.result c.after.ensures.state c.in-Some.next c.in-Some.is
+    read_begins k at g.rest s offers row c.get-pointer.result (subst (PointsToBest (best_by k at g.rest s) offers row) (sym c.get-pointer.ensures.value) points) _ c.shift.result c.shift.ensures c.after.result c.after.ensures.state c.in-Some.next c.in-Some.is
