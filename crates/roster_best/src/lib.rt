@@ -7,6 +7,7 @@
 //! workspace then shows the nurse's best row, within the stated numbers of labels, pointers and steps.
 #![tactic(auto)]
 
+mod by_shift;
 mod laws;
 mod offer;
 mod search;

@@ -7,4 +7,5 @@ pub mod CellLaws
 pub mod BlockLaws
 pub mod ReadLaws
 pub mod OfferLaws
+pub mod ByShift
 pub mod BestRoom
