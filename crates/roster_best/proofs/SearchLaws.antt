@@ -20,8 +20,9 @@ use Rattle.roster_search.specs.declared.Offer.{Offer}
 use Rattle.roster_search.specs.ByStates.{best_behind}
 use Rattle.roster_search.specs.Cheapest.{Priced, cheapest}
 use Rattle.roster_search.proofs.Cheapest.{thing_or}
-use Rattle.roster_search.proofs.OfferLaws.{offers_of_case}
-use Rattle.roster_search.specs.Offers.{best_by_states, best_of_offers, choices_of, offer_step, offers_of}
+use Rattle.roster_search.proofs.ByShift.{best_by_shift, by_shift_all, by_shift_fewer}
+use Rattle.roster_search.proofs.OfferLaws.{offers_few, offers_of_case}
+use Rattle.roster_search.specs.Offers.{best_by_states, best_of_offers, choices_of, offer_step, offers_of, shift_offers}
 use Rattle.roster_search.specs.Tables.{AreLabels, ArePointers, BeginsWith, BestOnward, IsOfferOf, PointsWhereBest, SameOutside, best_at_end, best_by, best_on, no_row}
 use Rattle.roster_best.specs.Workspaces.{PointersFrom, onward, search_day}
 
@@ -29,19 +30,19 @@ module _ (c : Meaning) (r : Rows) (n : ℕ) where
   -- ---- the best row from a day on
 
   pub onward-first : onward c r n 0 (summary_of c n []) ≡ best_by_states c r n
-  onward-first = ap (λ m. best_of_offers c n (offers_of c r n) m 0 (summary_of c n [])) all
+  onward-first = ap (λ m. best_of_offers c n (shift_offers c r n) m 0 (summary_of c n [])) all ∙ best_by_shift c n (offers_of c r n) (day_count c) 0 (summary_of c n [])
     where
       all : day_count c - 0 ≡ day_count c
       all = omega arith
 
   pub onward-last : onward c r n (day_count c) ≡ best_at_end c n
-  onward-last = λ i s. best_of_offers c n (offers_of c r n) (none i) (day_count c) s
+  onward-last = λ i s. best_of_offers c n (shift_offers c r n) (none i) (day_count c) s
     where
       none : day_count c - day_count c ≡ 0
       none = omega arith
 
-  pub onward-day : (d : ℕ) → d < day_count c → onward c r n d ≡ best_on c (search_day c n d) (offers_of c r n d) (onward c r n (d + 1))
-  onward-day d within = (λ i s. best_of_offers c n (offers_of c r n) (more i) d s) ∙ (λ i s. cheapest (λ x. best_behind x (offer_step c n d s x) (best_of_offers c n (offers_of c r n) (day_count c - (d + 1)) (next i))) (offers_of c r n d))
+  pub onward-day : (d : ℕ) → d < day_count c → onward c r n d ≡ best_on c (search_day c n d) (shift_offers c r n d) (onward c r n (d + 1))
+  onward-day d within = (λ i s. best_of_offers c n (shift_offers c r n) (more i) d s) ∙ (λ i s. cheapest (λ x. best_behind x (offer_step c n d s x) (best_of_offers c n (shift_offers c r n) (day_count c - (d + 1)) (next i))) (shift_offers c r n d))
     where
       more : day_count c - d ≡ suc (day_count c - (d + 1))
       more = omega (arith, within)
@@ -51,14 +52,14 @@ module _ (c : Meaning) (r : Rows) (n : ℕ) where
 
   -- ---- the tables of a day more
 
-  pub labels_before : (d : ℕ) → d < day_count c → (labels : List ℕ) → AreLabels c n d (best_on c (search_day c n d) (offers_of c r n d) (onward c r n (d + 1))) labels → AreLabels c n d (onward c r n d) labels
+  pub labels_before : (d : ℕ) → d < day_count c → (labels : List ℕ) → AreLabels c n d (best_on c (search_day c n d) (shift_offers c r n d) (onward c r n (d + 1))) labels → AreLabels c n d (onward c r n d) labels
   labels_before d within labels = subst (λ best. AreLabels c n d best labels) (sym (onward-day d within))
 
   abbrev size : ℕ
   size = product (sizes_of c n)
 
   abbrev DayPointed : List ℕ → ℕ → ℕ → Type 0
-  DayPointed pointers first d = ArePointers c (search_day c n d) (offers_of c r n d) (onward c r n (d + 1)) first pointers
+  DayPointed pointers first d = ArePointers c (search_day c n d) (shift_offers c r n d) (onward c r n (d + 1)) first pointers
 
   pub pointers_before : (d first : ℕ) (old new : List ℕ) → first ≡ d * size → DayPointed new first d → SameOutside first (first + size) old new → PointersFrom c r n (d + 1) old → PointersFrom c r n d new
   pointers_before d first old new is here same later day from within = go (cases_lt d day)
@@ -66,7 +67,7 @@ module _ (c : Meaning) (r : Rows) (n : ℕ) where
       go : (d < day) ⊎ (day ≤ d) → DayPointed new (day * size) day
       go (inl behind) = λ code s below at stands.
           let place : first + size ≤ day * size + code = omega (arith, is, mul-le (d + 1) size day size (omega (arith, behind)) (omega arith)) in
-          subst (PointsWhereBest (best_by c (search_day c n day) (onward c r n (day + 1)) s) (offers_of c r n day) (best_on c (search_day c n day) (offers_of c r n day) (onward c r n (day + 1)) s))
+          subst (PointsWhereBest (best_by c (search_day c n day) (onward c r n (day + 1)) s) (shift_offers c r n day) (best_on c (search_day c n day) (shift_offers c r n day) (onward c r n (day + 1)) s))
           (sym (same.behind (day * size + code) place)) (later day (omega (arith, behind)) within code s below at stands)
       go (inr this) =
           let same_day : d ≡ day = omega (arith, this, from) in
@@ -109,7 +110,7 @@ module _ (c : Meaning) (r : Rows) (n : ℕ) where
   -- the day has a row from here on, and it is low
   module _ (day : ℕ) (within : day < day_count c) (s : Summary) (row : Row) (best : List Offer) (read : IsReadTo c r n day s row best) where
     abbrev here : Priced (List Offer)
-    here = best_on c (search_day c n day) (offers_of c r n day) (onward c r n (day + 1)) s
+    here = best_on c (search_day c n day) (shift_offers c r n day) (onward c r n (day + 1)) s
 
     here_is : here ≡ Some (read.cost, read.rest)
     here_is = sym (ap (λ (f : BestOnward). f s) (onward-day c r n day within)) ∙ read.is
@@ -140,9 +141,12 @@ all_nurses c greatest n is all = is ∙ ap (λ m. greatest_of (map (state_count 
 
 -- ---- a day's offers are taken, also where the case is known by an equation alone
 
-pub offers_taken : (k m : Meaning) → k ≡ m → HasSmallNumbers m → shift_count m ≤ most_shifts → skill_count m ≤ most_skills → (r : Rows) (n d : ℕ) (offers : List Offer) → offers ≡ offers_of k r n d → All (IsOfferOf m) offers
+pub offers_taken : (k m : Meaning) → k ≡ m → HasSmallNumbers m → shift_count m ≤ most_shifts → skill_count m ≤ most_skills → (r : Rows) (n d : ℕ) (offers : List Offer) → offers ≡ shift_offers k r n d → All (IsOfferOf m) offers
 offers_taken k m same small shifts skills r n d offers is =
-    subst (λ os. All (IsOfferOf m) os) (sym (is ∙ ap (λ (x : Meaning). offers_of x r n d) same)) (offers_of_case m r n d small shifts skills)
+    subst (λ os. All (IsOfferOf m) os) (sym (is ∙ ap (λ (x : Meaning). shift_offers x r n d) same)) (by_shift_all (IsOfferOf m) (offers_of m r n d) (offers_of_case m r n d small shifts skills))
+
+pub shift_offers_few : (c : Meaning) (r : Rows) (n d : ℕ) → length (shift_offers c r n d) ≤ choice_count c n
+shift_offers_few c r n d = omega (arith, by_shift_fewer (offers_of c r n d), offers_few c r n d)
 
 -- ---- a table that is written through its slice
 

@@ -5,7 +5,7 @@ use Rattle.roster_instance.specs.Rosters.{Row, Rows}
 use Rattle.roster_state.specs.Codes.{product, sizes_of}
 use Rattle.roster_laws.specs.Greatest.{greatest_state_count}
 use Rattle.roster_search.specs.declared.SearchDay.{SearchDay}
-use Rattle.roster_search.specs.Offers.{best_of_offers, offers_of}
+use Rattle.roster_search.specs.Offers.{best_of_offers, shift_offers}
 use Rattle.roster_search.specs.Tables.{ArePointers, BestOnward}
 
 -- how many labels its two tables have together, how many pointers and choices it has room for, and the row of the last search,
@@ -32,10 +32,10 @@ pub record SameRoom (old new : Space) : Type 0 where
 abbrev pub search_day : Meaning → ℕ → ℕ → SearchDay
 search_day c n day = record { nurse = n; day = day; ranges = sizes_of c n }
 
--- the best row of the days from one on, from a state on
+-- the best row of the days from one on, from a state on, over one offer for each shift
 abbrev pub onward : Meaning → Rows → ℕ → ℕ → BestOnward
-onward c r n day s = best_of_offers c n (offers_of c r n) (day_count c - day) day s
+onward c r n day s = best_of_offers c n (shift_offers c r n) (day_count c - day) day s
 
--- the pointers of each day from one on are right. The days stand one after another.
+-- the pointers of each day from one on are right: places among these offers. The days stand one after another.
 abbrev pub PointersFrom : Meaning → Rows → ℕ → ℕ → List ℕ → Type 0
-PointersFrom c r n from pointers = (day : ℕ) → from ≤ day → day < day_count c → ArePointers c (search_day c n day) (offers_of c r n day) (onward c r n (day + 1)) (day * product (sizes_of c n)) pointers
+PointersFrom c r n from pointers = (day : ℕ) → from ≤ day → day < day_count c → ArePointers c (search_day c n day) (shift_offers c r n day) (onward c r n (day + 1)) (day * product (sizes_of c n)) pointers

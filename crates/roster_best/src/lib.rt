@@ -7,6 +7,7 @@
 //! workspace then shows the nurse's best row, within the stated numbers of labels, pointers and steps.
 #![tactic(auto)]
 
+mod by_shift;
 mod laws;
 mod offer;
 mod search;
@@ -16,4 +17,4 @@ pub use laws::offers_tell_the_allowed_rows;
 pub use offer::choices;
 pub use roster_search::Offer;
 pub use search::{Best, best_row};
-pub use workspace::{BestFault, Workspace};
+pub use workspace::{BestFault, Workspace, most_steps};

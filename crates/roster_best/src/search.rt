@@ -6,12 +6,12 @@ ghost use Rattle.roster_instance.specs.Sizes.{choice_count};
 ghost use Rattle.roster_rules.specs.AllowedRows.{IsBestRow, penalty_with, row_keeps};
 ghost use Rattle.roster_laws.specs.Greatest.{extension_count};
 ghost use Rattle.roster_state.specs.Codes.{product, sizes_of};
-ghost use Rattle.roster_search.specs.Offers.{best_by_states, choices_of, offers_of};
+ghost use Rattle.roster_search.specs.Offers.{best_by_states, choices_of, shift_offers};
 ghost use Rattle.roster_search.specs.Tables.{AreLabels, ArePointers, BeginsWith, BestOnward, IsDayOf, SameOutside, Stands, best_on, no_row};
 ghost use Rattle.roster_search.specs.declared.Offer.{Offer};
 ghost use Rattle.roster_best.specs.Workspaces.{PointersFrom, SameRoom, fits_space, onward};
 
-use crate::offer::choices;
+use crate::by_shift::choices_by_shift;
 use crate::workspace::Workspace;
 use roster_case::{Choice, Held};
 use roster_search::{Pointers, SearchDay, label_day, label_end, read_day};
@@ -78,7 +78,7 @@ fn label_days(
 )
     requires nurse { nurse < nurse_count held.now.case }
     requires ranges { ranges.now ≡ sizes_of held.now.case nurse }
-    requires offered { (day : ℕ) → day < day_count held.now.case → 0 < length (offers_of held.now.case held.now.roster nurse day) }
+    requires offered { (day : ℕ) → day < day_count held.now.case → 0 < length (shift_offers held.now.case held.now.roster nurse day) }
     requires labels_room { product ranges.now ≤ length labels.old.items }
     requires same_room { length later.old.items ≡ length labels.old.items }
     requires pointers_room { day_count held.now.case * product ranges.now ≤ length pointers.old }
@@ -112,14 +112,14 @@ fn label_before(
 )
     ghost rest: { BestOnward }
     requires day { IsDayOf held.now.case at.now }
-    requires offered { 0 < length (offers_of held.now.case held.now.roster at.now.nurse at.now.day) }
+    requires offered { 0 < length (shift_offers held.now.case held.now.roster at.now.nurse at.now.day) }
     requires later { AreLabels held.now.case at.now.nurse (at.now.day + 1) rest later.now }
     requires all { product at.now.ranges ≤ length later.now }
     requires labels_room { product at.now.ranges ≤ length labels.old }
     requires pointers_room { day_count held.now.case * product at.now.ranges ≤ length pointers.old }
     requires room { meter.old + product at.now.ranges * choice_count held.now.case at.now.nurse ≤ 18446744073709551615 }
-    ensures labels { AreLabels held.now.case at.now.nurse at.now.day (best_on held.now.case at.now (offers_of held.now.case held.now.roster at.now.nurse at.now.day) rest) labels.new }
-    ensures pointers { ArePointers held.now.case at.now (offers_of held.now.case held.now.roster at.now.nurse at.now.day) rest (at.now.day * product at.now.ranges) pointers.new }
+    ensures labels { AreLabels held.now.case at.now.nurse at.now.day (best_on held.now.case at.now (shift_offers held.now.case held.now.roster at.now.nurse at.now.day) rest) labels.new }
+    ensures pointers { ArePointers held.now.case at.now (shift_offers held.now.case held.now.roster at.now.nurse at.now.day) rest (at.now.day * product at.now.ranges) pointers.new }
     ensures others { SameOutside (at.now.day * product at.now.ranges) (at.now.day * product at.now.ranges + product at.now.ranges) pointers.old pointers.new }
     ensures lengths { (length labels.new ≡ length labels.old) × (length pointers.new ≡ length pointers.old) }
     ensures some { meter.old < meter.new }
@@ -127,7 +127,7 @@ fn label_before(
 {
     let case = held.case();
     case.keeps_limits();
-    let offers = choices(held, at.nurse, at.day);
+    let offers = choices_by_shift(held, at.nurse, at.day);
     let first = at.day as u32 * at.ranges.product();
     label_day(case, at, &offers, later, labels, pointers, first, meter);
 }
@@ -163,16 +163,16 @@ fn read_choice(held: &Held, at: &SearchDay, state: &State, pointers: &Pointers) 
     ghost rest: { BestOnward }
     requires day { IsDayOf held.now.case at.now }
     requires stands { Stands held.now.case at.now.nurse at.now.day state.now }
-    requires pointers { ArePointers held.now.case at.now (offers_of held.now.case held.now.roster at.now.nurse at.now.day) rest (at.now.day * product at.now.ranges) pointers.now }
+    requires pointers { ArePointers held.now.case at.now (shift_offers held.now.case held.now.roster at.now.nurse at.now.day) rest (at.now.day * product at.now.ranges) pointers.now }
     requires pointers_room { day_count held.now.case * product at.now.ranges ≤ length pointers.now }
-    requires some { IsSome (best_on held.now.case at.now (offers_of held.now.case held.now.roster at.now.nurse at.now.day) rest state.now) }
-    requires low { IfSome (best_on held.now.case at.now (offers_of held.now.case held.now.roster at.now.nurse at.now.day) rest state.now) (λ row. row.0 < no_row) }
-    ensures begins { (row : ℕ × List Offer) → best_on held.now.case at.now (offers_of held.now.case held.now.roster at.now.nurse at.now.day) rest state.now ≡ Some row → BeginsWith rest row result.0 result.1 }
+    requires some { IsSome (best_on held.now.case at.now (shift_offers held.now.case held.now.roster at.now.nurse at.now.day) rest state.now) }
+    requires low { IfSome (best_on held.now.case at.now (shift_offers held.now.case held.now.roster at.now.nurse at.now.day) rest state.now) (λ row. row.0 < no_row) }
+    ensures begins { (row : ℕ × List Offer) → best_on held.now.case at.now (shift_offers held.now.case held.now.roster at.now.nurse at.now.day) rest state.now ≡ Some row → BeginsWith rest row result.0 result.1 }
     ensures stands { Stands held.now.case at.now.nurse (at.now.day + 1) result.1 }
 {
     let case = held.case();
     case.keeps_limits();
-    let offers = choices(held, at.nurse, at.day);
+    let offers = choices_by_shift(held, at.nurse, at.day);
     let first = at.day as u32 * at.ranges.product();
     read_day(case, at, state, &offers, pointers, first)
 }

@@ -26,7 +26,7 @@ keeps_first p q h = rw (le-ltb q.0 p.0 h)
 pub takes_second : {X : Type 0} (p q : ℕ × X) → q.0 < p.0 → cheaper (Some p) (Some q) ≡ Some q
 takes_second p q h = rw (lt-ltb q.0 p.0 h)
 
-grouped : {X : Type 0} (p q o : Priced X) → cheaper (cheaper p q) o ≡ cheaper p (cheaper q o)
+pub grouped : {X : Type 0} (p q o : Priced X) → cheaper (cheaper p q) o ≡ cheaper p (cheaper q o)
 grouped None q o = refl
 grouped (Some p) None o = refl
 grouped (Some p) (Some q) None = cheaper_none (cheaper (Some p) (Some q))

@@ -7,6 +7,7 @@ pub mod CellLaws
 pub mod BlockLaws
 pub mod ReadLaws
 pub mod OfferLaws
+pub mod ByShift
 pub mod BestRoom
 pub mod LowerLaws
 pub mod PartLaws

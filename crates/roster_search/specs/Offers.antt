@@ -1,6 +1,7 @@
 -- What is offered to a nurse, each choice with its price, and the search over it from state to state (our own).
-use Rattle.std.specs.Prelude.{ℕ, ◌+◌, List, [], filter, map, Option, option_map}
+use Rattle.std.specs.Prelude.{ℕ, ◌+◌, ◌==◌, Bool, true, false, nat_lt, if◌then◌else◌, List, [], ◌∷◌, filter, map, Option, Some, None, option_map}
 use Rattle.roster_rules.specs.declared.Choice.{Choice}
+use Rattle.roster_rules.specs.declared.Shift.{Shift}
 use Rattle.roster_rules.specs.Choices.{all_choices, shift_of}
 use Rattle.roster_rules.specs.Meaning.{Meaning, day_count}
 use Rattle.roster_rules.specs.Prefix.{Summary, summary_of}
@@ -17,6 +18,31 @@ offer_of c r n d choice = record { choice = choice; price = price c r n d choice
 -- the offers of a nurse on a day
 abbrev pub offers_of : Meaning → Rows → ℕ → ℕ → List Offer
 offers_of c r n d = map (offer_of c r n d) (filter (is_offered c r n d) (all_choices c))
+
+-- ---- one offer for each shift
+
+-- no shift, which is to be off, counts as one
+abbrev pub same_shift : Option Shift → Option Shift → Bool
+same_shift None None = true
+same_shift None (Some t) = false
+same_shift (Some s) None = false
+same_shift (Some s) (Some t) = s.0 == t.0
+
+-- an offer in front of others: where the next is for the same shift, only the cheaper stays, of equally cheap ones the first
+abbrev pub in_front : Offer → List Offer → List Offer
+in_front x [] = x ∷ []
+in_front x (y ∷ ys) = if same_shift (shift_of x.choice) (shift_of y.choice) then (if nat_lt y.price x.price then y ∷ ys else x ∷ ys) else x ∷ y ∷ ys
+
+-- of the offers for one shift, which stand side by side, the first of the cheapest
+unfoldable pub cheapest_by_shift : List Offer → List Offer
+cheapest_by_shift [] = []
+cheapest_by_shift (x ∷ xs) = in_front x (cheapest_by_shift xs)
+
+-- the cheapest offers of a nurse on a day
+abbrev pub shift_offers : Meaning → Rows → ℕ → ℕ → List Offer
+shift_offers c r n d = cheapest_by_shift (offers_of c r n d)
+
+-- ---- the search over offers
 
 abbrev pub choices_of : List Offer → Row
 choices_of offers = map (λ offer. offer.choice) offers

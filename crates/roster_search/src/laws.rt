@@ -1,6 +1,6 @@
 //! The best row is found from state to state. The functions here do nothing: each is a law, and its clauses say it.
 
-ghost use Rattle.std.specs.Prelude.{◌≡◌, ◌+◌, ◌<◌, ◌≤◌, ℕ, true, [], All, List, IsSome, Some, length};
+ghost use Rattle.std.specs.Prelude.{◌≡◌, ◌+◌, ◌<◌, ◌≤◌, ℕ, true, [], All, Contains, List, IsSome, Some, length};
 ghost use Rattle.roster_rules.specs.AllowedRows.{IsBestRow, penalty_with};
 ghost use Rattle.roster_rules.specs.HardRules.{keeps_hard};
 ghost use Rattle.roster_rules.specs.Limits.{most_shifts, most_skills, most_weeks};
@@ -12,7 +12,7 @@ ghost use Rattle.roster_rules.specs.Small.{HasSmallNumbers};
 ghost use Rattle.roster_laws.specs.OneRow.{rest_of};
 ghost use Rattle.roster_search.specs.ByStates.{Steps, best_from, cost_from, rows_from};
 ghost use Rattle.roster_search.specs.Cheapest.{cheapest, with_cost};
-ghost use Rattle.roster_search.specs.Offers.{best_by_states, choices_of, offers_of};
+ghost use Rattle.roster_search.specs.Offers.{best_by_states, best_of_offers, cheapest_by_shift, choices_of, offers_of, shift_offers};
 ghost use Rattle.roster_search.specs.Tables.{IsOfferOf, no_row};
 ghost use Rattle.roster_search.specs.declared.offer.Offer.{Offer};
 
@@ -38,4 +38,15 @@ pub fn offers_are_few()
     ensures each { (c : Meaning) → HasSmallNumbers c → shift_count c ≤ most_shifts → skill_count c ≤ most_skills → (r : Rows) (n d : ℕ) → All (IsOfferOf c) (offers_of c r n d) }
     ensures few { (c : Meaning) (r : Rows) (n d : ℕ) → length (offers_of c r n d) ≤ choice_count c n }
     ensures some { (c : Meaning) (r : Rows) → fits_case c r ≡ true → keeps_hard c r ≡ true → (n : ℕ) → n < nurse_count c → (d : ℕ) → d < day_count c → 0 < length (offers_of c r n d) }
+{}
+
+/// Of the offers for one shift the first of the cheapest is enough: over these the best row, with its cost, is the best row over
+/// all, also where several are equally cheap. They are some of all, one at least where there is one, and of a roster's on a day at
+/// most one for each shift and one to be off.
+pub fn one_offer_for_each_shift_is_enough()
+    ensures best { (c : Meaning) (n : ℕ) (offers : ℕ → List Offer) (m d : ℕ) (s : Summary) → best_of_offers c n (λ day. cheapest_by_shift (offers day)) m d s ≡ best_of_offers c n offers m d s }
+    ensures among { (offers : List Offer) (x : Offer) → Contains (cheapest_by_shift offers) x → Contains offers x }
+    ensures fewer { (offers : List Offer) → length (cheapest_by_shift offers) ≤ length offers }
+    ensures some { (offers : List Offer) → 0 < length offers → 0 < length (cheapest_by_shift offers) }
+    ensures few { (c : Meaning) (r : Rows) (n d : ℕ) → length (shift_offers c r n d) ≤ 1 + shift_count c }
 {}

@@ -9,12 +9,13 @@ use Rattle.roster_rules.specs.AllowedRows.{IsBestRow, penalty_with}
 use Rattle.roster_rules.specs.Prefix.{due, summary_of}
 use Rattle.roster_rules.specs.Room.{penalty_room}
 use Rattle.roster_state.specs.Codes.{product, sizes_of, state_at}
-use Rattle.roster_search.specs.Offers.{best_by_states, choices_of}
+use Rattle.roster_search.specs.Offers.{best_by_states, choices_of, offers_of}
 use Rattle.roster_search.specs.Tables.{Stands, no_row}
 use Rattle.roster_search.specs.Cheapest.{Priced}
 use Rattle.roster_search.specs.declared.Offer.{Offer}
 use Rattle.roster_laws.specs.Greatest.{greatest_state_count}
 use Rattle.roster_search.proofs.Best.{is_best, penalty_is}
+use Rattle.roster_search.proofs.ByShift.{by_shift_some}
 use Rattle.roster_search.proofs.OfferLaws.{offers_some}
 use Rattle.roster_search.proofs.ReadLaws.{LowRow}
 use Rattle.roster_best.specs.Workspaces.{Space}
@@ -44,7 +45,8 @@ room : (c : After-of-ranges) → HasRoom c.args.held.now.case c.args.workspace.n
 room c = room_of c.args.held.now.case c.args.workspace.now c.requires.fits
 
 pub label_days-requires-clause-offered : goal.label_days-requires-clause-offered
-label_days-requires-clause-offered c day within = offers_some c.args.held.now.case c.args.held.now.roster c.args.nurse day c.roster.ensures.fits c.roster.ensures.keeps c.requires.nurse within
+label_days-requires-clause-offered c day within =
+    by_shift_some (offers_of c.args.held.now.case c.args.held.now.roster c.args.nurse day) (offers_some c.args.held.now.case c.args.held.now.roster c.args.nurse day c.roster.ensures.fits c.roster.ensures.keeps c.requires.nurse within)
 
 pub label_days-requires-clause-labels_room : goal.label_days-requires-clause-labels_room
 label_days-requires-clause-labels_room c =

@@ -4,8 +4,7 @@ use Rattle.roster_instance.specs.Meaning.{day_count}
 use Rattle.roster_instance.specs.Sizes.{choice_count}
 use Rattle.roster_state.specs.Codes.{product}
 use Rattle.roster_search.specs.Tables.{AreLabels, IsDayOf}
-use Rattle.roster_search.proofs.OfferLaws.{offers_few}
-use Rattle.roster_best.proofs.SearchLaws.{offers_taken}
+use Rattle.roster_best.proofs.SearchLaws.{offers_taken, shift_offers_few}
 use Rattle.roster_best.proofs.search.label_before.Goals as goal
 
 pub label_day-requires : goal.label_day-requires
@@ -17,14 +16,14 @@ label_day-requires g c =
     let r = c.requires in
     let limits = c.keeps_limits.ensures in
     let same : k ≡ c.case-case.result.now = sym c.case-case.ensures in
-    let offers = c.deref.ensures.0 ∙ c.choices-offers.ensures.offers in
-    let few = offers_few k rows at.nurse at.day in
+    let offers = c.deref.ensures.0 ∙ c.choices_by_shift-offers.ensures.offers in
+    let few = shift_offers_few k rows at.nurse at.day in
     let length_is = ap length offers in (
       subst (λ m. IsDayOf m at) same r.0,
       (
         offers_taken k c.case-case.result.now same limits.small limits.shifts limits.skills rows at.nurse at.day c.deref.result.now offers,
         (
-          omega (arith, ap length c.deref.ensures.0, c.choices-offers.ensures.few),
+          omega (arith, ap length c.deref.ensures.0, c.choices_by_shift-offers.ensures.few),
           (
             subst (λ m. AreLabels m at.nurse (at.day + 1) g.rest c.args.later.now) same r.1.1.0,
             (
@@ -46,7 +45,7 @@ pub returns-clause-some : goal.returns-clause-some
 returns-clause-some g c =
     let k = c.args.held.now.case in
     let at = c.args.at.now in
-    let offers = c.deref.ensures.0 ∙ c.choices-offers.ensures.offers in
+    let offers = c.deref.ensures.0 ∙ c.choices_by_shift-offers.ensures.offers in
     let one = mul-le 1 1 (product at.ranges) (length c.deref.result.now) (omega (arith, c.product.ensures.some, c.product.ensures.product)) (omega (arith, c.requires.1.0, ap length offers)) in
     omega (arith, c.label_day.ensures.counted, one)
 
@@ -55,6 +54,6 @@ returns-clause-counted g c =
     let k = c.args.held.now.case in
     let at = c.args.at.now in
     let size = product at.ranges in
-    let offers = c.deref.ensures.0 ∙ c.choices-offers.ensures.offers in
-    let few = offers_few k c.args.held.now.roster at.nurse at.day in
+    let offers = c.deref.ensures.0 ∙ c.choices_by_shift-offers.ensures.offers in
+    let few = shift_offers_few k c.args.held.now.roster at.nurse at.day in
     omega (arith, c.label_day.ensures.counted, mul-le size (length c.deref.result.now) size (choice_count k at.nurse) (omega arith) (omega (arith, few, ap length offers)))

@@ -17,7 +17,7 @@ read_day-requires g c =
     let r = c.requires in
     let limits = c.keeps_limits.ensures in
     let same : k ≡ c.case-case.result.now = sym c.case-case.ensures in
-    let offers = c.deref.ensures.0 ∙ c.choices-offers.ensures.offers in
+    let offers = c.deref.ensures.0 ∙ c.choices_by_shift-offers.ensures.offers in
     let back = sym offers in
     let first : at.day * size ≡ at.day * c.product.result = ap (λ n. at.day * n) (sym c.product.ensures.product) in (
       transport (λ i. IsDayOf (same i) at) r.0,

@@ -4,7 +4,7 @@ use Rattle.std.proofs.lemmas.List.{length-set}
 use Rattle.roster_instance.specs.Meaning.{Meaning, day_count}
 use Rattle.roster_rules.specs.Prefix.{summary_of}
 use Rattle.roster_state.specs.Codes.{Sizes, product}
-use Rattle.roster_search.specs.Offers.{best_by_states, offers_of}
+use Rattle.roster_search.specs.Offers.{best_by_states, shift_offers}
 use Rattle.roster_search.specs.Tables.{ArePointers, BestOnward, Stands}
 use Rattle.roster_search.proofs.ReadLaws.{low_of, low_row}
 use Rattle.roster_best.specs.Workspaces.{onward, search_day}
@@ -37,7 +37,7 @@ read_choice-choice-requires c =
       (
         c.loop-day.invariant.stands,
         (
-          subst (λ (z : Sizes). ArePointers k (search_day k n day) (offers_of k rows n day) (onward k rows n (day + 1)) (day * product z) c.args.pointers.now) (sym r.ranges) (r.pointers day (omega arith) within),
+          subst (λ (z : Sizes). ArePointers k (search_day k n day) (shift_offers k rows n day) (onward k rows n (day + 1)) (day * product z) c.args.pointers.now) (sym r.ranges) (r.pointers day (omega arith) within),
           (
             r.pointers_room,
             (reads_some k rows n day within c.loop-day.state c.loop-day.row low.row.1 read, reads_low k rows n day within c.loop-day.state c.loop-day.row low.row.1 read),
