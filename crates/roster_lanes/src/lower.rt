@@ -1,6 +1,6 @@
 //! Lowering labels by vectors of 16.
 
-ghost use Rattle.std.specs.Prelude.{◌≡◌, ℕ, ◌+◌, ◌<◌, ◌≤◌, length, min, nat_lt, slice_index_or, if◌then◌else◌};
+ghost use Rattle.std.specs.Prelude.{◌≡◌, ℕ, ◌+◌, ◌<◌, ◌≤◌, length, min, nat_lt, slice_index_or, if◌then◌else◌, ◌==◌};
 ghost use Rattle.std.specs.Int.{bit_at};
 ghost use Rattle.roster_lanes.specs.Lanes.{LabelsLowered, PointersSet, SameOutside, pointer_by, raised};
 
@@ -16,9 +16,9 @@ pub fn lower16(labels: &mut [u32; 16], others: &[u32; 16]) -> u16
     ensures bits { (i : ℕ) → i < 16 → bit_at result i ≡ (if nat_lt (slice_index_or others.now i 0) (slice_index_or labels.old i 0) then 1 else 0) }
 {
     let old = u32x16::from_slice(&labels[..]);
-    let other = u32x16::from_slice(&others[..]);
-    old.simd_min(other).copy_to_slice(&mut labels[..]);
-    other.simd_lt(old).to_bitmask() as u16
+    let least = old.simd_min(u32x16::from_slice(&others[..]));
+    least.copy_to_slice(&mut labels[..]);
+    least.simd_ne(old).to_bitmask() as u16
 }
 
 /// Lowers each label to the other one at its place with so much more, where that is strictly smaller, and sets the label's pointer
@@ -87,7 +87,7 @@ fn lower_at(
         set_pointers(
             &mut pointers[first..first + LANES],
             &old,
-            &candidates,
+            &labels[first..first + LANES],
             pointer,
         );
     }
@@ -125,15 +125,16 @@ fn lower_labels(labels: &mut [u32], candidates: &[u32; 16]) -> u16
     lower16(places, candidates)
 }
 
-/// Sets the pointers where the candidate is strictly smaller than the label.
+/// Sets the pointers of 16 labels where the label isn't the old one.
 #[inline(always)]
-fn set_pointers(pointers: &mut [u8], labels: &[u32; 16], candidates: &[u32; 16], pointer: u8)
-    requires { length pointers.old ≡ 16 }
-    ensures { (i : ℕ) → i < 16 → slice_index_or pointers.new i 0 ≡ pointer_by (slice_index_or labels.now i 0) (slice_index_or candidates.now i 0) (slice_index_or pointers.old i 0) pointer }
+fn set_pointers(pointers: &mut [u8], old: &[u32; 16], labels: &[u32], pointer: u8)
+    requires pointers { length pointers.old ≡ 16 }
+    requires labels { length labels.now ≡ 16 }
+    ensures { (i : ℕ) → i < 16 → slice_index_or pointers.new i 0 ≡ (if slice_index_or labels.now i 0 == slice_index_or old.now i 0 then slice_index_or pointers.old i 0 else pointer) }
 {
-    let is_lower = u32x16::from_slice(&candidates[..]).simd_lt(u32x16::from_slice(&labels[..]));
-    is_lower
+    let stays = u32x16::from_slice(labels).simd_eq(u32x16::from_slice(&old[..]));
+    stays
         .cast::<i8>()
-        .select(u8x16::splat(pointer), u8x16::from_slice(pointers))
+        .select(u8x16::from_slice(pointers), u8x16::splat(pointer))
         .copy_to_slice(pointers);
 }

@@ -8,6 +8,8 @@ mod devices_tests;
 #[cfg(test)]
 mod held_tests;
 #[cfg(test)]
+mod lanes_tests;
+#[cfg(test)]
 mod library_tests;
 #[cfg(test)]
 mod rounds_tests;
