@@ -23,7 +23,8 @@ use Rattle.roster_search.proofs.Cheapest.{thing_or}
 use Rattle.roster_search.proofs.ByShift.{best_by_shift, by_shift_all, by_shift_fewer}
 use Rattle.roster_search.proofs.OfferLaws.{offers_few, offers_of_case}
 use Rattle.roster_search.specs.Offers.{best_by_states, best_of_offers, choices_of, offer_step, offers_of, shift_offers}
-use Rattle.roster_search.specs.Tables.{AreLabels, ArePointers, BeginsWith, BestOnward, IsOfferOf, PointsWhereBest, SameOutside, best_at_end, best_by, best_on, no_row}
+use Rattle.roster_lanes.specs.Lanes.{SameOutside}
+use Rattle.roster_search.specs.Tables.{AreLabels, ArePointers, BeginsWith, BestOnward, IsOfferOf, PointsWhereBest, best_at_end, best_by, best_on, no_row}
 use Rattle.roster_best.specs.Workspaces.{PointersFrom, onward, search_day}
 
 module _ (c : Meaning) (r : Rows) (n : ℕ) where

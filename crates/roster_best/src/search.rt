@@ -7,7 +7,8 @@ ghost use Rattle.roster_rules.specs.AllowedRows.{IsBestRow, penalty_with, row_ke
 ghost use Rattle.roster_laws.specs.Greatest.{extension_count};
 ghost use Rattle.roster_state.specs.Codes.{product, sizes_of};
 ghost use Rattle.roster_search.specs.Offers.{best_by_states, choices_of, shift_offers};
-ghost use Rattle.roster_search.specs.Tables.{AreLabels, ArePointers, BeginsWith, BestOnward, IsDayOf, SameOutside, Stands, best_on, no_row};
+ghost use Rattle.roster_lanes.specs.Lanes.{SameOutside};
+ghost use Rattle.roster_search.specs.Tables.{AreLabels, ArePointers, BeginsWith, BestOnward, IsDayOf, Stands, best_on, no_row};
 ghost use Rattle.roster_search.specs.declared.Offer.{Offer};
 ghost use Rattle.roster_best.specs.Workspaces.{PointersFrom, SameRoom, fits_space, onward};
 

@@ -15,7 +15,8 @@ use Rattle.roster_search.specs.declared.day.SearchDay.{SearchDay}
 use Rattle.roster_search.specs.declared.offer.Offer.{Offer}
 use Rattle.roster_search.specs.Cheapest.{Priced, cheapest}
 use Rattle.roster_state.proofs.CodeLemmas.{place-fits}
-use Rattle.roster_search.specs.Tables.{AreLabels, AreOfLeast, BestOnward, AreLowered, Cells, IsDayOf, LabelsBelow, LeastFrom, PointersBelow, PointsWhereBest, SameOutside, Stands, best_by, best_on, label_of, no_row}
+use Rattle.roster_lanes.specs.Lanes.{SameOutside}
+use Rattle.roster_search.specs.Tables.{AreLabels, AreOfLeast, BestOnward, AreLowered, Cells, IsDayOf, LabelsBelow, LeastFrom, PointersBelow, PointsWhereBest, Stands, best_by, best_on, label_of, no_row}
 use Rattle.roster_search.proofs.CellLaws.{block_more}
 use Rattle.roster_search.proofs.LabelLaws.{label_at, label_at-is, label_refused, label_within, least_of_none, step_low, taken_kept, taken_lower}
 

@@ -5,7 +5,8 @@ use mir.Val.{bool_byte}
 use Rattle.roster_rules.specs.Weights.{assignment_weight}
 use Rattle.roster_state.specs.Blocks.{place_behind, place_cost}
 use Rattle.roster_state.specs.declared.block.BlockStep.{BlockStep}
-use Rattle.roster_search.specs.Tables.{AreLowered, SameOutside}
+use Rattle.roster_lanes.specs.Lanes.{SameOutside}
+use Rattle.roster_search.specs.Tables.{AreLowered}
 
 -- the same, by numbers that agree on the stretch
 pub lowered_alike : (from end : ℕ) (f g : ℕ → ℕ) (number : ℕ) (l p l1 p1 : List ℕ) → ((a : ℕ) → from ≤ a → a < end → f a ≡ g a) → AreLowered from end f number l p l1 p1 → AreLowered from end g number l p l1 p1

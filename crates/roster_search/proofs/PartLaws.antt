@@ -2,7 +2,8 @@
 use Rattle.std.proofs.Common.{◌≡◌, ◌∙◌, ◌+◌, ◌<◌, ◌≤◌, ℕ, ap, arith, subst, sym, List, ◌++◌, length, get_or, slice_index_or, take, drop}
 use Rattle.std.proofs.lemmas.List.{get_or-append_right, get_or-drop, get_or-take, get_or_append_left, length-append, length-drop, length-take, places}
 use borrow.Rule.Slice.PartMut.{post_of, put_mid}
-use Rattle.roster_search.specs.Tables.{Cells, SameOutside}
+use Rattle.roster_lanes.specs.Lanes.{SameOutside}
+use Rattle.roster_search.specs.Tables.{Cells}
 
 module _ (a : ℕ) (old part : List ℕ) (room : a + length part ≤ length old) where
   pub part_length : length (put_mid a (length part) old part) ≡ length old

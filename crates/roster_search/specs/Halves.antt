@@ -1,6 +1,6 @@
 -- Two pointers in a byte, each below 16 (our own).
 use Rattle.std.specs.Prelude.{◌≡◌, ◌+◌, ◌/◌, ◌%◌, ◌<◌, ℕ, List, ◌++◌, length, map, slice_index_or, take}
-use Rattle.roster_search.specs.Tables.{SameOutside}
+use Rattle.roster_lanes.specs.Lanes.{SameOutside}
 
 abbrev pub low : ℕ → ℕ
 low byte = byte % 16

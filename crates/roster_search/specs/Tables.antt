@@ -114,11 +114,6 @@ pub record AreLowered (from end : ℕ) (others : ℕ → ℕ) (number : ℕ) (la
   pub label : (a : ℕ) → from ≤ a → a < end → slice_index_or labels a 0 ≡ min (slice_index_or labels_old a 0) (others a)
   pub pointer : (a : ℕ) → from ≤ a → a < end → slice_index_or pointers a 0 ≡ (if nat_lt (others a) (slice_index_or labels_old a 0) then number else slice_index_or pointers_old a 0)
 
--- outside these places nothing has changed
-pub record SameOutside (first end : ℕ) (old new : List ℕ) : Type 0 where
-  pub before : (place : ℕ) → place < first → slice_index_or new place 0 ≡ slice_index_or old place 0
-  pub behind : (place : ℕ) → end ≤ place → slice_index_or new place 0 ≡ slice_index_or old place 0
-
 -- the best row begins with this choice, and goes on from the next state with the best row there
 pub record BeginsWith (later : BestOnward) (row : ℕ × List Offer) (choice : Choice) (next : Summary) : Type 0 where
   pub offer : Offer

@@ -6,7 +6,8 @@ ghost use Rattle.roster_rules.specs.Weights.{assignment_weight};
 ghost use Rattle.roster_state.specs.Codes.{code_of, fits_sizes, product, sizes_of};
 ghost use Rattle.roster_state.specs.Room.{most_of_step};
 ghost use Rattle.roster_state.specs.Blocks.{place_behind, place_cost};
-ghost use Rattle.roster_search.specs.Tables.{AreLabels, AreLowered, ArePointers, BestOnward, Cells, IsDayOf, IsOfferOf, LeastFrom, SameOutside, best_at_end, best_on, most_price, no_row};
+ghost use Rattle.roster_lanes.specs.Lanes.{SameOutside};
+ghost use Rattle.roster_search.specs.Tables.{AreLabels, AreLowered, ArePointers, BestOnward, Cells, IsDayOf, IsOfferOf, LeastFrom, best_at_end, best_on, most_price, no_row};
 
 use crate::day::SearchDay;
 use crate::offer::Offer;

@@ -5,7 +5,7 @@
 
 ghost use Rattle.std.specs.Prelude.{◌≡◌, ◌+◌, ◌<◌, ◌≤◌, ℕ, IfOk, length, map, slice_index_or, slice_set};
 ghost use Rattle.roster_search.specs.Halves.{IsWritten, halves, high, low};
-ghost use Rattle.roster_search.specs.Tables.{SameOutside};
+ghost use Rattle.roster_lanes.specs.Lanes.{SameOutside};
 
 use std::alloc::{AllocError, Global};
 use std::marker::Model;

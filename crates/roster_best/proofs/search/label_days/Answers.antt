@@ -6,7 +6,8 @@ use Rattle.roster_instance.specs.Meaning.{day_count}
 use Rattle.roster_instance.specs.Sizes.{choice_count}
 use Rattle.roster_laws.specs.Greatest.{extension_count}
 use Rattle.roster_state.specs.Codes.{Sizes, product}
-use Rattle.roster_search.specs.Tables.{AreLabels, SameOutside, best_at_end}
+use Rattle.roster_lanes.specs.Lanes.{SameOutside}
+use Rattle.roster_search.specs.Tables.{AreLabels, best_at_end}
 use Rattle.roster_best.specs.Workspaces.{PointersFrom, onward}
 use Rattle.roster_best.proofs.SearchLaws.{extension_is, labels_before, length_after, onward-last, pointers_before, table_after}
 use Rattle.roster_best.proofs.search.label_days.Goals as goal

@@ -3,7 +3,8 @@ use Rattle.std.proofs.lemmas.List.{length-take-le}
 use Rattle.std.proofs.lemmas.List.Edits.{length-between}
 use borrow.Rule.Slice.PartMut.{put_mid}
 use Rattle.roster_state.specs.Codes.{code_of}
-use Rattle.roster_search.specs.Tables.{Cells, LeastFrom, SameOutside}
+use Rattle.roster_lanes.specs.Lanes.{SameOutside}
+use Rattle.roster_search.specs.Tables.{Cells, LeastFrom}
 use Rattle.roster_search.proofs.PartLaws.{cells_moved, part_inside, part_outside}
 use Rattle.roster_search.proofs.labels.label_block.Goals as goal
 

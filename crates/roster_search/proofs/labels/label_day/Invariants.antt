@@ -1,6 +1,7 @@
 use Rattle.std.proofs.Common.{◌≡◌, ◌+◌, ◌*◌, length}
 use Rattle.roster_state.specs.Codes.{product}
-use Rattle.roster_search.specs.Tables.{LabelsBelow, PointersBelow, SameOutside, best_on}
+use Rattle.roster_lanes.specs.Lanes.{SameOutside}
+use Rattle.roster_search.specs.Tables.{LabelsBelow, PointersBelow, best_on}
 use Rattle.roster_search.proofs.labels.label_day.Given as goal
 
 abbrev pub ghost-label_block : goal.ghost-label_block
