@@ -6,46 +6,13 @@ use Rattle.roster_rules.specs.Counting.{one_if}
 use Rattle.roster_rules.specs.Meaning.{Meaning, contract_of, forbids, shift_count}
 use Rattle.roster_rules.specs.Prefix.{Summary}
 use Rattle.roster_rules.specs.Sizes.{cap}
-use Rattle.roster_rules.specs.Small.{HasSmallNumbers}
 use Rattle.roster_rules.specs.Weights.{assignment_weight}
 use Rattle.roster_state.specs.Codes.{fits_sizes, sizes_of}
-use Rattle.roster_state.specs.Room.{most_of_step}
 use Rattle.roster_state.specs.Step.{cost_apart, next_of, step_cost, step_of, with_assignments}
+use Rattle.roster_state.proofs.BlockLaw.{cost_at, next_at, where_some}
 use Rattle.roster_state.proofs.RangeLemmas.{next_fits}
-use Rattle.roster_state.proofs.StepBounds.{runs_more_within, shifts_more_within, split_more_within, weekend_more_within}
-
--- ---- a step that may be forbidden
-
--- what holds of the step holds where there is one
-pub where_some : {X : Type 0} (forbidden : Bool) (x : X) (o : Option X) → o ≡ (if forbidden then None else Some x) → (P : X → Type 0) → P x → IfSome o P
-where_some true x o is P holds = subst (λ p. IfSome p P) (sym is) tt
-where_some false x o is P holds = subst (λ p. IfSome p P) (sym is) holds
-
--- ---- the parts of a step
 
 module _ (c : Meaning) (n day : ℕ) (s : Summary) (shift : Option Shift) where
-  abbrev assignments_behind : ℕ → ℕ
-  assignments_behind a = min (a + one_if (is_some shift)) (cap (contract_of c n).total)
-
-  abbrev total_more : ℕ → ℕ
-  total_more a = if nat_le (contract_of c n).total.greatest a then assignment_weight * one_if (is_some shift) else 0
-
-  next_at : (a : ℕ) → record (next_of c n day s shift) { assignments = assignments_behind a } ≡ next_of c n day (with_assignments s a) shift
-  unfolding next_of
-  next_at a = by_shift shift
-    where
-      by_shift : (o : Option Shift) → record (next_of c n day s o) { assignments = min (a + one_if (is_some o)) (cap (contract_of c n).total) } ≡ next_of c n day (with_assignments s a) o
-      by_shift None = refl
-      by_shift (Some t) = refl
-
-  cost_at : (a : ℕ) → cost_apart c n day s shift + total_more a ≡ step_cost c n day (with_assignments s a) shift
-  unfolding step_cost
-  cost_at a = omega arith
-
-  pub apart_within : HasSmallNumbers c → cost_apart c n day s shift + assignment_weight ≤ most_of_step
-  apart_within small =
-      omega (arith, runs_more_within c n s shift small, shifts_more_within c n s shift small, split_more_within c n s shift day, weekend_more_within c n s shift day)
-
   -- the fields of a day's step
   module _ (f : Bool) (x : Summary) (k : ℕ) (w : Bool) (l : Limits) (forbidden : f ≡ forbids c.successions s.last shift) (next : x ≡ next_of c n day s shift) (cost : k ≡ cost_apart c n day s shift) (works : w ≡ is_some shift) (total : l ≡ (contract_of c n).total) where
     abbrev step_by : ℕ → Option (Summary × ℕ)
@@ -54,7 +21,7 @@ module _ (c : Meaning) (n day : ℕ) (s : Summary) (shift : Option Shift) where
     pub steps : (a : ℕ) → step_by a ≡ step_of c n day (with_assignments s a) shift
     steps a =
         (λ i. if forbidden i then None else Some (record (next i) { assignments = min (a + one_if (works i)) (cap (total i)) }, cost i + (if nat_le (total i).greatest a then assignment_weight * one_if (works i) else 0)))
-        ∙ ap₂ (λ y m. if forbids c.successions s.last shift then None else Some (y, m)) (next_at a) (cost_at a)
+        ∙ ap₂ (λ y m. if forbids c.successions s.last shift then None else Some (y, m)) (next_at c n day s shift a) (cost_at c n day s shift a)
 
     pub steps_fit : IfSome shift (λ u. u.0 < shift_count c) → (a : ℕ) → IfSome (step_by a) (λ step. fits_sizes (sizes_of c n) step.0 ≡ true)
     steps_fit known a =

@@ -13,7 +13,9 @@ use crate::meter::Meter;
 use crate::ranges::Ranges;
 use crate::state::{State, shift_numbered};
 use crate::step::{cost_apart, next_of};
+use roster_rules::weights::ASSIGNMENT;
 use roster_rules::{Case, Limits, Shift};
+use std::cmp::min;
 use std::marker::Model;
 
 /// The states that differ in their assignments alone: place i is the state with i assignments.
@@ -79,6 +81,16 @@ impl Block {
         self.state.fits(ranges)
     }
 
+    /// The state of a place.
+    pub fn state(&self, assignments: u16) -> State
+        ensures { result ≡ with_assignments self.now assignments }
+    {
+        State {
+            assignments,
+            ..self.state
+        }
+    }
+
     /// How many places a block has: the greater of the least and the greatest total, and one more.
     pub fn places(&self, ranges: &Ranges) -> u32
         ensures places { result ≡ ranges.now.assignments }
@@ -115,8 +127,39 @@ pub struct BlockStep {
     pub dearer_from: u32,
 }
 
+impl BlockStep {
+    ghost use Rattle.roster_state.specs.Blocks.{place_behind, place_cost};
+
+    /// To which of so many places a place goes.
+    #[inline(always)]
+    pub fn place_behind(&self, places: u32, place: u32) -> u32
+        requires { place < places }
+        ensures place { result ≡ place_behind places self.now.moves place }
+        ensures within { result < places }
+    {
+        if !self.moves {
+            return place;
+        }
+        min(place + 1, places - 1)
+    }
+
+    /// What the day costs a place, in penalty points.
+    #[inline(always)]
+    pub fn place_cost(&self, place: u32) -> u32
+        requires { self.now.cost + assignment_weight ≤ most_of_step }
+        ensures cost { result ≡ place_cost self.now place }
+        ensures within { result ≤ most_of_step }
+    {
+        if place < self.dearer_from {
+            return self.cost;
+        }
+        self.cost + ASSIGNMENT
+    }
+}
+
 /// One day more from all states of a block, on which the nurse works this shift or is off. None exactly where the last shift forbids
 /// the next. Either way the meter counts one for each place.
+#[inline(always)]
 pub fn extend_block(
     case: &Case,
     nurse: usize,
@@ -139,9 +182,27 @@ pub fn extend_block(
     ensures dearer { IfSome result (λ step. step.dearer_from ≤ (sizes_of case.now nurse).assignments) }
     ensures within { IfSome result (λ step. step.cost + assignment_weight ≤ most_of_step) }
 {
-    let total = case.contract_rules(nurse).total;
-    let places = total.cap() as u32 + 1;
-    meter.add(places as u64);
+    meter.add(case.contract_rules(nurse).total.cap() as u64 + 1);
+    block_step(case, nurse, day, block, shift)
+}
+
+/// What `extend_block` answers. It counts nothing.
+#[inline(always)]
+pub(crate) fn block_step(
+    case: &Case,
+    nurse: usize,
+    day: u16,
+    block: Block,
+    shift: Option<Shift>,
+) -> Option<BlockStep>
+    requires shift { IfSome shift (λ s. s.0 < shift_count case.now) }
+    requires fits { fits_sizes (sizes_of case.now nurse) block ≡ true }
+    ensures forbidden { IsNone result ↔ forbids case.now.successions block.last shift ≡ true }
+    ensures steps { (a : ℕ) → a < (sizes_of case.now nurse).assignments → option_map (place_step (sizes_of case.now nurse).assignments a) result ≡ step_of case.now nurse day (with_assignments block a) shift }
+    ensures next_fits { IfSome result (λ step. fits_sizes (sizes_of case.now nurse) step.next ≡ true) }
+    ensures dearer { IfSome result (λ step. step.dearer_from ≤ (sizes_of case.now nurse).assignments) }
+    ensures within { IfSome result (λ step. step.cost + assignment_weight ≤ most_of_step) }
+{
     if case.forbids_next(block.state.last, shift) {
         return None;
     }
@@ -149,11 +210,12 @@ pub fn extend_block(
         next: Block::of(next_of(case, nurse, day, block.state, shift)),
         moves: shift.is_some(),
         cost: cost_apart(case, nurse, day, block.state, shift),
-        dearer_from: dearer_from(total, shift),
+        dearer_from: dearer_from(case.contract_rules(nurse).total, shift),
     })
 }
 
 /// From which place on an assignment of the day is above the greatest total. The number of places where the nurse is off.
+#[inline(always)]
 fn dearer_from(total: Limits, shift: Option<Shift>) -> u32
     ensures { result ≡ (if is_some shift then total.greatest else cap total + 1) }
 {

@@ -13,7 +13,7 @@ ghost use Rattle.roster_rules.specs.Weights.{assignment_weight, free_run_weight,
 ghost use Rattle.roster_state.specs.Room.{most_at_end, most_at_start, most_of_step};
 ghost use Rattle.roster_state.specs.Step.{cost_apart, end_cost_of, ended, free_more, free_run, next_of, open_shift_run, shifts_more, split_more, step_of, weekend_more, worked, working_more, working_run};
 
-use crate::day_step::DayStep;
+use crate::block::{Block, block_step};
 use crate::meter::Meter;
 use crate::state::State;
 use roster_rules::weights::{ASSIGNMENT, FREE_RUN, SHIFT_RUN, SPLIT, WEEKEND, WORKING_RUN};
@@ -63,7 +63,12 @@ pub fn extend(
     ensures next_fits { IfSome result (λ step. fits_sizes (sizes_of case.now nurse) step.0 ≡ true) }
     ensures within { IfSome result (λ step. step.1 ≤ most_of_step) }
 {
-    DayStep::of(case, nurse, day, state, shift).extend(state.assignments, meter)
+    meter.add_one();
+    let step = block_step(case, nurse, day, Block::of(state), shift)?;
+    let places = case.contract_rules(nurse).total.cap() as u32 + 1;
+    let place = state.assignments as u32;
+    let behind = step.place_behind(places, place) as u16;
+    Some((step.next.state(behind), step.place_cost(place)))
 }
 
 /// The state that `extend` gives, without its cost. It counts nothing.
@@ -154,6 +159,7 @@ fn missing_cost(case: &Case, nurse: usize, state: State) -> u32
 // ---- a step
 
 #[tactic(auto, unfolding(crate::specs::Step::next_of))]
+#[inline(always)]
 pub(crate) fn next_of(
     case: &Case,
     nurse: usize,
@@ -183,6 +189,7 @@ pub(crate) fn next_of(
 }
 
 /// What the day costs, but for an assignment above the greatest total.
+#[inline(always)]
 pub(crate) fn cost_apart(
     case: &Case,
     nurse: usize,
@@ -203,6 +210,7 @@ pub(crate) fn cost_apart(
 }
 
 /// The points for each missing or extra day of the runs of working days and of days off.
+#[inline(always)]
 fn runs_more(case: &Case, nurse: usize, state: State, shift: Option<Shift>) -> u32
     ensures cost { result ≡ working_more case.now nurse state shift + free_more case.now nurse state shift }
     ensures within { result ≤ 65536 * (working_run_weight + free_run_weight) }
@@ -215,6 +223,7 @@ fn runs_more(case: &Case, nurse: usize, state: State, shift: Option<Shift>) -> u
 }
 
 /// The points for a weekend that the day splits, where the contract wants whole weekends.
+#[inline(always)]
 fn split_more(case: &Case, nurse: usize, day: u16, state: State, shift: Option<Shift>) -> u32
     ensures cost { result ≡ split_more case.now nurse day state shift }
     ensures within { result ≤ split_weight }
@@ -226,6 +235,7 @@ fn split_more(case: &Case, nurse: usize, day: u16, state: State, shift: Option<S
 }
 
 /// The points for a worked weekend above the greatest number.
+#[inline(always)]
 fn weekend_more(case: &Case, nurse: usize, day: u16, state: State, shift: Option<Shift>) -> u32
     ensures cost { result ≡ weekend_more case.now nurse day state shift }
     ensures within { result ≤ weekend_weight }
@@ -239,6 +249,7 @@ fn weekend_more(case: &Case, nurse: usize, day: u16, state: State, shift: Option
 /// The points for each missing or extra day of the runs of the shifts: that of the last shift may end, that of this one goes
 /// on or begins, and no other is open.
 #[tactic(auto, using(crate::proofs::ShiftLaw::shifts_by_two))]
+#[inline(always)]
 fn shifts_more(case: &Case, state: State, shift: Option<Shift>) -> u32
     requires last { IfSome state.last (λ s. s.0 < shift_count case.now) }
     requires shift { IfSome shift (λ s. s.0 < shift_count case.now) }
@@ -249,6 +260,7 @@ fn shifts_more(case: &Case, state: State, shift: Option<Shift>) -> u32
 }
 
 /// What the run of the last shift misses, where it ends.
+#[inline(always)]
 fn ended(case: &Case, state: State, shift: Option<Shift>) -> u32
     ensures violations { result ≡ ended (run_of_shift case.now) state.last state.shift_run shift }
     ensures within { result ≤ 65536 }
@@ -263,6 +275,7 @@ fn ended(case: &Case, state: State, shift: Option<Shift>) -> u32
 }
 
 /// 1 where the worked shift is an extra day of its run.
+#[inline(always)]
 fn worked(case: &Case, state: State, shift: Option<Shift>) -> u32
     ensures violations { result ≡ worked (run_of_shift case.now) state.last state.shift_run shift }
     ensures within { result ≤ 65536 }

@@ -1,5 +1,5 @@
 use Rattle.std.proofs.Common.{arith}
-use Rattle.roster_state.proofs.DayStepLaw.{apart_within}
+use Rattle.roster_state.proofs.BlockLaw.{apart_within}
 use Rattle.roster_state.proofs.step.cost_apart.Goals as goal
 
 pub returns-clause-within : goal.returns-clause-within

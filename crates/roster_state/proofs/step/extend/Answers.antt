@@ -1,18 +1,24 @@
-use Rattle.std.proofs.Common.{◌≡◌, ◌∙◌, ◌+◌, ◌++◌, ◌∷◌, [], ap, length, refl}
+use Rattle.std.proofs.Common.{◌≡◌, ◌+◌, ◌++◌, ◌∷◌, [], arith, ℕ, Option, Some, length, refl, rules}
+use Rattle.std.proofs.lemmas.Grind.{common_steps}
 use Rattle.roster_rules.specs.Days.{Days}
 use Rattle.roster_rules.specs.Meaning.{forbids}
 use Rattle.roster_rules.specs.Prefix.{Summary, due, summary_of}
-use Rattle.roster_state.specs.Step.{next_of, step_cost, step_of, with_assignments}
-use Rattle.roster_state.proofs.DayStepLaw.{where_some}
+use Rattle.roster_state.specs.Step.{next_of, step_cost, step_of}
+use Rattle.roster_state.proofs.BlockLaw.{where_some}
 use Rattle.roster_state.proofs.SumLaw.{step_leads, step_owes}
 use Rattle.roster_state.proofs.step.extend.Goals as goal
+
+abbrev step : (c : goal.After-place_cost) → Option (Summary × ℕ)
+step c = Some (c.state-2.result, c.place_cost.result)
+
+is : (c : goal.After-place_cost) → step c ≡ step_of c.args.case.now c.args.nurse c.args.day c.args.state c.args.shift
+is c = first_of (search rules, grind (arith, common_steps))
 
 pub returns-clause-summary : goal.returns-clause-summary
 returns-clause-summary c =
     let k = c.args.case.now in
     let n = c.args.nurse in
-    let is : c.extend.result ≡ step_of k n c.args.day c.args.state c.args.shift = c.extend.ensures.step ∙ c.of.ensures.steps _ ∙ ap (λ (s : Summary). step_of k n c.args.day (with_assignments c.args.state s.assignments) c.args.shift) c.state.view_is in
-    where_some (forbids k.successions c.args.state.last c.args.shift) (next_of k n c.args.day c.args.state c.args.shift, step_cost k n c.args.day c.args.state c.args.shift) c.extend.result is
+    where_some (forbids k.successions c.args.state.last c.args.shift) (next_of k n c.args.day c.args.state c.args.shift, step_cost k n c.args.day c.args.state c.args.shift) (step c) (is c)
     (λ step. (days : Days) → length days ≡ c.args.day → c.args.state ≡ summary_of k n days → step.0 ≡ summary_of k n (days ++ c.args.shift ∷ []))
     (λ days long at. step_leads k n c.args.state days at c.args.day c.args.shift _ long refl)
 
@@ -20,7 +26,6 @@ pub returns-clause-owed : goal.returns-clause-owed
 returns-clause-owed c =
     let k = c.args.case.now in
     let n = c.args.nurse in
-    let is : c.extend.result ≡ step_of k n c.args.day c.args.state c.args.shift = c.extend.ensures.step ∙ c.of.ensures.steps _ ∙ ap (λ (s : Summary). step_of k n c.args.day (with_assignments c.args.state s.assignments) c.args.shift) c.state.view_is in
-    where_some (forbids k.successions c.args.state.last c.args.shift) (next_of k n c.args.day c.args.state c.args.shift, step_cost k n c.args.day c.args.state c.args.shift) c.extend.result is
+    where_some (forbids k.successions c.args.state.last c.args.shift) (next_of k n c.args.day c.args.state c.args.shift, step_cost k n c.args.day c.args.state c.args.shift) (step c) (is c)
     (λ step. (days : Days) → length days ≡ c.args.day → c.args.state ≡ summary_of k n days → due k n (days ++ c.args.shift ∷ []) ≡ due k n days + step.1)
     (λ days long at. step_owes k n c.args.state days at c.args.day c.args.shift _ long refl)

@@ -6,7 +6,7 @@ use Rattle.roster_rules.specs.Sizes.{cap}
 use Rattle.roster_state.specs.declared.block.Block.TheInside.{Inside}
 use Rattle.roster_state.specs.Step.{next_of, step_of, with_assignments}
 use Rattle.roster_state.proofs.BlockLaw.{block_fits, dearer, places_step}
-use Rattle.roster_state.proofs.block.extend_block.Goals as goal
+use Rattle.roster_state.proofs.block.block_step.Goals as goal
 
 next : (c : goal.After-dearer_from) → c.of.result ≡ with_assignments (next_of c.args.case.now c.args.nurse c.args.day c.block.inside.state c.args.shift) 0
 next c = c.of.ensures ∙ ap (λ (s : Summary). with_assignments s 0) c.next_of.ensures
