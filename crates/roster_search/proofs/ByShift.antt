@@ -9,7 +9,7 @@ use Rattle.std.proofs.lemmas.List.FromFn.{length-range_with_len}
 use Rattle.roster_rules.specs.declared.Choice.{Choice}
 use Rattle.roster_rules.specs.declared.Choice.TheVariants.{Off, Work}
 use Rattle.roster_rules.specs.declared.Shift.{Shift}
-use Rattle.roster_rules.specs.Choices.{all_choices, shift_of}
+use Rattle.roster_rules.specs.Choices.{shift_of}
 use Rattle.roster_rules.specs.Meaning.{Meaning, shift_at, shift_count, skill_at, skill_count}
 use Rattle.roster_rules.specs.Prefix.{Summary}
 use Rattle.roster_rules.specs.Rosters.{Rows}
@@ -18,7 +18,7 @@ use Rattle.roster_state.specs.Step.{step_of}
 use Rattle.roster_search.specs.declared.offer.Offer.{Offer}
 use Rattle.roster_search.specs.Cheapest.{Priced, cheaper, cheapest, raised}
 use Rattle.roster_search.specs.ByStates.{best_behind}
-use Rattle.roster_search.specs.Offers.{best_of_offers, cheapest_by_shift, dearer, in_front, offer_of, offer_step, offers_of, same_shift, shift_offers}
+use Rattle.roster_search.specs.Offers.{best_of_offers, cheapest_by_shift, dearer, in_front, offer_of, offer_step, same_shift, shift_offers}
 use Rattle.roster_search.proofs.Cheapest.{grouped, keeps_first, takes_second}
 
 -- ---- the same shift
