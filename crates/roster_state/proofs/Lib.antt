@@ -4,8 +4,8 @@ pub mod RowLemmas
 pub mod OpenRuns
 pub mod SumLaw
 pub mod BlockLaw
-pub mod DayStepLaw
 pub mod StartLaw
 pub mod StepBounds
 pub mod CodeLemmas
 pub mod TriedDays
+pub mod Standing

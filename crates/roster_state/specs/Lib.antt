@@ -1,5 +1,5 @@
 pub mod Step
-pub mod DayStep
 pub mod Blocks
 pub mod Codes
 pub mod Room
+pub mod Standing

@@ -1,12 +1,13 @@
 //! The states that differ in their assignments alone, and one day more from all of them at once.
 
-ghost use Rattle.std.specs.Prelude.{◌≡◌, ◌↔◌, ◌+◌, ◌*◌, ◌<◌, ◌≤◌, ℕ, true, IfSome, IsNone, Some, if◌then◌else◌, is_some, option_map};
+ghost use Rattle.std.specs.Prelude.{◌≡◌, ◌↔◌, ◌+◌, ◌*◌, ◌<◌, ◌≤◌, ◌&&◌, ◌||◌, ℕ, true, nat_le, IfSome, IsNone, Some, if◌then◌else◌, is_some, option_map};
 ghost use Rattle.roster_rules.specs.Meaning.{day_count, forbids, nurse_count, shift_count};
 ghost use Rattle.roster_rules.specs.Sizes.{cap};
 ghost use Rattle.roster_rules.specs.Weights.{assignment_weight};
 ghost use Rattle.roster_state.specs.Blocks.{place_step};
 ghost use Rattle.roster_state.specs.Codes.{blocks, code_of, fits_sizes, product, sizes_of, state_at};
 ghost use Rattle.roster_state.specs.Room.{most_of_step};
+ghost use Rattle.roster_state.specs.Standing.{can_be, excess};
 ghost use Rattle.roster_state.specs.Step.{step_of, with_assignments};
 
 use crate::meter::Meter;
@@ -14,7 +15,7 @@ use crate::ranges::Ranges;
 use crate::state::{State, shift_numbered};
 use crate::step::{cost_apart, next_of};
 use roster_rules::weights::ASSIGNMENT;
-use roster_rules::{Case, Limits, Shift};
+use roster_rules::{Border, Case, Limits, Past, Shift};
 use std::cmp::min;
 use std::marker::Model;
 
@@ -91,6 +92,26 @@ impl Block {
         }
     }
 
+    /// Whether a row may lead to its states: a run of days off goes with no run of a shift, and a run of a shift is no longer than
+    /// the working days in a row, as far as these are told apart and the history doesn't say otherwise. What a search leaves out by
+    /// this no row meets, since it holds before the first day and goes on from day to day.
+    #[inline(always)]
+    pub fn can_be(&self, case: &Case, nurse: usize) -> bool
+        requires nurse { nurse < nurse_count case.now }
+        ensures { result ≡ can_be case.now nurse self.now }
+    {
+        let rules = case.contract_rules(nurse);
+        match self.state.last {
+            None => self.state.run <= rules.free.cap() && self.state.shift_run == 0,
+            Some(shift) => can_work(
+                &self.state,
+                rules.working,
+                case.run_of_shift(shift),
+                excess(case.past(nurse)),
+            ),
+        }
+    }
+
     /// How many places a block has: the greater of the least and the greatest total, and one more.
     pub fn places(&self, ranges: &Ranges) -> u32
         ensures places { result ≡ ranges.now.assignments }
@@ -107,6 +128,35 @@ impl Block {
         ensures within { result + ranges.now.assignments ≤ product ranges.now }
     {
         self.state.code(ranges)
+    }
+}
+
+/// Whether the runs of a working state are within their caps, and that of the shift no longer than that of the working days and so
+/// many days more, where these aren't as many as are told apart.
+#[inline(always)]
+fn can_work(state: &State, working: Limits, shift: Limits, more: u32) -> bool
+    requires { more ≤ 65535 }
+    ensures { result ≡ (nat_le state.now.run (cap working) && nat_le state.now.shift_run (cap shift) && (nat_le (cap working) state.now.run || nat_le state.now.shift_run (state.now.run + more))) }
+{
+    let is_full = working.cap() <= state.run;
+    state.run <= working.cap()
+        && state.shift_run <= shift.cap()
+        && (is_full || state.shift_run as u32 <= state.run as u32 + more)
+}
+
+/// How many days more the history counts of its last shift than of working days.
+#[inline(always)]
+fn excess(past: Past) -> u32
+    ensures days { result ≡ excess past.border }
+    ensures within { result ≤ 65535 }
+{
+    match past.border {
+        Border::Free(_) => 0,
+        Border::Working {
+            shift_run,
+            working_run,
+            ..
+        } => shift_run.saturating_sub(working_run) as u32,
     }
 }
 
@@ -179,6 +229,7 @@ pub fn extend_block(
     // Each place goes where its state goes, at the same cost.
     ensures steps { (a : ℕ) → a < (sizes_of case.now nurse).assignments → option_map (place_step (sizes_of case.now nurse).assignments a) result ≡ step_of case.now nurse day (with_assignments block a) shift }
     ensures next_fits { IfSome result (λ step. fits_sizes (sizes_of case.now nurse) step.next ≡ true) }
+    ensures next_can_be { can_be case.now nurse block ≡ true → IfSome result (λ step. can_be case.now nurse step.next ≡ true) }
     ensures dearer { IfSome result (λ step. step.dearer_from ≤ (sizes_of case.now nurse).assignments) }
     ensures within { IfSome result (λ step. step.cost + assignment_weight ≤ most_of_step) }
 {
@@ -200,6 +251,7 @@ pub(crate) fn block_step(
     ensures forbidden { IsNone result ↔ forbids case.now.successions block.last shift ≡ true }
     ensures steps { (a : ℕ) → a < (sizes_of case.now nurse).assignments → option_map (place_step (sizes_of case.now nurse).assignments a) result ≡ step_of case.now nurse day (with_assignments block a) shift }
     ensures next_fits { IfSome result (λ step. fits_sizes (sizes_of case.now nurse) step.next ≡ true) }
+    ensures next_can_be { can_be case.now nurse block ≡ true → IfSome result (λ step. can_be case.now nurse step.next ≡ true) }
     ensures dearer { IfSome result (λ step. step.dearer_from ≤ (sizes_of case.now nurse).assignments) }
     ensures within { IfSome result (λ step. step.cost + assignment_weight ≤ most_of_step) }
 {

@@ -2,7 +2,6 @@
 #![tactic(auto)]
 
 mod block;
-mod day_step;
 mod meter;
 mod ranges;
 mod row;
@@ -10,7 +9,6 @@ mod state;
 mod step;
 
 pub use block::{Block, BlockStep, extend_block};
-pub use day_step::DayStep;
 pub use meter::Meter;
 pub use ranges::Ranges;
 pub use row::row_cost;

@@ -80,24 +80,6 @@ impl State {
             weekends: (weekends % ranges.weekends) as u16,
         })
     }
-
-    /// The state without assignments of a block. With each number of assignments it is the next state of the block.
-    pub fn of_block(ranges: &Ranges, block: u32) -> State
-        requires { block < blocks ranges.now }
-        ensures states { (a : ℕ) → a < ranges.now.assignments → state_at ranges.now (block * ranges.now.assignments + a) ≡ Some (with_assignments result a) }
-        ensures fit { (a : ℕ) → a < ranges.now.assignments → fits_sizes ranges.now (with_assignments result a) ≡ true }
-        ensures fits { fits_sizes ranges.now result ≡ true }
-    {
-        let shift_run = block / ranges.weekends;
-        let run = shift_run / ranges.shift_run;
-        State {
-            last: shift_numbered(run / ranges.run),
-            run: (run % ranges.run) as u16,
-            shift_run: (shift_run % ranges.shift_run) as u16,
-            assignments: 0,
-            weekends: (block % ranges.weekends) as u16,
-        }
-    }
 }
 
 /// The last shift as a number, 0 where there is none.

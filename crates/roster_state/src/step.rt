@@ -11,6 +11,7 @@ ghost use Rattle.roster_rules.specs.Sizes.{cap};
 ghost use Rattle.roster_state.specs.Codes.{fits_sizes, sizes_of};
 ghost use Rattle.roster_rules.specs.Weights.{assignment_weight, free_run_weight, shift_run_weight, split_weight, weekend_weight, working_run_weight};
 ghost use Rattle.roster_state.specs.Room.{most_at_end, most_at_start, most_of_step};
+ghost use Rattle.roster_state.specs.Standing.{can_be};
 ghost use Rattle.roster_state.specs.Step.{cost_apart, end_cost_of, ended, free_more, free_run, next_of, open_shift_run, shifts_more, split_more, step_of, weekend_more, worked, working_more, working_run};
 
 use crate::block::{Block, block_step};
@@ -27,6 +28,7 @@ pub fn start(case: &Case, nurse: usize) -> (State, u32)
     ensures state { result.0 ≡ summary_of case.now nurse [] }
     ensures cost { result.1 ≡ due case.now nurse [] }
     ensures fits { fits_sizes (sizes_of case.now nurse) result.0 ≡ true }
+    ensures can_be { can_be case.now nurse result.0 ≡ true }
     ensures within { result.1 ≤ most_at_start }
 {
     let past = case.past(nurse);
@@ -86,6 +88,7 @@ pub fn after(
     ensures state { result ≡ (if forbids case.now.successions state.last shift then None else Some (next_of case.now nurse day state shift)) }
     ensures summary { IfSome result (λ next. (days : Days) → length days ≡ day → state ≡ summary_of case.now nurse days → next ≡ summary_of case.now nurse (days ++ shift ∷ [])) }
     ensures next_fits { IfSome result (λ next. fits_sizes (sizes_of case.now nurse) next ≡ true) }
+    ensures next_can_be { can_be case.now nurse state ≡ true → IfSome result (λ next. can_be case.now nurse next ≡ true) }
 {
     if case.forbids_next(state.last, shift) {
         return None;

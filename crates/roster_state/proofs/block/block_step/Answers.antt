@@ -1,11 +1,13 @@
-use Rattle.std.proofs.Common.{◌≡◌, ◌∙◌, ◌+◌, ap, false, if◌then◌else◌, is_some, sym}
+use Rattle.std.proofs.Common.{◌≡◌, ◌∙◌, ◌+◌, ap, false, if◌then◌else◌, is_some, subst, sym, true}
 use Rattle.roster_rules.specs.declared.ContractRules.{ContractRules}
 use Rattle.roster_rules.specs.Meaning.{forbids}
 use Rattle.roster_rules.specs.Prefix.{Summary}
 use Rattle.roster_rules.specs.Sizes.{cap}
 use Rattle.roster_state.specs.declared.block.Block.TheInside.{Inside}
+use Rattle.roster_state.specs.Standing.{can_be}
 use Rattle.roster_state.specs.Step.{next_of, step_of, with_assignments}
 use Rattle.roster_state.proofs.BlockLaw.{block_fits, dearer, places_step}
+use Rattle.roster_state.proofs.Standing.{next_can_be}
 use Rattle.roster_state.proofs.block.block_step.Goals as goal
 
 next : (c : goal.After-dearer_from) → c.of.result ≡ with_assignments (next_of c.args.case.now c.args.nurse c.args.day c.block.inside.state c.args.shift) 0
@@ -25,3 +27,9 @@ returns-clause-steps c a inside =
 pub returns-clause-next_fits : goal.returns-clause-next_fits
 returns-clause-next_fits c =
     block_fits c.args.case.now c.args.nurse c.args.day c.block.inside.state c.args.shift _ _ _ _ (next c) c.is_some.ensures c.cost_apart.ensures.cost (from c) c.requires.shift
+
+pub returns-clause-next_can_be : goal.returns-clause-next_can_be
+returns-clause-next_can_be c now =
+    let k = c.args.case.now in
+    let n = c.args.nurse in
+    subst (λ (s : Summary). can_be k n s ≡ true) (sym (next c)) (next_can_be k n c.args.day c.block.inside.state c.args.shift (subst (λ (s : Summary). can_be k n s ≡ true) (sym c.block.view_is) now))

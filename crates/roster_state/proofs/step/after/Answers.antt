@@ -1,7 +1,9 @@
 use Rattle.std.proofs.Common.{◌≡◌, subst, sym, true}
 use Rattle.roster_rules.specs.Prefix.{Summary}
 use Rattle.roster_state.specs.Codes.{fits_sizes, sizes_of}
+use Rattle.roster_state.specs.Standing.{can_be}
 use Rattle.roster_state.proofs.RangeLemmas.{next_fits}
+use Rattle.roster_state.proofs.Standing.{next_can_be}
 use Rattle.roster_state.proofs.SumLaw.{step_leads}
 use Rattle.roster_state.proofs.step.after.Goals as goal
 
@@ -11,3 +13,7 @@ returns-clause-summary c days long is = step_leads c.args.case.now c.args.nurse 
 pub returns-clause-next_fits : goal.returns-clause-next_fits
 returns-clause-next_fits c =
     subst (λ (s : Summary). fits_sizes (sizes_of c.args.case.now c.args.nurse) s ≡ true) (sym c.next_of.ensures) (next_fits c.args.case.now c.args.nurse c.args.day c.args.state c.args.shift c.requires.shift)
+
+pub returns-clause-next_can_be : goal.returns-clause-next_can_be
+returns-clause-next_can_be c now =
+    subst (λ (s : Summary). can_be c.args.case.now c.args.nurse s ≡ true) (sym c.next_of.ensures) (next_can_be c.args.case.now c.args.nurse c.args.day c.args.state c.args.shift now)

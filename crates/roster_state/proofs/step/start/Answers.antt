@@ -4,10 +4,15 @@ use Rattle.roster_rules.specs.declared.Past.{Past}
 use Rattle.roster_rules.specs.Meaning.{last_shift, shift_count}
 use Rattle.roster_rules.specs.Prefix.{Summary}
 use Rattle.roster_state.specs.Codes.{fits_sizes, sizes_of}
+use Rattle.roster_state.specs.Standing.{can_be}
 use Rattle.roster_state.proofs.RangeLemmas.{summary_fits}
+use Rattle.roster_state.proofs.Standing.{start_can_be}
 use Rattle.roster_state.proofs.step.start.Goals as goal
 
 pub returns-clause-fits : goal.returns-clause-fits
 returns-clause-fits c =
     let known = subst (λ (past : Past). IfSome (last_shift past.border) (λ (s : Shift). s.0 < shift_count c.args.case.now)) c.past-past.ensures.past c.past-past.ensures.known in
     subst (λ (s : Summary). fits_sizes (sizes_of c.args.case.now c.args.nurse) s ≡ true) (sym c.start_state.ensures) (summary_fits c.args.case.now c.args.nurse [] known)
+
+pub returns-clause-can_be : goal.returns-clause-can_be
+returns-clause-can_be c = subst (λ (s : Summary). can_be c.args.case.now c.args.nurse s ≡ true) (sym c.start_state.ensures) (start_can_be c.args.case.now c.args.nurse)
