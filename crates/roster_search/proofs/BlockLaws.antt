@@ -1,15 +1,17 @@
 -- A block of states that differ in their assignments alone: its cells by one offer more, and a table with one block more.
-use Rattle.std.proofs.Common.{◌≡◌, ◌∙◌, ◌+◌, ◌*◌, ◌<◌, ◌≤◌, ◌⊎◌, ℕ, Bool, suc, true, false, inl, inr, ap, arith, mul_comm, mul_right_comm, subst, sym, List, [], length, min, nat_lt, if◌then◌else◌, slice_index_or, take, Option, Some, None}
-use Rattle.std.proofs.Math.Nat.{suc-mul}
-use Rattle.std.proofs.lemmas.Bool.{cases_lt, le-ltb, lt-ltb}
+use Rattle.std.proofs.Common.{◌≡◌, ◌∙◌, ◌+◌, ◌*◌, ◌/◌, ◌%◌, ◌&&◌, ◌<◌, ◌≤◌, ◌⊎◌, ℕ, Bool, suc, true, false, inl, inr, ap, arith, mul-pos, mul_comm, mul_right_comm, subst, sym, List, [], length, min, nat_lt, if◌then◌else◌, slice_index_or, take, Option, Some, None}
+use Rattle.std.proofs.Math.Nat.{suc-mul, zero-div, zero-mod}
+use Rattle.std.proofs.lemmas.Bool.{cases_lt, le-leb, le-ltb, lt-ltb}
 use Rattle.std.proofs.lemmas.Nat.{mul-le}
 use Rattle.roster_rules.specs.declared.Shift.{Shift}
 use Rattle.roster_rules.specs.Choices.{shift_of}
-use Rattle.roster_rules.specs.Meaning.{Meaning}
+use Rattle.roster_rules.specs.Meaning.{Meaning, contract_of, past_of}
+use Rattle.roster_rules.specs.Sizes.{cap}
 use Rattle.roster_rules.specs.Prefix.{Summary}
 use Rattle.roster_state.specs.declared.block.BlockStep.{BlockStep}
 use Rattle.roster_state.specs.Blocks.{place_behind, place_cost, place_step}
-use Rattle.roster_state.specs.Codes.{code_of, fits_sizes, sizes_of, state_at}
+use Rattle.roster_state.specs.Codes.{Sizes, code_of, fits_sizes, product, shift_numbered, sizes_of, state_at, state_numbered}
+use Rattle.roster_state.specs.Standing.{can_be, can_be_with, excess}
 use Rattle.roster_state.specs.Step.{step_of, with_assignments}
 use Rattle.roster_search.specs.declared.day.SearchDay.{SearchDay}
 use Rattle.roster_search.specs.declared.offer.Offer.{Offer}
@@ -18,7 +20,7 @@ use Rattle.roster_state.proofs.CodeLemmas.{place-fits}
 use Rattle.roster_lanes.specs.Lanes.{SameOutside}
 use Rattle.roster_search.specs.Tables.{AreLabels, AreOfLeast, BestOnward, AreLowered, Cells, IsDayOf, LabelsBelow, LeastFrom, PointersBelow, PointsWhereBest, Stands, best_by, best_on, label_of, no_row}
 use Rattle.roster_search.proofs.CellLaws.{block_more}
-use Rattle.roster_search.proofs.LabelLaws.{label_at, label_at-is, label_refused, label_within, least_of_none, step_low, taken_kept, taken_lower}
+use Rattle.roster_search.proofs.LabelLaws.{label_at-is, label_refused, label_within, least_of_none, step_low, taken_kept, taken_lower}
 
 -- ---- a place by one offer more
 
@@ -64,7 +66,13 @@ module _ (c : Meaning) (at : SearchDay) (later : BestOnward) (s : Summary) (offe
 
   -- an allowed one lowers the places by the labels behind
   module _ (day : IsDayOf c at) (behind : List ℕ) (right : AreLabels c at.nurse (at.day + 1) later behind) (size : m ≡ at.ranges.assignments) (step : BlockStep) (steps : (a : ℕ) → a < m → Some (place_step m a step) ≡ step_of c at.nurse at.day (with_assignments s a) shift)
-      (fits : fits_sizes at.ranges step.next ≡ true) (first : ℕ) (codes : (a : ℕ) → a < m → code_of at.ranges (with_assignments step.next a) ≡ first + a) (window : List ℕ) (shown : (a : ℕ) → a < m → slice_index_or window a 0 ≡ slice_index_or behind (first + a) 0) where
+      (fits : fits_sizes at.ranges step.next ≡ true) (next_can_be : can_be c at.nurse step.next ≡ true) (first : ℕ) (codes : (a : ℕ) → a < m → code_of at.ranges (with_assignments step.next a) ≡ first + a) (window : List ℕ) (shown : (a : ℕ) → a < m → slice_index_or window a 0 ≡ slice_index_or behind (first + a) 0) where
+    -- the state behind at a place
+    behind_stands : (b : ℕ) → b < m → Stands c at.nurse (at.day + 1) (with_assignments step.next b)
+    behind_stands b below =
+        let fits_there : fits_sizes at.ranges (with_assignments step.next b) ≡ true = place-fits at.ranges step.next b (subst (λ k. b < k) size below) fits in
+        record { fits = subst (λ z. fits_sizes z (with_assignments step.next b) ≡ true) day.ranges fits_there; can_be = next_can_be }
+
     place_inside : (a : ℕ) → a < m → place_behind m step.moves a < m
     place_inside a below = go step.moves
       where
@@ -79,10 +87,8 @@ module _ (c : Meaning) (at : SearchDay) (later : BestOnward) (s : Summary) (offe
     label_behind a below =
         let b = place_behind m step.moves a in
         let there = place_inside a below in
-        let fits_there : fits_sizes at.ranges (with_assignments step.next b) ≡ true = place-fits at.ranges step.next b (subst (λ k. b < k) size there) fits in
-        let of_nurse : fits_sizes (sizes_of c at.nurse) (with_assignments step.next b) ≡ true = subst (λ z. fits_sizes z (with_assignments step.next b) ≡ true) day.ranges fits_there in
         ap (λ l. min ((slice_index_or offers place d).price + place_cost step a + l) no_row) (shown b there ∙ ap (λ k. slice_index_or behind k 0) (sym (codes b there)))
-        ∙ label_at-is c at day later behind right (with_assignments s a) (slice_index_or offers place d) (Some (place_step m a step)) (by_choice a (Some (place_step m a step)) (steps a below)) of_nurse
+        ∙ label_at-is c at day later behind right (with_assignments s a) (slice_index_or offers place d) (place_step m a step) (by_choice a (Some (place_step m a step)) (steps a below)) (behind_stands b there)
 
     pub cells_lowered : (labels_new numbers_new : List ℕ) → AreLowered 0 m (λ a. (slice_index_or offers place d).price + place_cost step a + slice_index_or window (place_behind m step.moves a) 0) place labels numbers labels_new numbers_new → Cells (LeastFrom c at later s (take (place + 1) offers)) 0 0 0 m labels_new numbers_new
     cells_lowered labels_new numbers_new lowered a from below =
@@ -95,9 +101,7 @@ module _ (c : Meaning) (at : SearchDay) (later : BestOnward) (s : Summary) (offe
 
     pub behind_low : (a : ℕ) → a < m → slice_index_or window a 0 ≤ no_row
     behind_low a below =
-        let fits_there : fits_sizes at.ranges (with_assignments step.next a) ≡ true = place-fits at.ranges step.next a (subst (λ k. a < k) size below) fits in
-        let of_nurse : fits_sizes (sizes_of c at.nurse) (with_assignments step.next a) ≡ true = subst (λ z. fits_sizes z (with_assignments step.next a) ≡ true) day.ranges fits_there in
-        omega (arith, shown a below ∙ ap (λ k. slice_index_or behind k 0) (sym (codes a below)), step_low c at day later behind right (Some (with_assignments step.next a, 0)) of_nurse)
+        omega (arith, shown a below ∙ ap (λ k. slice_index_or behind k 0) (sym (codes a below)), step_low c at day later behind right (with_assignments step.next a) (behind_stands a below))
 
 -- ---- blocks beside one another
 
@@ -129,12 +133,12 @@ module _ (c : Meaning) (at : SearchDay) (day : IsDayOf c at) (offers : List Offe
   behind_block : code + size ≡ (number + 1) * size
   behind_block = ap (λ k. k + size) numbered ∙ next_block number size
 
-  module _ (labels labels_new pointers pointers_new : List ℕ) (least : Cells (LeastFrom c at later s offers) code (first + code) 0 size labels_new pointers_new) where
+  module _ (labels labels_new pointers pointers_new : List ℕ) (least : can_be c at.nurse s ≡ true → Cells (LeastFrom c at later s offers) code (first + code) 0 size labels_new pointers_new) where
     pub labels_more : SameOutside code (code + size) labels labels_new → LabelsBelow c at.nurse at.day (best_on c at offers later) (number * size) labels → LabelsBelow c at.nurse at.day (best_on c at offers later) ((number + 1) * size) labels_new
     labels_more same old =
         subst (λ k. LabelsBelow c at.nurse at.day (best_on c at offers later) k labels_new) behind_block
         (block_more (Stands c at.nurse at.day) (sizes_of c at.nurse) (λ t label. label ≡ label_of (best_on c at offers later t)) (λ j. j) labels labels_new code size s (λ j low. same.before j low) states_of
-        (λ a inside. (least a (omega arith) inside).least) (subst (λ k. LabelsBelow c at.nurse at.day (best_on c at offers later) k labels) (sym numbered) old))
+        (λ a inside stands. (least stands.can_be a (omega arith) inside).least) (subst (λ k. LabelsBelow c at.nurse at.day (best_on c at offers later) k labels) (sym numbered) old))
 
     at_place : (a : ℕ) → first + code + a ≡ first + (code + a)
     at_place a = omega arith
@@ -144,5 +148,33 @@ module _ (c : Meaning) (at : SearchDay) (day : IsDayOf c at) (offers : List Offe
         subst (λ k. PointersBelow c at offers later first k pointers_new) behind_block
         (block_more (Stands c at.nurse at.day) (sizes_of c at.nurse) (λ t. PointsWhereBest (best_by c at later t) offers (best_on c at offers later t)) (λ j. first + j) pointers pointers_new code size s
         (λ j low. same.before (first + j) (omega (arith, low))) states_of
-        (λ a inside. subst (λ j. PointsWhereBest (best_by c at later (with_assignments s a)) offers (best_on c at offers later (with_assignments s a)) (slice_index_or pointers_new j 0)) (at_place a) (least a (omega arith) inside).points)
+        (λ a inside stands. subst (λ j. PointsWhereBest (best_by c at later (with_assignments s a)) offers (best_on c at offers later (with_assignments s a)) (slice_index_or pointers_new j 0)) (at_place a) (least stands.can_be a (omega arith) inside).points)
         (subst (λ k. PointersBelow c at offers later first k pointers) (sym numbered) old))
+
+pub product_some : (a b : ℕ) → 0 < a → 0 < b → 0 < a * b
+product_some a b p q = mul-pos p q
+
+-- ---- the first block: no last shift, and no run
+
+module _ (c : Meaning) (n : ℕ) where
+  some_or : Summary → Option Summary → Summary
+  some_or s None = s
+  some_or s (Some t) = t
+
+  none_numbered : (z : Sizes) → can_be c n (state_numbered z 0) ≡ true
+  unfolding state_numbered
+  none_numbered z =
+      let block : 0 / z.assignments ≡ 0 = zero-div z.assignments in
+      let group : 0 / z.assignments / z.weekends ≡ 0 = ap (λ k. k / z.weekends) block ∙ zero-div z.weekends in
+      let runs : 0 / z.assignments / z.weekends / z.shift_run ≡ 0 = ap (λ k. k / z.shift_run) group ∙ zero-div z.shift_run in
+      let last : 0 / z.assignments / z.weekends / z.shift_run / z.run ≡ 0 = ap (λ k. k / z.run) runs ∙ zero-div z.run in
+      let run : 0 / z.assignments / z.weekends / z.shift_run % z.run ≡ 0 = ap (λ k. k % z.run) runs ∙ zero-mod z.run in
+      let shift_run : 0 / z.assignments / z.weekends % z.shift_run ≡ 0 = ap (λ k. k % z.shift_run) group ∙ zero-mod z.shift_run in
+      (λ i. can_be_with c n (excess (past_of c n).border) (run i) (shift_run i) (shift_numbered (last i)))
+      ∙ (λ i. le-leb 0 (cap (contract_of c n).free) (omega arith) i && true)
+
+  pub first_can_be : (z : Sizes) (s : Summary) → 0 < product z → state_at z 0 ≡ Some (with_assignments s 0) → can_be c n s ≡ true
+  unfolding some_or state_at
+  first_can_be z s some is =
+      let there : Some (state_numbered z 0) ≡ Some (with_assignments s 0) = subst (λ (b : Bool). (if b then Some (state_numbered z 0) else None) ≡ Some (with_assignments s 0)) (lt-ltb 0 (product z) some) is in
+      subst (λ t. can_be c n t ≡ true) (ap (some_or s) there) (none_numbered z)

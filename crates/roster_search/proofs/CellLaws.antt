@@ -49,7 +49,7 @@ outside_wider first end from to old new low high same = record {
 -- a block more of a table
 module _ (stands : Summary → Type 0) (z : Sizes) (right : Summary → ℕ → Type 0) (place : ℕ → ℕ) (old new : List ℕ) where
   pub block_more : (from size : ℕ) (s : Summary) → ((code : ℕ) → code < from → slice_index_or new (place code) 0 ≡ slice_index_or old (place code) 0)
-      → ((a : ℕ) → a < size → state_at z (from + a) ≡ Some (with_assignments s a)) → ((a : ℕ) → a < size → right (with_assignments s a) (slice_index_or new (place (from + a)) 0))
+      → ((a : ℕ) → a < size → state_at z (from + a) ≡ Some (with_assignments s a)) → ((a : ℕ) → a < size → stands (with_assignments s a) → right (with_assignments s a) (slice_index_or new (place (from + a)) 0))
       → CellsBelow stands z right place from old → CellsBelow stands z right place (from + size) new
   unfolding some_or
   block_more from size s same states here before code t below is stands_t = go (cases_lt code from)
@@ -60,7 +60,7 @@ module _ (stands : Summary → Type 0) (z : Sizes) (right : Summary → ℕ → 
           let sum : from + (code - from) ≡ code = omega (arith, high) in
           let inside : code - from < size = omega (arith, below, high) in
           let state : with_assignments s (code - from) ≡ t = ap (some_or s) (sym (states (code - from) inside) ∙ ap (state_at z) sum ∙ is) in
-          subst (λ j. right t (slice_index_or new (place j) 0)) sum (subst (λ x. right x (slice_index_or new (place (from + (code - from))) 0)) state (here (code - from) inside))
+          subst (λ j. right t (slice_index_or new (place j) 0)) sum (subst (λ x. right x (slice_index_or new (place (from + (code - from))) 0)) state (here (code - from) inside (subst stands (sym state) stands_t)))
 
 -- ---- the state of a number
 
@@ -76,5 +76,16 @@ room_for_more code total size initial counted most below is room =
 
 pub one_more_counted : (code size initial counted new : ℕ) → counted ≡ initial + code * size → new ≡ counted + size → new ≡ initial + (code + 1) * size
 one_more_counted code size initial counted new is grown =
+    let next : code + 1 ≡ suc code = omega arith in
+    omega (arith, is, grown, ap (λ k. k * size) next, suc-mul code size)
+
+-- the same, where some are left out
+pub room_for_some : (code total size initial counted most : ℕ) → code < total → counted ≤ initial + code * size → initial + total * size ≤ most → counted + size ≤ most
+room_for_some code total size initial counted most below is room =
+    let more : suc code * size ≤ total * size = mul-le (suc code) size total size (omega (arith, below)) (omega arith) in
+    omega (arith, is, room, suc-mul code size, more)
+
+pub some_more_counted : (code size initial counted new : ℕ) → counted ≤ initial + code * size → new ≤ counted + size → new ≤ initial + (code + 1) * size
+some_more_counted code size initial counted new is grown =
     let next : code + 1 ≡ suc code = omega arith in
     omega (arith, is, grown, ap (λ k. k * size) next, suc-mul code size)

@@ -9,7 +9,7 @@ use Rattle.roster_rules.specs.Choices.{shift_of}
 use Rattle.roster_rules.specs.Meaning.{Meaning, shift_count, skill_count}
 use Rattle.roster_rules.specs.Prefix.{Summary}
 use Rattle.roster_rules.specs.Rosters.{is_choice_of}
-use Rattle.roster_state.specs.Codes.{Sizes, code_of, fits_sizes, product, sizes_of, state_at}
+use Rattle.roster_state.specs.Codes.{code_of, fits_sizes, product, sizes_of, state_at}
 use Rattle.roster_state.specs.Step.{step_of}
 use Rattle.roster_state.proofs.CodeLemmas.{numbered-back, numbered-within}
 use Rattle.roster_search.specs.declared.day.SearchDay.{SearchDay}
@@ -124,11 +124,6 @@ module _ {O X : Type 0} (by : O → Priced X) where
 
 -- ---- the label of the next state
 
--- the label by a step at a price, none where the step is forbidden
-abbrev pub label_at : Sizes → ℕ → List ℕ → Option (Summary × ℕ) → ℕ
-label_at z price later None = no_row
-label_at z price later (Some step) = min (price + step.1 + slice_index_or later (code_of z step.0) 0) no_row
-
 module _ (c : Meaning) (at : SearchDay) (day : IsDayOf c at) where
   pub label_of_next : (later : BestOnward) (labels : List ℕ) → AreLabels c at.nurse (at.day + 1) later labels → (next : Summary) (code : ℕ) → code < product at.ranges → state_at at.ranges code ≡ Some next → Stands c at.nurse (at.day + 1) next
       → slice_index_or labels code 0 ≡ label_of (later next)
@@ -140,19 +135,17 @@ module _ (c : Meaning) (at : SearchDay) (day : IsDayOf c at) where
 
   module _ (later : BestOnward) (labels : List ℕ) (right : AreLabels c at.nurse (at.day + 1) later labels) where
     -- the state behind a step
-    pub step_fits : (o : Option (Summary × ℕ)) → IfSome o (λ t. fits_sizes (sizes_of c at.nurse) t.0 ≡ true) → IfSome o (λ t. fits_sizes at.ranges t.0 ≡ true)
-    step_fits o fit = subst (λ z. IfSome o (λ t. fits_sizes z t.0 ≡ true)) (sym day.ranges) fit
+    pub step_fits : (t : Summary) → Stands c at.nurse (at.day + 1) t → fits_sizes at.ranges t ≡ true
+    step_fits t stands = subst (λ z. fits_sizes z t ≡ true) (sym day.ranges) stands.fits
 
-    pub step_low : (o : Option (Summary × ℕ)) → IfSome o (λ t. fits_sizes (sizes_of c at.nurse) t.0 ≡ true) → IfSome o (λ t. slice_index_or labels (code_of at.ranges t.0) 0 ≤ no_row)
-    step_low None fit = tt
-    step_low (Some t) fit =
-        let there = step_fits (Some t) fit in
-        label_of_next_within later labels right t.0 (code_of at.ranges t.0) (numbered-within at.ranges t.0 there) (numbered-back at.ranges t.0 there) fit
+    pub step_low : (t : Summary) → Stands c at.nurse (at.day + 1) t → slice_index_or labels (code_of at.ranges t) 0 ≤ no_row
+    step_low t stands =
+        let there = step_fits t stands in
+        label_of_next_within later labels right t (code_of at.ranges t) (numbered-within at.ranges t there) (numbered-back at.ranges t there) stands
 
-    pub label_at-is : (s : Summary) (offer : Offer) (o : Option (Summary × ℕ)) → step_of c at.nurse at.day s (shift_of offer.choice) ≡ o → IfSome o (λ t. fits_sizes (sizes_of c at.nurse) t.0 ≡ true)
-        → label_at at.ranges offer.price labels o ≡ label_of (best_by c at later s offer)
-    label_at-is s offer None e fit = label_refused c at later s offer e
-    label_at-is s offer (Some t) e fit =
-        let there = step_fits (Some t) fit in
+    pub label_at-is : (s : Summary) (offer : Offer) (t : Summary × ℕ) → step_of c at.nurse at.day s (shift_of offer.choice) ≡ Some t → Stands c at.nurse (at.day + 1) t.0
+        → min (offer.price + t.1 + slice_index_or labels (code_of at.ranges t.0) 0) no_row ≡ label_of (best_by c at later s offer)
+    label_at-is s offer t e stands =
+        let there = step_fits t.0 stands in
         label_by_offer c at later s offer t.0 t.1 (slice_index_or labels (code_of at.ranges t.0) 0) e
-        (label_of_next later labels right t.0 (code_of at.ranges t.0) (numbered-within at.ranges t.0 there) (numbered-back at.ranges t.0 there) fit)
+        (label_of_next later labels right t.0 (code_of at.ranges t.0) (numbered-within at.ranges t.0 there) (numbered-back at.ranges t.0 there) stands)

@@ -8,6 +8,7 @@ use Rattle.roster_rules.specs.Prefix.{Summary}
 use Rattle.roster_rules.specs.Rosters.{is_choice_of}
 use Rattle.roster_rules.specs.Weights.{off_request_weight, staffing_weight}
 use Rattle.roster_state.specs.Codes.{Sizes, code_of, fits_sizes, product, sizes_of, state_at}
+use Rattle.roster_state.specs.Standing.{can_be}
 use Rattle.roster_state.specs.Step.{end_cost_of, with_assignments}
 use Rattle.roster_search.specs.declared.day.SearchDay.{SearchDay}
 use Rattle.roster_search.specs.declared.offer.Offer.{Offer}
@@ -57,9 +58,10 @@ best_at_end c n s = Some (end_cost_of c n s, [])
 
 -- ---- the tables
 
--- the states for which a day's tables are right: in this version each whose numbers are in range
-abbrev pub Stands : Meaning → ℕ → ℕ → Summary → Type 0
-Stands c n day s = fits_sizes (sizes_of c n) s ≡ true
+-- the states for which a day's tables are right: those whose numbers are in range, without those that no row leads to
+pub record Stands (c : Meaning) (n day : ℕ) (s : Summary) : Type 0 where
+  pub fits : fits_sizes (sizes_of c n) s ≡ true
+  pub can_be : can_be c n s ≡ true
 
 -- for each number below k, what stands at its place in a table is right for its state
 abbrev pub CellsBelow : (Summary → Type 0) → Sizes → (Summary → ℕ → Type 0) → (ℕ → ℕ) → ℕ → List ℕ → Type 0

@@ -5,9 +5,10 @@ ghost use Rattle.roster_rules.specs.Meaning.{day_count, nurse_count};
 ghost use Rattle.roster_rules.specs.Weights.{assignment_weight};
 ghost use Rattle.roster_state.specs.Codes.{code_of, fits_sizes, product, sizes_of};
 ghost use Rattle.roster_state.specs.Room.{most_of_step};
+ghost use Rattle.roster_state.specs.Standing.{can_be};
 ghost use Rattle.roster_state.specs.Blocks.{place_behind, place_cost};
 ghost use Rattle.roster_lanes.specs.Lanes.{SameOutside};
-ghost use Rattle.roster_search.specs.Tables.{AreLabels, AreLowered, ArePointers, BestOnward, Cells, IsDayOf, IsOfferOf, LeastFrom, best_at_end, best_on, most_price, no_row};
+ghost use Rattle.roster_search.specs.Tables.{AreLabels, AreLowered, ArePointers, BestOnward, Cells, IsDayOf, IsOfferOf, LeastFrom, Stands, best_at_end, best_on, most_price, no_row};
 
 use crate::day::SearchDay;
 use crate::offer::Offer;
@@ -39,7 +40,7 @@ pub fn label_end(case: &Case, nurse: usize, ranges: &Ranges, labels: &mut [u32])
 const MOST_PLACES: usize = 1000;
 
 /// The labels and the pointers of all states on a day, by its offers and by the labels of the day behind it. The pointers stand
-/// from the first place on. For each state and each offer the meter counts one.
+/// from the first place on. For each state and each offer the meter counts one, but for states that no row leads to.
 pub fn label_day(
     case: &Case,
     at: &SearchDay,
@@ -63,7 +64,8 @@ pub fn label_day(
     ensures pointers { ArePointers case.now at.now offers.now rest first pointers.new }
     ensures others { SameOutside first (first + product at.now.ranges) pointers.old pointers.new }
     ensures lengths { (length labels.new ≡ length labels.old) × (length pointers.new ≡ length pointers.old) }
-    ensures counted { meter.new ≡ meter.old + product at.now.ranges * length offers.now }
+    ensures some { 0 < length offers.now → meter.old < meter.new }
+    ensures counted { meter.new ≤ meter.old + product at.now.ranges * length offers.now }
 {
     let mut numbers = [0; MOST_PLACES];
     for number in 0..at.ranges.blocks() {
@@ -84,7 +86,7 @@ pub fn label_day(
 }
 
 /// The labels and the pointers of a block, by all offers of the day. The pointers are set in a list of numbers first, and all of
-/// them at once then. For each state and each offer the meter counts one.
+/// them at once then. For each state and each offer the meter counts one. A block that no row leads to stays as it is.
 fn label_block(
     case: &Case,
     at: &SearchDay,
@@ -108,13 +110,18 @@ fn label_block(
     requires pointers_room { first + product at.now.ranges ≤ length pointers.old }
     requires numbers_room { 1000 ≤ length numbers.old }
     requires room { meter.old + length offers.now * at.now.ranges.assignments ≤ 18446744073709551615 }
-    ensures least { Cells (LeastFrom case.now at.now rest block offers.now) (code_of at.now.ranges block) (first + code_of at.now.ranges block) 0 at.now.ranges.assignments labels.new pointers.new }
+    ensures least { can_be case.now at.now.nurse block ≡ true → Cells (LeastFrom case.now at.now rest block offers.now) (code_of at.now.ranges block) (first + code_of at.now.ranges block) 0 at.now.ranges.assignments labels.new pointers.new }
     ensures labels_others { SameOutside (code_of at.now.ranges block) (code_of at.now.ranges block + at.now.ranges.assignments) labels.old labels.new }
     ensures pointers_others { SameOutside (first + code_of at.now.ranges block) (first + code_of at.now.ranges block + at.now.ranges.assignments) pointers.old pointers.new }
     ensures lengths { (length labels.new ≡ length labels.old) × (length pointers.new ≡ length pointers.old) }
     ensures numbers { length numbers.new ≡ length numbers.old }
-    ensures counted { meter.new ≡ meter.old + length offers.now * at.now.ranges.assignments }
+    ensures grown { meter.old ≤ meter.new }
+    ensures counted { meter.new ≤ meter.old + length offers.now * at.now.ranges.assignments }
+    ensures all_counted { can_be case.now at.now.nurse block ≡ true → meter.new ≡ meter.old + length offers.now * at.now.ranges.assignments }
 {
+    if !block.can_be(case, at.nurse) {
+        return;
+    }
     let places = block.places(&at.ranges) as usize;
     let code = block.first(&at.ranges) as usize;
     let numbers = &mut numbers[..places];
@@ -145,7 +152,7 @@ fn label_places(
 )
     ghost rest: { BestOnward }
     requires day { IsDayOf case.now at.now }
-    requires fits { fits_sizes at.now.ranges block ≡ true }
+    requires stands { Stands case.now at.now.nurse at.now.day block }
     requires offers { All (IsOfferOf case.now) offers.now }
     requires few { length offers.now ≤ 16 }
     requires later { AreLabels case.now at.now.nurse (at.now.day + 1) rest later.now }
@@ -182,7 +189,7 @@ fn lower_by(
 )
     ghost rest: { BestOnward }
     requires day { IsDayOf case.now at.now }
-    requires fits { fits_sizes at.now.ranges block ≡ true }
+    requires stands { Stands case.now at.now.nurse at.now.day block }
     requires offers { All (IsOfferOf case.now) offers.now }
     requires few { length offers.now ≤ 16 }
     requires place { place < length offers.now }

@@ -73,6 +73,7 @@ impl Ranges {
     /// How many blocks of such states there are.
     pub fn blocks(&self) -> u32
         ensures blocks { result ≡ blocks self.now }
+        ensures some { 0 < result }
         ensures all { result * self.now.assignments ≡ product self.now }
         ensures within { product self.now ≤ most_states }
     {

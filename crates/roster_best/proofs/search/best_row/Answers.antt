@@ -96,7 +96,7 @@ label_is c =
     let best = found at in
     let z = sizes at in
     let start = c.start-first.ensures.state ∙ ap (λ (m : Meaning). summary_of m n []) c.case-4.ensures in
-    let stands = transport (λ i. Stands (c.case-4.ensures i) n 0 s) c.start-first.ensures.fits in
+    let stands = transport (λ i. Stands (c.case-4.ensures i) n 0 s) (record { fits = c.start-first.ensures.fits; can_be = c.start-first.ensures.can_be }) in
     let told = c.label_days.ensures.labels code s (subst (λ y. code < product y) z c.code.ensures.within) (subst (λ y. state_at y code ≡ Some s) z c.code.ensures.back) stands in
     let all = later_room at (length c.workspace.inside.labels.items) (length c.workspace.inside.later.items) (length c.label_days.new.later.items) (ap (λ (w : Space). w.labels) c.workspace.view_is) c.workspace.invariant.0 c.label_days.ensures.lengths.1 in
     let read = get_or_read_under c.label_days.new.later.items code (length c.label_days.new.later.items) c.index-label.result.now 0 c.index-label.ensures (omega (arith, all, c.code.ensures.within)) refl in

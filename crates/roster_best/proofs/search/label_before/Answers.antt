@@ -42,12 +42,7 @@ label_day-requires g c =
     )
 
 pub returns-clause-some : goal.returns-clause-some
-returns-clause-some g c =
-    let k = c.args.held.now.case in
-    let at = c.args.at.now in
-    let offers = c.deref.ensures.0 ∙ c.choices_by_shift-offers.ensures.offers in
-    let one = mul-le 1 1 (product at.ranges) (length c.deref.result.now) (omega (arith, c.product.ensures.some, c.product.ensures.product)) (omega (arith, c.requires.1.0, ap length offers)) in
-    omega (arith, c.label_day.ensures.counted, one)
+returns-clause-some g c = c.label_day.ensures.some (omega (arith, c.requires.1.0, ap length (c.deref.ensures.0 ∙ c.choices_by_shift-offers.ensures.offers)))
 
 pub returns-clause-counted : goal.returns-clause-counted
 returns-clause-counted g c =

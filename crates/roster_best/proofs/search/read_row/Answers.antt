@@ -17,7 +17,7 @@ loop-day-init c =
     let rows = c.args.held.now.roster in
     let n = c.args.nurse in
     record {
-      stands = transport (λ i. Stands (c.case-case.ensures i) n 0 c.start-state.result.0) c.start-state.ensures.fits;
+      stands = transport (λ i. Stands (c.case-case.ensures i) n 0 c.start-state.result.0) (record { fits = c.start-state.ensures.fits; can_be = c.start-state.ensures.can_be });
       read = λ cost best is. read_first k rows n cost best c.start-state.result.0 c.args.row.now (c.start-state.ensures.state ∙ ap (λ (m : Meaning). summary_of m n []) c.case-case.ensures) is (low_of _ (cost, best) is c.requires.low);
       same_length = refl;
     }

@@ -1,4 +1,4 @@
-use Rattle.std.proofs.Common.{◌≡◌, ◌+◌, ◌*◌, length}
+use Rattle.std.proofs.Common.{◌≡◌, ◌+◌, ◌*◌, ◌<◌, ◌≤◌, length}
 use Rattle.roster_state.specs.Codes.{product}
 use Rattle.roster_lanes.specs.Lanes.{SameOutside}
 use Rattle.roster_search.specs.Tables.{LabelsBelow, PointersBelow, best_on}
@@ -15,5 +15,7 @@ invariant-loop-number g l = record {
   labels_length : length l.labels ≡ length l.fn.labels;
   pointers_length : length l.pointers ≡ length l.fn.pointers;
   numbers_length : length l.numbers ≡ 1000;
-  counted : l.meter ≡ l.fn.meter + l.number * (length l.offers * l.at.ranges.assignments);
+  grown : l.fn.meter ≤ l.meter;
+  some : 0 < l.number → l.fn.meter + length l.offers * l.at.ranges.assignments ≤ l.meter;
+  counted : l.meter ≤ l.fn.meter + l.number * (length l.offers * l.at.ranges.assignments);
 }

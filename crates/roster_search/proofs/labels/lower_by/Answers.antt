@@ -28,7 +28,7 @@ lower_places-requires-clause-low g c =
     λ a below. ap (λ n. Some (place_step n a step)) (sym of_nurse) ∙ c.in-Some.ensures.steps a (omega (arith, below, of_nurse)) in
     let room : first + m ≤ length c.args.later.now = omega (arith, size, c.first-first.ensures.within, r.1.1.1.1.1.1.0) in
     λ a below. behind_low k at g.rest b c.args.offers.now c.args.place r.1.1.1.1.0 _ c.shift-shift.result c.shift-shift.ensures m c.args.labels.now c.args.numbers.now old
-    r.0 c.args.later.now r.1.1.1.1.1.0 size step steps fits first (λ a below. c.first-first.ensures.each a (omega (arith, below, size))) (between first (first + m) c.args.later.now) (λ a below. get_or-between c.args.later.now first (first + m) a 0 (omega (arith, below)))
+    r.0 c.args.later.now r.1.1.1.1.1.0 size step steps fits (c.in-Some.ensures.next_can_be r.1.0.can_be) first (λ a below. c.first-first.ensures.each a (omega (arith, below, size))) (between first (first + m) c.args.later.now) (λ a below. get_or-between c.args.later.now first (first + m) a 0 (omega (arith, below)))
     a (omega (arith, below, length-between c.args.later.now first (first + m) room))
 
 pub returns-in-Some-clause-least : goal.returns-in-Some-clause-least
@@ -50,7 +50,7 @@ returns-in-Some-clause-least g c =
     λ a below. ap (λ n. Some (place_step n a step)) (sym of_nurse) ∙ c.in-Some.ensures.steps a (omega (arith, below, of_nurse)) in
     subst (λ n. Cells (LeastFrom k at g.rest b (take (place + 1) offers)) 0 0 0 n c.lower_places.new.labels c.lower_places.new.numbers) size
     (cells_lowered k at g.rest b offers place r.1.1.1.1.0 _ c.shift-shift.result c.shift-shift.ensures m c.args.labels.now c.args.numbers.now old
-    r.0 c.args.later.now r.1.1.1.1.1.0 size step steps fits first (λ a below. c.first-first.ensures.each a (omega (arith, below, size))) (between first (first + m) c.args.later.now) (λ a below. get_or-between c.args.later.now first (first + m) a 0 (omega (arith, below)))
+    r.0 c.args.later.now r.1.1.1.1.1.0 size step steps fits (c.in-Some.ensures.next_can_be r.1.0.can_be) first (λ a below. c.first-first.ensures.each a (omega (arith, below, size))) (between first (first + m) c.args.later.now) (λ a below. get_or-between c.args.later.now first (first + m) a 0 (omega (arith, below)))
     c.lower_places.new.labels c.lower_places.new.numbers c.lower_places.ensures.lowered)
 
 pub returns-in-Some-clause-small : goal.returns-in-Some-clause-small

@@ -1,4 +1,4 @@
-use Rattle.std.proofs.Common.{◌*◌, ◌≤◌, arith, mul_right_comm, subst}
+use Rattle.std.proofs.Common.{◌*◌, ◌≤◌, arith, mul-pos, mul_right_comm, subst}
 use Rattle.roster_rules.specs.Limits.{most_states}
 use Rattle.roster_state.specs.Codes.{Sizes, product}
 use Rattle.roster_state.proofs.CodeLemmas.{factor-within}
@@ -13,3 +13,8 @@ overflow_mul-result-3 c =
 
 pub returns-clause-within : goal.returns-clause-within
 returns-clause-within c = subst (λ (z : Sizes). product z ≤ most_states) c.self.view_is c.self.invariant.states
+
+pub returns-clause-some : goal.returns-clause-some
+returns-clause-some c =
+    let keep = c.self.invariant in
+    mul-pos (mul-pos (mul-pos keep.last.some keep.run.some) keep.shift_run.some) keep.weekends.some
