@@ -1,5 +1,5 @@
 -- What a day's step is from each of the states that differ in their assignments alone.
-use Rattle.std.proofs.Common.{◌≡◌, ◌∙◌, ap₂, arith, refl, subst, sym, ℕ, ◌+◌, ◌*◌, ◌<◌, ◌≤◌, Bool, true, false, min, nat_le, if◌then◌else◌, Option, Some, None, is_some, IfSome}
+use Rattle.std.proofs.Common.{◌≡◌, ◌∙◌, ap₂, ℕ, ◌+◌, ◌*◌, ◌<◌, Bool, true, min, nat_le, if◌then◌else◌, Option, Some, None, is_some, IfSome}
 use Rattle.roster_rules.specs.declared.Shift.{Shift}
 use Rattle.roster_rules.specs.declared.Limits.{Limits}
 use Rattle.roster_rules.specs.Counting.{one_if}
