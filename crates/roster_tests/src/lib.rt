@@ -4,6 +4,8 @@
 #[cfg(test)]
 mod best_tests;
 #[cfg(test)]
+mod block_tests;
+#[cfg(test)]
 mod devices_tests;
 #[cfg(test)]
 mod held_tests;

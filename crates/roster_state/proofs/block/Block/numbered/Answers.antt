@@ -1,4 +1,4 @@
-use Rattle.std.proofs.Common.{◌<◌, ◌+◌, ◌*◌, arith, ◌∙◌, subst}
+use Rattle.std.proofs.Common.{◌<◌, arith, subst}
 use Rattle.roster_state.specs.Codes.{Sizes}
 use Rattle.roster_state.proofs.CodeLemmas.{block-code, block-fits, block-state, first-small}
 use Rattle.roster_state.proofs.block.Block.numbered.Goals as goal
