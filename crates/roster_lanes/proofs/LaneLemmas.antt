@@ -81,8 +81,12 @@ changed_at xs ys i p q lt =
 pub bits_are : (ms : List Bool) → length ms ≡ 16 → mask_l ms % 2 ^ 64 ≡ mask_l ms
 bits_are ms long = mask_l-mod ms 64 (omega arith)
 
-pub bits_fit : (ms : List Bool) → length ms ≡ 16 → mask_l ms % 2 ^ 64 < 2 ^ 16
-bits_fit ms long = subst (λ (n : ℕ). n < 2 ^ 16) (sym (bits_are ms long)) (subst (λ (n : ℕ). mask_l ms < 2 ^ n) long (mask_l-lt ms))
+-- also of any other comparison
+pub bits_fit : (f : ℕ → ℕ → ℕ) (xs ys : List ℕ) → length xs ≡ 16 → length ys ≡ 16 → mask_l (map (top 31) (zip2 f xs ys)) % 2 ^ 64 < 2 ^ 16
+bits_fit f xs ys p q =
+    let ms = map (top 31) (zip2 f xs ys) in
+    let long : length ms ≡ 16 = length-map (zip2 f xs ys) (top 31) ∙ length-zip2 f xs ys (p ∙ sym q) ∙ p in
+    subst (λ (n : ℕ). n < 2 ^ 16) (sym (bits_are ms long)) (subst (λ (n : ℕ). mask_l ms < 2 ^ n) long (mask_l-lt ms))
 
 pub bits_at : (xs ys : List ℕ) (i : ℕ) → length xs ≡ 16 → length ys ≡ 16 → i < 16 → bit_at (mask_l (changed xs ys) % 2 ^ 64) i ≡ cond (ltb (get_or ys i 0) (get_or xs i 0)) 1 0
 bits_at xs ys i p q lt =

@@ -1,11 +1,11 @@
-use Rattle.roster_lanes.proofs.LaneLemmas.{array_whole, bits_at, bits_fit, changed, least_at, length-changed}
+use Rattle.roster_lanes.proofs.LaneLemmas.{array_whole, bits_at, bits_fit, least, least_at, length-least}
 use Rattle.roster_lanes.proofs.lower.lower16.Goals as goal
 
 pub overflow_cast-result : goal.overflow_cast-result
 overflow_cast-result c =
     let p = array_whole c.args.others.now c.told-others in
     let q = array_whole c.args.labels.now c.told-labels in
-    rw (p, q) record { fits = bits_fit (changed c.args.labels.now c.args.others.now) (length-changed c.args.labels.now c.args.others.now c.told-labels c.told-others) }
+    rw (p, q) record { fits = bits_fit _ (least c.args.labels.now c.args.others.now) c.args.labels.now (length-least c.args.labels.now c.args.others.now c.told-labels c.told-others) c.told-labels }
 
 pub returns-clause-labels : goal.returns-clause-labels
 returns-clause-labels c i lt =
