@@ -4,7 +4,8 @@
 //! `roster_search`), rows of which each choice is offered in `specs/Offers.antt`, and what a workspace has room for in
 //! `specs/Workspaces.antt`. `choices` promises the offers of a day in the order of the choices, and
 //! `offers_tell_the_allowed_rows` that they tell a nurse's allowed rows and the prices of these. `best_row` promises that the
-//! workspace then shows the nurse's best row, within the stated numbers of labels, pointers and steps.
+//! workspace then shows the nurse's best row, within the stated numbers of labels, pointers and steps. It goes over one offer
+//! for each shift alone, the first of the cheapest.
 #![tactic(auto)]
 
 mod by_shift;

@@ -2,8 +2,9 @@
 //!
 //! The first of the cheapest is defined in `specs/Cheapest.antt`, rows that lead from state to state in
 //! `specs/ByStates.antt`, what a nurse is offered on a day in `specs/Offers.antt`, and right labels and pointers of a day in
-//! `specs/Tables.antt`. `best_row_is_found_by_states` promises that such a search gives the nurse's best row, `label_end` and
-//! `label_day` right labels and pointers, and `read_day` the choices of the best row by these pointers.
+//! `specs/Tables.antt`. `best_row_is_found_by_states` promises that such a search gives the nurse's best row,
+//! `one_offer_for_each_shift_is_enough` that it may leave out the dearer offers for one shift, `label_end` and `label_day` right
+//! labels and pointers, and `read_day` the choices of the best row by these pointers.
 #![tactic(auto)]
 
 mod day;
