@@ -6,7 +6,11 @@ mod best_tests;
 #[cfg(test)]
 mod devices_tests;
 #[cfg(test)]
+mod failing_tests;
+#[cfg(test)]
 mod held_tests;
+#[cfg(test)]
+mod hostile_tests;
 #[cfg(test)]
 mod library_tests;
 #[cfg(test)]
