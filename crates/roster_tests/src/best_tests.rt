@@ -57,7 +57,7 @@ fn search(
 }
 
 /// A row of a week in which the nurse works with the first skill: for each day `E` for Early, `N` for Night, `-` for off.
-fn row_of(week: &[u8; 7]) -> [Choice; 7] {
+pub(crate) fn row_of(week: &[u8; 7]) -> [Choice; 7] {
     let mut row = [Choice::Off; 7];
     for day in 0..7_usize {
         match week[day] {

@@ -8,9 +8,12 @@ mod block_tests;
 #[cfg(test)]
 mod devices_tests;
 #[cfg(test)]
+mod failing_tests;
+#[cfg(test)]
 mod held_tests;
 #[cfg(test)]
 mod lanes_tests;
+mod hostile_tests;
 #[cfg(test)]
 mod library_tests;
 #[cfg(test)]

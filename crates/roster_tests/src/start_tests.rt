@@ -3,7 +3,7 @@
 ghost use Rattle.std.specs.Prelude.{IsErr};
 
 use crate::texts::{MINI, SHOWN};
-use roster_cli::answer_command_line;
+use roster_cli::{CliFault, Command, Request, answer_command_line, request_of};
 use roster_devices::{AtEnd, ShortWriter};
 use roster_text::Watch;
 use std::alloc::{Allocator, Global};
@@ -275,4 +275,28 @@ fn a_flush_that_fails_behind_a_full_answer(rt: HostRuntime) -> Result<(), Fail> 
     let end = (3, SHOWN, "write failed\n");
     assert!(rt; shows_input(rt.alloc(), true, end)?);
     Ok(())
+}
+
+/// Whether the words ask for a run of so many rounds over these files.
+fn asks_for_rounds(alloc: Global, words: &[&str], rounds: u16, files: &[&str]) -> bool {
+    let Ok(request) = request_of(alloc, words) else {
+        return false;
+    };
+    let Request {
+        command,
+        files: given,
+    } = request;
+    matches!(command, Command::Improve { rounds: asked } if asked == rounds)
+        && given.iter().map(|it| it.as_str()).eq(files.iter().copied())
+}
+
+#[test]
+fn requests_of_words(rt: HostRuntime) {
+    let words = ["roster", "improve", "--rounds", "5", "a.txt"];
+    assert!(rt; asks_for_rounds(rt.alloc(), &words, 5, &["a.txt"]));
+    assert!(rt; asks_for_rounds(rt.alloc(), &words[..2], 100, &[]));
+    let above = request_of(rt.alloc(), &["roster", "improve", "--rounds", "1001"]);
+    assert!(rt; matches!(above, Err(CliFault::Usage(_))));
+    let nameless = request_of(rt.alloc(), &["roster", "best"]);
+    assert!(rt; matches!(nameless, Err(CliFault::Usage(_))));
 }

@@ -33,15 +33,24 @@ fn reads_one_byte_at_a_time(rt: HostRuntime) {
 }
 
 #[test]
-fn reads_no_further_than_a_failure(rt: HostRuntime) {
-    let mut input = Watch::new(FailingReader {
-        rest: b"ab",
-        fails_in: 2,
-        kind: ErrorKind::Interrupted,
-    });
-    let answer = read_all(rt.alloc(), &mut input);
-    assert!(rt; matches!(answer, Err(TextFault::ReadFailed)));
-    assert!(rt; input.failed());
+fn reads_no_further_than_a_failure(rt: HostRuntime) -> Result<(), Fail> {
+    let text = vec![in rt.alloc(); b'a'; 200_000]?;
+    // Four reads give 65,536 bytes at most, and one finds the end.
+    for fails_in in 1..7 {
+        let mut input = Watch::new(FailingReader {
+            rest: text.as_slice(),
+            fails_in,
+            kind: ErrorKind::Interrupted,
+        });
+        let answer = read_all(rt.alloc(), &mut input);
+        let is_right = if fails_in < 6 {
+            matches!(answer, Err(TextFault::ReadFailed)) && input.failed()
+        } else {
+            matches!(&answer, Ok(bytes) if bytes.as_slice() == text.as_slice()) && !input.failed()
+        };
+        assert!(rt; is_right, "{fails_in}");
+    }
+    Ok(())
 }
 
 #[test]

@@ -1,7 +1,6 @@
 -- What clap's definition of the command line makes of words that have no fault.
-use Rattle.std.proofs.Common.{◌≡◌, ◌≢◌, ◌<◌, ◌^◌, ◌∙◌, ◌&&◌, ◌||◌, ℕ, Bool, cond, true, false, not, refl, sym, ap, subst, List, [], ◌∷◌, ◌++◌, length, take, get_or, Option, Some, None, is_some, codes, inl, inr, ◌⊎◌, true≢false}
-use Rattle.std.specs.Prelude.{IfOk, IfSome, IsSomeAnd, Ok, Result, find, ok_or, option_map}
-use Rattle.std.specs.Str.Parse.{ParsesUnsigned}
+use Rattle.std.proofs.Common.{◌≡◌, ◌≢◌, ◌∙◌, ◌&&◌, ◌||◌, ℕ, Bool, cond, true, false, not, refl, sym, ap, subst, List, [], ◌∷◌, ◌++◌, length, take, get_or, Option, Some, None, is_some, codes, inl, inr, ◌⊎◌, true≢false}
+use Rattle.std.specs.Prelude.{IsSomeAnd, find, option_map}
 use Rattle.std.specs.List.{fold, list_any}
 use Rattle.std.specs.Str.{bytes_eq}
 use Rattle.std.proofs.lemmas.Slice.Eq.{bytes_eq-Decides}
@@ -12,11 +11,11 @@ use Rattle.clap.specs.Simple.{Shape, argument_words, built, entered, help_shape,
 use Rattle.clap.specs.Faults.{check_fault, defaults_fault, entered_fault, fault_of, other_fault, settle_fault, step_fault, walk_fault}
 use Rattle.clap.specs.Facts.{explicit_source}
 use Rattle.clap.specs.Takes.{is_given}
-use Rattle.clap.specs.Words.{ReadsOne, one_of, subcommand_of, takes}
+use Rattle.clap.specs.Words.{subcommand_of, takes}
 use Rattle.clap.specs.declared.error.kind.ErrorKind.{ErrorKind}
 use Rattle.clap.specs.declared.error.kind.ErrorKind.TheVariants as kind
 use Rattle.clap.proofs.WalkLemmas.{walk_stopped}
-use Rattle.roster_words.specs.CommandLine.{AreRounds, IsNameOf, IsRefused, Refuses, TellsKind, commands, is_help, program}
+use Rattle.roster_words.specs.CommandLine.{IsNameOf, IsRefused, Refuses, TellsKind, commands, is_help, program}
 use Rattle.roster_words.specs.declared.request.CliFault.{CliFault}
 use Rattle.roster_words.specs.declared.request.CliFault.TheVariants as fault
 
@@ -219,19 +218,3 @@ pub refuses : (words : List Text) (k : ErrorKind) (f : CliFault) → TellsKind k
 refuses words k fault.Memory told passes h = tt
 refuses words k (fault.Usage text) told passes h = refused_by (λ x. not (is_help x)) words k told.0 (ap not told.1) passes h
 refuses words k (fault.Help text) told passes h = refused_by is_help words k told.0 told.1 passes h
-
--- ---- a number
-
--- what a getter reads at a type of 16 bits is the number of its text
-pub number_read : {F : Type 0} (text : Option Text) (rows : List Row) (gives : Text → Result ℕ F → Type 0) → ((t : Text) (r : Result ℕ F) → gives t r → ParsesUnsigned 16 10 t r)
-    → text ≡ one_of (codes "rounds") rows → (o : Option ℕ) → (text ≡ None → o ≡ None) → ((t : Text) → text ≡ Some t → ReadsOne gives t o)
-    → IfSome o (λ n. AreRounds n rows)
-number_read text rows gives parses same None none reads = tt
-number_read None rows gives parses same (Some n) none reads = let bad = none refl in absurd (cc)
-number_read (Some t) rows gives parses same (Some n) none reads =
-    let read = parses t (Ok n) (reads t refl) in
-    record { text = t; read = sym same; numeral = read.0.0; fits = subst (λ m. m < 2 ^ 16) (sym read.1) read.0.1; number = read.1 }
-
-pub if_ok_or : {T E : Type 0} (o : Option T) (e : E) (P : T → Type 0) → IfSome o P → IfOk (ok_or o e) P
-if_ok_or None e P h = tt
-if_ok_or (Some x) e P h = h

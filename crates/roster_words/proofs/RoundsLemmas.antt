@@ -1,19 +1,19 @@
 -- That the rounds of a command line without a fault are a number of their range: along clap's walk over the words each
 -- use of the argument keeps to its rule, and where there is none, the default does.
 use Rattle.std.proofs.Common.{arith, ◌≡◌, ◌<◌, ◌≤◌, ◌^◌, ◌∙◌, ◌+◌, ◌&&◌, ◌||◌, ℕ, zero, suc, get_or, Bool, cond, true, false, refl, sym, ap, ap₂, subst, List, [], ◌∷◌, ◌++◌, length, drop, Option, Some, None, is_some, codes, true≢false}
-use Rattle.std.specs.Prelude.{IfSome, Result, encode_utf8, find, min, option_map, option_and_then, pos, slice_get, ⊤}
+use Rattle.std.specs.Prelude.{IsSomeAnd, Ok, Result, encode_utf8, find, min, option_map, option_and_then, slice_get, ⊤}
 use Rattle.std.specs.List.{fold}
 use Rattle.std.specs.Option.{option_map_or}
 use Rattle.std.specs.Str.{bytes_eq, chars}
-use Rattle.std.specs.Str.Parse.{IsNumeral, ParsesUnsigned, digits_value, without_leading_plus}
+use Rattle.std.specs.Str.Parse.{ParsesUnsigned}
 use Rattle.std.proofs.lemmas.Slice.Eq.{bytes_eq-Decides}
 use Rattle.clap.specs.Kinds.{Kinds, or_else, range_kinds, value_kinds}
 use Rattle.clap.specs.Lexer.{long_of, short_of, without_minus}
 use Rattle.clap.specs.Matches.{count_text}
-use Rattle.clap.specs.Values.{IsSignedIn, read_as}
+use Rattle.clap.specs.Values.{read_as}
 use Rattle.clap.specs.ValueTests.{accepts}
 use Rattle.clap.proofs.ValueTestLemmas.{accepts-Accepts}
-use Rattle.clap.specs.Walk.{Held, Outcome, Row, Rule, Step, Text, Waiting, Walk, after_flag, after_step, answers_to, arg_by_id, arg_by_index, arg_by_long, arg_by_short, at_row, attached_value, bundle, bundle_met, bundle_step, counted, default_rows, done, has_row, idle, long_met, long_or_other, more_values, new_count, next, nothing_held, one_of, option, option_met, option_word, plain, plain_word, positional, reacted, reading_by, refused, row_text, settled, settled_rows, short_met, short_or_plain, subcommand, subcommand_met, subcommand_or_other, takes_values, takes_several, is_pending, to_positional, pushed, trailing, used, used_as, used_by_id, value, values_or_missing, waits, walk, walk_from, walked, walked_from, with_count, with_default, with_values, without, flag_met, count_of, action_of, rows_after, stop_after}
+use Rattle.clap.specs.Walk.{Held, Outcome, Row, Rule, Step, Text, Waiting, Walk, after_flag, after_step, answers_to, arg_by_id, arg_by_index, arg_by_long, arg_by_short, at_row, attached_value, bundle, bundle_met, bundle_step, counted, default_rows, done, has_row, idle, long_met, long_or_other, more_values, new_count, next, nothing_held, option, option_met, option_word, plain, plain_word, positional, reacted, reading_by, refused, row_text, settled, settled_rows, short_met, short_or_plain, subcommand, subcommand_met, subcommand_or_other, takes_values, takes_several, is_pending, to_positional, pushed, trailing, used, used_as, used_by_id, value, values_or_missing, waits, walk, walk_from, walked, walked_from, with_count, with_default, with_values, without, flag_met, count_of, action_of, rows_after, stop_after}
 use Rattle.clap.specs.Faults.{bundle_fault, bundle_step_fault, entered_fault, flag_word_fault, flags_fault, level_fault, long_fault, option_fault, other_fault, positional_fault, react_fault, repeat_fault, settle_fault, short_fault, step_fault, stray_fault, turn_fault, use_fault, values_fault, walk_fault}
 use Rattle.clap.specs.Facts.{parser_of_value}
 use Rattle.clap.specs.Simple.{Shape, argument_words, built, entered, help_shape, label_of, names_of, rows_at}
@@ -22,14 +22,13 @@ use Rattle.clap.specs.declared.builder.action.ArgAction.TheVariants as action
 use Rattle.clap.specs.declared.builder.value_parser.Reading.{Reading}
 use Rattle.clap.specs.declared.error.kind.ErrorKind.{ErrorKind}
 use Rattle.clap.specs.declared.error.kind.ErrorKind.TheVariants as kind
+use Rattle.clap.specs.declared.parser.matches.Found.{Found}
 use Rattle.clap.specs.declared.parser.matches.ValueSource.{ValueSource}
 use Rattle.clap.specs.declared.parser.matches.ValueSource.TheVariants.{CommandLine, DefaultValue}
-use Rattle.clap.specs.Words.{fault_of, subcommand_of}
+use Rattle.clap.specs.Words.{ReadsOne, fault_of, one_text, rows_of, subcommand_of}
+use Rattle.clap.proofs.WalkLemmas.{one_text-rows}
 use Rattle.clap.proofs.CallerReads.{signed_reads}
-use Rattle.roster_words.specs.CommandLine.{AreRounds, HasArguments, IsAsked, IsInRange, name_of, program, rounds_rule}
-use Rattle.roster_words.specs.declared.request.Command.{Command}
-use Rattle.roster_words.specs.declared.request.Command.TheVariants as command
-use Rattle.roster_words.specs.declared.request.Request.{Request}
+use Rattle.roster_words.specs.CommandLine.{AreRounds, HasRounds, MeetsRounds, program, rounds_rule}
 
 -- ---- lists
 
@@ -329,12 +328,6 @@ rounds_pass (v ∷ vs) rows kept none =
     let first = both_none (value_kinds rounds.ignore_case (parser_of_value rounds.parser) v) _ fresh.1 in
     own_values rounds CommandLine (v ∷ vs) (without rounds.id rows) first.0 (without_keeps (Keeps rounds) rounds.id rows kept)
 
--- the text that clap has for the rounds, as it was given and as it is read, is a number from 0 to 1000
-record HasRounds (rows : List Row) : Type 0 where
-  pub text : Text
-  pub read : one_of (codes "rounds") rows ≡ Some (without_minus text)
-  pub within : IsSignedIn (pos 0) (pos 1000) text
-
 -- the row of a rule that has one
 record HasRow (a : Rule) (rows : List Row) : Type 0 where
   pub row : Row
@@ -428,20 +421,18 @@ each_command = (
   ),
 )
 
-entered_rounds : (stop : Option (Text × List Text)) → entered_fault (built program) stop ≡ []
-    → IfSome (entered (built program) stop) (λ (met : Text × List Row). met.0 ≡ codes "improve" → HasRounds met.1)
+entered_rounds : (stop : Option (Text × List Text)) → entered_fault (built program) stop ≡ [] → MeetsRounds (entered (built program) stop)
 entered_rounds None e = tt
 entered_rounds (Some p) e =
     go (find (λ (s : Shape). answers_to p.0 (label_of s)) subs) (λ s found. found_has RoundsAt (λ (s : Shape). answers_to p.0 (label_of s)) subs each_command s found) e
   where
     go : (o : Option Shape) → ((s : Shape) → o ≡ Some s → RoundsAt s) → option_map_or (λ (s : Shape). level_fault s [] nothing_held p.1 false []) o [] ≡ []
-        → IfSome (option_map (λ (s : Shape). rows_at s p.1) o) (λ (met : Text × List Row). met.0 ≡ codes "improve" → HasRounds met.1)
+        → MeetsRounds (option_map (λ (s : Shape). rows_at s p.1) o)
     go None each e = tt
     go (Some s) each e = each s refl p.1 e
 
 -- where words without a fault name `improve`, its rounds are a number of their range
-meets_rounds : (words : List Text) → fault_of program words ≡ []
-    → IfSome (subcommand_of program words) (λ (met : Text × List Row). met.0 ≡ codes "improve" → HasRounds met.1)
+pub meets_rounds : (words : List Text) → fault_of program words ≡ [] → MeetsRounds (subcommand_of program words)
 meets_rounds words none =
     let top = (built program).top in
     let names = names_of (built program) in
@@ -451,33 +442,16 @@ meets_rounds words none =
     let below = both_none (entered_fault (built program) stop) _ first.1 in
     entered_rounds stop below.0
 
--- ---- the request
+-- ---- the number
 
-small : (t u : Text) (n : ℕ) → without_minus t ≡ u → IsSignedIn (pos 0) (pos 1000) t → IsNumeral 10 (without_leading_plus u) → n < 2 ^ 16
-    → n ≡ digits_value 10 (without_leading_plus u) → n ≤ 1000
-small t u n same within numeral fits number =
-    let low : digits_value 10 (without_leading_plus u) < 2 ^ 16 = subst (λ m. m < 2 ^ 16) number fits in
-    let read = subst (λ (w : Text). (IsNumeral 10 (without_leading_plus w) × (digits_value 10 (without_leading_plus w) < 2 ^ 16)) × (n ≡ digits_value 10 (without_leading_plus w))) (sym same) ((numeral, low), number) in
-    let got = signed_reads Bool (λ (w : Text) (r : Result ℕ Bool). ParsesUnsigned 16 10 w r) 16 0 1000 t (Some n) read (λ w x g. g) (omega arith) within in
-    let one : Some n ≡ Some got.0 = got.1 in
-    let is : n ≡ got.0 = cc in
-    subst (λ m. m ≤ 1000) (sym is) got.3
-
-range_of : (n : ℕ) (rows : List Row) → HasRounds rows → AreRounds n rows → n ≤ 1000
-range_of n rows has are =
-    let both : Some (without_minus has.text) ≡ Some are.text = sym has.read ∙ are.read in
-    let same : without_minus has.text ≡ are.text = cc in
-    small has.text are.text n same has.within are.numeral are.fits are.number
-
-by_command : (x : Command) (rows : List Row) → (name_of x ≡ codes "improve" → HasRounds rows) → HasArguments x rows → IsInRange x
-by_command command.Show rows has arguments = tt
-by_command command.Cost rows has arguments = tt
-by_command command.Sizes rows has arguments = tt
-by_command (command.Best nurse) rows has arguments = tt
-by_command (command.Improve n) rows has arguments = range_of n rows (has refl) arguments
-
--- what words without a fault ask for is in range
-pub in_range : (words : List Text) (r : Request) → fault_of program words ≡ [] → IsAsked words r → IsInRange r.command
-in_range words r none asked =
-    let met = subst (λ (o : Option (Text × List Row)). IfSome o (λ (m : Text × List Row). m.0 ≡ codes "improve" → HasRounds m.1)) asked.command (meets_rounds words none) in
-    by_command r.command asked.rows met asked.arguments
+-- what a getter reads at a type of 16 bits of such matches: a number from 0 to 1000
+pub rounds_read : {F : Type 0} (found : Found) (gives : Text → Result ℕ F → Type 0) → ((t : Text) (r : Result ℕ F) → gives t r → ParsesUnsigned 16 10 t r)
+    → HasRounds (rows_of found) → (o : Option ℕ) → ((t : Text) → one_text found (codes "rounds") ≡ Some t → ReadsOne gives t o)
+    → IsSomeAnd o (λ n. AreRounds n (rows_of found) × (n ≤ 1000))
+rounds_read {F} found gives parses has o reads =
+    let text = without_minus has.text in
+    let one = reads text (one_text-rows found (codes "rounds") ∙ has.read) in
+    let got = signed_reads F gives 16 0 1000 has.text o one parses (omega arith) has.within in
+    let read = parses text (Ok got.0) (subst (λ (x : Option ℕ). ReadsOne gives text x) got.1 one) in
+    subst (λ (x : Option ℕ). IsSomeAnd x (λ n. AreRounds n (rows_of found) × (n ≤ 1000))) (sym got.1)
+    (record { text = text; read = has.read; numeral = read.0.0; fits = subst (λ m. m < 2 ^ 16) (sym read.1) read.0.1; number = read.1 }, got.3)

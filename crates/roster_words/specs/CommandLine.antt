@@ -3,7 +3,8 @@ use Rattle.std.specs.Prelude.{◌≡◌, ◌≢◌, ◌⊎◌, ◌<◌, ◌≤�
 use Rattle.std.specs.List.{fold, list_any}
 use Rattle.std.specs.Str.Parse.{IsNumeral, digits_value, without_leading_plus}
 use Rattle.clap.specs.Lexer.{usize_max}
-use Rattle.clap.specs.Words.{App, Row, Rule, Shape, Text, all_of, fault_of, first_of, new_app, new_rule, one_of, subcommand_of, takes, with_rule, with_subcommand}
+use Rattle.clap.specs.Words.{App, Row, Rule, Shape, Text, all_of, fault_of, first_of, new_app, new_rule, one_of, subcommand_of, takes, with_rule, with_subcommand, without_minus}
+use Rattle.clap.specs.Values.{IsSignedIn}
 use Rattle.clap.specs.declared.builder.action.ArgAction.TheVariants as action
 use Rattle.clap.specs.declared.builder.value_parser.ValueParser.TheVariants as parser
 use Rattle.clap.specs.declared.error.kind.ErrorKind.{ErrorKind}
@@ -82,6 +83,17 @@ IsNameOf (first ∷ rest) name = (name ≡ first.name) ⊎ IsNameOf rest name
 abbrev pub HasNurse : Option (Text × List Row) → Type 0
 HasNurse None = Unit {0}
 HasNurse (Some met) = met.0 ≡ codes "best" → is_some (first_of (codes "nurse") met.1) ≡ true
+
+-- the text that clap has for the rounds, as it was given and as it is read, is a number from 0 to 1000
+pub record HasRounds (rows : List Row) : Type 0 where
+  pub text : Text
+  pub read : one_of (codes "rounds") rows ≡ Some (without_minus text)
+  pub within : IsSignedIn (pos 0) (pos 1000) text
+
+-- where a command was met that makes rounds, its matches have the number
+abbrev pub MeetsRounds : Option (Text × List Row) → Type 0
+MeetsRounds None = Unit {0}
+MeetsRounds (Some met) = met.0 ≡ codes "improve" → HasRounds met.1
 
 -- the files among the matches of a command
 abbrev pub files_in : List Row → List Text

@@ -1,8 +1,8 @@
 //! From words to a request.
 
-ghost use Rattle.std.specs.Prelude.{◌≡◌, ◌≢◌, [], Some, codes, IfOk, IfErr, OnOk, IsSomeAnd, is_some, true, map, string_bytes};
+ghost use Rattle.std.specs.Prelude.{◌≡◌, ◌≢◌, ◌≤◌, [], Some, codes, IfOk, IfErr, OnOk, IsSomeAnd, is_some, true, map, string_bytes};
 ghost use Rattle.clap.specs.Words.{fault_of, first_of, found_of, kind_of, rows_of, subcommand_rows_of};
-ghost use Rattle.roster_words.specs.CommandLine.{AreRounds, HasArguments, HasText, IsAsked, IsAskedIn, IsInRange, IsNameOf, Refuses, TellsKind, commands, files_in, name_of, program, HasNurse};
+ghost use Rattle.roster_words.specs.CommandLine.{AreRounds, HasArguments, HasNurse, HasRounds, HasText, IsAsked, IsAskedIn, IsInRange, IsNameOf, MeetsRounds, Refuses, TellsKind, commands, files_in, name_of, program};
 
 use crate::program::{FILES, NURSE, ROUNDS, program};
 use crate::request::{CliFault, Command, Request};
@@ -31,7 +31,9 @@ pub fn request_of<S: AsStr>(alloc: Global, words: &[S]) -> Result<Request, CliFa
 fn request_in(alloc: Global, matches: &ArgMatches<'_>) -> Result<Request, CliFault>
     requires met { IsSomeAnd (subcommand_rows_of matches.now) (λ met. IsNameOf commands met.0) }
     requires nurse { HasNurse (subcommand_rows_of matches.now) }
+    requires rounds { MeetsRounds (subcommand_rows_of matches.now) }
     ensures request { IfOk result (IsAskedIn (subcommand_rows_of matches.now)) }
+    ensures range { IfOk result (λ r. IsInRange r.command) }
     ensures memory { IfErr result (λ e. e ≡ CliFault.Memory) }
 {
     let Some((name, given)) = matches.subcommand() else {
@@ -47,8 +49,10 @@ fn request_in(alloc: Global, matches: &ArgMatches<'_>) -> Result<Request, CliFau
 fn command_in(alloc: Global, name: &str, given: &ArgMatches<'_>) -> Result<Command, AllocError>
     requires name { IsNameOf commands name.now }
     requires nurse { name.now ≡ codes "best" → is_some (first_of (codes "nurse") (rows_of (found_of given.now))) ≡ true }
+    requires rounds { name.now ≡ codes "improve" → HasRounds (rows_of (found_of given.now)) }
     ensures name { IfOk result (λ command. name_of command ≡ name.now) }
     ensures arguments { IfOk result (λ command. HasArguments command (rows_of (found_of given.now))) }
+    ensures range { IfOk result IsInRange }
 {
     match name {
         "show" => Ok(Command::Show),
@@ -58,7 +62,7 @@ fn command_in(alloc: Global, name: &str, given: &ArgMatches<'_>) -> Result<Comma
             nurse: nurse_of(alloc, given)?,
         }),
         "improve" => Ok(Command::Improve {
-            rounds: rounds_of(given)?,
+            rounds: rounds_of(given),
         }),
         _ => unreachable!(),
     }
@@ -75,10 +79,16 @@ fn nurse_of(alloc: Global, given: &ArgMatches<'_>) -> Result<String, AllocError>
     String::from_str(alloc, nurse)
 }
 
-fn rounds_of(given: &ArgMatches<'_>) -> Result<u16, AllocError>
-    ensures { IfOk result (λ rounds. AreRounds rounds (rows_of (found_of given.now))) }
+/// The number of rounds, which `clap` has read in its range, or has by its default.
+fn rounds_of(given: &ArgMatches<'_>) -> u16
+    requires { HasRounds (rows_of (found_of given.now)) }
+    ensures rounds { AreRounds result (rows_of (found_of given.now)) }
+    ensures range { result ≤ 1000 }
 {
-    given.get_one::<u16>(ROUNDS).ok_or(AllocError)
+    let Some(rounds) = given.get_one::<u16>(ROUNDS) else {
+        unreachable!()
+    };
+    rounds
 }
 
 fn files_of(alloc: Global, given: &ArgMatches<'_>) -> Result<Vec<String>, AllocError>

@@ -1,10 +1,9 @@
 use Rattle.std.proofs.Common.{◌≡◌, ◌∙◌, ap, map, refl, subst, sym, true, Result, Ok, Err}
 use Rattle.std.specs.Prelude.{IsSomeAnd, OnOk}
-use Rattle.std.proofs.lemmas.Result.{IfOk-weaker}
 use Rattle.clap.specs.Words.{App, HasKind, fault_of, is_simple, is_simple_and_free, kind_of, subcommand_of, takes}
-use Rattle.roster_words.specs.CommandLine.{IsAskedIn, IsNameOf, commands, program, HasNurse}
+use Rattle.roster_words.specs.CommandLine.{HasNurse, IsNameOf, MeetsRounds, commands, program}
 use Rattle.roster_words.proofs.CommandLineLemmas.{meets_command, refuses}
-use Rattle.roster_words.proofs.RoundsLemmas.{in_range}
+use Rattle.roster_words.proofs.RoundsLemmas.{meets_rounds}
 use Rattle.roster_words.proofs.NurseLemmas.{meets_nurse}
 use Rattle.roster_words.proofs.words.request_of.Goals as goal
 
@@ -25,14 +24,12 @@ request_in-requires-clause-met g c =
     let met = (c.in-Ok.ensures.matches (ap is_simple c.in_ok-program.ensures ∙ simple)).1 ∙ ap (λ (a : App). subcommand_of a words) c.in_ok-program.ensures in
     subst (λ rows. IsSomeAnd rows (λ m. IsNameOf commands m.0)) (sym met) (meets_command words (ap (λ (a : App). fault_of a words) (sym c.in_ok-program.ensures) ∙ none))
 
-pub returns-in-Ok-clause-range : goal.returns-in-Ok-clause-range
-returns-in-Ok-clause-range g c =
+pub request_in-requires-clause-rounds : goal.request_in-requires-clause-rounds
+request_in-requires-clause-rounds g c =
     let words = map g.S.AsStr.text c.args.words.now in
     let none = c.in-Ok.ensures.kinds (ap is_simple_and_free c.in_ok-program.ensures ∙ free) in
     let met = (c.in-Ok.ensures.matches (ap is_simple c.in_ok-program.ensures ∙ simple)).1 ∙ ap (λ (a : App). subcommand_of a words) c.in_ok-program.ensures in
-    IfOk-weaker c.request_in.result _ _
-    (λ r asked. in_range words r (ap (λ (a : App). fault_of a words) (sym c.in_ok-program.ensures) ∙ none) (subst (λ rows. IsAskedIn rows r) met asked))
-    c.request_in.ensures.request
+    subst MeetsRounds (sym met) (meets_rounds words (ap (λ (a : App). fault_of a words) (sym c.in_ok-program.ensures) ∙ none))
 
 pub request_in-requires-clause-nurse : goal.request_in-requires-clause-nurse
 request_in-requires-clause-nurse g c =

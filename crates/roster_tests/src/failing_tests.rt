@@ -1,0 +1,269 @@
+//! Runs of which a read fails, or an output or a log behind each byte in turn.
+
+use crate::best_tests::{ready, row_of};
+use crate::texts::{MINI, SHOWN, changed};
+use roster_cli::{Command, Request, run};
+use roster_devices::{AtEnd, FailingReader, OneByteReader, ShortWriter};
+use roster_rounds::{LogFault, improve, most_extensions};
+use roster_text::Watch;
+use std::alloc::{AllocError, Global};
+use std::io::{ErrorKind, Read};
+use std::test::Fail;
+
+/// What a command writes over mini, and what it tells of its work.
+#[derive(Clone, Copy)]
+struct Answer {
+    name: &'static str,
+    output: &'static str,
+    log: &'static str,
+}
+
+const COSTS: &str = "S1 210\nS2 0\nS3 180\nS4 0\nS5 0\nS6 80\nS7 0\ntotal 470\n";
+
+const SIZES: &str = "Ann 1296 2592 9072 27216\nBob 1296 2592 9072 27216\n";
+
+const BEST: &str = "SOLUTION\n0 mini\n\nASSIGNMENTS = 6\nAnn Mon Early Nurse\nAnn Wed Early Nurse\n\
+    Ann Thu Early Nurse\nAnn Fri Early Nurse\nAnn Sat Early Nurse\nAnn Sun Early Nurse\n";
+
+const IMPROVED: &str =
+    "SOLUTION\n0 mini\n\nASSIGNMENTS = 7\nAnn Mon Early Nurse\nAnn Wed Early Nurse\n\
+    Ann Thu Early Nurse\nAnn Fri Early Nurse\nBob Tue Early Nurse\nBob Sat Early Nurse\n\
+    Bob Sun Early Nurse\n";
+
+/// The log of a run over mini.
+const RUN_LOG: &str =
+    "start 470\n1 Ann 180\n1 Bob 20\nround 1 20\n2 Ann 0\nround 2 0\nround 3 0\nsettled 0\n";
+
+const ANSWERS: [Answer; 5] = [
+    Answer {
+        name: "show",
+        output: SHOWN,
+        log: "",
+    },
+    Answer {
+        name: "cost",
+        output: COSTS,
+        log: "",
+    },
+    Answer {
+        name: "sizes",
+        output: SIZES,
+        log: "",
+    },
+    Answer {
+        name: "best",
+        output: BEST,
+        log: "start 470\nbest Ann 180\n",
+    },
+    Answer {
+        name: "improve",
+        output: IMPROVED,
+        log: RUN_LOG,
+    },
+];
+
+/// The command of a name: `best` is for Ann, and `improve` makes 100 rounds at most.
+fn command_of(alloc: Global, name: &str) -> Result<Command, AllocError> {
+    Ok(match name {
+        "show" => Command::Show,
+        "cost" => Command::Cost,
+        "sizes" => Command::Sizes,
+        "best" => Command::Best {
+            nurse: String::from_str(alloc, "Ann")?,
+        },
+        _ => Command::Improve { rounds: 100 },
+    })
+}
+
+/// Room for an output and a log, in bytes, and what happens where it is full.
+#[derive(Clone, Copy)]
+struct Room {
+    output: usize,
+    log: usize,
+    at_end: AtEnd,
+}
+
+const AMPLE: Room = Room {
+    output: 200,
+    log: 200,
+    at_end: AtEnd::Fail,
+};
+
+/// How a run is to end: its status, and what its output and its log are as far as there is room.
+type End<'a> = (u8, &'a str, &'a str);
+
+/// Whether these are the bytes of a text, as many of them as there is room for.
+fn fill(written: &[u8], text: &str, room: usize) -> bool {
+    text.as_bytes().starts_with(written) && written.len() == text.len().min(room)
+}
+
+/// Whether a run of the command of this name over an input ends so.
+fn ends(
+    alloc: Global,
+    name: &str,
+    input: impl Read + Drop,
+    room: Room,
+    end: End<'_>,
+) -> Result<bool, AllocError> {
+    let request = Request {
+        command: command_of(alloc, name)?,
+        files: Vec::new(alloc),
+    };
+    let (mut output_room, mut log_room) = ([0; 200], [0; 200]);
+    let output_room = &mut output_room[..room.output.min(200)];
+    let log_room = &mut log_room[..room.log.min(200)];
+    let mut input = Watch::new(input);
+    let mut output = Watch::new(ShortWriter::new(output_room, room.at_end));
+    let mut log = Watch::new(ShortWriter::new(log_room, room.at_end));
+    let status = run(alloc, &request, &mut input, &mut output, &mut log);
+    Ok(
+        status == end.0
+            && fill(output.into_inner().written(), end.1, room.output)
+            && fill(log.into_inner().written(), end.2, room.log),
+    )
+}
+
+#[test]
+fn an_input_that_fails_at_each_read(rt: HostRuntime) -> Result<(), Fail> {
+    let alloc = rt.alloc();
+    let (rest, kind) = (MINI.as_bytes(), ErrorKind::Other);
+    for Answer { name, output, log } in ANSWERS {
+        for fails_in in 1..3 {
+            let input = FailingReader {
+                rest,
+                fails_in,
+                kind,
+            };
+            let end = (3, "", "read failed\n");
+            assert!(rt; ends(alloc, name, input, AMPLE, end)?, "{name} {fails_in}");
+        }
+        let input = OneByteReader { rest };
+        assert!(rt;
+            ends(alloc, name, input, AMPLE, (0, output, log))?,
+            "{name}"
+        );
+    }
+    Ok(())
+}
+
+#[test]
+fn an_output_that_fails_behind_each_byte(rt: HostRuntime) -> Result<(), Fail> {
+    let (alloc, input) = (rt.alloc(), MINI.as_bytes());
+    for Answer {
+        name,
+        output: text,
+        log,
+    } in ANSWERS {
+        let told = format!(in alloc; "{log}write failed\n")?;
+        let end = (3, text, told.as_str());
+        for at_end in [AtEnd::Fail, AtEnd::TakeNothing] {
+            for output in 0..text.len() {
+                let room = Room {
+                    output,
+                    log: 200,
+                    at_end,
+                };
+                assert!(rt; ends(alloc, name, input, room, end)?, "{name} {output}");
+            }
+            // The line about it can't be written either.
+            for log in log.len()..told.len() {
+                let room = Room {
+                    output: 7,
+                    log,
+                    at_end,
+                };
+                assert!(rt; ends(alloc, name, input, room, end)?, "{name} {log}");
+            }
+        }
+    }
+    Ok(())
+}
+
+#[test]
+fn a_log_that_fails_behind_each_byte(rt: HostRuntime) -> Result<(), Fail> {
+    let (alloc, input) = (rt.alloc(), MINI.as_bytes());
+    for Answer {
+        name,
+        output,
+        log: text,
+    } in ANSWERS {
+        for at_end in [AtEnd::Fail, AtEnd::TakeNothing] {
+            for log in 0..text.len() {
+                let room = Room {
+                    output: 200,
+                    log,
+                    at_end,
+                };
+                assert!(rt;
+                    ends(alloc, name, input, room, (3, "", text))?,
+                    "{name} {log}"
+                );
+            }
+            // Just enough room.
+            let room = Room {
+                output: output.len(),
+                log: text.len(),
+                at_end,
+            };
+            assert!(rt;
+                ends(alloc, name, input, room, (0, output, text))?,
+                "{name}"
+            );
+        }
+    }
+    Ok(())
+}
+
+/// Behind how many bytes a log may fail (the first and the last number), and the total and the weeks of Ann and Bob that a run
+/// over mini leaves then.
+type Left = (usize, usize, u64, &'static [u8; 7], &'static [u8; 7]);
+
+const LEFT: [Left; 4] = [
+    // The roster as it was read.
+    (0, 9, 470, b"-------", b"-------"),
+    // Ann's row was replaced in round 1.
+    (10, 19, 180, b"E-EEEEE", b"-------"),
+    // Bob's row was replaced too.
+    (20, 39, 20, b"E-EEEEE", b"-E---EE"),
+    // Ann's row was replaced again, in round 2.
+    (40, 77, 0, b"E-EEE--", b"-E---EE"),
+];
+
+#[test]
+fn rosters_behind_a_log_that_fails(rt: HostRuntime) -> Result<(), Fail> {
+    for (first, last, total, ann, bob) in LEFT {
+        for sent in first..last + 1 {
+            let (mut held, mut workspace, mut meter) = ready(rt.alloc(), &[])?;
+            if !workspace.fits(held.case()) || meter.room() < most_extensions(held.case(), 100) {
+                return Err(Fail::new("no room"));
+            }
+            let mut log_room = [0; 78];
+            let writer = ShortWriter::new(&mut log_room[..sent.min(78)], AtEnd::Fail);
+            let mut log = Watch::new(writer);
+            let ended = improve(&mut held, 100, &mut workspace, &mut meter, &mut log);
+            assert!(rt; ended == Err(LogFault::LogFailed { sent }), "{sent}");
+            assert!(rt; fill(log.into_inner().written(), RUN_LOG, sent), "{sent}");
+            assert!(rt; held.total() == total, "{sent}");
+            assert!(rt; held.roster().row(0) == row_of(ann).as_slice(), "{sent}");
+            assert!(rt; held.roster().row(1) == row_of(bob).as_slice(), "{sent}");
+        }
+    }
+    Ok(())
+}
+
+#[test]
+fn a_refusal_whose_line_fails_behind_each_byte(rt: HostRuntime) -> Result<(), Fail> {
+    let alloc = rt.alloc();
+    let text = changed(alloc, &[("Early Nurse (0,1)", "Early Nurse (1,1)")])?;
+    let told = "H2 week 0 Mon Early Nurse: 0 of 1\n";
+    for name in ["cost", "best", "improve"] {
+        for log in 0..told.len() + 1 {
+            let room = Room { log, ..AMPLE };
+            assert!(rt;
+                ends(alloc, name, text.as_bytes(), room, (1, "", told))?,
+                "{name} {log}"
+            );
+        }
+    }
+    Ok(())
+}

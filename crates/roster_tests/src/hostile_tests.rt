@@ -1,0 +1,58 @@
+//! Runs over texts that are cut off or spoilt at each byte.
+
+use crate::texts::{MINI, SHOWN};
+use roster_cli::{Command, Request, run};
+use roster_text::Watch;
+use std::alloc::Global;
+use std::test::Fail;
+
+/// The status, the output and the log of a run of `show` over a text.
+fn show(alloc: Global, text: &[u8]) -> (u8, Vec<u8>, Vec<u8>) {
+    let request = Request {
+        command: Command::Show,
+        files: Vec::new(alloc),
+    };
+    let mut input = Watch::new(text);
+    let mut output = Watch::new(Vec::new(alloc));
+    let mut log = Watch::new(Vec::new(alloc));
+    let status = run(alloc, &request, &mut input, &mut output, &mut log);
+    (status, output.into_inner(), log.into_inner())
+}
+
+#[test]
+fn texts_cut_off_behind_each_byte(rt: HostRuntime) -> Result<(), Fail> {
+    let whole = MINI.as_bytes();
+    let mut line: u32 = 1;
+    for (end, byte) in whole.iter().enumerate() {
+        let (status, output, log) = show(rt.alloc(), &whole[..end]);
+        let told = format!(in rt.alloc(); "line {line}: expected ")?;
+        // The last token is one byte, with an LF behind it.
+        let is_right = if end + 1 < whole.len() {
+            status == 1 && output.is_empty() && log.starts_with(told.as_bytes())
+        } else {
+            status == 0 && output.as_slice() == SHOWN.as_bytes() && log.is_empty()
+        };
+        assert!(rt; is_right, "{end}");
+        if *byte == b'\n' {
+            line = line.saturating_add(1);
+        }
+    }
+    Ok(())
+}
+
+#[test]
+fn texts_with_another_byte_in_each_place(rt: HostRuntime) -> Result<(), Fail> {
+    for at in 0..MINI.len() {
+        for byte in *b"(),= 0x" {
+            let mut text = MINI.as_bytes().to_vec(rt.alloc())?;
+            if let Some(place) = text.get_mut(at) {
+                *place = byte;
+            }
+            let (status, output, log) = show(rt.alloc(), text.as_slice());
+            let is_answered = status == 0 && !output.is_empty() && log.is_empty();
+            let is_refused = status == 1 && output.is_empty() && !log.is_empty();
+            assert!(rt; is_answered || is_refused, "{at} {byte}");
+        }
+    }
+    Ok(())
+}
