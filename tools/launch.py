@@ -4,6 +4,9 @@ import os
 import resource
 import signal
 
+# GNU time, which measures what it starts by the system's own count. This script itself is too large: what it starts begins with
+# its memory.
+TIME = "/usr/bin/time"
 # The size at which a file is full, where a stream has a room: one with room for j bytes begins j bytes before it.
 FULL = 1 << 26
 
@@ -13,8 +16,8 @@ class Answer:
     status: int
     output: bytes
     log: bytes
-    seconds: float = dataclasses.field(default=0.0, compare=False)  # processor time
-    kilobytes: int = dataclasses.field(default=0, compare=False)  # the greatest memory
+    seconds: float = dataclasses.field(default=0.0, compare=False)  # processor time, where it is measured
+    kilobytes: int = dataclasses.field(default=0, compare=False)  # the greatest memory, of 1,024 bytes each
 
     def __str__(self):
         return f"status {self.status}, output {self.output[:200]!r}, log {self.log[:200]!r}"
@@ -57,12 +60,20 @@ class Runner:
             os.ftruncate(file, 0)
             os.lseek(file, begin(room), os.SEEK_SET)
         os.lseek(self.input, 0, os.SEEK_SET)
-        status, used = self.ended(words, any(room is not None for room in rooms.values()))
+        status = self.ended(words, any(room is not None for room in rooms.values()))
         output, log = (written(file, begin(room)) for file, room in rooms.items())
-        return Answer(status, output, log, used.ru_utime + used.ru_stime, used.ru_maxrss)
+        return Answer(status, output, log)
+
+    def measure(self, words):
+        """The answer of the program, with the time and the memory that it took."""
+        (path,) = self.named([b""])
+        answer = self.run([TIME, "-q", "-f", "%U %S %M", "-o", path, *words])
+        user, system, kilobytes = written(self.files[0], 0).split()
+        answer.seconds, answer.kilobytes = float(user) + float(system), int(kilobytes)
+        return answer
 
     def ended(self, words, is_limited):
-        """Runs the program to its end: its status, and what it used."""
+        """Runs the program to its end, and returns its status."""
         streams = [(os.POSIX_SPAWN_DUP2, it, to) for to, it in enumerate((self.input, self.output, self.log))]
         usual = resource.getrlimit(resource.RLIMIT_FSIZE)
         # The program has the limits of this script. Python leaves SIGXFSZ ignored, so a write answers EFBIG.
@@ -72,14 +83,14 @@ class Runner:
         resource.setrlimit(resource.RLIMIT_FSIZE, usual)
         signal.setitimer(signal.ITIMER_REAL, self.seconds)
         try:
-            _, status, used = os.wait4(child, 0)
+            _, status = os.waitpid(child, 0)
         except NoEnd:
             os.kill(child, signal.SIGKILL)
-            os.wait4(child, 0)
+            os.waitpid(child, 0)
             raise
         finally:
             signal.setitimer(signal.ITIMER_REAL, 0)
-        return os.waitstatus_to_exitcode(status), used
+        return os.waitstatus_to_exitcode(status)
 
 
 def begin(room):
