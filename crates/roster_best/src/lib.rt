@@ -16,4 +16,4 @@ pub use laws::offers_tell_the_allowed_rows;
 pub use offer::choices;
 pub use roster_search::Offer;
 pub use search::{Best, best_row};
-pub use workspace::{BestFault, Workspace};
+pub use workspace::{BestFault, Workspace, most_steps};

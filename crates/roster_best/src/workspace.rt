@@ -1,9 +1,9 @@
 //! The memory of a search.
 
-ghost use Rattle.std.specs.Prelude.{◌≡◌, ◌*◌, ◌≤◌, [], true, IfOk, take};
-ghost use Rattle.roster_instance.specs.Limits.{most_states};
-ghost use Rattle.roster_instance.specs.Meaning.{day_count};
-ghost use Rattle.roster_laws.specs.Greatest.{greatest_state_count};
+ghost use Rattle.std.specs.Prelude.{◌≡◌, ◌+◌, ◌*◌, ◌<◌, ◌≤◌, [], true, IfOk, take};
+ghost use Rattle.roster_instance.specs.Limits.{most_days, most_shifts, most_skills, most_states};
+ghost use Rattle.roster_instance.specs.Meaning.{day_count, nurse_count};
+ghost use Rattle.roster_laws.specs.Greatest.{extension_count, greatest_state_count};
 ghost use Rattle.roster_best.specs.Workspaces.{fits_space};
 
 use roster_case::{Case, Choice};
@@ -129,4 +129,14 @@ fn greatest_states(case: &Case) -> u32
         greatest = greatest.max(case.states(nurse));
     }
     greatest
+}
+
+/// How many states a search for a nurse's best row takes over a choice, at most: each state on each day by each choice of the nurse.
+#[tactic(auto, unfolding(roster_laws::specs::Greatest::extension_count))]
+pub fn most_steps(case: &Case, nurse: usize) -> u64
+    requires { nurse < nurse_count case.now }
+    ensures count { result ≡ extension_count case.now nurse }
+    ensures within { result ≤ most_states * most_days * (1 + most_shifts * most_skills) }
+{
+    case.states(nurse) as u64 * case.days() as u64 * case.choice_count(nurse) as u64
 }
