@@ -1,7 +1,8 @@
 //! Steps and runs of the improver, and a log that fails.
 
-use crate::best_tests::{most_steps, ready};
+use crate::best_tests::ready;
 use crate::texts::MINI;
+use roster_best::most_steps;
 use roster_cli::{Command, Request, run};
 use roster_devices::{AtEnd, ShortWriter};
 use roster_rounds::{LogFault, Outcome, Step, improve, most_extensions, step};
