@@ -1,24 +1,18 @@
 -- The best row that a search finds, and what is told of the search.
-use Rattle.std.proofs.Common.{◌≡◌, ◌∙◌, ◌∷◌, ◌++◌, [], ℕ, List, Option, ap, arith, refl, sym, true, unwrap_or}
-use Rattle.std.proofs.lemmas.List.Elements.{Contains-append_right}
+use Rattle.std.proofs.Common.{◌≡◌, ◌∙◌, ◌++◌, [], ℕ, List, Option, ap, sym, unwrap_or}
 use Rattle.roster_text.specs.Io.{Watched, Writes}
 use Rattle.roster_text.proofs.Texts.{Stops-after, Stops-append}
-use Rattle.roster_case.specs.AllowedRows.{IsBestRow, allowed_rows, penalty_with, row_keeps}
+use Rattle.roster_case.specs.AllowedRows.{IsBestRow, allowed_rows, penalty_with}
 use Rattle.roster_case.specs.Meaning.{Meaning}
 use Rattle.roster_case.specs.Penalties.{penalty}
 use Rattle.roster_case.specs.Rosters.{Row, Rows, with_row}
 use Rattle.roster_rules.proofs.FirstLeast.{only}
-use Rattle.roster_laws.proofs.Allowed.{allowed_keeps}
 use Rattle.roster_answer.specs.Answer.{StopsSearch, with_best}
 use Rattle.roster_answer.specs.Lines.{Text}
 use Rattle.roster_answer.specs.declared.fault.Fault.{Fault}
 use Rattle.roster_answer.specs.declared.fault.Fault.TheVariants as fault
 
 module _ (c : Meaning) (r : Rows) (n : ℕ) (row : Row) (best : IsBestRow c r n row) where
-  -- it may be put in
-  pub best_keeps : row_keeps c r n row ≡ true
-  best_keeps = allowed_keeps c r n row (rw best.split (Contains-append_right best.before (row ∷ best.after) row (0, omega arith, refl)))
-
   -- it is the one of the definition
   pub best_put : with_row r n row ≡ with_best c r n
   best_put = ap (λ o. with_row r n (unwrap_or o [])) (sym (only (penalty_with c r n) (allowed_rows c r n) row best))

@@ -1,11 +1,9 @@
 //! The command `best`: the best row of a nurse, put in.
 
-ghost use Rattle.std.specs.Prelude.{◌≡◌, ◌++◌, codes, ◌<◌, ◌≤◌, true, Some, OnOk, IfOk, IfErr, string_bytes};
-ghost use Rattle.roster_text.specs.Io.{StopsIn, Writes};
+ghost use Rattle.std.specs.Prelude.{◌≡◌, ◌++◌, codes, ◌<◌, ◌≤◌, true, OnOk, IfErr};
+ghost use Rattle.roster_text.specs.Io.{Writes};
 ghost use Rattle.roster_text.specs.Pieces.{pieces_text};
-ghost use Rattle.roster_case.specs.AllowedRows.{IsBestRow, penalty_with};
 ghost use Rattle.roster_case.specs.Meaning.{nurse_count};
-ghost use Rattle.roster_case.specs.Names.{find_name};
 ghost use Rattle.roster_case.specs.Penalties.{penalty};
 ghost use Rattle.roster_case.specs.Rosters.{fits_case};
 ghost use Rattle.roster_answer.specs.Answer.{Ends, LeavesLog, StopsSearch, best_report, outcome_of, with_best};
@@ -16,8 +14,8 @@ ghost use Rattle.roster_best.specs.Workspaces.{fits_space};
 use crate::fault::Fault;
 use crate::held::hold;
 use crate::reading::Instance;
-use roster_best::{Workspace, best_row};
-use roster_case::{Case, Held};
+use roster_best::{Workspace, best_row, most_steps};
+use roster_case::Held;
 use roster_lines::write_weeks;
 use roster_state::Meter;
 use roster_text::{Piece, Watch, write_pieces};
@@ -50,15 +48,6 @@ pub(crate) fn best<'a, Out: Write, Log: Write>(
     let _ = most_steps(held.case(), nurse);
     put_best_row(&mut held, name, nurse, &mut workspace, &mut meter, log)?;
     Ok(write_weeks(output, held.case(), held.roster())?)
-}
-
-/// The most steps that the search for a nurse takes.
-#[tactic(auto, unfolding(roster_laws::specs::Greatest::extension_count))]
-fn most_steps(case: &Case, nurse: usize) -> u64
-    requires { nurse < nurse_count case.now }
-    ensures { result ≡ extension_count case.now nurse }
-{
-    case.states(nurse) as u64 * case.days() as u64 * case.choice_count(nurse) as u64
 }
 
 /// Puts the best row of a nurse in. What the roster costs is logged before the search begins, and what it costs with the row

@@ -1,11 +1,11 @@
 //! How much a run counts on its meter at most.
 
-ghost use Rattle.std.specs.Prelude.{◌≡◌, ◌+◌, ◌*◌, ◌<◌, ◌≤◌};
+ghost use Rattle.std.specs.Prelude.{◌≡◌, ◌+◌, ◌*◌, ◌≤◌};
 ghost use Rattle.roster_instance.specs.Limits.{most_days, most_shifts, most_skills, most_states};
-ghost use Rattle.roster_instance.specs.Meaning.{nurse_count};
-ghost use Rattle.roster_laws.specs.Greatest.{extension_count, greatest_extension_count};
+ghost use Rattle.roster_laws.specs.Greatest.{greatest_extension_count};
 ghost use Rattle.roster_rounds.specs.RunLogs.{extensions_in};
 
+use roster_best::most_steps;
 use roster_case::Case;
 
 /// How often a run of so many rounds extends a label at most. A new meter has room for it.
@@ -22,17 +22,7 @@ fn greatest_extensions(case: &Case) -> u64
 {
     let mut greatest: u64 = 0;
     for nurse in 0..case.nurses() {
-        greatest = greatest.max(extensions(case, nurse));
+        greatest = greatest.max(most_steps(case, nurse));
     }
     greatest
-}
-
-/// How often the search for a nurse extends a label at most: each state on each day by each choice.
-#[tactic(auto, unfolding(roster_laws::specs::Greatest::extension_count))]
-fn extensions(case: &Case, nurse: usize) -> u64
-    requires { nurse < nurse_count case.now }
-    ensures count { result ≡ extension_count case.now nurse }
-    ensures within { result ≤ most_states * most_days * (1 + most_shifts * most_skills) }
-{
-    case.states(nurse) as u64 * case.days() as u64 * case.choice_count(nurse) as u64
 }

@@ -36,29 +36,52 @@ with_bob = early_but 1 ∷ early_on (1 ∷ 5 ∷ 6 ∷ []) ∷ []
 abbrev last : Rows
 last = early_on (0 ∷ 2 ∷ 3 ∷ 4 ∷ []) ∷ early_on (1 ∷ 5 ∷ 6 ∷ []) ∷ []
 
+-- each step, computed once
+abbrev step_of : Rows → ℕ → Rows
+step_of = step mini_of_one_shift best
+
+ann_first : step_of all_free ann ≡ with_ann
+unfolding step penalty costs_of run_violations hard_faults all_rows
+ann_first = refl
+
+bob_first : step_of with_ann bob ≡ with_bob
+unfolding step penalty costs_of run_violations hard_faults all_rows
+bob_first = refl
+
+ann_second : step_of with_bob ann ≡ last
+unfolding step penalty costs_of run_violations hard_faults all_rows
+ann_second = refl
+
+ann_third : step_of last ann ≡ last
+unfolding step penalty costs_of run_violations hard_faults all_rows
+ann_third = refl
+
+bob_third : step_of last bob ≡ last
+unfolding step penalty costs_of run_violations hard_faults all_rows
+bob_third = refl
+
+-- a round is Ann's step and then Bob's
+round_is : (r : Rows) → round mini_of_one_shift best r ≡ step_of (step_of r ann) bob
+unfolding round
+round_is r = refl
+
 first : round mini_of_one_shift best all_free ≡ with_bob
-unfolding round step penalty costs_of run_violations hard_faults all_rows
-first = refl
+first = round_is all_free ∙ rw (ann_first, bob_first) refl
 
 second : round mini_of_one_shift best with_bob ≡ last
-unfolding round step penalty costs_of run_violations hard_faults all_rows
-second = refl
+second = round_is with_bob ∙ rw (ann_second, bob_third) refl
 
 third : round mini_of_one_shift best last ≡ last
-unfolding round step penalty costs_of run_violations hard_faults all_rows
-third = refl
+third = round_is last ∙ rw (ann_third, bob_third) refl
 
 first_log : round_log mini_of_one_shift best 1 all_free ≡ entry (changed 1 ann) with_ann ∷ entry (changed 1 bob) with_bob ∷ entry (round_done 1) with_bob ∷ []
-unfolding round step penalty costs_of run_violations hard_faults all_rows
-first_log = refl
+first_log = rw (first, ann_first, bob_first) refl
 
 second_log : round_log mini_of_one_shift best 2 with_bob ≡ entry (changed 2 ann) last ∷ entry (round_done 2) last ∷ []
-unfolding round step penalty costs_of run_violations hard_faults all_rows
-second_log = refl
+second_log = rw (second, ann_second, bob_third) refl
 
 third_log : round_log mini_of_one_shift best 3 last ≡ entry (round_done 3) last ∷ []
-unfolding round step penalty costs_of run_violations hard_faults all_rows
-third_log = refl
+third_log = rw (third, ann_third, bob_third) refl
 
 settles : (c : Meaning) (best : BestRows) (k m : ℕ) (r : Rows) → round c best r ≡ r → same_rows r r ≡ true → entries_from c best k (suc m) r ≡ round_log c best k r ++ entry settled r ∷ []
 settles c best k m r e same = rw (e, same) refl

@@ -1,4 +1,4 @@
-//! Worked examples of rows in their order, of their first days, and of the logs of runs.
+//! Worked examples of rows in their order, of their first days, and of the log of a run of no rounds.
 #![tactic(auto, unfolding(roster_instance::specs::Choices::all_rows, roster_rules::specs::HardRules::hard_faults, roster_rules::specs::Improver::log_of, roster_rules::specs::Penalties::costs_of, roster_rules::specs::Penalties::own_cost, roster_rules::specs::Penalties::penalty, roster_rules::specs::Prefix::due, roster_rules::specs::Prefix::summary_of, roster_rules::specs::Runs::open_run, roster_rules::specs::Runs::run_violations))]
 
 ghost use Rattle.std.specs.Prelude.{◌≡◌, ℕ, [], ◌∷◌, Some, None, codes, flat_map, map, replicate};
@@ -8,7 +8,7 @@ ghost use Rattle.roster_rules.specs.Meaning.{shift_at};
 ghost use Rattle.roster_rules.specs.Penalties.{own_cost};
 ghost use Rattle.roster_rules.specs.Prefix.{due, summary_of};
 ghost use Rattle.roster_rules.specs.AllowedRows.{best_row, first_least, penalty_with};
-ghost use Rattle.roster_run_examples.specs.Mini.{all_free, ann, early_but, early_on, mini, mini_of_one_shift};
+ghost use Rattle.roster_run_examples.specs.Mini.{all_free, ann, early_but, mini, mini_of_one_shift};
 
 /// Rows in their order, and the first of the least: one day off in the week costs the same from Tuesday to Friday.
 pub fn rows_in_order()
@@ -28,10 +28,7 @@ pub fn prefixes_of_rows()
     ensures a_long_week { due mini ann (days_of (early_but 1)) ≡ 20 }
 {}
 
-/// The log of a run of no rounds, and the logs of single rounds: the last changes nothing, so that the run is settled.
-pub fn logs_of_runs()
-    ensures no_rounds { flat_map (line_of mini) (log_of mini (best_row mini) 0 all_free) ≡ codes "start 470\nstopped 470\n" }
-    ensures one_round { flat_map (line_of mini_of_one_shift) (log_of mini_of_one_shift (best_row mini_of_one_shift) 1 all_free) ≡ codes "start 470\n1 Ann 180\n1 Bob 20\nround 1 20\nstopped 20\n" }
-    ensures second_round { flat_map (line_of mini_of_one_shift) (log_of mini_of_one_shift (best_row mini_of_one_shift) 1 (early_but 1 ∷ early_on (1 ∷ 5 ∷ 6 ∷ []) ∷ [])) ≡ codes "start 20\n1 Ann 0\nround 1 0\nstopped 0\n" }
-    ensures last_round { flat_map (line_of mini_of_one_shift) (log_of mini_of_one_shift (best_row mini_of_one_shift) 1 (early_on (0 ∷ 2 ∷ 3 ∷ 4 ∷ []) ∷ early_on (1 ∷ 5 ∷ 6 ∷ []) ∷ [])) ≡ codes "start 0\nround 1 0\nsettled 0\n" }
+/// The log of a run of no rounds.
+pub fn log_of_no_rounds()
+    ensures { flat_map (line_of mini) (log_of mini (best_row mini) 0 all_free) ≡ codes "start 470\nstopped 470\n" }
 {}

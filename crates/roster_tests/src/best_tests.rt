@@ -1,13 +1,9 @@
 //! The best rows of nurses, and what the search for them takes.
 
-ghost use Rattle.std.specs.Prelude.{◌≡◌, ◌<◌};
-ghost use Rattle.roster_case.specs.Meaning.{nurse_count};
-ghost use Rattle.roster_laws.specs.Greatest.{extension_count};
-
 use crate::held_tests::put;
 use crate::texts::{changed, read};
-use roster_best::{Workspace, best_row};
-use roster_case::{Case, Choice, Held, Shift, Skill};
+use roster_best::{Workspace, best_row, most_steps};
+use roster_case::{Choice, Held, Shift, Skill};
 use roster_state::Meter;
 use std::alloc::Global;
 use std::test::Fail;
@@ -27,15 +23,6 @@ pub(crate) fn ready(
         Ok(workspace) => Ok((held, workspace, meter)),
         Err(_) => Err(Fail::new("no workspace")),
     }
-}
-
-/// The most steps that the search for a nurse takes.
-#[tactic(auto, unfolding(roster_laws::specs::Greatest::extension_count))]
-pub(crate) fn most_steps(case: &Case, nurse: usize) -> u64
-    requires { nurse < nurse_count case.now }
-    ensures { result ≡ extension_count case.now nurse }
-{
-    case.states(nurse) as u64 * case.days() as u64 * case.choice_count(nurse) as u64
 }
 
 /// Searches a nurse's best row. It gives the roster's penalty with it, and how many steps were counted; or None where there is no

@@ -12,8 +12,9 @@ mod failing_tests;
 #[cfg(test)]
 mod held_tests;
 #[cfg(test)]
-mod lanes_tests;
 mod hostile_tests;
+#[cfg(test)]
+mod lanes_tests;
 #[cfg(test)]
 mod library_tests;
 #[cfg(test)]

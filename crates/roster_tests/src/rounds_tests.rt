@@ -1,6 +1,7 @@
 //! A step and a run of the improver.
 
-use crate::best_tests::{most_steps, ready};
+use crate::best_tests::ready;
+use roster_best::most_steps;
 use roster_devices::{AtEnd, ShortWriter};
 use roster_rounds::{Outcome, Step, improve, most_extensions, step};
 use roster_text::Watch;

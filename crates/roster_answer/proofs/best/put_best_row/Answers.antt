@@ -8,7 +8,7 @@ use Rattle.roster_case.specs.Penalties.{penalty}
 use Rattle.roster_case.specs.Rosters.{Rows, with_row}
 use Rattle.roster_answer.specs.Answer.{StopsSearch, with_best}
 use Rattle.roster_answer.specs.Lines.{report_line}
-use Rattle.roster_answer.proofs.BestLemmas.{best_keeps, best_put, stops_before, stops_behind, total_put}
+use Rattle.roster_answer.proofs.BestLemmas.{best_put, stops_before, stops_behind, total_put}
 use Rattle.roster_answer.proofs.best.put_best_row.Goals as goal
 
 pub returns-in_err-write_start-clause-err : goal.returns-in_err-write_start-clause-err
@@ -43,8 +43,7 @@ returns-in_err-write_best-clause-err g c =
 pub replace_row-requires-clause-keeps : goal.replace_row-requires-clause-keeps
 replace_row-requires-clause-keeps g c =
     let now = c.args.held.now in
-    subst (λ row. row_keeps now.case now.roster c.args.nurse row ≡ true) (sym c.row.ensures)
-    (best_keeps now.case now.roster c.args.nurse c.best_row-best.new.workspace.row c.best_row-best.ensures.best)
+    subst (λ row. row_keeps now.case now.roster c.args.nurse row ≡ true) (sym c.row.ensures) c.best_row-best.ensures.keeps
 
 pub returns-clause-put : goal.returns-clause-put
 returns-clause-put g c =

@@ -10,7 +10,16 @@ use Rattle.roster_rounds.specs.RunLogs.{BreaksAmong, RoundMade}
 use Rattle.roster_rounds.proofs.Counts.{round_counted, round_room, round_within, same_room}
 use Rattle.roster_rounds.proofs.OneRound.{settled_line, start_line, stopped_line}
 use Rattle.roster_rounds.proofs.RunSteps.{Going-round, Going-settled, Going-start, Going-stopped, round_breaks, settled_breaks, start_breaks, stopped_breaks}
+use Rattle.roster_rounds.proofs.rounds.improve.Given as given
 use Rattle.roster_rounds.proofs.rounds.improve.Goals as goal
+use Rattle.roster_rounds.proofs.rounds.improve.Goals.{In_ok-made}
+
+-- the round that was made, in the case of the beginning
+made_is : (g : given.Over) (c : In_ok-made g) → RoundMade g.W.Write.contents c.args.held.now.case (best_row c.args.held.now.case) (c.loop-rounds_before.rounds_before + 1) c.loop-rounds_before.held.roster c.make_round.new.held.roster c.loop-rounds_before.log c.make_round.new.log c.loop-rounds_before.sent c.in_ok-made.made.sent c.in_ok-made.made.changes
+made_is g c =
+    let l = c.loop-rounds_before in
+    let made = c.in_ok-made.made in
+    subst (λ (m : Meaning). RoundMade g.W.Write.contents m (best_row m) (l.rounds_before + 1) l.held.roster c.make_round.new.held.roster l.log c.make_round.new.log l.sent made.sent made.changes) l.invariant.case_is c.in_ok-made.ensures.ok
 
 pub returns-in_err-sent-clause-err : goal.returns-in_err-sent-clause-err
 returns-in_err-sent-clause-err g c =
@@ -50,7 +59,7 @@ returns-in_err-log_word-clause-err g c =
     let now = l.held.roster in
     let next = c.make_round.new.held.roster in
     let made = c.in_ok-made.made in
-    let round = subst (λ (m : Meaning). RoundMade contents m (best_row m) (l.rounds_before + 1) now next l.log c.make_round.new.log l.sent made.sent made.changes) l.invariant.case_is c.in_ok-made.ensures.ok in
+    let round = made_is g (goal.at.returns-in_err-log_word-clause-err g c).In_ok-made in
     let line = settled_line case next c.total-total.result (c.total-total.ensures.total ∙ ap (λ (m : Meaning). penalty m next) (c.make_round.ensures.case ∙ l.invariant.case_is)) in
     rw (p.1, p.2) (settled_breaks contents case (best_row case) c.args.rounds c.args.held.now.roster c.args.log.now now next l.log c.make_round.new.log c.log_word-then-made-eq0.new.log l.sent made.sent l.changes l.rounds_before
     made.changes c.in_err-log_word.field-0.0 l.invariant.going c.loop-rounds_before-test.true round c.if-made-eq0.true
@@ -64,7 +73,7 @@ returns-then-made-eq0-clause-ok g c =
     let now = l.held.roster in
     let next = c.make_round.new.held.roster in
     let made = c.in_ok-made.made in
-    let round = subst (λ (m : Meaning). RoundMade contents m (best_row m) (l.rounds_before + 1) now next l.log c.make_round.new.log l.sent made.sent made.changes) l.invariant.case_is c.in_ok-made.ensures.ok in
+    let round = made_is g (goal.at.returns-then-made-eq0-clause-ok g c).In_ok-made in
     let total = c.total-total.ensures.total ∙ ap (λ (m : Meaning). penalty m next) (c.make_round.ensures.case ∙ l.invariant.case_is) in
     Going-settled contents case (best_row case) c.args.rounds c.args.held.now.roster c.args.log.now now next l.log c.make_round.new.log c.log_word-then-made-eq0.new.log l.sent made.sent c.in_ok-log_word.field-0 l.changes
     l.rounds_before made.changes c.total-total.result l.invariant.going c.loop-rounds_before-test.true round c.if-made-eq0.true total
@@ -78,7 +87,7 @@ loop-rounds_before-preserved g c =
     let now = l.held.roster in
     let next = c.make_round.new.held.roster in
     let made = c.in_ok-made.made in
-    let round = subst (λ (m : Meaning). RoundMade contents m (best_row m) (l.rounds_before + 1) now next l.log c.make_round.new.log l.sent made.sent made.changes) l.invariant.case_is c.in_ok-made.ensures.ok in
+    let round = made_is g (goal.at.loop-rounds_before-preserved g c).In_ok-made in
     record {
       case_is = c.make_round.ensures.case ∙ l.invariant.case_is;
       counted = round_counted case l.held.case l.invariant.case_is l.rounds_before c.args.meter.now l.meter l.invariant.counted c.make_round.new.meter c.make_round.ensures.counted;
