@@ -26,9 +26,9 @@ returns-clause-least g c can =
     let width : length block ≡ code + places - code = omega (arith, long) in
     let within : code + length block ≤ length labels = omega (arith, long, room) in
     let moved : Cells (LeastFrom c.args.case.now at g.rest c.args.block c.args.offers.now) code (first + code) 0 m (put_mid code (code + places - code) labels block) c.set_run.new.self =
-        cells_moved (LeastFrom c.args.case.now at g.rest c.args.block c.args.offers.now) code (first + code) m block numbers (put_mid code (code + places - code) labels block) c.set_run.new.self
-        (λ a below. subst (λ k. get_or (put_mid code k labels block) (code + a) 0 ≡ get_or block a 0) width (part_inside code labels block within a (omega (arith, below, long, c.places-places.ensures.places))))
-        (λ a below. c.set_run.ensures.inside a (omega (arith, below, long_numbers, c.places-places.ensures.places))) c.label_places.ensures.least in
+    cells_moved (LeastFrom c.args.case.now at g.rest c.args.block c.args.offers.now) code (first + code) m block numbers (put_mid code (code + places - code) labels block) c.set_run.new.self
+    (λ a below. subst (λ k. get_or (put_mid code k labels block) (code + a) 0 ≡ get_or block a 0) width (part_inside code labels block within a (omega (arith, below, long, c.places-places.ensures.places))))
+    (λ a below. c.set_run.ensures.inside a (omega (arith, below, long_numbers, c.places-places.ensures.places))) c.label_places.ensures.least in
     subst (λ k. Cells (LeastFrom c.args.case.now at g.rest c.args.block c.args.offers.now) k (first + k) 0 m (put_mid code (code + places - code) labels block) c.set_run.new.self) code_is moved
 
 pub returns-clause-labels_others : goal.returns-clause-labels_others

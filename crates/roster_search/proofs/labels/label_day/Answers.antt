@@ -42,10 +42,10 @@ loop-number-preserved g c =
     let size_some : 0 < size = omega (arith, ap (λ (z : Sizes). z.assignments) r.0.ranges) in
     let all_some : 0 < product at.ranges = subst (λ m. 0 < m) c.blocks-number-end.ensures.all (product_some c.blocks-number-end.result size c.blocks-number-end.ensures.some size_some) in
     let first_state : number ≤ 0 → state_at at.ranges 0 ≡ Some (with_assignments block 0) =
-        λ zero.
-          let none : number ≡ 0 = omega (arith, zero) in
-          let nought : number * size + 0 ≡ 0 = ap (λ m. m * size + 0) none ∙ omega arith in
-          subst (λ j. state_at at.ranges j ≡ Some (with_assignments block 0)) nought (c.numbered-block.ensures.states 0 size_some) in
+    λ zero.
+    let none : number ≡ 0 = omega (arith, zero) in
+    let nought : number * size + 0 ≡ 0 = ap (λ m. m * size + 0) none ∙ omega arith in
+    subst (λ j. state_at at.ranges j ≡ Some (with_assignments block 0)) nought (c.numbered-block.ensures.states 0 size_some) in
     let first_counted : (0 < number) ⊎ (number ≤ 0) → c.args.meter.now + length offers * size ≤ c.label_block.new.meter = λ where_it_is. elim where_it_is [
       | inl later ↦ omega (arith, old.some later, e.grown)
       | inr zero ↦ omega (arith, old.grown, e.all_counted (first_can_be k at.nurse at.ranges block all_some (first_state zero)))
