@@ -54,11 +54,13 @@ fn lower_few(labels: &mut [u32], pointers: &mut [u8], others: &[u32], more: u32,
     ensures pointers { PointersSet 0 (length labels.old) others.now more pointer labels.old pointers.old pointers.new }
 {
     'places: for i in 0..labels.len() {
-        let candidate = others[i] + more;
-        if candidate < labels[i] {
-            labels[i] = candidate;
-            pointers[i] = pointer;
-        }
+        let (label, candidate) = (labels[i], others[i] + more);
+        pointers[i] = if candidate < label {
+            pointer
+        } else {
+            pointers[i]
+        };
+        labels[i] = label.min(candidate);
     }
 }
 
