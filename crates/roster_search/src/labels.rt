@@ -6,9 +6,10 @@ ghost use Rattle.roster_rules.specs.Weights.{assignment_weight};
 ghost use Rattle.roster_state.specs.Codes.{code_of, fits_sizes, product, sizes_of};
 ghost use Rattle.roster_state.specs.Room.{most_of_step};
 ghost use Rattle.roster_state.specs.Standing.{can_be};
+ghost use Rattle.roster_state.specs.Step.{with_assignments};
 ghost use Rattle.roster_state.specs.Blocks.{place_behind, place_cost};
 ghost use Rattle.roster_lanes.specs.Lanes.{SameOutside};
-ghost use Rattle.roster_search.specs.Tables.{AreLabels, AreLowered, ArePointers, BestOnward, Cells, IsDayOf, IsOfferOf, LeastFrom, Stands, best_at_end, best_on, most_price, no_row};
+ghost use Rattle.roster_search.specs.Tables.{AreLabels, AreLowered, ArePointers, BestOnward, Cells, IsDayOf, IsOfferOf, LeastFrom, Stands, best_at_end, best_on, label_of, most_price, no_row};
 
 use crate::day::SearchDay;
 use crate::offer::Offer;
@@ -29,10 +30,25 @@ pub fn label_end(case: &Case, nurse: usize, ranges: &Ranges, labels: &mut [u32])
     ensures labels { AreLabels case.now nurse (day_count case.now) (best_at_end case.now nurse) labels.new }
     ensures length { length labels.new ≡ length labels.old }
 {
-    for code in 0..ranges.product() {
-        if let Some(state) = State::from_code(ranges, code) {
-            labels[code as usize] = end_cost(case, nurse, state);
-        }
+    for number in 0..ranges.blocks() {
+        let block = Block::numbered(ranges, number);
+        label_block_end(case, nurse, ranges, block, labels);
+    }
+}
+
+/// The labels of a block behind the last day.
+fn label_block_end(case: &Case, nurse: usize, ranges: &Ranges, block: Block, labels: &mut [u32])
+    requires nurse { nurse < nurse_count case.now }
+    requires ranges { ranges.now ≡ sizes_of case.now nurse }
+    requires fits { fits_sizes ranges.now block ≡ true }
+    requires room { product ranges.now ≤ length labels.old }
+    ensures labels { (a : ℕ) → a < ranges.now.assignments → slice_index_or labels.new (code_of ranges.now block + a) 0 ≡ label_of (best_at_end case.now nurse (with_assignments block a)) }
+    ensures others { SameOutside (code_of ranges.now block) (code_of ranges.now block + ranges.now.assignments) labels.old labels.new }
+    ensures length { length labels.new ≡ length labels.old }
+{
+    let code = block.first(ranges) as usize;
+    for place in 0..block.places(ranges) as u16 {
+        labels[code + place as usize] = end_cost(case, nurse, block.state(place));
     }
 }
 
