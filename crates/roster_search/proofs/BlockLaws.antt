@@ -1,5 +1,5 @@
 -- A block of states that differ in their assignments alone: its cells by one offer more, and a table with one block more.
-use Rattle.std.proofs.Common.{◌≡◌, ◌∙◌, ◌+◌, ◌*◌, ◌/◌, ◌%◌, ◌&&◌, ◌<◌, ◌≤◌, ◌⊎◌, ℕ, Bool, suc, true, false, inl, inr, ap, arith, mul-pos, mul_comm, mul_right_comm, subst, sym, List, [], length, min, nat_lt, if◌then◌else◌, slice_index_or, take, Option, Some, None}
+use Rattle.std.proofs.Common.{◌≡◌, ◌∙◌, ◌+◌, ◌*◌, ◌/◌, ◌%◌, ◌&&◌, ◌<◌, ◌≤◌, ◌⊎◌, ℕ, Bool, suc, true, false, inl, inr, ap, arith, mul-pos, mul_comm, mul_right_comm, subst, sym, List, length, min, nat_lt, if◌then◌else◌, slice_index_or, take, Option, Some, None}
 use Rattle.std.proofs.Math.Nat.{suc-mul, zero-div, zero-mod}
 use Rattle.std.proofs.lemmas.Bool.{cases_lt, le-leb, le-ltb, lt-ltb}
 use Rattle.std.proofs.lemmas.Nat.{mul-le}
@@ -20,7 +20,7 @@ use Rattle.roster_state.proofs.CodeLemmas.{place-fits}
 use Rattle.roster_lanes.specs.Lanes.{SameOutside}
 use Rattle.roster_search.specs.Tables.{AreLabels, AreOfLeast, BestOnward, AreLowered, Cells, IsDayOf, LabelsBelow, LeastFrom, PointersBelow, PointsWhereBest, Stands, best_by, best_on, label_of, no_row}
 use Rattle.roster_search.proofs.CellLaws.{block_more}
-use Rattle.roster_search.proofs.LabelLaws.{label_at-is, label_refused, label_within, least_of_none, step_low, taken_kept, taken_lower}
+use Rattle.roster_search.proofs.LabelLaws.{label_at-is, label_refused, label_within, step_low, taken_kept, taken_lower}
 
 -- ---- a place by one offer more
 
@@ -44,14 +44,6 @@ module _ {O X : Type 0} (by : O → Priced X) (offers : List O) (place : ℕ) (i
   place_kept is = taken_kept by offers place inside d label number old no_row is (omega (arith, old.least, label_within (cheapest by (take place offers))))
 
 -- ---- the places of a block by one offer more
-
-module _ (c : Meaning) (at : SearchDay) (later : BestOnward) (s : Summary) where
-  pub least_from_none : (m : ℕ) (labels numbers : List ℕ) → ((a : ℕ) → a < m → slice_index_or labels a 0 ≡ no_row) → ((a : ℕ) → a < m → slice_index_or numbers a 0 ≡ 0) → Cells (LeastFrom c at later s []) 0 0 0 m labels numbers
-  least_from_none m labels numbers no_label no_number a from below =
-      let by = best_by c at later (with_assignments s a) in
-      let l : slice_index_or labels (0 + a) 0 ≡ no_row = ap (λ j. slice_index_or labels j 0) (omega arith) ∙ no_label a below in
-      let p : slice_index_or numbers (0 + a) 0 ≡ 0 = ap (λ j. slice_index_or numbers j 0) (omega arith) ∙ no_number a below in
-      subst (λ l. AreOfLeast by [] l (slice_index_or numbers (0 + a) 0)) (sym l) (subst (λ p. AreOfLeast by [] no_row p) (sym p) (least_of_none by))
 
 module _ (c : Meaning) (at : SearchDay) (later : BestOnward) (s : Summary) (offers : List Offer) (place : ℕ) (inside : place < length offers) (d : Offer) (shift : Option Shift) (chosen : shift ≡ shift_of (slice_index_or offers place d).choice)
     (m : ℕ) (labels numbers : List ℕ) (old : Cells (LeastFrom c at later s (take place offers)) 0 0 0 m labels numbers) where

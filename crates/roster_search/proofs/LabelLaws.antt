@@ -9,7 +9,7 @@ use Rattle.roster_rules.specs.Choices.{shift_of}
 use Rattle.roster_rules.specs.Meaning.{Meaning, shift_count, skill_count}
 use Rattle.roster_rules.specs.Prefix.{Summary}
 use Rattle.roster_rules.specs.Rosters.{is_choice_of}
-use Rattle.roster_state.specs.Codes.{code_of, fits_sizes, product, sizes_of, state_at}
+use Rattle.roster_state.specs.Codes.{code_of, fits_sizes, product, state_at}
 use Rattle.roster_state.specs.Step.{step_of}
 use Rattle.roster_state.proofs.CodeLemmas.{numbered-back, numbered-within}
 use Rattle.roster_search.specs.declared.day.SearchDay.{SearchDay}

@@ -1,7 +1,7 @@
 -- A part of a list is written anew.
-use Rattle.std.proofs.Common.{◌≡◌, ◌∙◌, ◌+◌, ◌<◌, ◌≤◌, ℕ, ap, arith, subst, sym, List, ◌++◌, length, get_or, slice_index_or, take, drop}
-use Rattle.std.proofs.lemmas.List.{get_or-append_right, get_or-drop, get_or-take, get_or_append_left, length-append, length-drop, length-take, places}
-use borrow.Rule.Slice.PartMut.{post_of, put_mid}
+use Rattle.std.proofs.Common.{◌≡◌, ◌+◌, ◌<◌, ◌≤◌, ℕ, arith, subst, sym, List, length, get_or, slice_index_or}
+use Rattle.std.proofs.lemmas.List.{places}
+use borrow.Rule.Slice.PartMut.{put_mid}
 use Rattle.roster_lanes.specs.Lanes.{SameOutside}
 use Rattle.roster_search.specs.Tables.{Cells}
 

@@ -1,13 +1,13 @@
 -- The tables of a day: at the number of each state its label, what the best row from there on costs, and its pointer, the place
 -- of the offer with which that row begins (our own).
-use Rattle.std.specs.Prelude.{◌≡◌, ◌+◌, ◌*◌, ◌<◌, ◌≤◌, ℕ, true, List, [], ◌∷◌, ◌++◌, length, min, nat_lt, if◌then◌else◌, Option, Some, None, slice_index_or}
+use Rattle.std.specs.Prelude.{◌≡◌, ◌+◌, ◌*◌, ◌<◌, ◌≤◌, ℕ, true, List, [], ◌∷◌, ◌++◌, length, min, nat_lt, if◌then◌else◌, Some, None, slice_index_or}
 use Rattle.roster_rules.specs.declared.Choice.{Choice}
 use Rattle.roster_rules.specs.Limits.{most_shifts, most_skills, most_small}
 use Rattle.roster_rules.specs.Meaning.{Meaning, day_count, nurse_count}
 use Rattle.roster_rules.specs.Prefix.{Summary}
 use Rattle.roster_rules.specs.Rosters.{is_choice_of}
 use Rattle.roster_rules.specs.Weights.{off_request_weight, staffing_weight}
-use Rattle.roster_state.specs.Codes.{Sizes, code_of, fits_sizes, product, sizes_of, state_at}
+use Rattle.roster_state.specs.Codes.{Sizes, fits_sizes, product, sizes_of, state_at}
 use Rattle.roster_state.specs.Standing.{can_be}
 use Rattle.roster_state.specs.Step.{end_cost_of, with_assignments}
 use Rattle.roster_search.specs.declared.day.SearchDay.{SearchDay}

@@ -1,6 +1,5 @@
-use Rattle.std.proofs.Common.{◌≡◌, ◌∙◌, ◌+◌, ◌≤◌, arith, length, slice_index_or}
-use Rattle.roster_search.proofs.BlockLaws.{least_from_none}
-use Rattle.roster_search.proofs.CellLaws.{one_more_counted, room_for_more}
+use Rattle.std.proofs.Common.{◌≡◌, ◌∙◌, length}
+use Rattle.roster_search.proofs.CellLaws.{room_for_more}
 use Rattle.roster_search.proofs.labels.label_places.Goals as goal
 
 pub lower_by-requires : goal.lower_by-requires

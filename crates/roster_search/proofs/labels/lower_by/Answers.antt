@@ -1,8 +1,6 @@
-use Rattle.std.proofs.Common.{◌≡◌, ◌∙◌, ◌+◌, ◌<◌, ◌≤◌, ℕ, Option, Some, ap, arith, refl, sym, subst, true, List, length, slice_index_or, take, option_map}
+use Rattle.std.proofs.Common.{◌≡◌, ◌∙◌, ◌+◌, ◌<◌, ◌≤◌, ℕ, Some, ap, arith, sym, subst, true, length, take}
 use Rattle.std.specs.List.{between}
 use Rattle.std.proofs.lemmas.List.Edits.{get_or-between, length-between}
-use Rattle.roster_rules.specs.Prefix.{Summary}
-use Rattle.roster_state.specs.declared.block.BlockStep.{BlockStep}
 use Rattle.roster_state.specs.Blocks.{place_step}
 use Rattle.roster_state.specs.Codes.{Sizes, fits_sizes, sizes_of}
 use Rattle.roster_state.specs.Step.{step_of, with_assignments}

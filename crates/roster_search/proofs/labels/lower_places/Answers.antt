@@ -1,4 +1,4 @@
-use Rattle.std.proofs.Common.{◌≡◌, ◌+◌, ◌-◌, ℕ, arith, refl, length, min}
+use Rattle.std.proofs.Common.{refl, length}
 use Rattle.roster_search.proofs.LowerLaws.{three_stretches}
 use Rattle.roster_search.proofs.labels.lower_places.Goals as goal
 
