@@ -96,6 +96,10 @@ step_of c n day s shift = if forbids c.successions s.last shift then None else S
 abbrev pub with_assignments : Summary → ℕ → Summary
 with_assignments s a = record s { assignments = a }
 
+-- the same summary with so many worked weekends
+abbrev pub with_weekends : Summary → ℕ → Summary
+with_weekends s w = record s { weekends = w }
+
 -- points for each assignment missing to the least total, at the end
 abbrev pub end_cost_of : Meaning → ℕ → Summary → ℕ
 end_cost_of c n s = missing_cost c n s.assignments

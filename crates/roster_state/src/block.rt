@@ -5,10 +5,10 @@ ghost use Rattle.roster_rules.specs.Meaning.{day_count, forbids, nurse_count, sh
 ghost use Rattle.roster_rules.specs.Sizes.{cap};
 ghost use Rattle.roster_rules.specs.Weights.{assignment_weight};
 ghost use Rattle.roster_state.specs.Blocks.{place_step};
-ghost use Rattle.roster_state.specs.Codes.{blocks, code_of, fits_sizes, product, sizes_of, state_at};
+ghost use Rattle.roster_state.specs.Codes.{blocks, code_of, fits_sizes, groups, product, sizes_of, state_at};
 ghost use Rattle.roster_state.specs.Room.{most_of_step};
 ghost use Rattle.roster_state.specs.Standing.{can_be, excess};
-ghost use Rattle.roster_state.specs.Step.{step_of, with_assignments};
+ghost use Rattle.roster_state.specs.Step.{step_of, with_assignments, with_weekends};
 
 use crate::meter::Meter;
 use crate::ranges::Ranges;
@@ -70,6 +70,40 @@ impl Block {
                 shift_run: (shift_run % ranges.shift_run) as u16,
                 assignments: 0,
                 weekends: (number % ranges.weekends) as u16,
+            },
+        }
+    }
+
+    /// The block without worked weekends of a group: of the blocks that differ in their worked weekends alone. Those of a group stand
+    /// beside one another, each with one more.
+    #[inline(always)]
+    pub fn of_group(ranges: &Ranges, group: u32) -> Block
+        requires { group < groups ranges.now }
+        ensures states { (w a : ℕ) → w < ranges.now.weekends → a < ranges.now.assignments → state_at ranges.now ((group * ranges.now.weekends + w) * ranges.now.assignments + a) ≡ Some (with_assignments (with_weekends result w) a) }
+        ensures fits { (w : ℕ) → w < ranges.now.weekends → fits_sizes ranges.now (with_weekends result w) ≡ true }
+        ensures first { (w : ℕ) → w < ranges.now.weekends → code_of ranges.now (with_weekends result w) ≡ (group * ranges.now.weekends + w) * ranges.now.assignments }
+    {
+        let run = group / ranges.shift_run;
+        Block {
+            state: State {
+                last: shift_numbered(run / ranges.run),
+                run: (run % ranges.run) as u16,
+                shift_run: (group % ranges.shift_run) as u16,
+                assignments: 0,
+                weekends: 0,
+            },
+        }
+    }
+
+    /// The block with so many worked weekends.
+    #[inline(always)]
+    pub fn with_weekends(self, weekends: u16) -> Block
+        ensures { result ≡ with_weekends self weekends }
+    {
+        Block {
+            state: State {
+                weekends,
+                ..self.state
             },
         }
     }
