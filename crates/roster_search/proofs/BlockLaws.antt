@@ -1,8 +1,8 @@
 -- A block of states that differ in their assignments alone: its cells by one offer more, and a table with one block more.
-use Rattle.std.proofs.Common.{◌≡◌, ◌∙◌, ◌+◌, ◌*◌, ◌/◌, ◌%◌, ◌&&◌, ◌<◌, ◌≤◌, ◌⊎◌, ℕ, Bool, suc, true, false, inl, inr, ap, arith, mul-pos, mul_comm, mul_right_comm, subst, sym, List, length, min, nat_lt, if◌then◌else◌, slice_index_or, take, Option, Some, None}
-use Rattle.std.proofs.Math.Nat.{suc-mul, zero-div, zero-mod}
+use Rattle.std.proofs.Common.{◌≡◌, ◌∙◌, ◌+◌, ◌-◌, ◌*◌, ◌/◌, ◌%◌, ◌&&◌, ◌<◌, ◌≤◌, ◌⊎◌, ℕ, Bool, zero, suc, true, false, inl, inr, ap, arith, mul-pos, mul_assoc, mul_comm, mul_right_comm, subst, sym, List, length, min, nat_lt, if◌then◌else◌, slice_index_or, take, Option, Some, None}
+use Rattle.std.proofs.Math.Nat.{add-mul, suc-mul, zero-div, zero-mod}
 use Rattle.std.proofs.lemmas.Bool.{cases_lt, le-leb, le-ltb, lt-ltb}
-use Rattle.std.proofs.lemmas.Nat.{mul-le}
+use Rattle.std.proofs.lemmas.Nat.{div-add-mod', div_below, mod_below, mul-le}
 use Rattle.roster_rules.specs.declared.Shift.{Shift}
 use Rattle.roster_rules.specs.Choices.{shift_of}
 use Rattle.roster_rules.specs.Meaning.{Meaning, contract_of, past_of}
@@ -10,16 +10,16 @@ use Rattle.roster_rules.specs.Sizes.{cap}
 use Rattle.roster_rules.specs.Prefix.{Summary}
 use Rattle.roster_state.specs.declared.block.BlockStep.{BlockStep}
 use Rattle.roster_state.specs.Blocks.{place_behind, place_cost, place_step}
-use Rattle.roster_state.specs.Codes.{Sizes, code_of, fits_sizes, product, shift_numbered, sizes_of, state_at, state_numbered}
+use Rattle.roster_state.specs.Codes.{Sizes, blocks, code_of, fits_sizes, groups, product, shift_numbered, sizes_of, state_at, state_numbered}
 use Rattle.roster_state.specs.Standing.{can_be, can_be_with, excess}
-use Rattle.roster_state.specs.Step.{step_of, with_assignments}
+use Rattle.roster_state.specs.Step.{step_of, with_assignments, with_weekends}
 use Rattle.roster_search.specs.declared.day.SearchDay.{SearchDay}
 use Rattle.roster_search.specs.declared.offer.Offer.{Offer}
 use Rattle.roster_search.specs.Cheapest.{Priced, cheapest}
 use Rattle.roster_state.proofs.CodeLemmas.{place-fits}
 use Rattle.roster_lanes.specs.Lanes.{SameOutside}
-use Rattle.roster_search.specs.Tables.{AreLabels, AreOfLeast, BestOnward, AreLowered, Cells, IsDayOf, LabelsBelow, LeastFrom, PointersBelow, PointsWhereBest, Stands, best_by, best_on, label_of, no_row}
-use Rattle.roster_search.proofs.CellLaws.{block_more}
+use Rattle.roster_search.specs.Tables.{AreLabels, AreOfLeast, BestOnward, AreLowered, Cells, CellsBelow, IsDayOf, LabelsBelow, LeastFrom, PointersBelow, PointsWhereBest, Stands, best_by, best_on, label_of, no_row}
+use Rattle.roster_search.proofs.CellLaws.{block_more, some_or}
 use Rattle.roster_search.proofs.LabelLaws.{label_at-is, label_refused, label_within, step_low, taken_kept, taken_lower}
 
 -- ---- a place by one offer more
@@ -107,10 +107,10 @@ block_within number count size all is below =
     let more : (number + 1) * size ≤ count * size = mul-le (number + 1) size count size (omega (arith, below)) (omega arith) in
     omega (arith, more, next_block number size, is)
 
--- so many for each state and each offer, counted by blocks
-pub all_counted : (count size offers all : ℕ) → count * size ≡ all → count * (offers * size) ≡ all * offers
-all_counted count size offers all is =
-    mul_comm count (offers * size) ∙ mul_right_comm offers size count ∙ ap (λ k. k * size) (mul_comm offers count) ∙ mul_right_comm count offers size ∙ ap (λ k. k * offers) is
+-- so many for each state and each offer, counted by groups
+pub groups_counted : (count weekends size offers all : ℕ) → count * weekends * size ≡ all → count * (weekends * (offers * size)) ≡ all * offers
+groups_counted count weekends size offers all is =
+    sym (mul_assoc count weekends (offers * size)) ∙ mul_comm (count * weekends) (offers * size) ∙ mul_right_comm offers size (count * weekends) ∙ ap (λ k. k * size) (mul_comm offers (count * weekends)) ∙ mul_right_comm (count * weekends) offers size ∙ ap (λ k. k * offers) is
 
 -- ---- a block more of the tables of a day
 
@@ -125,12 +125,12 @@ module _ (c : Meaning) (at : SearchDay) (day : IsDayOf c at) (offers : List Offe
   behind_block : code + size ≡ (number + 1) * size
   behind_block = ap (λ k. k + size) numbered ∙ next_block number size
 
-  module _ (labels labels_new pointers pointers_new : List ℕ) (least : can_be c at.nurse s ≡ true → Cells (LeastFrom c at later s offers) code (first + code) 0 size labels_new pointers_new) where
+  module _ (labels labels_new pointers pointers_new : List ℕ) (least : Cells (LeastFrom c at later s offers) code (first + code) 0 size labels_new pointers_new) where
     pub labels_more : SameOutside code (code + size) labels labels_new → LabelsBelow c at.nurse at.day (best_on c at offers later) (number * size) labels → LabelsBelow c at.nurse at.day (best_on c at offers later) ((number + 1) * size) labels_new
     labels_more same old =
         subst (λ k. LabelsBelow c at.nurse at.day (best_on c at offers later) k labels_new) behind_block
         (block_more (Stands c at.nurse at.day) (sizes_of c at.nurse) (λ t label. label ≡ label_of (best_on c at offers later t)) (λ j. j) labels labels_new code size s (λ j low. same.before j low) states_of
-        (λ a inside stands. (least stands.can_be a (omega arith) inside).least) (subst (λ k. LabelsBelow c at.nurse at.day (best_on c at offers later) k labels) (sym numbered) old))
+        (λ a inside stands. (least a (omega arith) inside).least) (subst (λ k. LabelsBelow c at.nurse at.day (best_on c at offers later) k labels) (sym numbered) old))
 
     at_place : (a : ℕ) → first + code + a ≡ first + (code + a)
     at_place a = omega arith
@@ -140,19 +140,21 @@ module _ (c : Meaning) (at : SearchDay) (day : IsDayOf c at) (offers : List Offe
         subst (λ k. PointersBelow c at offers later first k pointers_new) behind_block
         (block_more (Stands c at.nurse at.day) (sizes_of c at.nurse) (λ t. PointsWhereBest (best_by c at later t) offers (best_on c at offers later t)) (λ j. first + j) pointers pointers_new code size s
         (λ j low. same.before (first + j) (omega (arith, low))) states_of
-        (λ a inside stands. subst (λ j. PointsWhereBest (best_by c at later (with_assignments s a)) offers (best_on c at offers later (with_assignments s a)) (slice_index_or pointers_new j 0)) (at_place a) (least stands.can_be a (omega arith) inside).points)
+        (λ a inside stands. subst (λ j. PointsWhereBest (best_by c at later (with_assignments s a)) offers (best_on c at offers later (with_assignments s a)) (slice_index_or pointers_new j 0)) (at_place a) (least a (omega arith) inside).points)
         (subst (λ k. PointersBelow c at offers later first k pointers) (sym numbered) old))
 
 pub product_some : (a b : ℕ) → 0 < a → 0 < b → 0 < a * b
 product_some a b p q = mul-pos p q
 
+-- the block of a group with so many worked weekends ends within all
+pub group_within : (z : Sizes) (group w : ℕ) → group < groups z → w < z.weekends → (group * z.weekends + w) * z.assignments + z.assignments ≤ product z
+group_within z group w below inside =
+    let more : (group + 1) * z.weekends ≤ groups z * z.weekends = mul-le (group + 1) z.weekends (groups z) z.weekends (omega (arith, below)) (omega arith) in
+    block_within (group * z.weekends + w) (blocks z) z.assignments (product z) (mul_right_comm (z.last * z.run * z.shift_run) z.weekends z.assignments) (omega (arith, more, inside, next_block group z.weekends))
+
 -- ---- the first block: no last shift, and no run
 
 module _ (c : Meaning) (n : ℕ) where
-  some_or : Summary → Option Summary → Summary
-  some_or s None = s
-  some_or s (Some t) = t
-
   none_numbered : (z : Sizes) → can_be c n (state_numbered z 0) ≡ true
   unfolding state_numbered
   none_numbered z =
@@ -165,8 +167,41 @@ module _ (c : Meaning) (n : ℕ) where
       (λ i. can_be_with c n (excess (past_of c n).border) (run i) (shift_run i) (shift_numbered (last i)))
       ∙ (λ i. le-leb 0 (cap (contract_of c n).free) (omega arith) i && true)
 
-  pub first_can_be : (z : Sizes) (s : Summary) → 0 < product z → state_at z 0 ≡ Some (with_assignments s 0) → can_be c n s ≡ true
-  unfolding some_or state_at
-  first_can_be z s some is =
-      let there : Some (state_numbered z 0) ≡ Some (with_assignments s 0) = subst (λ (b : Bool). (if b then Some (state_numbered z 0) else None) ≡ Some (with_assignments s 0)) (lt-ltb 0 (product z) some) is in
-      subst (λ t. can_be c n t ≡ true) (ap (some_or s) there) (none_numbered z)
+  pub first_can_be : (z : Sizes) (s : Summary) → state_at z 0 ≡ Some (with_assignments s 0) → can_be c n s ≡ true
+  unfolding state_at some_or state_numbered
+  first_can_be z s is = go (nat_lt 0 (product z)) is
+    where
+      go : (b : Bool) → (if b then Some (state_numbered z 0) else None) ≡ Some (with_assignments s 0) → can_be c n s ≡ true
+      go true there = subst (λ t. can_be c n t ≡ true) (ap (some_or s) there) (none_numbered z)
+      go false none = absurd cc
+
+-- ---- a group more, where it is left out
+
+module _ (c : Meaning) (n : ℕ) (z : Sizes) (s : Summary) (group : ℕ) (states : (w a : ℕ) → w < z.weekends → a < z.assignments → state_at z ((group * z.weekends + w) * z.assignments + a) ≡ Some (with_assignments (with_weekends s w) a)) (not_there : can_be c n s ≡ false) where
+  -- a number of the group is of a state like the group's
+  like_group : (code : ℕ) (t : Summary) → group * z.weekends * z.assignments ≤ code → code < (group + 1) * z.weekends * z.assignments → state_at z code ≡ Some t → can_be c n t ≡ false
+  unfolding some_or
+  like_group code t from below is =
+      let before = group * z.weekends * z.assignments in
+      let all : (group + 1) * z.weekends * z.assignments ≡ before + z.weekends * z.assignments = ap (λ k. k * z.assignments) (sym (next_block group z.weekends)) ∙ add-mul (group * z.weekends) z.weekends z.assignments in
+      let d = code - before in
+      let inside : d < z.weekends * z.assignments = omega (arith, from, below, all) in
+      let some : 0 < z.assignments = positive z.assignments inside in
+      let w : ℕ = d / z.assignments in
+      let a : ℕ = d % z.assignments in
+      let sum : (group * z.weekends + w) * z.assignments + a ≡ code = omega (arith, from, add-mul (group * z.weekends) w z.assignments, div-add-mod' d z.assignments) in
+      let found = states w a (div_below d z.assignments z.weekends some inside) (mod_below d z.assignments some) in
+      let same : with_assignments (with_weekends s w) a ≡ t = ap (some_or s) (sym found ∙ ap (state_at z) sum ∙ is) in
+      subst (λ x. can_be c n x ≡ false) same not_there
+    where
+      positive : (k : ℕ) → code - group * z.weekends * z.assignments < z.weekends * k → 0 < k
+      positive zero h = absurd (omega (arith, h))
+      positive (suc k) h = omega arith
+
+  pub group_left_out : (stands : Summary → Type 0) (right : Summary → ℕ → Type 0) (place : ℕ → ℕ) (cells : List ℕ) → ((t : Summary) → stands t → can_be c n t ≡ true)
+      → CellsBelow stands z right place (group * z.weekends * z.assignments) cells → CellsBelow stands z right place ((group + 1) * z.weekends * z.assignments) cells
+  group_left_out stands right place cells kept old code t below is stands_t = go (cases_lt code (group * z.weekends * z.assignments))
+    where
+      go : (code < group * z.weekends * z.assignments) ⊎ (group * z.weekends * z.assignments ≤ code) → right t (slice_index_or cells (place code) 0)
+      go (inl low) = old code t low is stands_t
+      go (inr high) = let clash : true ≡ false = sym (kept t stands_t) ∙ like_group code t high below is in absurd cc

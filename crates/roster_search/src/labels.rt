@@ -3,13 +3,12 @@
 ghost use Rattle.std.specs.Prelude.{◌≡◌, ◌+◌, ◌-◌, ◌*◌, ◌<◌, ◌≤◌, true, ℕ, List, [], All, length, slice_index_or, take};
 ghost use Rattle.roster_rules.specs.Meaning.{day_count, nurse_count};
 ghost use Rattle.roster_rules.specs.Weights.{assignment_weight};
-ghost use Rattle.roster_state.specs.Codes.{code_of, fits_sizes, product, sizes_of};
+ghost use Rattle.roster_state.specs.Codes.{code_of, fits_sizes, groups, product, sizes_of};
 ghost use Rattle.roster_state.specs.Room.{most_of_step};
-ghost use Rattle.roster_state.specs.Standing.{can_be};
 ghost use Rattle.roster_state.specs.Step.{with_assignments};
 ghost use Rattle.roster_state.specs.Blocks.{place_behind, place_cost};
 ghost use Rattle.roster_lanes.specs.Lanes.{SameOutside};
-ghost use Rattle.roster_search.specs.Tables.{AreLabels, AreLowered, ArePointers, BestOnward, Cells, IsDayOf, IsOfferOf, LeastFrom, Stands, best_at_end, best_on, label_of, most_price, no_row};
+ghost use Rattle.roster_search.specs.Tables.{AreLabels, AreLowered, ArePointers, BestOnward, Cells, IsDayOf, IsOfferOf, LabelsBelow, LeastFrom, PointersBelow, Stands, best_at_end, best_on, label_of, most_price, no_row};
 
 use crate::day::SearchDay;
 use crate::offer::Offer;
@@ -84,12 +83,11 @@ pub fn label_day(
     ensures counted { meter.new ≤ meter.old + product at.now.ranges * length offers.now }
 {
     let mut numbers = [0; MOST_PLACES];
-    for number in 0..at.ranges.blocks() {
-        let block = Block::numbered(&at.ranges, number);
-        label_block(
+    for group in 0..at.ranges.groups() {
+        label_group(
             case,
             at,
-            block,
+            group,
             offers,
             later,
             labels,
@@ -101,8 +99,64 @@ pub fn label_day(
     }
 }
 
+/// The labels and the pointers of a group of blocks, those that differ in their worked weekends alone, where those of the groups
+/// before are right. Where no row leads to them, they stay as they are.
+fn label_group(
+    case: &Case,
+    at: &SearchDay,
+    group: u32,
+    offers: &[Offer],
+    later: &[u32],
+    labels: &mut [u32],
+    pointers: &mut Pointers,
+    first: u32,
+    numbers: &mut [u8],
+    meter: &mut Meter,
+)
+    ghost rest: { BestOnward }
+    requires day { IsDayOf case.now at.now }
+    requires group { group < groups at.now.ranges }
+    requires offers { All (IsOfferOf case.now) offers.now }
+    requires few { length offers.now ≤ 16 }
+    requires later { AreLabels case.now at.now.nurse (at.now.day + 1) rest later.now }
+    requires all { product at.now.ranges ≤ length later.now }
+    requires labels_room { product at.now.ranges ≤ length labels.old }
+    requires pointers_room { first + product at.now.ranges ≤ length pointers.old }
+    requires numbers_room { 1000 ≤ length numbers.old }
+    requires labels_before { LabelsBelow case.now at.now.nurse at.now.day (best_on case.now at.now offers.now rest) (group * at.now.ranges.weekends * at.now.ranges.assignments) labels.old }
+    requires pointers_before { PointersBelow case.now at.now offers.now rest first (group * at.now.ranges.weekends * at.now.ranges.assignments) pointers.old }
+    requires room { meter.old + at.now.ranges.weekends * (length offers.now * at.now.ranges.assignments) ≤ 18446744073709551615 }
+    ensures labels { LabelsBelow case.now at.now.nurse at.now.day (best_on case.now at.now offers.now rest) ((group + 1) * at.now.ranges.weekends * at.now.ranges.assignments) labels.new }
+    ensures pointers { PointersBelow case.now at.now offers.now rest first ((group + 1) * at.now.ranges.weekends * at.now.ranges.assignments) pointers.new }
+    ensures others { SameOutside first (first + product at.now.ranges) pointers.old pointers.new }
+    ensures lengths { (length labels.new ≡ length labels.old) × (length pointers.new ≡ length pointers.old) }
+    ensures numbers { length numbers.new ≡ length numbers.old }
+    ensures grown { meter.old ≤ meter.new }
+    ensures counted { meter.new ≤ meter.old + at.now.ranges.weekends * (length offers.now * at.now.ranges.assignments) }
+    ensures first_counted { group ≡ 0 → meter.old + length offers.now * at.now.ranges.assignments ≤ meter.new }
+{
+    let block = Block::of_group(&at.ranges, group);
+    if !block.can_be(case, at.nurse) {
+        return;
+    }
+    for weekends in 0..at.ranges.weekends() as u16 {
+        label_block(
+            case,
+            at,
+            block.with_weekends(weekends),
+            offers,
+            later,
+            labels,
+            pointers,
+            first,
+            numbers,
+            meter,
+        );
+    }
+}
+
 /// The labels and the pointers of a block, by all offers of the day. The pointers are set in a list of numbers first, and all of
-/// them at once then. For each state and each offer the meter counts one. A block that no row leads to stays as it is.
+/// them at once then. For each state and each offer the meter counts one.
 fn label_block(
     case: &Case,
     at: &SearchDay,
@@ -117,7 +171,7 @@ fn label_block(
 )
     ghost rest: { BestOnward }
     requires day { IsDayOf case.now at.now }
-    requires fits { fits_sizes at.now.ranges block ≡ true }
+    requires stands { Stands case.now at.now.nurse at.now.day block }
     requires offers { All (IsOfferOf case.now) offers.now }
     requires few { length offers.now ≤ 16 }
     requires later { AreLabels case.now at.now.nurse (at.now.day + 1) rest later.now }
@@ -126,18 +180,13 @@ fn label_block(
     requires pointers_room { first + product at.now.ranges ≤ length pointers.old }
     requires numbers_room { 1000 ≤ length numbers.old }
     requires room { meter.old + length offers.now * at.now.ranges.assignments ≤ 18446744073709551615 }
-    ensures least { can_be case.now at.now.nurse block ≡ true → Cells (LeastFrom case.now at.now rest block offers.now) (code_of at.now.ranges block) (first + code_of at.now.ranges block) 0 at.now.ranges.assignments labels.new pointers.new }
+    ensures least { Cells (LeastFrom case.now at.now rest block offers.now) (code_of at.now.ranges block) (first + code_of at.now.ranges block) 0 at.now.ranges.assignments labels.new pointers.new }
     ensures labels_others { SameOutside (code_of at.now.ranges block) (code_of at.now.ranges block + at.now.ranges.assignments) labels.old labels.new }
     ensures pointers_others { SameOutside (first + code_of at.now.ranges block) (first + code_of at.now.ranges block + at.now.ranges.assignments) pointers.old pointers.new }
     ensures lengths { (length labels.new ≡ length labels.old) × (length pointers.new ≡ length pointers.old) }
     ensures numbers { length numbers.new ≡ length numbers.old }
-    ensures grown { meter.old ≤ meter.new }
-    ensures counted { meter.new ≤ meter.old + length offers.now * at.now.ranges.assignments }
-    ensures all_counted { can_be case.now at.now.nurse block ≡ true → meter.new ≡ meter.old + length offers.now * at.now.ranges.assignments }
+    ensures counted { meter.new ≡ meter.old + length offers.now * at.now.ranges.assignments }
 {
-    if !block.can_be(case, at.nurse) {
-        return;
-    }
     let places = block.places(&at.ranges) as usize;
     let code = block.first(&at.ranges) as usize;
     let numbers = &mut numbers[..places];

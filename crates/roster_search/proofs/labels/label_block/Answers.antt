@@ -9,7 +9,7 @@ use Rattle.roster_search.proofs.PartLaws.{cells_moved, part_inside, part_outside
 use Rattle.roster_search.proofs.labels.label_block.Goals as goal
 
 pub returns-clause-least : goal.returns-clause-least
-returns-clause-least g c can =
+returns-clause-least g c =
     let r = c.requires in
     let at = c.args.at.now in
     let labels = c.args.labels.now in
