@@ -1,9 +1,12 @@
 -- The days of a search, one after another: the tables from the last day to the first, and the row from the first to the last.
-use Rattle.std.proofs.Common.{◌≡◌, ◌∙◌, ◌+◌, ◌-◌, All, Vec, is_some, ◌*◌, ◌<◌, ◌≤◌, ◌⊎◌, ℕ, suc, inl, inr, ap, append_assoc, arith, mul_assoc, mul_comm, refl, subst, sym, List, [], ◌∷◌, ◌++◌, length, map, max, slice_set, take, Some, IfSome, IsSome}
+use Rattle.std.proofs.Common.{◌≡◌, ◌∙◌, ◌+◌, ◌-◌, All, Vec, is_some, ◌*◌, ◌<◌, ◌≤◌, ◌⊎◌, ◌≢◌, ℕ, zero, suc, get_or-set_other, Option, None, inl, inr, ap, append_assoc, arith, mul_assoc, mul_comm, refl, subst, sym, List, [], ◌∷◌, ◌++◌, length, map, max, slice_index_or, slice_set, take, Some, IfSome, IsSome}
 use Rattle.std.specs.List.{range_with_len}
-use Rattle.std.proofs.lemmas.Bool.{cases_lt}
+use Rattle.std.proofs.Math.Path.{transport}
+use Rattle.std.proofs.lemmas.Bool.{cases_lt, true≢false}
+use Rattle.std.proofs.lemmas.Grind.{get_or-set_at}
+use Rattle.std.proofs.lemmas.List.Elements.{All-head, All-tail}
 use Rattle.std.specs.Vec.{with_items}
-use Rattle.std.proofs.lemmas.List.{append-nil, map-append, take_more_set, with_items_is}
+use Rattle.std.proofs.lemmas.List.{append-nil, get_or_default, map-append, take_more_set, with_items_is}
 use Rattle.std.proofs.lemmas.Nat.{mul-le}
 use Rattle.roster_instance.specs.declared.Choice.{Choice}
 use Rattle.roster_instance.specs.Meaning.{Meaning, day_count, nurse_count, shift_count, skill_count}
@@ -15,17 +18,20 @@ use Rattle.roster_instance.proofs.SizeLemmas.{greatest_of-push}
 use Rattle.roster_instance.specs.Rosters.{Row, Rows}
 use Rattle.roster_rules.specs.Prefix.{Summary, summary_of}
 use Rattle.roster_laws.specs.Greatest.{extension_count, greatest_state_count}
-use Rattle.roster_state.specs.Codes.{product, sizes_of}
+use Rattle.roster_instance.specs.Choices.{shift_of}
+use Rattle.roster_state.specs.declared.Area.{Area}
+use Rattle.roster_state.specs.Codes.{Sizes, code_of, product, sizes_of}
+use Rattle.roster_state.specs.Step.{step_of}
 use Rattle.roster_search.specs.declared.Offer.{Offer}
 use Rattle.roster_search.specs.ByStates.{best_behind}
-use Rattle.roster_search.specs.Cheapest.{Priced, cheapest}
+use Rattle.roster_search.specs.Cheapest.{Priced, cheaper, cheapest, raised}
 use Rattle.roster_search.proofs.Cheapest.{thing_or}
 use Rattle.roster_search.proofs.ByShift.{best_by_shift, by_shift_all, by_shift_fewer}
 use Rattle.roster_search.proofs.OfferLaws.{offers_few, offers_of_case}
-use Rattle.roster_search.specs.Offers.{best_by_states, best_of_offers, choices_of, offer_step, offers_of, shift_offers}
+use Rattle.roster_search.specs.Offers.{best_by_states, best_of_offers, choices_of, dearer, offer_step, offers_of, shift_offers}
 use Rattle.roster_lanes.specs.Lanes.{SameOutside}
-use Rattle.roster_search.specs.Tables.{AreLabels, ArePointers, BeginsWith, BestOnward, IsOfferOf, PointsWhereBest, best_at_end, best_by, best_on, no_row}
-use Rattle.roster_best.specs.Workspaces.{PointersFrom, onward, search_day}
+use Rattle.roster_search.specs.Tables.{AreLabels, ArePointers, BeginsWith, BestOnward, IsOfferOf, LeadsOn, PointsWhereBest, Stands, best_at_end, best_by, best_on, no_row}
+use Rattle.roster_best.specs.Workspaces.{AreasLead, PointersFrom, areas_on, onward, search_day}
 
 module _ (c : Meaning) (r : Rows) (n : ℕ) where
   -- ---- the best row from a day on
@@ -53,26 +59,93 @@ module _ (c : Meaning) (r : Rows) (n : ℕ) where
 
   -- ---- the tables of a day more
 
-  pub labels_before : (d : ℕ) → d < day_count c → (labels : List ℕ) → AreLabels c n d (best_on c (search_day c n d) (shift_offers c r n d) (onward c r n (d + 1))) labels → AreLabels c n d (onward c r n d) labels
-  labels_before d within labels = subst (λ best. AreLabels c n d best labels) (sym (onward-day d within))
+  pub labels_before : (d : ℕ) → d < day_count c → (areas : List Area) (labels : List ℕ) → AreLabels c n areas (best_on c (search_day c n d) (shift_offers c r n d) (onward c r n (d + 1))) labels → AreLabels c n areas (onward c r n d) labels
+  labels_before d within areas labels = subst (λ best. AreLabels c n areas best labels) (sym (onward-day d within))
 
   abbrev size : ℕ
   size = product (sizes_of c n)
 
-  abbrev DayPointed : List ℕ → ℕ → ℕ → Type 0
-  DayPointed pointers first d = ArePointers c (search_day c n d) (shift_offers c r n d) (onward c r n (d + 1)) first pointers
+  module _ (areas : List (List Area)) where
+    abbrev DayPointed : List ℕ → ℕ → ℕ → Type 0
+    DayPointed pointers first d = ArePointers c (search_day c n d) (areas_on areas d) (shift_offers c r n d) (onward c r n (d + 1)) first pointers
 
-  pub pointers_before : (d first : ℕ) (old new : List ℕ) → first ≡ d * size → DayPointed new first d → SameOutside first (first + size) old new → PointersFrom c r n (d + 1) old → PointersFrom c r n d new
-  pointers_before d first old new is here same later day from within = go (cases_lt d day)
+    pub pointers_before : (d first : ℕ) (old new : List ℕ) → first ≡ d * size → DayPointed new first d → SameOutside first (first + size) old new → PointersFrom c r n areas (d + 1) old → PointersFrom c r n areas d new
+    pointers_before d first old new is here same later day from within = go (cases_lt d day)
+      where
+        go : (d < day) ⊎ (day ≤ d) → DayPointed new (day * size) day
+        go (inl behind) = λ s stands.
+            let code = code_of (sizes_of c n) s in
+            let place : first + size ≤ day * size + code = omega (arith, is, mul-le (d + 1) size day size (omega (arith, behind)) (omega arith)) in
+            subst (PointsWhereBest (best_by c (search_day c n day) (onward c r n (day + 1)) s) (shift_offers c r n day) (best_on c (search_day c n day) (shift_offers c r n day) (onward c r n (day + 1)) s))
+            (sym (same.behind (day * size + code) place)) (later day (omega (arith, behind)) within s stands)
+        go (inr this) =
+            let same_day : d ≡ day = omega (arith, this, from) in
+            subst (λ k. DayPointed new (k * size) k) same_day (subst (λ place. DayPointed new place d) is here)
+
+-- ---- the states that stand on a day: there is one
+
+some_behind : (later : BestOnward) (offer : Offer) (o : Option (Summary × ℕ)) → IsSome (best_behind offer (dearer offer.price o) later) → (t : Summary × ℕ) × (o ≡ Some t) × IsSome (later t.0)
+some_behind later offer None some = elim (true≢false (sym some)) [ ]
+some_behind later offer (Some t) some = (t, refl, go (later t.0) some)
+  where
+    go : (p : Priced (List Offer)) → IsSome (raised (offer.price + t.1) (λ rest. offer ∷ rest) p) → IsSome p
+    go None none = elim (true≢false (sym none)) [ ]
+    go (Some p) is = refl
+
+some_of_both : {X : Type 0} (p q : Priced X) → IsSome (cheaper p q) → IsSome p ⊎ IsSome q
+some_of_both None q some = inr some
+some_of_both (Some p) q some = inl refl
+
+some_cheapest : {Y X : Type 0} (f : Y → Priced X) (P : Y → Type 0) (xs : List Y) → All P xs → IsSome (cheapest f xs) → (y : Y) × P y × IsSome (f y)
+some_cheapest f P [] all some = elim (true≢false (sym some)) [ ]
+some_cheapest f P (y ∷ ys) all some = elim (some_of_both (f y) (cheapest f ys) some) [
+  | inl here ↦ (y, All-head P y ys all, here)
+  | inr there ↦ some_cheapest f P ys (All-tail P y ys all) there
+]
+
+-- a state that stands on a day, from which a row goes on
+pub record GoesOn (c : Meaning) (r : Rows) (n : ℕ) (areas : List (List Area)) (day : ℕ) : Type 0 where
+  pub state : Summary
+  pub stands : Stands c n (areas_on areas day) state
+  pub some : IsSome (onward c r n day state)
+
+module _ (c : Meaning) (r : Rows) (n : ℕ) (areas : List (List Area)) (lead : AreasLead c r n areas) where
+  next_on : (day : ℕ) → day < day_count c → GoesOn c r n areas day → GoesOn c r n areas (day + 1)
+  next_on day within at =
+      let s = at.state in
+      let later = onward c r n (day + 1) in
+      let some : IsSome (best_on c (search_day c n day) (shift_offers c r n day) later s) = subst (λ (f : BestOnward). IsSome (f s)) (onward-day c r n day within) at.some in
+      let found = some_cheapest (best_by c (search_day c n day) later s) (LeadsOn c (search_day c n day) (areas_on areas day) (areas_on areas (day + 1))) (shift_offers c r n day) (lead day within) some in
+      let step = some_behind later found.0 (step_of c n day s (shift_of found.0.choice)) found.2 in
+      record { state = step.0.0; stands = found.1 s step.0 at.stands step.1; some = step.2 }
+
+  pub goes_on : Stands c n (areas_on areas 0) (summary_of c n []) → IsSome (best_by_states c r n) → (day : ℕ) → day ≤ day_count c → GoesOn c r n areas day
+  goes_on start some zero within = record { state = summary_of c n []; stands = start; some = subst (λ (p : Priced (List Offer)). IsSome p) (sym (onward-first c r n)) some }
+  goes_on start some (suc day) within = subst (GoesOn c r n areas) (omega arith) (next_on day (omega (arith, within)) (goes_on start some day (omega (arith, within))))
+
+-- ---- the areas of a day more
+
+module _ (c : Meaning) (r : Rows) (n : ℕ) (areas : List (List Area)) (day : ℕ) (inside : day + 1 < length areas) (behind : List Area) where
+  abbrev with_day : List (List Area)
+  with_day = slice_set areas (day + 1) behind
+
+  pub day_set : areas_on with_day (day + 1) ≡ behind
+  day_set = get_or-set_at areas (day + 1) (day + 1) behind [] (λ i. day + 1) inside
+
+  pub day_kept : (d : ℕ) → d ≤ day → areas_on with_day d ≡ areas_on areas d
+  day_kept d up_to = let ne : d ≢ day + 1 = omega arith in get_or-set_other areas (day + 1) d behind [] ne
+
+  abbrev LeadOn : List (List Area) → ℕ → Type 0
+  LeadOn table d = All (LeadsOn c (search_day c n d) (areas_on table d) (areas_on table (d + 1))) (shift_offers c r n d)
+
+  pub lead_more : All (LeadsOn c (search_day c n day) (areas_on areas day) behind) (shift_offers c r n day) → ((d : ℕ) → d < day → LeadOn areas d) → (d : ℕ) → d < day + 1 → LeadOn with_day d
+  lead_more here before d below = go (cases_lt d day)
     where
-      go : (d < day) ⊎ (day ≤ d) → DayPointed new (day * size) day
-      go (inl behind) = λ code s below at stands.
-          let place : first + size ≤ day * size + code = omega (arith, is, mul-le (d + 1) size day size (omega (arith, behind)) (omega arith)) in
-          subst (PointsWhereBest (best_by c (search_day c n day) (onward c r n (day + 1)) s) (shift_offers c r n day) (best_on c (search_day c n day) (shift_offers c r n day) (onward c r n (day + 1)) s))
-          (sym (same.behind (day * size + code) place)) (later day (omega (arith, behind)) within code s below at stands)
-      go (inr this) =
-          let same_day : d ≡ day = omega (arith, this, from) in
-          subst (λ k. DayPointed new (k * size) k) same_day (subst (λ place. DayPointed new place d) is here)
+      go : (d < day) ⊎ (day ≤ d) → LeadOn with_day d
+      go (inl low) = transport (λ i. All (LeadsOn c (search_day c n d) (sym (day_kept d (omega (arith, low))) i) (sym (day_kept (d + 1) (omega (arith, low))) i)) (shift_offers c r n d)) (before d low)
+      go (inr high) =
+          let is : day ≡ d = omega (arith, high, below) in
+          subst (LeadOn with_day) is (transport (λ i. All (LeadsOn c (search_day c n day) (sym (day_kept day (omega arith)) i) (sym day_set i)) (shift_offers c r n day)) here)
 
 -- ---- the row, read forward
 
@@ -162,3 +235,10 @@ length_after {X} {Z} v w is = ap (λ (u : Vec X Z). length u.items) is
 pub extension_is : (c : Meaning) (n : ℕ) → extension_count c n ≡ day_count c * (product (sizes_of c n) * choice_count c n)
 unfolding extension_count state_count
 extension_is c n = ap (λ k. k * choice_count c n) (mul_comm (state_count c n) (day_count c)) ∙ mul_assoc (day_count c) (state_count c n) (choice_count c n)
+
+pub extensions_are : (c : Meaning) (n : ℕ) (z : Sizes) → z ≡ sizes_of c n → extension_count c n ≡ day_count c * (product z * choice_count c n)
+extensions_are c n z is = extension_is c n ∙ ap (λ (y : Sizes). day_count c * (product y * choice_count c n)) (sym is)
+
+-- the areas of a day, as they are read from the table
+pub areas_read : (areas : List (List Area)) (day : ℕ) (d : List Area) → day < length areas → slice_index_or areas day d ≡ areas_on areas day
+areas_read areas day d inside = get_or_default areas day d [] inside

@@ -1,12 +1,14 @@
 -- What a workspace has room for, and what a search leaves in its tables (our own).
-use Rattle.std.specs.Prelude.{◌≡◌, ℕ, ◌+◌, ◌-◌, ◌*◌, ◌<◌, ◌≤◌, ◌==◌, ◌&&◌, Bool, List, nat_le}
+use Rattle.std.specs.Prelude.{◌≡◌, ℕ, ◌+◌, ◌-◌, ◌*◌, ◌<◌, ◌≤◌, ◌==◌, ◌&&◌, All, Bool, List, [], nat_le, slice_index_or}
 use Rattle.roster_instance.specs.Meaning.{Meaning, day_count}
 use Rattle.roster_instance.specs.Rosters.{Row, Rows}
+use Rattle.roster_rules.specs.Prefix.{Summary}
+use Rattle.roster_state.specs.declared.Area.{Area}
 use Rattle.roster_state.specs.Codes.{product, sizes_of}
 use Rattle.roster_laws.specs.Greatest.{greatest_state_count}
 use Rattle.roster_search.specs.declared.SearchDay.{SearchDay}
 use Rattle.roster_search.specs.Offers.{best_of_offers, shift_offers}
-use Rattle.roster_search.specs.Tables.{ArePointers, BestOnward}
+use Rattle.roster_search.specs.Tables.{ArePointers, BestOnward, LeadsOn, Stands}
 
 -- how many labels its two tables have together, how many pointers and choices it has room for, and the row of the last search,
 -- which is empty before the first
@@ -36,6 +38,20 @@ search_day c n day = record { nurse = n; day = day; ranges = sizes_of c n }
 abbrev pub onward : Meaning → Rows → ℕ → ℕ → BestOnward
 onward c r n day s = best_of_offers c n (shift_offers c r n) (day_count c - day) day s
 
+-- the areas of a day
+abbrev pub areas_on : List (List Area) → ℕ → List Area
+areas_on areas day = slice_index_or areas day []
+
+-- each day's offers lead from its areas to those of the next day
+abbrev pub AreasLead : Meaning → Rows → ℕ → List (List Area) → Type 0
+AreasLead c r n areas = (day : ℕ) → day < day_count c → All (LeadsOn c (search_day c n day) (areas_on areas day) (areas_on areas (day + 1))) (shift_offers c r n day)
+
+-- a state that stands in these areas
+pub record SomeStands (c : Meaning) (n : ℕ) (areas : List Area) : Type 0 where
+  pub state : Summary
+  pub stands : Stands c n areas state
+
 -- the pointers of each day from one on are right: places among these offers. The days stand one after another.
-abbrev pub PointersFrom : Meaning → Rows → ℕ → ℕ → List ℕ → Type 0
-PointersFrom c r n from pointers = (day : ℕ) → from ≤ day → day < day_count c → ArePointers c (search_day c n day) (shift_offers c r n day) (onward c r n (day + 1)) (day * product (sizes_of c n)) pointers
+abbrev pub PointersFrom : Meaning → Rows → ℕ → List (List Area) → ℕ → List ℕ → Type 0
+PointersFrom c r n areas from pointers =
+    (day : ℕ) → from ≤ day → day < day_count c → ArePointers c (search_day c n day) (areas_on areas day) (shift_offers c r n day) (onward c r n (day + 1)) (day * product (sizes_of c n)) pointers

@@ -3,7 +3,7 @@ use Rattle.std.proofs.Common.{◌≡◌, ℕ, ◌+◌, ◌-◌, ◌/◌, ◌%◌
 use Rattle.std.specs.Int.{bit_at}
 use Rattle.std.proofs.lemmas.Bool.{eq-eqb, ne_eqb}
 use Rattle.std.proofs.lemmas.List.{take_all, length-map, get_or-map}
-use Rattle.std.proofs.Math.Nat.{mod-eq_of_lt, zero-div}
+use Rattle.std.proofs.Math.Nat.{zero-div}
 use Rattle.std.proofs.lemmas.Simd.{tops_compared, length-zip2, get_or-zip2, length-sel_l, get_or-sel_l, put_chunk_whole, mask_l-lt, mask_l-mod, bit_mask_l, length-chunk, get_or-chunk, get_or-replicate, Each1-zip2, Each2-splat, Each2-all}
 use lib.Lanes.{Each1, zip2, sel_l, mask_l, top, put_chunk, chunk}
 
@@ -99,12 +99,11 @@ array_whole xs p = take_all 16 xs (omega arith)
 
 -- ---- with so much more
 
-pub raised_at : (xs : List ℕ) (first more i : ℕ) → first + 16 ≤ length xs → i < 16 → get_or xs (first + i) 0 + more ≤ 4294967295
-    → get_or (zip2 (λ a b. (a + b) % 2 ^ 32) (chunk first 16 xs) (replicate 16 more)) i 0 ≡ get_or xs (first + i) 0 + more
-raised_at xs first more i room lt fits =
+pub raised_at : (xs : List ℕ) (first more i : ℕ) → first + 16 ≤ length xs → i < 16
+    → get_or (zip2 (λ a b. (a + b) % 2 ^ 32) (chunk first 16 xs) (replicate 16 more)) i 0 ≡ (get_or xs (first + i) 0 + more) % 2 ^ 32
+raised_at xs first more i room lt =
     get_or-zip2 (λ a b. (a + b) % 2 ^ 32) (chunk first 16 xs) (replicate 16 more) i 0 0 0 (omega (arith, length-chunk first 16 xs room)) lt
     ∙ ap₂ (λ a b. (a + b) % 2 ^ 32) (get_or-chunk first 16 xs i 0 lt) (get_or-replicate 16 i more 0 lt)
-    ∙ mod-eq_of_lt (omega arith)
 
 -- ---- the marks, narrowed to bytes, choose between the old pointers and the new one
 

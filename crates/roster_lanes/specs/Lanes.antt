@@ -1,9 +1,9 @@
 -- Labels that are lowered to others where these are smaller, each with the pointer that says by what it was lowered (our own).
-use Rattle.std.specs.Prelude.{◌≡◌, ◌+◌, ◌<◌, ◌≤◌, ℕ, List, min, nat_lt, slice_index_or, if◌then◌else◌}
+use Rattle.std.specs.Prelude.{◌≡◌, ◌+◌, ◌%◌, ◌^◌, ◌<◌, ◌≤◌, ℕ, List, min, nat_lt, slice_index_or, if◌then◌else◌}
 
--- what a label at a place may become: the other one there, with so much more
+-- what a label at a place may become: the other one there, with so much more, as numbers of 32 bits are added
 abbrev pub raised : List ℕ → ℕ → ℕ → ℕ
-raised others more i = slice_index_or others i 0 + more
+raised others more i = (slice_index_or others i 0 + more) % 2 ^ 32
 
 -- the pointer of a label: the new one just where the label becomes smaller
 abbrev pub pointer_by : (label candidate old new : ℕ) → ℕ

@@ -22,13 +22,12 @@ pub fn lower16(labels: &mut [u32; 16], others: &[u32; 16]) -> u16
 }
 
 /// Lowers each label to the other one at its place with so much more, where that is strictly smaller, and sets the label's pointer
-/// there. All other pointers stay.
+/// there. All other pointers stay. What is more than 32 bits hold is cut off.
 pub fn lower_all(labels: &mut [u32], pointers: &mut [u8], others: &[u32], more: u32, pointer: u8)
     requires pointers { length pointers.old ≡ length labels.old }
     requires others { length others.now ≡ length labels.old }
-    requires within { (i : ℕ) → i < length labels.old → slice_index_or others.now i 0 + more ≤ 4294967295 }
-    ensures labels { (i : ℕ) → i < length labels.old → slice_index_or labels.new i 0 ≡ min (slice_index_or labels.old i 0) (slice_index_or others.now i 0 + more) }
-    ensures pointers { (i : ℕ) → i < length labels.old → slice_index_or pointers.new i 0 ≡ pointer_by (slice_index_or labels.old i 0) (slice_index_or others.now i 0 + more) (slice_index_or pointers.old i 0) pointer }
+    ensures labels { (i : ℕ) → i < length labels.old → slice_index_or labels.new i 0 ≡ min (slice_index_or labels.old i 0) (raised others.now more i) }
+    ensures pointers { (i : ℕ) → i < length labels.old → slice_index_or pointers.new i 0 ≡ pointer_by (slice_index_or labels.old i 0) (raised others.now more i) (slice_index_or pointers.old i 0) pointer }
     ensures lengths { (length labels.new ≡ length labels.old) × (length pointers.new ≡ length pointers.old) }
 {
     let count = labels.len();
@@ -49,12 +48,11 @@ pub fn lower_all(labels: &mut [u32], pointers: &mut [u8], others: &[u32], more: 
 fn lower_few(labels: &mut [u32], pointers: &mut [u8], others: &[u32], more: u32, pointer: u8)
     requires pointers { length pointers.old ≡ length labels.old }
     requires others { length others.now ≡ length labels.old }
-    requires within { (i : ℕ) → i < length labels.old → slice_index_or others.now i 0 + more ≤ 4294967295 }
     ensures labels { LabelsLowered 0 (length labels.old) others.now more labels.old labels.new }
     ensures pointers { PointersSet 0 (length labels.old) others.now more pointer labels.old pointers.old pointers.new }
 {
     'places: for i in 0..labels.len() {
-        let (label, candidate) = (labels[i], others[i] + more);
+        let (label, candidate) = (labels[i], others[i].wrapping_add(more));
         pointers[i] = if candidate < label {
             pointer
         } else {
@@ -77,7 +75,6 @@ fn lower_at(
     requires labels { first + 16 ≤ length labels.old }
     requires pointers { first + 16 ≤ length pointers.old }
     requires others { first + 16 ≤ length others.now }
-    requires within { (i : ℕ) → first ≤ i → i < first + 16 → slice_index_or others.now i 0 + more ≤ 4294967295 }
     ensures labels { LabelsLowered first (first + 16) others.now more labels.old labels.new }
     ensures pointers { PointersSet first (first + 16) others.now more pointer labels.old pointers.old pointers.new }
     ensures labels_others { SameOutside first (first + 16) labels.old labels.new }
@@ -108,7 +105,6 @@ fn load(numbers: &[u32], first: usize) -> [u32; 16]
 #[inline(always)]
 fn raised_at(others: &[u32], first: usize, more: u32) -> [u32; 16]
     requires room { first + 16 ≤ length others.now }
-    requires within { (i : ℕ) → first ≤ i → i < first + 16 → slice_index_or others.now i 0 + more ≤ 4294967295 }
     ensures { (i : ℕ) → i < 16 → slice_index_or result i 0 ≡ raised others.now more (first + i) }
 {
     (u32x16::from_slice(&others[first..]) + u32x16::splat(more)).to_array()

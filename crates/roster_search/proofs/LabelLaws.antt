@@ -9,9 +9,9 @@ use Rattle.roster_rules.specs.Choices.{shift_of}
 use Rattle.roster_rules.specs.Meaning.{Meaning, shift_count, skill_count}
 use Rattle.roster_rules.specs.Prefix.{Summary}
 use Rattle.roster_rules.specs.Rosters.{is_choice_of}
-use Rattle.roster_state.specs.Codes.{code_of, fits_sizes, product, state_at}
+use Rattle.roster_state.specs.declared.Area.{Area}
+use Rattle.roster_state.specs.Codes.{code_of}
 use Rattle.roster_state.specs.Step.{step_of}
-use Rattle.roster_state.proofs.CodeLemmas.{numbered-back, numbered-within}
 use Rattle.roster_search.specs.declared.day.SearchDay.{SearchDay}
 use Rattle.roster_search.specs.declared.offer.Offer.{Offer}
 use Rattle.roster_search.specs.ByStates.{best_behind}
@@ -124,28 +124,13 @@ module _ {O X : Type 0} (by : O → Priced X) where
 
 -- ---- the label of the next state
 
-module _ (c : Meaning) (at : SearchDay) (day : IsDayOf c at) where
-  pub label_of_next : (later : BestOnward) (labels : List ℕ) → AreLabels c at.nurse (at.day + 1) later labels → (next : Summary) (code : ℕ) → code < product at.ranges → state_at at.ranges code ≡ Some next → Stands c at.nurse (at.day + 1) next
-      → slice_index_or labels code 0 ≡ label_of (later next)
-  label_of_next later labels right next code within back stands = right code next (subst (λ z. code < product z) day.ranges within) (subst (λ z. state_at z code ≡ Some next) day.ranges back) stands
+module _ (c : Meaning) (at : SearchDay) (day : IsDayOf c at) (areas : List Area) (later : BestOnward) (labels : List ℕ) (right : AreLabels c at.nurse areas later labels) where
+  label_of_next : (t : Summary) → Stands c at.nurse areas t → slice_index_or labels (code_of at.ranges t) 0 ≡ label_of (later t)
+  label_of_next t stands = subst (λ z. slice_index_or labels (code_of z t) 0 ≡ label_of (later t)) (sym day.ranges) (right t stands)
 
-  pub label_of_next_within : (later : BestOnward) (labels : List ℕ) → AreLabels c at.nurse (at.day + 1) later labels → (next : Summary) (code : ℕ) → code < product at.ranges → state_at at.ranges code ≡ Some next → Stands c at.nurse (at.day + 1) next
-      → slice_index_or labels code 0 ≤ no_row
-  label_of_next_within later labels right next code within back stands = omega (arith, label_of_next later labels right next code within back stands, label_within (later next))
+  pub step_low : (t : Summary) → Stands c at.nurse areas t → slice_index_or labels (code_of at.ranges t) 0 ≤ no_row
+  step_low t stands = omega (arith, label_of_next t stands, label_within (later t))
 
-  module _ (later : BestOnward) (labels : List ℕ) (right : AreLabels c at.nurse (at.day + 1) later labels) where
-    -- the state behind a step
-    pub step_fits : (t : Summary) → Stands c at.nurse (at.day + 1) t → fits_sizes at.ranges t ≡ true
-    step_fits t stands = subst (λ z. fits_sizes z t ≡ true) (sym day.ranges) stands.fits
-
-    pub step_low : (t : Summary) → Stands c at.nurse (at.day + 1) t → slice_index_or labels (code_of at.ranges t) 0 ≤ no_row
-    step_low t stands =
-        let there = step_fits t stands in
-        label_of_next_within later labels right t (code_of at.ranges t) (numbered-within at.ranges t there) (numbered-back at.ranges t there) stands
-
-    pub label_at-is : (s : Summary) (offer : Offer) (t : Summary × ℕ) → step_of c at.nurse at.day s (shift_of offer.choice) ≡ Some t → Stands c at.nurse (at.day + 1) t.0
-        → min (offer.price + t.1 + slice_index_or labels (code_of at.ranges t.0) 0) no_row ≡ label_of (best_by c at later s offer)
-    label_at-is s offer t e stands =
-        let there = step_fits t.0 stands in
-        label_by_offer c at later s offer t.0 t.1 (slice_index_or labels (code_of at.ranges t.0) 0) e
-        (label_of_next later labels right t.0 (code_of at.ranges t.0) (numbered-within at.ranges t.0 there) (numbered-back at.ranges t.0 there) stands)
+  pub label_at-is : (s : Summary) (offer : Offer) (t : Summary × ℕ) → step_of c at.nurse at.day s (shift_of offer.choice) ≡ Some t → Stands c at.nurse areas t.0
+      → min (offer.price + t.1 + slice_index_or labels (code_of at.ranges t.0) 0) no_row ≡ label_of (best_by c at later s offer)
+  label_at-is s offer t e stands = label_by_offer c at later s offer t.0 t.1 (slice_index_or labels (code_of at.ranges t.0) 0) e (label_of_next t.0 stands)

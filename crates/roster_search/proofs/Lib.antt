@@ -12,3 +12,7 @@ pub mod BestRoom
 pub mod LowerLaws
 pub mod PartLaws
 pub mod HalfLaws
+pub mod StandLaws
+pub mod GroupLaws
+pub mod DayLaws
+pub mod StretchLaws

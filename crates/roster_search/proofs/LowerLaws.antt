@@ -1,5 +1,5 @@
 -- Stretches of places that are lowered one after another.
-use Rattle.std.proofs.Common.{◌≡◌, ◌∙◌, ◌+◌, ◌-◌, ◌*◌, ◌<◌, ◌≤◌, ◌⊎◌, ℕ, Bool, true, false, inl, inr, ap, arith, refl, subst, sym, List, length, min, nat_le, nat_lt, if◌then◌else◌, slice_index_or}
+use Rattle.std.proofs.Common.{◌≡◌, ◌∙◌, ◌+◌, ◌-◌, ◌*◌, ◌<◌, ◌≤◌, ◌⊎◌, ℕ, Bool, true, false, inl, inr, ap, arith, refl, subst, sym, List, max, min, nat_le, nat_lt, if◌then◌else◌, slice_index_or}
 use Rattle.std.proofs.lemmas.Bool.{cases_lt, le-leb, lt-leb}
 use mir.Val.{bool_byte}
 use Rattle.roster_rules.specs.Weights.{assignment_weight}
@@ -106,22 +106,33 @@ module _ (step : BlockStep) (behind : List ℕ) (n price : ℕ) where
       place true = omega (arith, low, below)
       place false = omega arith
 
-  pub three_stretches : (number dearer moved at_end : ℕ) (l p l1 p1 l2 p2 l3 p3 : List ℕ) → 0 < n → dearer ≡ min (n - 1) step.dearer_from → moved ≡ bool_byte step.moves → at_end ≡ price + step.cost + assignment_weight * bool_byte (nat_le step.dearer_from (n - 1))
-      → Stretch 0 dearer (λ a. price + step.cost + slice_index_or behind (a + moved) 0) number l p l1 p1
-      → Stretch dearer (n - 1) (λ a. price + step.cost + assignment_weight + slice_index_or behind (a + moved) 0) number l1 p1 l2 p2
-      → Stretch (n - 1) (n - 1 + 1) (λ a. at_end + slice_index_or behind (a + 0) 0) number l2 p2 l3 p3
-      → AreLowered 0 n others number l p l3 p3
-  three_stretches number dearer moved at_end l p l1 p1 l2 p2 l3 p3 some is_dearer is_moved is_end one two three =
-      let first : Stretch 0 dearer others number l p l1 p1 = stretch_alike 0 dearer dearer _ others number l p l1 p1 refl (λ a low below. at_place moved (price + step.cost) a is_moved (cost_below step price a (omega (arith, below, is_dearer))) (omega (arith, below, is_dearer))) one in
-      let second : Stretch dearer (n - 1) others number l1 p1 l2 p2 = stretch_alike dearer (n - 1) (n - 1) _ others number l1 p1 l2 p2 refl (λ a low below. at_place moved (price + step.cost + assignment_weight) a is_moved (cost_from step price a (omega (arith, low, below, is_dearer))) below) two in
-      let third : Stretch (n - 1) n others number l2 p2 l3 p3 = stretch_alike (n - 1) (n - 1 + 1) n _ others number l2 p2 l3 p3 (omega (arith, some)) (λ a low below. at_last at_end a (is_end ∙ cost_at step price (n - 1) ∙ ap (λ k. price + place_cost step k) (omega (arith, low, below))) low below) three in
-      (stretch_then 0 (n - 1) n others number l p l2 p2 l3 p3 (omega arith) (omega arith) (stretch_then 0 dearer (n - 1) others number l p l1 p1 l2 p2 (omega arith) (omega (arith, is_dearer)) first second) third).lowered
+  pub three_stretches : (from end number top dearer moved at_end : ℕ) (l p l1 p1 l2 p2 l3 p3 : List ℕ) → from < end → end ≤ n → top ≡ min end (n - 1) → dearer ≡ max from (min top step.dearer_from) → moved ≡ bool_byte step.moves
+      → at_end ≡ price + step.cost + assignment_weight * bool_byte (nat_le step.dearer_from (n - 1))
+      → Stretch from dearer (λ a. price + step.cost + slice_index_or behind (a + moved) 0) number l p l1 p1
+      → Stretch dearer top (λ a. price + step.cost + assignment_weight + slice_index_or behind (a + moved) 0) number l1 p1 l2 p2
+      → Stretch top end (λ a. at_end + slice_index_or behind (a + 0) 0) number l2 p2 l3 p3
+      → AreLowered from end others number l p l3 p3
+  three_stretches from end number top dearer moved at_end l p l1 p1 l2 p2 l3 p3 some room is_top is_dearer is_moved is_end one two three =
+      let first : Stretch from dearer others number l p l1 p1 = stretch_alike from dearer dearer _ others number l p l1 p1 refl (λ a low below. at_place moved (price + step.cost) a is_moved (cost_below step price a (omega (arith, low, below, is_dearer))) (omega (arith, low, below, is_dearer, is_top))) one in
+      let second : Stretch dearer top others number l1 p1 l2 p2 = stretch_alike dearer top top _ others number l1 p1 l2 p2 refl (λ a low below. at_place moved (price + step.cost + assignment_weight) a is_moved (cost_from step price a (omega (arith, low, below, is_dearer))) (omega (arith, below, is_top))) two in
+      let third : Stretch top end others number l2 p2 l3 p3 = stretch_alike top end end _ others number l2 p2 l3 p3 refl (λ a low below. at_last at_end a (is_end ∙ cost_at step price (n - 1) ∙ ap (λ k. price + place_cost step k) (omega (arith, low, below, is_top, room))) (omega (arith, low, below, is_top)) (omega (arith, below, room))) three in
+      (stretch_then from top end others number l p l2 p2 l3 p3 (omega (arith, some, room, is_top)) (omega (arith, is_top)) (stretch_then from dearer top others number l p l1 p1 l2 p2 (omega (arith, is_dearer)) (omega (arith, some, room, is_top, is_dearer)) first second) third).lowered
 
 -- ---- the numbers stay small
 
-pub small_lowered : (n : ℕ) (f : ℕ → ℕ) (number : ℕ) (l p l1 p1 : List ℕ) → number < 16 → length p ≡ n → length p1 ≡ n → ((a : ℕ) → a < length p → slice_index_or p a 0 < 16) → AreLowered 0 n f number l p l1 p1 → (a : ℕ) → a < length p1 → slice_index_or p1 a 0 < 16
-small_lowered n f number l p l1 p1 few long long_1 old lowered a below = subst (λ k. k < 16) (sym (lowered.pointer a (omega arith) (omega (arith, below, long_1)))) (go (nat_lt (f a) (slice_index_or l a 0)))
+pub small_lowered : (from end : ℕ) (f : ℕ → ℕ) (number : ℕ) (l p l1 p1 : List ℕ) → number < 16 → ((a : ℕ) → from ≤ a → a < end → slice_index_or p a 0 < 16) → AreLowered from end f number l p l1 p1 → (a : ℕ) → from ≤ a → a < end → slice_index_or p1 a 0 < 16
+small_lowered from end f number l p l1 p1 few old lowered a low below = subst (λ k. k < 16) (sym (lowered.pointer a low below)) (go (nat_lt (f a) (slice_index_or l a 0)))
   where
     go : (b : Bool) → (if b then number else slice_index_or p a 0) < 16
     go true = few
-    go false = old a (omega (arith, below, long, long_1))
+    go false = old a low below
+
+-- ---- where a place goes
+
+pub place_moved : (n : ℕ) (moves : Bool) (a : ℕ) → a < n - 1 → place_behind n moves a ≡ a + bool_byte moves
+place_moved n true a below = omega (arith, below)
+place_moved n false a below = omega arith
+
+pub place_stays : (n : ℕ) (moves : Bool) (a : ℕ) → n - 1 ≤ a → a < n → place_behind n moves a ≡ a + 0
+place_stays n true a low below = omega (arith, low, below)
+place_stays n false a low below = omega arith

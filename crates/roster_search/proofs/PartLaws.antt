@@ -23,8 +23,9 @@ module _ (a : ℕ) (old part : List ℕ) (room : a + length part ≤ length old)
 
 -- ---- the cells of a block, where they stand in two tables
 
-module _ (right : ℕ → ℕ → ℕ → Type 0) (code first m : ℕ) (block numbers labels pointers : List ℕ) where
-  pub cells_moved : ((a : ℕ) → a < m → slice_index_or labels (code + a) 0 ≡ slice_index_or block a 0) → ((a : ℕ) → a < m → slice_index_or pointers (first + a) 0 ≡ slice_index_or numbers a 0) → Cells right 0 0 0 m block numbers → Cells right code first 0 m labels pointers
-  cells_moved same_label same_number old a from below =
-      let here : right a (slice_index_or block a 0) (slice_index_or numbers a 0) = subst (λ j. right a (slice_index_or block j 0) (slice_index_or numbers j 0)) (omega arith) (old a from below) in
-      subst (λ l. right a l (slice_index_or pointers (first + a) 0)) (sym (same_label a below)) (subst (λ p. right a (slice_index_or block a 0) p) (sym (same_number a below)) here)
+module _ (right : ℕ → ℕ → ℕ → Type 0) (code first from end : ℕ) (block numbers labels pointers : List ℕ) where
+  pub cells_moved : ((a : ℕ) → from ≤ a → a < end → slice_index_or labels (code + a) 0 ≡ slice_index_or block a 0) → ((a : ℕ) → from ≤ a → a < end → slice_index_or pointers (first + a) 0 ≡ slice_index_or numbers a 0)
+      → Cells right 0 0 from end block numbers → Cells right code first from end labels pointers
+  cells_moved same_label same_number old a low below =
+      let here : right a (slice_index_or block a 0) (slice_index_or numbers a 0) = subst (λ j. right a (slice_index_or block j 0) (slice_index_or numbers j 0)) (omega arith) (old a low below) in
+      subst (λ l. right a l (slice_index_or pointers (first + a) 0)) (sym (same_label a low below)) (subst (λ p. right a (slice_index_or block a 0) p) (sym (same_number a low below)) here)

@@ -6,14 +6,15 @@ use Rattle.roster_rules.specs.declared.Shift.{Shift}
 use Rattle.roster_rules.specs.Choices.{shift_of}
 use Rattle.roster_rules.specs.Meaning.{Meaning, forbids}
 use Rattle.roster_rules.specs.Prefix.{Summary}
-use Rattle.roster_state.specs.Codes.{product, state_at}
-use Rattle.roster_state.specs.Step.{next_of, step_cost}
+use Rattle.roster_state.specs.declared.Area.{Area}
+use Rattle.roster_state.specs.Codes.{code_of}
+use Rattle.roster_state.specs.Step.{next_of, step_cost, step_of}
 use Rattle.roster_search.specs.declared.day.SearchDay.{SearchDay}
 use Rattle.roster_search.specs.declared.offer.Offer.{Offer}
 use Rattle.roster_search.specs.ByStates.{best_behind}
 use Rattle.roster_search.specs.Cheapest.{Priced, raised}
 use Rattle.roster_search.specs.Offers.{dearer}
-use Rattle.roster_search.specs.Tables.{ArePointers, BeginsWith, BestOnward, IsDayOf, PointsToBest, Stands, best_by, best_on, no_row}
+use Rattle.roster_search.specs.Tables.{ArePointers, BeginsWith, BestOnward, IsDayOf, LeadsOn, PointsToBest, Stands, best_by, best_on, no_row}
 use Rattle.roster_search.proofs.Cheapest.{cost_or, thing_or}
 
 -- the state behind a step, if it is allowed
@@ -65,11 +66,30 @@ pub pointer_within : {O X : Type 0} (by : O → Priced X) (offers : List O) (row
 pointer_within by offers row pointer points =
     omega (arith, points.place, ap length points.split, length-append points.front (points.offer ∷ points.back))
 
-pub points_at : (c : Meaning) (at : SearchDay) → IsDayOf c at → (offers : List Offer) (later : BestOnward) (first : ℕ) (pointers : List ℕ) → ArePointers c at offers later first pointers
-    → (s : Summary) (code : ℕ) → code < product at.ranges → state_at at.ranges code ≡ Some s → Stands c at.nurse at.day s
+pub points_at : (c : Meaning) (at : SearchDay) → IsDayOf c at → (areas : List Area) (offers : List Offer) (later : BestOnward) (first : ℕ) (pointers : List ℕ) → ArePointers c at areas offers later first pointers
+    → (s : Summary) (code : ℕ) → code ≡ code_of at.ranges s → Stands c at.nurse areas s
     → (row : ℕ × List Offer) → best_on c at offers later s ≡ Some row → row.0 < no_row → PointsToBest (best_by c at later s) offers row (slice_index_or pointers (first + code) 0)
-points_at c at day offers later first pointers right s code within back stands row best low =
-    right code s (subst (λ z. code < product z) day.ranges within) (subst (λ z. state_at z code ≡ Some s) day.ranges back) stands row best low
+points_at c at day areas offers later first pointers right s code is stands row best low =
+    subst (λ k. PointsToBest (best_by c at later s) offers row (slice_index_or pointers (first + k) 0)) (ap (λ z. code_of z s) (sym day.ranges) ∙ sym is) (right s stands row best low)
+
+-- the state behind an allowed choice stands behind the day
+module _ (c : Meaning) (at : SearchDay) (s next : Summary) (shift : Option Shift) where
+  abbrev cost : ℕ
+  cost = step_cost c at.nurse at.day s shift
+
+  abbrev taken : Summary × ℕ
+  taken = (next, cost)
+
+  abbrev step : Bool → Option (Summary × ℕ)
+  step b = if b then None else Some (next_of c at.nurse at.day s shift, cost)
+
+  step_is : (b : Bool) → Some next ≡ (if b then None else Some (next_of c at.nurse at.day s shift)) → step b ≡ Some taken
+  step_is true e = absurd cc
+  step_is false e = let same : next ≡ next_of c at.nurse at.day s shift = cc in λ i. Some (sym same i, cost)
+
+  pub after_stands : (areas behind : List Area) (offer : Offer) → LeadsOn c at areas behind offer → Stands c at.nurse areas s → shift ≡ shift_of offer.choice
+      → Some next ≡ (if forbids c.successions s.last shift then None else Some (next_of c at.nurse at.day s shift)) → Stands c at.nurse behind next
+  after_stands areas behind offer leads stands is found = leads s taken stands (ap (λ (x : Option Shift). step_of c at.nurse at.day s x) (sym is) ∙ step_is (forbids c.successions s.last shift) found)
 
 -- ---- what is read there
 

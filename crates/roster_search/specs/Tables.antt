@@ -2,14 +2,17 @@
 -- of the offer with which that row begins (our own).
 use Rattle.std.specs.Prelude.{◌≡◌, ◌+◌, ◌*◌, ◌<◌, ◌≤◌, ℕ, true, List, [], ◌∷◌, ◌++◌, length, min, nat_lt, if◌then◌else◌, Some, None, slice_index_or}
 use Rattle.roster_rules.specs.declared.Choice.{Choice}
+use Rattle.roster_rules.specs.Choices.{shift_of}
 use Rattle.roster_rules.specs.Limits.{most_shifts, most_skills, most_small}
 use Rattle.roster_rules.specs.Meaning.{Meaning, day_count, nurse_count}
 use Rattle.roster_rules.specs.Prefix.{Summary}
 use Rattle.roster_rules.specs.Rosters.{is_choice_of}
 use Rattle.roster_rules.specs.Weights.{off_request_weight, staffing_weight}
-use Rattle.roster_state.specs.Codes.{Sizes, fits_sizes, product, sizes_of, state_at}
+use Rattle.roster_state.specs.declared.area.Area.{Area}
+use Rattle.roster_state.specs.Areas.{InArea, area_at}
+use Rattle.roster_state.specs.Codes.{Sizes, code_of, fits_sizes, shift_digit, sizes_of}
 use Rattle.roster_state.specs.Standing.{can_be}
-use Rattle.roster_state.specs.Step.{end_cost_of, with_assignments}
+use Rattle.roster_state.specs.Step.{end_cost_of, step_of, with_assignments, with_weekends}
 use Rattle.roster_search.specs.declared.day.SearchDay.{SearchDay}
 use Rattle.roster_search.specs.declared.offer.Offer.{Offer}
 use Rattle.roster_search.specs.ByStates.{best_behind}
@@ -58,21 +61,33 @@ best_at_end c n s = Some (end_cost_of c n s, [])
 
 -- ---- the tables
 
--- the states for which a day's tables are right: those whose numbers are in range, without those that no row leads to
-pub record Stands (c : Meaning) (n day : ℕ) (s : Summary) : Type 0 where
+-- the states for which a day's tables are right: those whose numbers are in range, and in the area of their last shift, without those
+-- that no row leads to
+pub record Stands (c : Meaning) (n : ℕ) (areas : List Area) (s : Summary) : Type 0 where
   pub fits : fits_sizes (sizes_of c n) s ≡ true
   pub can_be : can_be c n s ≡ true
+  pub inside : InArea (area_at areas (shift_digit s.last)) s
 
--- for each number below k, what stands at its place in a table is right for its state
-abbrev pub CellsBelow : (Summary → Type 0) → Sizes → (Summary → ℕ → Type 0) → (ℕ → ℕ) → ℕ → List ℕ → Type 0
-CellsBelow stands z right place k cells = (code : ℕ) (s : Summary) → code < k → state_at z code ≡ Some s → stands s → right s (slice_index_or cells (place code) 0)
+-- from a state that stands on the day an offer leads, if it is allowed, to one that stands behind it
+abbrev pub LeadsOn : Meaning → SearchDay → (areas behind : List Area) → Offer → Type 0
+LeadsOn c at areas behind offer = (s : Summary) (t : Summary × ℕ) → Stands c at.nurse areas s → step_of c at.nurse at.day s (shift_of offer.choice) ≡ Some t → Stands c at.nurse behind t.0
 
--- the label of each state with a number below k
-abbrev pub LabelsBelow : Meaning → ℕ → ℕ → BestOnward → ℕ → List ℕ → Type 0
-LabelsBelow c n day best k labels = CellsBelow (Stands c n day) (sizes_of c n) (λ s label. label ≡ label_of (best s)) (λ code. code) k labels
+-- what a day's tables stand between: the areas of the day, those behind it, and the best rows from there on
+pub record Around : Type 0 where
+  pub here : List Area
+  pub behind : List Area
+  pub best : BestOnward
 
-abbrev pub AreLabels : Meaning → ℕ → ℕ → BestOnward → List ℕ → Type 0
-AreLabels c n day best labels = LabelsBelow c n day best (product (sizes_of c n)) labels
+-- at the number of each of some states stands in a table what is right for it
+abbrev pub CellsOf : (Summary → Type 0) → Sizes → (Summary → ℕ → Type 0) → (ℕ → ℕ) → List ℕ → Type 0
+CellsOf which z right place cells = (s : Summary) → which s → right s (slice_index_or cells (place (code_of z s)) 0)
+
+-- the labels of some states
+abbrev pub LabelsOf : (Summary → Type 0) → Meaning → ℕ → BestOnward → List ℕ → Type 0
+LabelsOf which c n best labels = CellsOf which (sizes_of c n) (λ s label. label ≡ label_of (best s)) (λ code. code) labels
+
+abbrev pub AreLabels : Meaning → ℕ → List Area → BestOnward → List ℕ → Type 0
+AreLabels c n areas best labels = LabelsOf (Stands c n areas) c n best labels
 
 -- at the place of the pointer stands an offer with which the best row begins
 pub record PointsToBest {O X : Type 0} (by : O → Priced X) (offers : List O) (row : ℕ × X) (pointer : ℕ) : Type 0 where
@@ -92,13 +107,20 @@ pub record AreOfLeast {O X : Type 0} (by : O → Priced X) (offers : List O) (la
   pub least : label ≡ label_of (cheapest by offers)
   pub points : PointsWhereBest by offers (cheapest by offers) pointer
 
--- the pointer of each state with a number below k, from a first place on
-abbrev pub PointersBelow : Meaning → SearchDay → List Offer → BestOnward → ℕ → ℕ → List ℕ → Type 0
-PointersBelow c at offers later first k pointers =
-    CellsBelow (Stands c at.nurse at.day) (sizes_of c at.nurse) (λ s. PointsWhereBest (best_by c at later s) offers (best_on c at offers later s)) (λ code. first + code) k pointers
+-- the pointers of some states, from a first place on
+abbrev pub PointersOf : (Summary → Type 0) → Meaning → SearchDay → List Offer → BestOnward → ℕ → List ℕ → Type 0
+PointersOf which c at offers later first pointers =
+    CellsOf which (sizes_of c at.nurse) (λ s. PointsWhereBest (best_by c at later s) offers (best_on c at offers later s)) (λ code. first + code) pointers
 
-abbrev pub ArePointers : Meaning → SearchDay → List Offer → BestOnward → ℕ → List ℕ → Type 0
-ArePointers c at offers later first pointers = PointersBelow c at offers later first (product (sizes_of c at.nurse)) pointers
+abbrev pub ArePointers : Meaning → SearchDay → List Area → List Offer → BestOnward → ℕ → List ℕ → Type 0
+ArePointers c at areas offers later first pointers = PointersOf (Stands c at.nurse areas) c at offers later first pointers
+
+-- the state stands, and differs from another one in its worked weekends and assignments alone
+pub record StandsLike (c : Meaning) (n : ℕ) (areas : List Area) (group s : Summary) : Type 0 where
+  pub stands : Stands c n areas s
+  pub last : s.last ≡ group.last
+  pub run : s.run ≡ group.run
+  pub shift_run : s.shift_run ≡ group.shift_run
 
 -- ---- a block: states that differ in their assignments alone
 
@@ -109,6 +131,12 @@ Cells right code first k m labels pointers = (a : ℕ) → k ≤ a → a < m →
 -- the label and the pointer of the state with so many assignments are those of the least of some offers
 abbrev pub LeastFrom : Meaning → SearchDay → BestOnward → Summary → List Offer → ℕ → ℕ → ℕ → Type 0
 LeastFrom c at later s offers a label pointer = AreOfLeast (best_by c at later (with_assignments s a)) offers label pointer
+
+-- the same for the places from one on, so many, of so many blocks, each with one worked weekend more: they stand one behind the other,
+-- each block so many places behind the one before
+abbrev pub StretchCells : Meaning → SearchDay → BestOnward → Summary → List Offer → (rows from width side code first : ℕ) → List ℕ → List ℕ → Type 0
+StretchCells c at later s offers rows from width side code first labels pointers =
+    (i b : ℕ) → i < rows → b < width → LeastFrom c at later (with_weekends s (s.weekends + i)) offers (from + b) (slice_index_or labels (code + (i * side + b)) 0) (slice_index_or pointers (first + (i * side + b)) 0)
 
 -- the places from one to another by a number for each: the label is the smaller of the two, and the pointer is set exactly where
 -- the number is strictly smaller

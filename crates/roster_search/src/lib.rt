@@ -13,6 +13,7 @@ mod laws;
 mod offer;
 mod pointers;
 mod read;
+mod stand;
 
 pub use day::SearchDay;
 pub use labels::{NO_ROW, label_day, label_end};
@@ -23,3 +24,4 @@ pub use laws::{
 pub use offer::Offer;
 pub use pointers::Pointers;
 pub use read::read_day;
+pub use stand::areas_behind;

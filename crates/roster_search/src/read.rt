@@ -2,7 +2,7 @@
 
 ghost use Rattle.std.specs.Prelude.{◌≡◌, ◌+◌, ◌<◌, ◌≤◌, ℕ, All, IfSome, IsSome, List, Some, length};
 ghost use Rattle.roster_state.specs.Codes.{product};
-ghost use Rattle.roster_search.specs.Tables.{ArePointers, BeginsWith, BestOnward, IsDayOf, IsOfferOf, Stands, best_on, no_row};
+ghost use Rattle.roster_search.specs.Tables.{ArePointers, Around, BeginsWith, IsDayOf, IsOfferOf, LeadsOn, Stands, best_on, no_row};
 ghost use Rattle.roster_search.specs.declared.offer.Offer.{Offer};
 
 use crate::day::SearchDay;
@@ -21,16 +21,17 @@ pub fn read_day(
     pointers: &Pointers,
     first: u32,
 ) -> (Choice, State)
-    ghost rest: { BestOnward }
+    ghost rest: { Around }
     requires day { IsDayOf case.now at.now }
-    requires stands { Stands case.now at.now.nurse at.now.day state.now }
+    requires stands { Stands case.now at.now.nurse rest.here state.now }
     requires offers { All (IsOfferOf case.now) offers.now }
-    requires pointers { ArePointers case.now at.now offers.now rest first pointers.now }
+    requires leads { All (LeadsOn case.now at.now rest.here rest.behind) offers.now }
+    requires pointers { ArePointers case.now at.now rest.here offers.now rest.best first pointers.now }
     requires room { first + product at.now.ranges ≤ length pointers.now }
-    requires some { IsSome (best_on case.now at.now offers.now rest state.now) }
-    requires low { IfSome (best_on case.now at.now offers.now rest state.now) (λ row. row.0 < no_row) }
-    ensures begins { (row : ℕ × List Offer) → best_on case.now at.now offers.now rest state.now ≡ Some row → BeginsWith rest row result.0 result.1 }
-    ensures stands { Stands case.now at.now.nurse (at.now.day + 1) result.1 }
+    requires some { IsSome (best_on case.now at.now offers.now rest.best state.now) }
+    requires low { IfSome (best_on case.now at.now offers.now rest.best state.now) (λ row. row.0 < no_row) }
+    ensures begins { (row : ℕ × List Offer) → best_on case.now at.now offers.now rest.best state.now ≡ Some row → BeginsWith rest.best row result.0 result.1 }
+    ensures stands { Stands case.now at.now.nurse rest.behind result.1 }
 {
     let pointer = pointers.get(first as usize + state.code(&at.ranges) as usize);
     let offer = offers[pointer as usize];

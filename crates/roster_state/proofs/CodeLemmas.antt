@@ -61,11 +61,11 @@ all-fit z s f =
 
 -- ---- the last shift as a number
 
-shift_digit-shift_numbered : (n : ℕ) → shift_digit (shift_numbered n) ≡ n
+pub shift_digit-shift_numbered : (n : ℕ) → shift_digit (shift_numbered n) ≡ n
 shift_digit-shift_numbered zero = refl
 shift_digit-shift_numbered (suc n) = ap (λ b. shift_digit (cond b (Some (shift_at (suc n - 1))) None)) (lt-ltb 0 (suc n) (omega arith)) ∙ omega arith
 
-shift_numbered-shift_digit : (last : Option Shift) → shift_numbered (shift_digit last) ≡ last
+pub shift_numbered-shift_digit : (last : Option Shift) → shift_numbered (shift_digit last) ≡ last
 shift_numbered-shift_digit None = refl
 shift_numbered-shift_digit (Some s) =
     let back : s.0 + 1 - 1 ≡ s.0 = omega arith in

@@ -4,6 +4,7 @@ pub mod RowLemmas
 pub mod OpenRuns
 pub mod SumLaw
 pub mod BlockLaw
+pub mod AreaLaw
 pub mod StartLaw
 pub mod StepBounds
 pub mod CodeLemmas

@@ -1,4 +1,5 @@
 pub mod Step
+pub mod Areas
 pub mod Blocks
 pub mod Codes
 pub mod Room

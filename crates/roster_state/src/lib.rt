@@ -1,6 +1,7 @@
 //! The state of one nurse, from day to day: what the search for a row keeps of the days before.
 #![tactic(auto)]
 
+mod area;
 mod block;
 mod meter;
 mod ranges;
@@ -8,6 +9,7 @@ mod row;
 mod state;
 mod step;
 
+pub use area::{AREAS, Area, NOWHERE, Span, areas_of, widen};
 pub use block::{Block, BlockStep, extend_block};
 pub use meter::Meter;
 pub use ranges::Ranges;

@@ -62,6 +62,30 @@ impl Ranges {
         self.last * self.run * self.shift_run * self.assignments * self.weekends
     }
 
+    /// How many last shifts there are, with none.
+    pub fn last(&self) -> u32
+        ensures last { result ≡ self.now.last }
+        ensures within { result ≤ 9 }
+    {
+        self.last
+    }
+
+    /// How many values the run of working days or days off has.
+    pub fn run(&self) -> u32
+        ensures run { result ≡ self.now.run }
+        ensures within { result ≤ 1000 }
+    {
+        self.run
+    }
+
+    /// How many values the run of the shift has.
+    pub fn shift_run(&self) -> u32
+        ensures shift_run { result ≡ self.now.shift_run }
+        ensures within { result ≤ 1000 }
+    {
+        self.shift_run
+    }
+
     /// How many states differ in their assignments alone: a block of numbers beside one another.
     pub fn assignments(&self) -> u32
         ensures assignments { result ≡ self.now.assignments }

@@ -83,7 +83,7 @@ impl State {
 }
 
 /// The last shift as a number, 0 where there is none.
-fn shift_digit(last: Option<Shift>) -> u32
+pub(crate) fn shift_digit(last: Option<Shift>) -> u32
     ensures number { result ≡ shift_digit last }
     ensures within { result ≤ 256 }
 {

@@ -334,7 +334,7 @@ fn longer(run: u32, limits: Limits) -> u16
 // ---- weekends
 
 /// A worked Saturday is a worked weekend more, and a worked Sunday where the Saturday is free.
-fn weekends_more(day: u16, before: Option<Shift>, now: Option<Shift>) -> u32
+pub(crate) fn weekends_more(day: u16, before: Option<Shift>, now: Option<Shift>) -> u32
     ensures more { result ≡ weekends_more day (is_some before) (is_some now) }
     ensures within { result ≤ 1 }
 {

@@ -1,6 +1,5 @@
-use Rattle.std.proofs.Common.{◌≡◌, ◌∙◌, ◌+◌, ◌*◌, ◌<◌, ◌≤◌, ℕ, List, Some, IfSome, [], ap, arith, is_some, length, mul_comm, refl, subst, sym, take}
+use Rattle.std.proofs.Common.{◌≡◌, ◌∙◌, ◌+◌, ◌*◌, ◌<◌, ◌≤◌, ℕ, List, IfSome, [], ap, arith, is_some, length, mul_comm, refl, slice_index_or, subst, sym, take}
 use Rattle.std.specs.Vec.{with_items}
-use Rattle.std.proofs.Math.Path.{transport}
 use Rattle.std.proofs.lemmas.List.{get_or_read_under, with_items_is}
 use Rattle.std.proofs.lemmas.Nat.{mul-le}
 use Rattle.roster_instance.specs.Meaning.{Meaning, day_count}
@@ -8,7 +7,7 @@ use Rattle.roster_instance.specs.Sizes.{state_count}
 use Rattle.roster_rules.specs.AllowedRows.{IsBestRow, penalty_with}
 use Rattle.roster_rules.specs.Prefix.{due, summary_of}
 use Rattle.roster_rules.specs.Room.{penalty_room}
-use Rattle.roster_state.specs.Codes.{product, sizes_of, state_at}
+use Rattle.roster_state.specs.Codes.{code_of, product, sizes_of}
 use Rattle.roster_search.specs.Offers.{best_by_states, choices_of, offers_of}
 use Rattle.roster_search.specs.Tables.{Stands, no_row}
 use Rattle.roster_search.specs.Cheapest.{Priced}
@@ -18,8 +17,9 @@ use Rattle.roster_search.proofs.Best.{is_best, penalty_is}
 use Rattle.roster_search.proofs.ByShift.{by_shift_some}
 use Rattle.roster_search.proofs.OfferLaws.{offers_some}
 use Rattle.roster_search.proofs.ReadLaws.{LowRow}
-use Rattle.roster_best.specs.Workspaces.{Space}
+use Rattle.roster_best.specs.Workspaces.{Space, areas_on}
 use Rattle.roster_best.proofs.BestLaws.{HasRoom, KeepsLimits, best_keeps, first_label, low_best, room_of, sum_within, states_within}
+use Rattle.roster_best.proofs.SearchLaws.{goes_on}
 use Rattle.roster_best.proofs.search.best_row.Goals as goal
 use Rattle.roster_best.proofs.search.best_row.Goals.{After-of-ranges, After-rest}
 
@@ -47,6 +47,12 @@ room c = room_of c.args.held.now.case c.args.workspace.now c.requires.fits
 pub label_days-requires-clause-offered : goal.label_days-requires-clause-offered
 label_days-requires-clause-offered c day within =
     by_shift_some (offers_of c.args.held.now.case c.args.held.now.roster c.args.nurse day) (offers_some c.args.held.now.case c.args.held.now.roster c.args.nurse day c.roster.ensures.fits c.roster.ensures.keeps c.requires.nurse within)
+
+pub label_days-requires-clause-stand : goal.label_days-requires-clause-stand
+label_days-requires-clause-stand c day within =
+    let best = found (goal.at.label_days-requires-clause-stand c).After-of-ranges in
+    let at = goes_on c.args.held.now.case c.args.held.now.roster c.args.nurse c.stand_days.new.areas c.stand_days.ensures.lead c.stand_days.ensures.start (ap is_some best.is) day (omega (arith, within)) in
+    record { state = at.state; stands = at.stands }
 
 pub label_days-requires-clause-labels_room : goal.label_days-requires-clause-labels_room
 label_days-requires-clause-labels_room c =
@@ -96,8 +102,9 @@ label_is c =
     let best = found at in
     let z = sizes at in
     let start = c.start-first.ensures.state ∙ ap (λ (m : Meaning). summary_of m n []) c.case-4.ensures in
-    let stands = transport (λ i. Stands (c.case-4.ensures i) n 0 s) (record { fits = c.start-first.ensures.fits; can_be = c.start-first.ensures.can_be }) in
-    let told = c.label_days.ensures.labels code s (subst (λ y. code < product y) z c.code.ensures.within) (subst (λ y. state_at y code ≡ Some s) z c.code.ensures.back) stands in
+    let stands = subst (Stands k n (areas_on c.stand_days.new.areas 0)) (sym start) c.stand_days.ensures.start in
+    let here : code ≡ code_of (sizes_of k n) s = c.code.ensures.code ∙ ap (λ y. code_of y s) z in
+    let told = ap (λ j. slice_index_or c.label_days.new.later.items j 0) here ∙ c.label_days.ensures.labels s stands in
     let all = later_room at (length c.workspace.inside.labels.items) (length c.workspace.inside.later.items) (length c.label_days.new.later.items) (ap (λ (w : Space). w.labels) c.workspace.view_is) c.workspace.invariant.0 c.label_days.ensures.lengths.1 in
     let read = get_or_read_under c.label_days.new.later.items code (length c.label_days.new.later.items) c.index-label.result.now 0 c.index-label.ensures (omega (arith, all, c.code.ensures.within)) refl in
     first_label k rows n s c.index-label.result.now best.row.0 best.row.1 start (read ∙ told) best.is best.low

@@ -1,10 +1,12 @@
-use Rattle.std.proofs.Common.{◌≡◌, ◌∙◌, ◌+◌, ◌*◌, arith, ap, length, subst, sym}
+use Rattle.std.proofs.Common.{◌≡◌, ◌∙◌, ◌+◌, ◌*◌, ◌≤◌, arith, ap, length, subst, sym}
+use Rattle.std.proofs.Math.Path.{transport}
 use Rattle.std.proofs.lemmas.Nat.{mul-le}
+use Rattle.std.specs.List.{All}
 use Rattle.roster_instance.specs.Meaning.{day_count}
 use Rattle.roster_instance.specs.Sizes.{choice_count}
 use Rattle.roster_state.specs.Codes.{product}
-use Rattle.roster_search.specs.Tables.{AreLabels, IsDayOf}
-use Rattle.roster_best.proofs.SearchLaws.{offers_taken, shift_offers_few}
+use Rattle.roster_search.specs.Tables.{AreLabels, IsDayOf, LeadsOn, Stands}
+use Rattle.roster_best.proofs.SearchLaws.{areas_read, offers_taken, shift_offers_few}
 use Rattle.roster_best.proofs.search.label_before.Goals as goal
 
 pub label_day-requires : goal.label_day-requires
@@ -17,23 +19,24 @@ label_day-requires g c =
     let limits = c.keeps_limits.ensures in
     let same : k ≡ c.case-case.result.now = sym c.case-case.ensures in
     let offers = c.deref.ensures.0 ∙ c.choices_by_shift-offers.ensures.offers in
+    let back = sym offers in
     let few = shift_offers_few k rows at.nurse at.day in
-    let length_is = ap length offers in (
+    let length_is = ap length offers in
+    let here = r.1.1.0 ∙ sym (areas_read c.args.areas.now at.day _ (omega (arith, r.0.day, r.1.1.1.0))) in
+    let pointers_room : at.day * c.product.result + size ≤ length c.args.pointers.now = omega (arith, r.1.1.1.1.1.1.1.1.1.0, c.product.ensures.product, ap (λ n. at.day * n) c.product.ensures.product, mul-le (at.day + 1) size (day_count k) size (omega (arith, r.0.day)) (omega arith)) in
+    let room : c.args.meter.now + size * length c.deref.result.now ≤ 18446744073709551615 = omega (arith, r.1.1.1.1.1.1.1.1.1.1, length_is, mul-le size (length c.deref.result.now) size (choice_count k at.nurse) (omega arith) (omega (arith, few, length_is))) in (
       subst (λ m. IsDayOf m at) same r.0,
       (
-        offers_taken k c.case-case.result.now same limits.small limits.shifts limits.skills rows at.nurse at.day c.deref.result.now offers,
+        here,
         (
-          omega (arith, ap length c.deref.ensures.0, c.choices_by_shift-offers.ensures.few),
+          offers_taken k c.case-case.result.now same limits.small limits.shifts limits.skills rows at.nurse at.day c.deref.result.now offers,
           (
-            subst (λ m. AreLabels m at.nurse (at.day + 1) g.rest c.args.later.now) same r.1.1.0,
+            omega (arith, ap length c.deref.ensures.0, c.choices_by_shift-offers.ensures.few),
             (
-              r.1.1.1.0,
+              transport (λ i. All (LeadsOn (same i) at g.rest.here g.rest.behind) (back i)) r.1.1.1.1.0,
               (
-                r.1.1.1.1.0,
-                (
-                  omega (arith, r.1.1.1.1.1.0, c.product.ensures.product, ap (λ n. at.day * n) c.product.ensures.product, mul-le (at.day + 1) size (day_count k) size (omega (arith, r.0.day)) (omega arith)),
-                  omega (arith, r.1.1.1.1.1.1, length_is, mul-le size (length c.deref.result.now) size (choice_count k at.nurse) (omega arith) (omega (arith, few, length_is))),
-                ),
+                subst (λ m. AreLabels m at.nurse g.rest.behind g.rest.best c.args.later.now) same r.1.1.1.1.1.1.0,
+                (r.1.1.1.1.1.1.1.0, (r.1.1.1.1.1.1.1.1.0, (pointers_room, room))),
               ),
             ),
           ),
@@ -42,7 +45,10 @@ label_day-requires g c =
     )
 
 pub returns-clause-some : goal.returns-clause-some
-returns-clause-some g c = c.label_day.ensures.some (omega (arith, c.requires.1.0, ap length (c.deref.ensures.0 ∙ c.choices_by_shift-offers.ensures.offers)))
+returns-clause-some g c =
+    let stand = c.requires.1.1.1.1.1.0 in
+    c.label_day.ensures.some (omega (arith, c.requires.1.0, ap length (c.deref.ensures.0 ∙ c.choices_by_shift-offers.ensures.offers))) stand.state
+    (subst (λ m. Stands m c.args.at.now.nurse g.rest.here stand.state) (sym c.case-case.ensures) stand.stands)
 
 pub returns-clause-counted : goal.returns-clause-counted
 returns-clause-counted g c =

@@ -4,31 +4,26 @@ use Rattle.std.proofs.lemmas.List.{with_items_is}
 use Rattle.std.proofs.lemmas.Nat.{mul-le}
 use Rattle.roster_instance.specs.Meaning.{day_count}
 use Rattle.roster_instance.specs.Sizes.{choice_count}
-use Rattle.roster_laws.specs.Greatest.{extension_count}
 use Rattle.roster_state.specs.Codes.{Sizes, product}
 use Rattle.roster_lanes.specs.Lanes.{SameOutside}
 use Rattle.roster_search.specs.Tables.{AreLabels, best_at_end}
-use Rattle.roster_best.specs.Workspaces.{PointersFrom, onward}
-use Rattle.roster_best.proofs.SearchLaws.{extension_is, labels_before, length_after, onward-last, pointers_before, table_after}
+use Rattle.roster_best.specs.Workspaces.{PointersFrom, areas_on, onward}
+use Rattle.roster_best.proofs.SearchLaws.{areas_read, extensions_are, labels_before, length_after, onward-last, pointers_before, table_after}
 use Rattle.roster_best.proofs.search.label_days.Goals as goal
-use Rattle.roster_best.proofs.search.label_days.Goals.{After-days-day}
-
--- how many extensions the days take at most
-extensions_are : (c : After-days-day) → extension_count c.args.held.now.case c.args.nurse ≡ day_count c.args.held.now.case * (product c.args.ranges.now * choice_count c.args.held.now.case c.args.nurse)
-extensions_are c = extension_is c.args.held.now.case c.args.nurse ∙ ap (λ (z : Sizes). day_count c.args.held.now.case * (product z * choice_count c.args.held.now.case c.args.nurse)) (sym c.requires.ranges)
 
 pub loop-day-init : goal.loop-day-init
 loop-day-init c =
     let k = c.args.held.now.case in
     let rows = c.args.held.now.roster in
     let n = c.args.nurse in
-    let last : day_count k ≡ c.days-day.result = sym (c.days-day.ensures.count ∙ ap day_count c.case-2.ensures) in
+    let last : day_count k ≡ c.days-days.result = sym (c.days-days.ensures.count ∙ ap day_count c.case.ensures) in
     let steps = product c.args.ranges.now * choice_count k n in
     let items = with_items_is c.args.later.now c.label_end.new.labels (c.label_end.ensures.length ∙ c.deref_mut.ensures.len) in
-    let end : AreLabels k n (day_count k) (best_at_end k n) c.label_end.new.labels = transport (λ i. AreLabels (c.case.ensures i) n (day_count (c.case.ensures i)) (best_at_end (c.case.ensures i) n) c.label_end.new.labels) c.label_end.ensures.labels in
-    let best : best_at_end k n ≡ onward k rows n c.days-day.result = sym (onward-last k rows n) ∙ ap (onward k rows n) last in
+    let read = areas_read c.args.areas.now c.days-days.result _ (omega (arith, last, c.requires.areas_room)) in
+    let end = transport (λ i. AreLabels (c.case-2.ensures i) n (read i) (best_at_end (c.case-2.ensures i) n) c.label_end.new.labels) c.label_end.ensures.labels in
+    let best : best_at_end k n ≡ onward k rows n c.days-days.result = sym (onward-last k rows n) ∙ ap (onward k rows n) last in
     record {
-      labels = transport (λ i. AreLabels k n (last i) (best i) (sym items i)) end;
+      labels = transport (λ i. AreLabels k n (areas_on c.args.areas.now c.days-days.result) (best i) (sym items i)) end;
       pointers = λ day from within. absurd (omega (arith, from, within, last));
       labels_length = refl;
       later_length = ap length items ∙ c.label_end.ensures.length ∙ ap length c.deref_mut.ensures.value;
@@ -46,7 +41,7 @@ label_before-requires c =
     let r = c.requires in
     let i = c.loop-day.invariant in
     let steps = product c.args.ranges.now * choice_count k n in
-    let last : c.days-day.result ≡ day_count k = c.days-day.ensures.count ∙ ap day_count c.case-2.ensures in
+    let last : c.days-days.result ≡ day_count k = c.days-days.ensures.count ∙ ap day_count c.case.ensures in
     let within : day - 1 < day_count k = omega (arith, c.loop-day.auto.day, c.loop-day-test.true, last) in
     let again : day ≡ day - 1 + 1 = omega (arith, c.loop-day-test.true) in
     let room = c.deref.ensures.value in (
@@ -54,14 +49,26 @@ label_before-requires c =
       (
         r.offered (day - 1) within,
         (
-          transport (λ j. AreLabels k n (again j) (onward k rows n (again j)) (sym room j)) i.labels,
+          refl,
           (
-            omega (arith, r.labels_room, r.same_room, i.later_length, ap length room),
+            r.areas_room,
             (
-              omega (arith, r.labels_room, i.labels_length, ap length c.deref_mut-in-loop-day.ensures.value),
+              r.lead (day - 1) within,
               (
-                omega (arith, r.pointers_room, i.pointers_length),
-                omega (arith, i.counted, r.room, extensions_are (goal.at.label_before-requires c).After-days-day, mul-le 1 steps day steps (omega (arith, c.loop-day-test.true)) (omega arith)),
+                r.stand (day - 1) within,
+                (
+                  transport (λ j. AreLabels k n (areas_on c.args.areas.now (again j)) (onward k rows n (again j)) (sym room j)) i.labels,
+                  (
+                    omega (arith, r.labels_room, r.same_room, i.later_length, ap length room),
+                    (
+                      omega (arith, r.labels_room, i.labels_length, ap length c.deref_mut-in-loop-day.ensures.value),
+                      (
+                        omega (arith, r.pointers_room, i.pointers_length),
+                        omega (arith, i.counted, r.room, extensions_are c.args.held.now.case c.args.nurse c.args.ranges.now c.requires.ranges, mul-le 1 steps day steps (omega (arith, c.loop-day-test.true)) (omega arith)),
+                      ),
+                    ),
+                  ),
+                ),
               ),
             ),
           ),
@@ -78,17 +85,17 @@ loop-day-preserved c =
     let r = c.requires in
     let i = c.loop-day.invariant in
     let steps = product c.args.ranges.now * choice_count k n in
-    let last : c.days-day.result ≡ day_count k = c.days-day.ensures.count ∙ ap day_count c.case-2.ensures in
+    let last : c.days-days.result ≡ day_count k = c.days-days.ensures.count ∙ ap day_count c.case.ensures in
     let within : day < day_count k = omega (arith, c.loop-day.auto.day, c.loop-day-test.true, last) in
     let again : c.loop-day.day ≡ day + 1 = omega (arith, c.loop-day-test.true) in
     let told = c.label_before.ensures in
     let items = table_after c.loop-day.labels c.swap.new.y c.label_before.new.labels c.swap.ensures.y_after (told.lengths.0 ∙ c.deref_mut-in-loop-day.ensures.len) in
     let first : day * product c.args.ranges.now ≡ day * product _ = ap (λ (z : Sizes). day * product z) r.ranges in
     record {
-      labels = subst (AreLabels k n day (onward k rows n day)) (sym items) (labels_before k rows n day within c.label_before.new.labels told.labels);
-      pointers = pointers_before k rows n day (day * product c.args.ranges.now) c.loop-day.pointers c.label_before.new.pointers first told.pointers
+      labels = subst (AreLabels k n (areas_on c.args.areas.now day) (onward k rows n day)) (sym items) (labels_before k rows n day within (areas_on c.args.areas.now day) c.label_before.new.labels told.labels);
+      pointers = pointers_before k rows n c.args.areas.now day (day * product c.args.ranges.now) c.loop-day.pointers c.label_before.new.pointers first told.pointers
           (subst (λ (z : Sizes). SameOutside (day * product c.args.ranges.now) (day * product c.args.ranges.now + product z) c.loop-day.pointers c.label_before.new.pointers) r.ranges told.others)
-          (subst (λ d. PointersFrom k rows n d c.loop-day.pointers) again i.pointers);
+          (subst (λ d. PointersFrom k rows n c.args.areas.now d c.loop-day.pointers) again i.pointers);
       labels_length = length_after c.loop-day.later c.swap.new.x c.swap.ensures.x_after ∙ i.later_length ∙ r.same_room;
       later_length = ap length items ∙ told.lengths.0 ∙ ap length c.deref_mut-in-loop-day.ensures.value ∙ i.labels_length ∙ sym r.same_room;
       pointers_length = told.lengths.1 ∙ i.pointers_length;
@@ -99,13 +106,13 @@ loop-day-preserved c =
 pub returns-clause-labels : goal.returns-clause-labels
 returns-clause-labels c =
     let none : c.loop-day.day ≡ 0 = omega (arith, c.loop-day-test.false) in
-    subst (λ d. AreLabels c.args.held.now.case c.args.nurse d (onward c.args.held.now.case c.args.held.now.roster c.args.nurse d) c.loop-day.later.items) none c.loop-day.invariant.labels
+    subst (λ d. AreLabels c.args.held.now.case c.args.nurse (areas_on c.args.areas.now d) (onward c.args.held.now.case c.args.held.now.roster c.args.nurse d) c.loop-day.later.items) none c.loop-day.invariant.labels
 
 pub returns-clause-pointers : goal.returns-clause-pointers
 returns-clause-pointers c =
     let none : c.loop-day.day ≡ 0 = omega (arith, c.loop-day-test.false) in
-    subst (λ d. PointersFrom c.args.held.now.case c.args.held.now.roster c.args.nurse d c.loop-day.pointers) none c.loop-day.invariant.pointers
+    subst (λ d. PointersFrom c.args.held.now.case c.args.held.now.roster c.args.nurse c.args.areas.now d c.loop-day.pointers) none c.loop-day.invariant.pointers
 
 pub returns-clause-counted : goal.returns-clause-counted
 returns-clause-counted c =
-    omega (arith, c.loop-day.invariant.counted, extensions_are (goal.at.returns-clause-counted c).After-days-day)
+    omega (arith, c.loop-day.invariant.counted, extensions_are c.args.held.now.case c.args.nurse c.args.ranges.now c.requires.ranges)

@@ -1,9 +1,10 @@
 use Rattle.std.proofs.Common.{◌≡◌, ◌∙◌, ◌+◌, ◌*◌, ◌<◌, IfSome, IsSome, ap, arith, sym}
 use Rattle.std.proofs.Math.Path.{transport}
 use Rattle.std.proofs.lemmas.Nat.{mul-le}
+use Rattle.std.specs.List.{All}
 use Rattle.roster_instance.specs.Meaning.{day_count}
 use Rattle.roster_state.specs.Codes.{product}
-use Rattle.roster_search.specs.Tables.{ArePointers, IsDayOf, Stands, best_on, no_row}
+use Rattle.roster_search.specs.Tables.{ArePointers, IsDayOf, LeadsOn, Stands, best_on, no_row}
 use Rattle.roster_best.proofs.SearchLaws.{offers_taken}
 use Rattle.roster_best.proofs.search.read_choice.Goals as goal
 
@@ -22,14 +23,17 @@ read_day-requires g c =
     let first : at.day * size ≡ at.day * c.product.result = ap (λ n. at.day * n) (sym c.product.ensures.product) in (
       transport (λ i. IsDayOf (same i) at) r.0,
       (
-        transport (λ i. Stands (same i) at.nurse at.day s) r.1.0,
+        transport (λ i. Stands (same i) at.nurse g.rest.here s) r.1.0,
         (
           offers_taken k c.case-case.result.now same limits.small limits.shifts limits.skills rows at.nurse at.day c.deref.result.now offers,
           (
-            transport (λ i. ArePointers (same i) at (back i) g.rest (first i) c.args.pointers.now) r.1.1.0,
+            transport (λ i. All (LeadsOn (same i) at g.rest.here g.rest.behind) (back i)) r.1.1.0,
             (
-              omega (arith, r.1.1.1.0, first, mul-le (at.day + 1) size (day_count k) size (omega (arith, r.0.day)) (omega arith)),
-              (transport (λ i. IsSome (best_on (same i) at (back i) g.rest s)) r.1.1.1.1.0, transport (λ i. IfSome (best_on (same i) at (back i) g.rest s) (λ row. row.0 < no_row)) r.1.1.1.1.1),
+              transport (λ i. ArePointers (same i) at g.rest.here (back i) g.rest.best (first i) c.args.pointers.now) r.1.1.1.0,
+              (
+                omega (arith, r.1.1.1.1.0, first, mul-le (at.day + 1) size (day_count k) size (omega (arith, r.0.day)) (omega arith)),
+                (transport (λ i. IsSome (best_on (same i) at (back i) g.rest.best s)) r.1.1.1.1.1.0, transport (λ i. IfSome (best_on (same i) at (back i) g.rest.best s) (λ row. row.0 < no_row)) r.1.1.1.1.1.1),
+              ),
             ),
           ),
         ),

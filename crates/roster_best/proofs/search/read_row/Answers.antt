@@ -1,5 +1,4 @@
 use Rattle.std.proofs.Common.{◌≡◌, ◌∙◌, ◌+◌, ◌*◌, ◌<◌, ap, arith, [], refl, subst, sym}
-use Rattle.std.proofs.Math.Path.{transport}
 use Rattle.std.proofs.lemmas.List.{length-set}
 use Rattle.roster_instance.specs.Meaning.{Meaning, day_count}
 use Rattle.roster_rules.specs.Prefix.{summary_of}
@@ -7,7 +6,7 @@ use Rattle.roster_state.specs.Codes.{Sizes, product}
 use Rattle.roster_search.specs.Offers.{best_by_states, shift_offers}
 use Rattle.roster_search.specs.Tables.{ArePointers, BestOnward, Stands}
 use Rattle.roster_search.proofs.ReadLaws.{low_of, low_row}
-use Rattle.roster_best.specs.Workspaces.{onward, search_day}
+use Rattle.roster_best.specs.Workspaces.{areas_on, onward, search_day}
 use Rattle.roster_best.proofs.SearchLaws.{IsReadTo, onward-day, read_first, read_last, read_on, reads_low, reads_some}
 use Rattle.roster_best.proofs.search.read_row.Goals as goal
 
@@ -17,7 +16,7 @@ loop-day-init c =
     let rows = c.args.held.now.roster in
     let n = c.args.nurse in
     record {
-      stands = transport (λ i. Stands (c.case-case.ensures i) n 0 c.start-state.result.0) (record { fits = c.start-state.ensures.fits; can_be = c.start-state.ensures.can_be });
+      stands = subst (Stands k n (areas_on c.args.areas.now 0)) (sym (c.start-state.ensures.state ∙ ap (λ (m : Meaning). summary_of m n []) c.case-case.ensures)) c.requires.start;
       read = λ cost best is. read_first k rows n cost best c.start-state.result.0 c.args.row.now (c.start-state.ensures.state ∙ ap (λ (m : Meaning). summary_of m n []) c.case-case.ensures) is (low_of _ (cost, best) is c.requires.low);
       same_length = refl;
     }
@@ -37,10 +36,13 @@ read_choice-choice-requires c =
       (
         c.loop-day.invariant.stands,
         (
-          subst (λ (z : Sizes). ArePointers k (search_day k n day) (shift_offers k rows n day) (onward k rows n (day + 1)) (day * product z) c.args.pointers.now) (sym r.ranges) (r.pointers day (omega arith) within),
+          r.lead day within,
           (
-            r.pointers_room,
-            (reads_some k rows n day within c.loop-day.state c.loop-day.row low.row.1 read, reads_low k rows n day within c.loop-day.state c.loop-day.row low.row.1 read),
+            subst (λ (z : Sizes). ArePointers k (search_day k n day) (areas_on c.args.areas.now day) (shift_offers k rows n day) (onward k rows n (day + 1)) (day * product z) c.args.pointers.now) (sym r.ranges) (r.pointers day (omega arith) within),
+            (
+              r.pointers_room,
+              (reads_some k rows n day within c.loop-day.state c.loop-day.row low.row.1 read, reads_low k rows n day within c.loop-day.state c.loop-day.row low.row.1 read),
+            ),
           ),
         ),
       ),

@@ -2,16 +2,16 @@ use Rattle.std.proofs.Common.{◌≡◌, ◌+◌, ℕ, List, Some, length}
 use Rattle.roster_search.specs.declared.Offer.{Offer}
 use Rattle.roster_search.specs.Offers.{best_by_states}
 use Rattle.roster_search.specs.Tables.{Stands}
-use Rattle.roster_best.specs.Workspaces.{onward}
+use Rattle.roster_best.specs.Workspaces.{areas_on, onward}
 use Rattle.roster_best.proofs.SearchLaws.{IsReadTo}
 use Rattle.roster_best.proofs.search.read_row.Given as goal
 
 abbrev pub ghost-read_choice : goal.ghost-read_choice
-ghost-read_choice a = onward a.held.now.case a.held.now.roster a.at.now.nurse (a.at.now.day + 1)
+ghost-read_choice a = record { here = areas_on a.areas.now a.at.now.day; behind = areas_on a.areas.now (a.at.now.day + 1); best = onward a.held.now.case a.held.now.roster a.at.now.nurse (a.at.now.day + 1) }
 
 abbrev pub invariant-loop-day : goal.invariant-loop-day
 invariant-loop-day l = record {
-  stands : Stands l.held.case l.nurse l.day l.state;
+  stands : Stands l.held.case l.nurse (areas_on l.areas l.day) l.state;
   read : (cost : ℕ) (best : List Offer) → best_by_states l.held.case l.held.roster l.nurse ≡ Some (cost, best) → IsReadTo l.held.case l.held.roster l.nurse l.day l.state l.row best;
   same_length : length l.row ≡ length l.fn.row;
 }

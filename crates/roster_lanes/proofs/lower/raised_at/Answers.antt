@@ -1,6 +1,5 @@
-use Rattle.std.proofs.Common.{◌+◌, arith}
 use Rattle.roster_lanes.proofs.LaneLemmas.{raised_at}
 use Rattle.roster_lanes.proofs.lower.raised_at.Goals as goal
 
 pub returns : goal.returns
-returns c i lt = raised_at c.args.others.now c.args.first c.args.more i c.requires.room lt (c.requires.within (c.args.first + i) (omega arith) (omega arith))
+returns c i lt = raised_at c.args.others.now c.args.first c.args.more i c.requires.room lt

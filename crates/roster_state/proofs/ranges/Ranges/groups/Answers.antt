@@ -1,7 +1,6 @@
-use Rattle.std.proofs.Common.{◌≡◌, ◌∙◌, ◌*◌, ◌≤◌, ap, arith, mul-pos, mul_right_comm, subst}
+use Rattle.std.proofs.Common.{◌≡◌, ◌*◌, ◌≤◌, mul-pos, mul_right_comm, subst}
 use Rattle.roster_rules.specs.Limits.{most_states}
 use Rattle.roster_state.specs.Codes.{Sizes, product}
-use Rattle.roster_state.proofs.CodeLemmas.{factor-within}
 use Rattle.roster_state.proofs.ranges.Ranges.groups.Goals as goal
 
 pub returns-clause-some : goal.returns-clause-some

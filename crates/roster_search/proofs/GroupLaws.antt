@@ -1,0 +1,126 @@
+-- The states of a group, those that differ in their worked weekends and assignments alone: their numbers, and their cells by one number of
+-- weekends more.
+use Rattle.std.proofs.Common.{◌≡◌, ◌∙◌, ◌+◌, ◌*◌, ◌<◌, ◌≤◌, ◌⊎◌, ℕ, true, inl, inr, ap, arith, subst, sym, List, slice_index_or, Option}
+use Rattle.std.proofs.lemmas.Bool.{cases_lt}
+use Rattle.std.proofs.lemmas.Nat.{mul-le}
+use Rattle.roster_rules.specs.declared.Shift.{Shift}
+use Rattle.roster_rules.specs.Meaning.{Meaning, past_of}
+use Rattle.roster_rules.specs.Prefix.{Summary}
+use Rattle.roster_state.specs.declared.Area.{Area}
+use Rattle.roster_state.specs.Areas.{InArea, InSpan, area_at}
+use Rattle.roster_state.specs.Codes.{Sizes, code_of, fits_sizes, shift_digit, sizes_of}
+use Rattle.roster_state.specs.Standing.{can_be, can_be_with, excess}
+use Rattle.roster_state.specs.Step.{with_assignments, with_weekends}
+use Rattle.roster_state.proofs.CodeLemmas.{Fits, all-fit, fits-all}
+use Rattle.roster_search.specs.Tables.{CellsOf, Stands, StandsLike}
+
+-- ---- numbers
+
+at_front : (x w b a : ℕ) → (x * w + 0) * b + 0 ≡ x * w * b
+at_front x w b a = omega arith
+
+further : (x size v b a : ℕ) → (x * size + v) * b + a ≡ (x * size + 0) * b + 0 + v * b + a
+further x size v b a = omega arith
+
+-- one number of weekends more is beyond all places before
+pub weekends_before : (v w size a : ℕ) → v < w → a < size → v * size + a < w * size
+weekends_before v w size a before inside =
+    let more : (v + 1) * size ≤ w * size = mul-le (v + 1) size w size (omega (arith, before)) (omega arith) in
+    omega (arith, more, inside)
+
+module _ (z : Sizes) (group : Summary) (no_weekends : group.weekends ≡ 0) (no_assignments : group.assignments ≡ 0) where
+  abbrev runs : ℕ
+  runs = (shift_digit group.last * z.run + group.run) * z.shift_run + group.shift_run
+
+  code_group : code_of z group ≡ (runs * z.weekends + 0) * z.assignments + 0
+  unfolding code_of
+  code_group = λ i. (runs * z.weekends + no_weekends i) * z.assignments + no_assignments i
+
+  pub code_place : (w a : ℕ) → code_of z (with_assignments (with_weekends group w) a) ≡ code_of z group + w * z.assignments + a
+  unfolding code_of
+  code_place w a = further runs z.weekends w z.assignments a ∙ ap (λ n. n + w * z.assignments + a) (sym code_group)
+
+  pub code_block : (w : ℕ) → code_of z (with_weekends group w) ≡ code_of z group + w * z.assignments
+  unfolding code_of
+  code_block w =
+      (λ i. (runs * z.weekends + w) * z.assignments + no_assignments i)
+      ∙ further runs z.weekends w z.assignments 0 ∙ ap (λ n. n + w * z.assignments + 0) (sym code_group) ∙ omega arith
+
+-- ---- a state that stands like the group's
+
+module _ (c : Meaning) (n : ℕ) (areas : List Area) (group s : Summary) (like : StandsLike c n areas group s) where
+  pub as_place : (w : ℕ) → s.weekends ≡ w → with_assignments (with_weekends group w) s.assignments ≡ s
+  as_place w is = λ i. record {
+    last = sym like.last i;
+    run = sym like.run i;
+    shift_run = sym like.shift_run i;
+    assignments = s.assignments;
+    weekends = sym is i;
+  }
+
+  pub like_area : (area : Area) → area ≡ area_at areas (shift_digit group.last) → InArea area s
+  like_area area is = subst (λ (x : Area). InArea x s) (ap (λ (l : Option Shift). area_at areas (shift_digit l)) like.last ∙ sym is) like.stands.inside
+
+  pub like_fits : Fits (sizes_of c n) s
+  like_fits = fits-all (sizes_of c n) s like.stands.fits
+
+  -- it is in the spans of the area
+  module _ (area : Area) (is : area ≡ area_at areas (shift_digit group.last)) (from end : ℕ) where
+    pub like_place : ((x : ℕ) → InSpan area.assignments x → x < (sizes_of c n).assignments → (from ≤ x) × (x < end)) → (from ≤ s.assignments) × (s.assignments < end)
+    like_place each = each s.assignments (like_area area is).assignments like_fits.assignments
+
+    pub like_weekends : ((x : ℕ) → InSpan area.weekends x → x < (sizes_of c n).weekends → (from ≤ x) × (x < end)) → (from ≤ s.weekends) × (s.weekends < end)
+    like_weekends each = each s.weekends (like_area area is).weekends like_fits.weekends
+
+  -- what tells whether a row may lead to it is the group's
+  pub like_can_be : can_be c n group ≡ true
+  like_can_be = (λ i. can_be_with c n (excess (past_of c n).border) (sym like.run i) (sym like.shift_run i) (sym like.last i)) ∙ like.stands.can_be
+
+pub weekends_fit : (z : Sizes) (group : Summary) (w : ℕ) → fits_sizes z group ≡ true → w < z.weekends → fits_sizes z (with_weekends group w) ≡ true
+weekends_fit z group w fits inside =
+    let f = fits-all z group fits in
+    all-fit z (with_weekends group w) (record { last = f.last; run = f.run; shift_run = f.shift_run; assignments = f.assignments; weekends = inside })
+
+-- each state of the group in the area stands, if a row may lead to it
+module _ (c : Meaning) (n : ℕ) (areas : List Area) (group : Summary) (area : Area) (is : area ≡ area_at areas (shift_digit group.last)) (fits : fits_sizes (sizes_of c n) group ≡ true) (may_be : can_be c n group ≡ true)
+    (run : InSpan area.run group.run) (shift_run : InSpan area.shift_run group.shift_run) where
+  pub place_stands : (w a : ℕ) → w < (sizes_of c n).weekends → a < (sizes_of c n).assignments → InSpan area.weekends w → InSpan area.assignments a → Stands c n areas (with_assignments (with_weekends group w) a)
+  place_stands w a w_fits a_fits w_in a_in =
+      let f = fits-all (sizes_of c n) group fits in
+      let inside : InArea area (with_assignments (with_weekends group w) a) = record { run = run; shift_run = shift_run; weekends = w_in; assignments = a_in } in
+      record {
+        fits = all-fit (sizes_of c n) (with_assignments (with_weekends group w) a) (record { last = f.last; run = f.run; shift_run = f.shift_run; assignments = a_fits; weekends = w_fits });
+        can_be = may_be;
+        inside = subst (λ (x : Area). InArea x (with_assignments (with_weekends group w) a)) is inside;
+      }
+
+-- ---- the cells of a group by one number of weekends more
+
+module _ (c : Meaning) (n : ℕ) (areas : List Area) (group : Summary) (z : Sizes) (sizes : z ≡ sizes_of c n) (no_weekends : group.weekends ≡ 0) (no_assignments : group.assignments ≡ 0) (right : Summary → ℕ → Type 0) (place : ℕ → ℕ) (old new : List ℕ) where
+  pub cells_of_weekends : (w from end : ℕ) → ((code : ℕ) → code < code_of z group + w * z.assignments → slice_index_or new (place code) 0 ≡ slice_index_or old (place code) 0)
+      → ((a : ℕ) → from ≤ a → a < end → right (with_assignments (with_weekends group w) a) (slice_index_or new (place (code_of z group + w * z.assignments + a)) 0))
+      → ((s : Summary) → StandsLike c n areas group s → (from ≤ s.assignments) × (s.assignments < end))
+      → CellsOf (λ s. StandsLike c n areas group s × (s.weekends < w)) (sizes_of c n) right place old → CellsOf (λ s. StandsLike c n areas group s × (s.weekends < w + 1)) (sizes_of c n) right place new
+  cells_of_weekends w from end same here within before s which = go (cases_lt s.weekends w)
+    where
+      like : StandsLike c n areas group s
+      like = which.0
+
+      number : code_of (sizes_of c n) s ≡ code_of z group + s.weekends * z.assignments + s.assignments
+      number = ap (λ y. code_of y s) (sym sizes) ∙ ap (code_of z) (sym (as_place c n areas group s like s.weekends (λ i. s.weekends))) ∙ code_place z group no_weekends no_assignments s.weekends s.assignments
+
+      go : (s.weekends < w) ⊎ (w ≤ s.weekends) → right s (slice_index_or new (place (code_of (sizes_of c n) s)) 0)
+      go (inl low) =
+          let below = weekends_before s.weekends w z.assignments s.assignments low (omega (arith, (like_fits c n areas group s like).assignments, ap (λ (y : Sizes). y.assignments) sizes)) in
+          subst (right s) (sym (same (code_of (sizes_of c n) s) (omega (arith, number, below)))) (before s (like, low))
+      go (inr high) =
+          let is : s.weekends ≡ w = omega (arith, high, which.1) in
+          let at_w : code_of (sizes_of c n) s ≡ code_of z group + w * z.assignments + s.assignments = number ∙ ap (λ v. code_of z group + v * z.assignments + s.assignments) is in
+          subst (λ k. right s (slice_index_or new (place k) 0)) (sym at_w)
+          (subst (λ t. right t (slice_index_or new (place (code_of z group + w * z.assignments + s.assignments)) 0)) (as_place c n areas group s like w is) (here s.assignments (within s like).0 (within s like).1))
+
+-- one number of weekends more is within the group
+pub weekends_within : (w weekends size : ℕ) → w < weekends → w * size + size ≤ weekends * size
+weekends_within w weekends size inside =
+    let more : (w + 1) * size ≤ weekends * size = mul-le (w + 1) size weekends size (omega (arith, inside)) (omega arith) in
+    omega (arith, more)

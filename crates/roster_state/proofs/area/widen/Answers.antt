@@ -1,0 +1,49 @@
+use Rattle.std.proofs.Common.{◌≡◌, ◌∙◌, ◌<◌, arith, false, inl, inr, length, subst, sym}
+use Rattle.std.proofs.lemmas.Bool.{cases_lt}
+use Rattle.roster_rules.specs.Meaning.{forbids}
+use Rattle.roster_state.specs.Areas.{InArea, area_at}
+use Rattle.roster_state.specs.Codes.{shift_digit}
+use Rattle.roster_state.specs.Step.{next_of}
+use Rattle.roster_state.proofs.AreaLaw.{area_kept, area_set, area_shown, digit_few, last_of_digit}
+use Rattle.roster_state.proofs.area.widen.Goals as goal
+
+pub loop-digit-init : goal.loop-digit-init
+loop-digit-init c =
+    let long : length c.args.behind.now ≡ 9 = omega (arith, c.told-behind) in
+    let few : c.shift_digit-to.result < 9 = omega (arith, c.shift_digit-to.ensures.number, digit_few c.args.shift _ c.requires.shift c.keeps_limits.ensures.shifts) in
+    record {
+      leads = λ s below there allowed. absurd (omega (arith, below));
+      keeps = λ s there. area_shown c.args.behind.now c.shift_digit-to.result _ s (omega (arith, long, few)) (subst (λ d. InArea (area_at c.args.behind.now d) s) (sym c.shift_digit-to.ensures.number) there);
+    }
+
+pub loop-digit-preserved : goal.loop-digit-preserved
+loop-digit-preserved c =
+    let digit = c.loop-digit.digit in
+    let old = c.loop-digit.invariant in
+    let long : length c.args.areas.now ≡ 9 = omega (arith, c.told-areas) in
+    let few : digit < 9 = omega (arith, c.loop-digit-test.true, c.shifts.ensures, c.keeps_limits.ensures.shifts) in
+    record {
+      leads = λ s below there allowed. elim (cases_lt (shift_digit s.last) digit) [
+        | inl before ↦ c.area_with-area.ensures.keeps _ (old.leads s before there allowed)
+        | inr from ↦
+            let is : shift_digit s.last ≡ digit = omega (arith, from, below) in
+            let last = last_of_digit s.last digit is ∙ sym c.shift_numbered-last.ensures in
+            c.area_with-area.ensures.leads s last (area_shown c.args.areas.now digit _ s (omega (arith, long, few)) (subst (λ d. InArea (area_at c.args.areas.now d) s) is there))
+            (subst (λ l. forbids c.args.case.now.successions l c.args.shift ≡ false) last allowed)
+      ];
+      keeps = λ s there. c.area_with-area.ensures.keeps s (old.keeps s there);
+    }
+
+pub returns-clause-leads : goal.returns-clause-leads
+returns-clause-leads c s below there allowed =
+    let long : length c.args.behind.now ≡ 9 = omega (arith, c.told-behind) in
+    let few : c.shift_digit-to.result < 9 = omega (arith, c.shift_digit-to.ensures.number, digit_few c.args.shift _ c.requires.shift c.keeps_limits.ensures.shifts) in
+    area_set c.args.behind.now c.shift_digit-to.result (shift_digit c.args.shift) c.loop-digit.area (next_of c.args.case.now c.args.nurse c.args.day s c.args.shift) (sym c.shift_digit-to.ensures.number) (omega (arith, long, few))
+    (c.loop-digit.invariant.leads s (omega (arith, below, c.loop-digit-test.false, c.shifts.ensures.count)) there allowed)
+
+pub returns-clause-keeps : goal.returns-clause-keeps
+returns-clause-keeps c digit s there =
+    let long : length c.args.behind.now ≡ 9 = omega (arith, c.told-behind) in
+    let few : c.shift_digit-to.result < 9 = omega (arith, c.shift_digit-to.ensures.number, digit_few c.args.shift _ c.requires.shift c.keeps_limits.ensures.shifts) in
+    area_kept c.args.behind.now c.shift_digit-to.result digit c.loop-digit.area s (omega (arith, long, few))
+    (λ here. c.loop-digit.invariant.keeps s (subst (λ d. InArea (area_at c.args.behind.now d) s) c.shift_digit-to.ensures.number here)) there

@@ -1,0 +1,26 @@
+-- Areas: for a last shift, or none, from which number to which each other number of a state may be (our own).
+use Rattle.std.specs.Prelude.{ℕ, ◌≤◌, List, slice_index_or}
+use Rattle.roster_rules.specs.Prefix.{Summary}
+use Rattle.roster_state.specs.declared.area.Area.{Area}
+use Rattle.roster_state.specs.declared.area.Span.{Span}
+
+pub record InSpan (span : Span) (x : ℕ) : Type 0 where
+  pub low : span.least ≤ x
+  pub high : x ≤ span.greatest
+
+-- each number of the state but its last shift is in the area's span
+pub record InArea (area : Area) (s : Summary) : Type 0 where
+  pub run : InSpan area.run s.run
+  pub shift_run : InSpan area.shift_run s.shift_run
+  pub weekends : InSpan area.weekends s.weekends
+  pub assignments : InSpan area.assignments s.assignments
+
+abbrev pub no_number : Span
+no_number = record { least = 65535; greatest = 0 }
+
+abbrev pub nowhere : Area
+nowhere = record { run = no_number; shift_run = no_number; weekends = no_number; assignments = no_number }
+
+-- of a list of areas, one for each last shift, that of a shift's number
+abbrev pub area_at : List Area → ℕ → Area
+area_at areas digit = slice_index_or areas digit nowhere
