@@ -3,16 +3,16 @@
 ghost use Rattle.std.specs.Prelude.{◌≡◌, ◌<◌, ◌&&◌, not, nat_lt};
 ghost use Rattle.roster_instance.specs.Choices.{shift_of};
 ghost use Rattle.roster_instance.specs.Meaning.{day_count, forbids, minimum, nurse_count, shift_count, skill_count};
-ghost use Rattle.roster_laws.specs.OneRow.{is_offered, is_offered_row, others};
+ghost use Rattle.roster_laws.specs.OneRow.{is_open, is_open_row, others};
 ghost use Rattle.roster_laws.specs.Staffing.{meets, with_choice};
 
 use crate::held::Held;
 use roster_rules::{Choice, Shift, Skill, choice_on, is_able, last_shift};
 
-/// Whether each choice of a row of the case is offered on its day and may follow the one before it.
-pub(crate) fn is_offered_row(held: &Held, nurse: usize, row: &[Choice]) -> bool
+/// Whether each choice of a row of the case is open on its day and may follow the one before it.
+pub(crate) fn is_open_row(held: &Held, nurse: usize, row: &[Choice]) -> bool
     requires { nurse < nurse_count held.now.case }
-    ensures { result ≡ is_offered_row held.now.case held.now.roster nurse row.now (day_count held.now.case) }
+    ensures { result ≡ is_open_row held.now.case held.now.roster nurse row.now (day_count held.now.case) }
 {
     let case = held.case();
     let mut last = last_shift(case.past(nurse).border);
@@ -26,20 +26,20 @@ pub(crate) fn is_offered_row(held: &Held, nurse: usize, row: &[Choice]) -> bool
     true
 }
 
-/// Whether a choice is offered, and may follow the shift of the day before.
+/// Whether a choice is open, and may follow the shift of the day before.
 fn may_follow(held: &Held, nurse: usize, day: u16, last: Option<Shift>, choice: Choice) -> bool
     requires nurse { nurse < nurse_count held.now.case }
     requires day { day < day_count held.now.case }
-    ensures { result ≡ (is_offered held.now.case held.now.roster nurse day choice && not (forbids held.now.case.successions last (shift_of choice))) }
+    ensures { result ≡ (is_open held.now.case held.now.roster nurse day choice && not (forbids held.now.case.successions last (shift_of choice))) }
 {
-    is_offered(held, nurse, day, choice) && !held.case().forbids_next(last, choice.shift())
+    is_open(held, nurse, day, choice) && !held.case().forbids_next(last, choice.shift())
 }
 
 /// Whether the nurse has the skill, and no minimum of the day is missed with the choice.
-fn is_offered(held: &Held, nurse: usize, day: u16, choice: Choice) -> bool
+fn is_open(held: &Held, nurse: usize, day: u16, choice: Choice) -> bool
     requires nurse { nurse < nurse_count held.now.case }
     requires day { day < day_count held.now.case }
-    ensures { result ≡ is_offered held.now.case held.now.roster nurse day choice }
+    ensures { result ≡ is_open held.now.case held.now.roster nurse day choice }
 {
     is_able(held.case().skills_of(nurse), choice) && meets(held, nurse, day, choice)
 }

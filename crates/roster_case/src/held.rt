@@ -10,7 +10,7 @@ ghost use Rattle.roster_rules.specs.Room.{penalty_room};
 ghost use Rattle.roster_case.specs.Held.{IsHandedBack};
 ghost use Rattle.roster_laws.specs.OneRow.{others, rest_of};
 
-use crate::allowed::is_offered_row;
+use crate::allowed::is_open_row;
 use crate::counts::Counts;
 use roster_costs::first_hard;
 use roster_rules::{Case, Choice, HardFault, Roster, Shift, Skill, choice_on, row_fits};
@@ -142,7 +142,7 @@ impl Held {
         requires { nurse < nurse_count self.now.case }
         ensures { result ≡ row_keeps self.now.case self.now.roster nurse row.now }
     {
-        row_fits(&self.case, row) && is_offered_row(self, nurse, row)
+        row_fits(&self.case, row) && is_open_row(self, nurse, row)
     }
 
     /// Puts a row in the place of a nurse's. The case stays.

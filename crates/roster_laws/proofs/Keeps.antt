@@ -8,7 +8,7 @@ use Rattle.roster_rules.specs.Faults.{below, fault_if, is_none_of}
 use Rattle.roster_rules.specs.HardRules.{breaks_succession, hard_faults, is_able_on, keeps_hard, keeps_skills, keeps_successions, skill_faults, staffing_faults, succession_faults}
 use Rattle.roster_rules.specs.Meaning.{Meaning, day_count, nurse_count, shift_count, skill_count, minimum}
 use Rattle.roster_rules.specs.Rosters.{Row, Rows, choice_on, cover, days_of_nurse, row_of, with_row}
-use Rattle.roster_laws.specs.OneRow.{is_offered, is_offered_row, keeps_by_parts, others}
+use Rattle.roster_laws.specs.OneRow.{is_open, is_open_row, keeps_by_parts, others}
 use Rattle.roster_laws.specs.Staffing.{meets, with_choice}
 use Rattle.roster_laws.proofs.Below.{all_at, all_both, all_elim}
 use Rattle.roster_laws.proofs.OneRow.{cover-with_row, other_row, own_row}
@@ -71,7 +71,7 @@ module _ (c : Meaning) (r : Rows) (keeps : keeps_hard c r ≡ true) (n : ℕ) (w
       all_at (nurse_count c) n (λ m. p m (row_of (with_row r n row) m)) inside (λ m h other. ap (p m) (other_row r n within row m other) ∙ all_elim (nurse_count c) (λ m. p m (row_of r m)) kept m h)
       ∙ ap (p n) (own_row r n within row)
 
-  pub keeps_hard-with_row : keeps_hard c (with_row r n row) ≡ is_offered_row c r n row (day_count c)
+  pub keeps_hard-with_row : keeps_hard c (with_row r n row) ≡ is_open_row c r n row (day_count c)
   keeps_hard-with_row =
       let D = day_count c in
       let met : ℕ → Bool = λ d. meets c d (with_choice (others r n d) (choice_on row d)) in
@@ -81,4 +81,4 @@ module _ (c : Meaning) (r : Rows) (keeps : keeps_hard c r ≡ true) (n : ℕ) (w
       ∙ (λ i. all_below D (λ d. meets c d (λ s k. cover-with_row r n within row d s k i)) && of_one (λ m own. keeps_successions c m (days_of own) D) each.1 i && of_one (λ m own. keeps_skills c m own D) rules.1 i)
       ∙ and_turned (all_below D met) (keeps_successions c n (days_of row) D) (keeps_skills c n row D)
       ∙ ap (λ b. b && keeps_successions c n (days_of row) D) (sym (all_both D (is_able_on c n row) met))
-      ∙ sym (all_both D (λ d. is_offered c r n d (choice_on row d)) (λ d. not (breaks_succession c n (days_of row) d)))
+      ∙ sym (all_both D (λ d. is_open c r n d (choice_on row d)) (λ d. not (breaks_succession c n (days_of row) d)))

@@ -71,15 +71,15 @@ module _ (c : Meaning) (best : BestRows) (P : Rows → Type 0) (steps : (r : Row
 abbrev pub IsKept : Meaning → Rows → Type 0
 IsKept c r = (fits_case c r ≡ true) × (keeps_hard c r ≡ true)
 
-module _ (c : Meaning) (r : Rows) (n : ℕ) where
-  best_is_allowed : (row : Row) → best_row c r n ≡ Some row → Contains (allowed_rows c r n) row
+module _ (c : Meaning) (from : ℕ) (r : Rows) (n : ℕ) where
+  pub best_is_allowed : (row : Row) → best_row c from r n ≡ Some row → Contains (allowed_rows c from r n) row
   best_is_allowed row e =
-      let f = found (penalty_with c r n) (allowed_rows c r n) row e in
+      let f = found (penalty_with c r n) (allowed_rows c from r n) row e in
       rw f.split (Contains-append_right f.before (row ∷ f.after) row (0, omega arith, refl))
 
-  pub step_keeps : IsKept c r → IsKept c (step c (best_row c) r n)
+  pub step_keeps : IsKept c r → IsKept c (step c (best_row c from) r n)
   unfolding step
-  step_keeps kept = go (best_row c r n) refl
+  step_keeps kept = go (best_row c from r n) refl
     where
       chosen : (row : Row) (b : Bool) → row_keeps c r n row ≡ true → IsKept c (cond b (with_row r n row) r)
       chosen row true e =
@@ -87,6 +87,6 @@ module _ (c : Meaning) (r : Rows) (n : ℕ) where
           (fits-with_row c r n row kept.0 parts.0, parts.1)
       chosen row false e = kept
 
-      go : (o : Option Row) → best_row c r n ≡ o → IsKept c (step_with c r n o)
+      go : (o : Option Row) → best_row c from r n ≡ o → IsKept c (step_with c r n o)
       go None e = kept
-      go (Some row) e = chosen row (nat_lt (penalty c (with_row r n row)) (penalty c r)) (allowed_keeps c r n row (best_is_allowed row e))
+      go (Some row) e = chosen row (nat_lt (penalty c (with_row r n row)) (penalty c r)) (allowed_keeps c from r n row (best_is_allowed row e)).0

@@ -13,3 +13,4 @@ pub mod Allowed
 pub mod GreatestLemmas
 pub mod Kept
 pub mod InOrder
+pub mod Frozen

@@ -194,8 +194,8 @@ module _ (c : Meaning) (best : BestRows) where
       go (cases_Bool (run c best rounds r).is_settled)
 
 -- where a run of the best rows is settled, no allowed row is cheaper
-pub settled_rows : (c : Meaning) (m : ℕ) (r : Rows) → (run c (best_row c) m r).is_settled ≡ true → (n : ℕ) → n < nurse_count c
-    → All (λ row. penalty c (run c (best_row c) m r).roster ≤ penalty_with c (run c (best_row c) m r).roster n row) (allowed_rows c (run c (best_row c) m r).roster n)
-settled_rows c m r end n within =
-    let last = (run c (best_row c) m r).roster in
-    rw (settled_steps c (best_row c) m r end n within) at (step_is_least c last n)
+pub settled_rows : (c : Meaning) (from m : ℕ) (r : Rows) → (run c (best_row c from) m r).is_settled ≡ true → (n : ℕ) → n < nurse_count c
+    → All (λ row. penalty c (run c (best_row c from) m r).roster ≤ penalty_with c (run c (best_row c from) m r).roster n row) (allowed_rows c from (run c (best_row c from) m r).roster n)
+settled_rows c from m r end n within =
+    let last = (run c (best_row c from) m r).roster in
+    rw (settled_steps c (best_row c from) m r end n within) at (step_is_least c from last n)

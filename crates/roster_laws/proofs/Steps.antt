@@ -63,31 +63,31 @@ nothing : {A : Type 0} (cost : A → ℕ) (xs : List A) → first_least cost xs 
 nothing cost [] e = refl
 nothing cost (x ∷ xs) e = absurd cc
 
-module _ (c : Meaning) (r : Rows) (n : ℕ) where
+module _ (c : Meaning) (from : ℕ) (r : Rows) (n : ℕ) where
   -- the penalty that a step reaches is at most that of each allowed row
-  pub step_is_least : All (λ row. penalty c (step c (best_row c) r n) ≤ penalty_with c r n row) (allowed_rows c r n)
+  pub step_is_least : All (λ row. penalty c (step c (best_row c from) r n) ≤ penalty_with c r n row) (allowed_rows c from r n)
   unfolding step
-  step_is_least = go (best_row c r n) refl
+  step_is_least = go (best_row c from r n) refl
     where
       reached : (row : Row) (b : Bool) → nat_lt (penalty c (with_row r n row)) (penalty c r) ≡ b → penalty c (cond b (with_row r n row) r) ≤ penalty_with c r n row
       reached row true e = omega arith
       reached row false e = ltb-false _ _ e
 
-      go : (o : Option Row) → best_row c r n ≡ o → All (λ row. penalty c (step_with c r n o) ≤ penalty_with c r n row) (allowed_rows c r n)
-      go None e = rw (nothing (penalty_with c r n) (allowed_rows c r n) e) (All-nil (λ row. penalty c r ≤ penalty_with c r n row))
+      go : (o : Option Row) → best_row c from r n ≡ o → All (λ row. penalty c (step_with c r n o) ≤ penalty_with c r n row) (allowed_rows c from r n)
+      go None e = rw (nothing (penalty_with c r n) (allowed_rows c from r n) e) (All-nil (λ row. penalty c r ≤ penalty_with c r n row))
       go (Some row) e =
-          let f = found (penalty_with c r n) (allowed_rows c r n) row e in
+          let f = found (penalty_with c r n) (allowed_rows c from r n) row e in
           let P : Row → Type 0 = λ other. penalty c (step_with c r n (Some row)) ≤ penalty_with c r n other in
           let own = reached row (nat_lt (penalty c (with_row r n row)) (penalty c r)) refl in
           rw f.split (All-append P f.before (row ∷ f.after) (λ k d h. omega (arith, own, f.dearer k d h)) (All-cons P row f.after own (λ k d h. omega (arith, own, f.least k d h))))
 
-  module _ (row : Row) (is_best : IsBestRow c r n row) where
-    stepped : (b : Bool) → nat_lt (penalty_with c r n row) (penalty c r) ≡ b → step c (best_row c) r n ≡ cond b (with_row r n row) r
+  module _ (row : Row) (is_best : IsBestRow c from r n row) where
+    stepped : (b : Bool) → nat_lt (penalty_with c r n row) (penalty c r) ≡ b → step c (best_row c from) r n ≡ cond b (with_row r n row) r
     unfolding step
-    stepped b e = ap (step_with c r n) (only (penalty_with c r n) (allowed_rows c r n) row is_best) ∙ ap (λ x. cond x (with_row r n row) r) e
+    stepped b e = ap (step_with c r n) (only (penalty_with c r n) (allowed_rows c from r n) row is_best) ∙ ap (λ x. cond x (with_row r n row) r) e
 
-    pub put_in : penalty_with c r n row < penalty c r → step c (best_row c) r n ≡ with_row r n row
+    pub put_in : penalty_with c r n row < penalty c r → step c (best_row c from) r n ≡ with_row r n row
     put_in less = stepped true (lt-ltb (penalty_with c r n row) (penalty c r) less)
 
-    pub left_out : penalty c r ≤ penalty_with c r n row → step c (best_row c) r n ≡ r
+    pub left_out : penalty c r ≤ penalty_with c r n row → step c (best_row c from) r n ≡ r
     left_out more = stepped false (le-ltb (penalty_with c r n row) (penalty c r) more)

@@ -1,5 +1,6 @@
 pub mod Staffing
 pub mod OneRow
 pub mod Logs
+pub mod FrozenDays
 pub mod Greatest
 pub mod RowOrder

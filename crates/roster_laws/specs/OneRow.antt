@@ -5,6 +5,7 @@ use Rattle.roster_instance.specs.Choices.{days_of, shift_of}
 use Rattle.roster_instance.specs.Counting.{all_below, sum_below}
 use Rattle.roster_instance.specs.Meaning.{Meaning, day_count, nurse_at, nurse_count}
 use Rattle.roster_instance.specs.Rosters.{Row, Rows, choice_on, cover, days_of_nurse, row_of, with_row}
+use Rattle.roster_rules.specs.AllowedRows.{keeps_frozen_day}
 use Rattle.roster_rules.specs.HardRules.{breaks_succession, is_able, keeps_skills, keeps_successions}
 use Rattle.roster_rules.specs.Penalties.{nurse_cost, off_request_cost_on}
 use Rattle.roster_laws.specs.Staffing.{meets, staffing_cost_by, with_choice}
@@ -35,10 +36,20 @@ keeps_by_parts c r =
     && all_below (nurse_count c) (λ n. keeps_successions c n (days_of_nurse r n) (day_count c))
     && all_below (nurse_count c) (λ n. keeps_skills c n (row_of r n) (day_count c))
 
--- a choice is offered where the nurse has the skill, and no minimum of the day is missed with it
-abbrev pub is_offered : Meaning → Rows → ℕ → ℕ → Choice → Bool
-is_offered c r n d choice = is_able (nurse_at c n).skills choice && meets c d (with_choice (others r n d) choice)
+-- a choice is open where the nurse has the skill, and no minimum of the day is missed with it
+abbrev pub is_open : Meaning → Rows → ℕ → ℕ → Choice → Bool
+is_open c r n d choice = is_able (nurse_at c n).skills choice && meets c d (with_choice (others r n d) choice)
+
+-- each choice of a row is open on its day, and may follow the one before it
+abbrev pub is_open_row : Meaning → Rows → ℕ → Row → ℕ → Bool
+is_open_row c r n row m = all_below m (λ d. is_open c r n d (choice_on row d) && not (breaks_succession c n (days_of row) d))
+
+-- ---- from a week on
+
+-- a choice is offered where it is open, and on a frozen day it is the present one
+abbrev pub is_offered : Meaning → ℕ → Rows → ℕ → ℕ → Choice → Bool
+is_offered c from r n d choice = is_open c r n d choice && keeps_frozen_day from r n d choice
 
 -- each choice of a row is offered on its day, and may follow the one before it
-abbrev pub is_offered_row : Meaning → Rows → ℕ → Row → ℕ → Bool
-is_offered_row c r n row m = all_below m (λ d. is_offered c r n d (choice_on row d) && not (breaks_succession c n (days_of row) d))
+abbrev pub is_offered_row : Meaning → ℕ → Rows → ℕ → Row → ℕ → Bool
+is_offered_row c from r n row m = all_below m (λ d. is_offered c from r n d (choice_on row d) && not (breaks_succession c n (days_of row) d))

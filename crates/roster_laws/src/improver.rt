@@ -3,10 +3,11 @@
 ghost use Rattle.std.specs.Prelude.{◌≡◌, ℕ, ◌+◌, ◌*◌, ◌<◌, ◌≤◌, ◌%◌, ◌↔◌, suc, nat_lt, not, true, false, All, AllPairs};
 ghost use Rattle.roster_rules.specs.HardRules.{keeps_hard};
 ghost use Rattle.roster_rules.specs.Improver.{BestRows, entry, log_of, round, run, same_rows, step};
-ghost use Rattle.roster_rules.specs.Meaning.{Meaning, nurse_count};
+ghost use Rattle.roster_rules.specs.Meaning.{Meaning, nurse_count, week_count};
 ghost use Rattle.roster_rules.specs.Penalties.{penalty};
 ghost use Rattle.roster_rules.specs.Rosters.{Row, Rows, fits_case, with_row};
 ghost use Rattle.roster_rules.specs.AllowedRows.{IsBestRow, allowed_rows, best_row, penalty_with};
+ghost use Rattle.roster_laws.specs.FrozenDays.{FrozenDaysStay};
 ghost use Rattle.roster_laws.specs.Logs.{Descends, EndsWith, changes_in, ending, outcome_of, rounds_in};
 
 /// Two rosters pass the test for the same rows just where they are one.
@@ -17,9 +18,9 @@ pub fn same_rows_are_equal()
 /// A step puts the best row in where that is strictly cheaper, and else changes nothing. So no allowed row is cheaper than the
 /// roster behind it.
 pub fn steps_put_the_best_row_in()
-    ensures cheaper { (c : Meaning) (r : Rows) (n : ℕ) (row : Row) → IsBestRow c r n row → penalty_with c r n row < penalty c r → step c (best_row c) r n ≡ with_row r n row }
-    ensures as_dear { (c : Meaning) (r : Rows) (n : ℕ) (row : Row) → IsBestRow c r n row → penalty c r ≤ penalty_with c r n row → step c (best_row c) r n ≡ r }
-    ensures least { (c : Meaning) (r : Rows) (n : ℕ) → All (λ row. penalty c (step c (best_row c) r n) ≤ penalty_with c r n row) (allowed_rows c r n) }
+    ensures cheaper { (c : Meaning) (from : ℕ) (r : Rows) (n : ℕ) (row : Row) → IsBestRow c from r n row → penalty_with c r n row < penalty c r → step c (best_row c from) r n ≡ with_row r n row }
+    ensures as_dear { (c : Meaning) (from : ℕ) (r : Rows) (n : ℕ) (row : Row) → IsBestRow c from r n row → penalty c r ≤ penalty_with c r n row → step c (best_row c from) r n ≡ r }
+    ensures least { (c : Meaning) (from : ℕ) (r : Rows) (n : ℕ) → All (λ row. penalty c (step c (best_row c from) r n) ≤ penalty_with c r n row) (allowed_rows c from r n) }
 {}
 
 /// The log ends as the run does, with the run's roster. It has as many rounds as were allowed at most, and just as many where
@@ -34,7 +35,7 @@ pub fn log_ends_with_the_run()
 pub fn settled_stays()
     ensures steps { (c : Meaning) (best : BestRows) (rounds : ℕ) (r : Rows) → (run c best rounds r).is_settled ≡ true → (n : ℕ) → n < nurse_count c → step c best (run c best rounds r).roster n ≡ (run c best rounds r).roster }
     ensures round { (c : Meaning) (best : BestRows) (rounds : ℕ) (r : Rows) → (run c best rounds r).is_settled ≡ true → round c best (run c best rounds r).roster ≡ (run c best rounds r).roster }
-    ensures rows { (c : Meaning) (rounds : ℕ) (r : Rows) → (run c (best_row c) rounds r).is_settled ≡ true → (n : ℕ) → n < nurse_count c → All (λ row. penalty c (run c (best_row c) rounds r).roster ≤ penalty_with c (run c (best_row c) rounds r).roster n row) (allowed_rows c (run c (best_row c) rounds r).roster n) }
+    ensures rows { (c : Meaning) (from rounds : ℕ) (r : Rows) → (run c (best_row c from) rounds r).is_settled ≡ true → (n : ℕ) → n < nurse_count c → All (λ row. penalty c (run c (best_row c from) rounds r).roster ≤ penalty_with c (run c (best_row c from) rounds r).roster n row) (allowed_rows c from (run c (best_row c from) rounds r).roster n) }
 {}
 
 /// A run that is stopped changed something in its last round.
@@ -59,6 +60,20 @@ pub fn penalty_never_rises()
 
 /// From a roster that fits and keeps the hard rules, a run of best rows and each line of its log come to such rosters alone.
 pub fn runs_keep_the_hard_rules()
-    ensures log { (c : Meaning) (rounds : ℕ) (r : Rows) → fits_case c r ≡ true → keeps_hard c r ≡ true → All (λ e. (fits_case c e.roster ≡ true) × (keeps_hard c e.roster ≡ true)) (log_of c (best_row c) rounds r) }
-    ensures run { (c : Meaning) (rounds : ℕ) (r : Rows) → fits_case c r ≡ true → keeps_hard c r ≡ true → (fits_case c (run c (best_row c) rounds r).roster ≡ true) × (keeps_hard c (run c (best_row c) rounds r).roster ≡ true) }
+    ensures log { (c : Meaning) (from rounds : ℕ) (r : Rows) → fits_case c r ≡ true → keeps_hard c r ≡ true → All (λ e. (fits_case c e.roster ≡ true) × (keeps_hard c e.roster ≡ true)) (log_of c (best_row c from) rounds r) }
+    ensures run { (c : Meaning) (from rounds : ℕ) (r : Rows) → fits_case c r ≡ true → keeps_hard c r ≡ true → (fits_case c (run c (best_row c from) rounds r).roster ≡ true) × (keeps_hard c (run c (best_row c from) rounds r).roster ≡ true) }
+{}
+
+/// A best row put in, a step, a run of best rows and each line of its log leave each frozen day of each nurse as it was before.
+pub fn frozen_days_stay()
+    ensures best { (c : Meaning) (from : ℕ) (r : Rows) (n : ℕ) (row : Row) → IsBestRow c from r n row → FrozenDaysStay c from r (with_row r n row) }
+    ensures step { (c : Meaning) (from : ℕ) (r : Rows) (n : ℕ) → FrozenDaysStay c from r (step c (best_row c from) r n) }
+    ensures log { (c : Meaning) (from rounds : ℕ) (r : Rows) → All (λ e. FrozenDaysStay c from r e.roster) (log_of c (best_row c from) rounds r) }
+    ensures run { (c : Meaning) (from rounds : ℕ) (r : Rows) → FrozenDaysStay c from r (run c (best_row c from) rounds r).roster }
+{}
+
+/// Where all weeks are frozen, a step and a run change nothing.
+pub fn frozen_weeks_stay()
+    ensures step { (c : Meaning) (from : ℕ) (r : Rows) → fits_case c r ≡ true → week_count c ≤ from → (n : ℕ) → step c (best_row c from) r n ≡ r }
+    ensures run { (c : Meaning) (from rounds : ℕ) (r : Rows) → fits_case c r ≡ true → week_count c ≤ from → (run c (best_row c from) rounds r).roster ≡ r }
 {}

@@ -2,7 +2,8 @@
 //! each is a law, and its clauses say it.
 //!
 //! What a row costs, and whether it keeps the hard rules in the place of a nurse's, is defined in `specs/OneRow.antt`, by
-//! what a day's staffing lacks (`specs/Staffing.antt`); what the log of a run tells in `specs/Logs.antt`; the greatest sizes
+//! what a day's staffing lacks (`specs/Staffing.antt`); what the log of a run tells in `specs/Logs.antt`; that frozen
+//! days stay in `specs/FrozenDays.antt`; the greatest sizes
 //! of a case in `specs/Greatest.antt`; the order of rows in `specs/RowOrder.antt`.
 #![tactic(auto)]
 
@@ -12,7 +13,7 @@ mod rows;
 mod sizes;
 
 pub use improver::{
-    changes_are_few, last_round_tells, log_ends_with_the_run, penalty_never_rises,
+    changes_are_few, frozen_days_stay, frozen_weeks_stay, last_round_tells, log_ends_with_the_run, penalty_never_rises,
     runs_keep_the_hard_rules, same_rows_are_equal, settled_stays, steps_put_the_best_row_in,
 };
 pub use replaced::{

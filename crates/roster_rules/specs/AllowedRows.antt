@@ -1,14 +1,28 @@
--- A nurse's allowed rows, and the best of them (our own: the first of least penalty, the other rows fixed).
-use Rattle.std.specs.Prelude.{◌≡◌, ℕ, Bool, ◌&&◌, ◌<◌, ◌≤◌, nat_lt, if◌then◌else◌, List, [], ◌∷◌, ◌++◌, All, filter, Option, Some, None}
-use Rattle.roster_instance.specs.Choices.{all_choices, all_rows}
+-- A nurse's allowed rows from a week on, and the best of them (our own: the first of least penalty, the other rows fixed).
+use Rattle.std.specs.Prelude.{◌≡◌, ℕ, ◌/◌, Bool, not, ◌&&◌, ◌||◌, ◌<◌, ◌≤◌, nat_lt, if◌then◌else◌, List, [], ◌∷◌, ◌++◌, All, filter, Option, Some, None}
+use Rattle.roster_instance.specs.declared.Choice.{Choice}
+use Rattle.roster_instance.specs.Choices.{all_choices, all_rows, same_choice}
+use Rattle.roster_instance.specs.Counting.{all_below}
 use Rattle.roster_rules.specs.HardRules.{keeps_hard}
 use Rattle.roster_instance.specs.Meaning.{Meaning, day_count}
 use Rattle.roster_rules.specs.Penalties.{penalty}
-use Rattle.roster_instance.specs.Rosters.{Row, Rows, with_row, is_row_of}
+use Rattle.roster_instance.specs.Rosters.{Row, Rows, choice_on, is_row_of, row_of, with_row}
 
--- all rows, in order, with which the roster keeps the hard rules
-abbrev pub allowed_rows : Meaning → Rows → ℕ → List Row
-allowed_rows c r n = filter (λ row. keeps_hard c (with_row r n row)) (all_rows (all_choices c) (day_count c))
+-- the days of the weeks before week `from` are frozen
+abbrev pub is_frozen : ℕ → ℕ → Bool
+is_frozen from d = nat_lt (d / 7) from
+
+-- on a frozen day the choice is the nurse's present one
+abbrev pub keeps_frozen_day : ℕ → Rows → ℕ → ℕ → Choice → Bool
+keeps_frozen_day from r n d choice = not (is_frozen from d) || same_choice choice (choice_on (row_of r n) d)
+
+-- the row agrees with the nurse's present one on each frozen day
+abbrev pub keeps_frozen_days : Meaning → ℕ → Rows → ℕ → Row → Bool
+keeps_frozen_days c from r n row = all_below (day_count c) (λ d. keeps_frozen_day from r n d (choice_on row d))
+
+-- all rows, in order, with which the roster keeps the hard rules and the nurse's frozen days
+abbrev pub allowed_rows : Meaning → ℕ → Rows → ℕ → List Row
+allowed_rows c from r n = filter (λ row. keeps_hard c (with_row r n row) && keeps_frozen_days c from r n row) (all_rows (all_choices c) (day_count c))
 
 -- the row is one of the case's, and the roster keeps the hard rules with it
 abbrev pub row_keeps : Meaning → Rows → ℕ → Row → Bool
@@ -36,8 +50,8 @@ first_least cost [] = None
 first_least cost (x ∷ xs) = Some (cheaper_of cost x (first_least cost xs))
 
 -- the best row of a nurse, as a fact and as a function
-abbrev pub IsBestRow : Meaning → Rows → ℕ → Row → Type 0
-IsBestRow c r n row = IsFirstLeast (penalty_with c r n) (allowed_rows c r n) row
+abbrev pub IsBestRow : Meaning → ℕ → Rows → ℕ → Row → Type 0
+IsBestRow c from r n row = IsFirstLeast (penalty_with c r n) (allowed_rows c from r n) row
 
-abbrev pub best_row : Meaning → Rows → ℕ → Option Row
-best_row c r n = first_least (penalty_with c r n) (allowed_rows c r n)
+abbrev pub best_row : Meaning → ℕ → Rows → ℕ → Option Row
+best_row c from r n = first_least (penalty_with c r n) (allowed_rows c from r n)
