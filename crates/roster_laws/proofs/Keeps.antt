@@ -2,15 +2,16 @@
 use Rattle.std.proofs.Common.{◌≡◌, ◌∙◌, ◌+◌, ◌<◌, ◌&&◌, ℕ, zero, suc, Bool, true, false, not, ap, ap₂, arith, refl, sym, List, [], ◌∷◌, ◌++◌, length, nat_lt}
 use Rattle.std.proofs.lemmas.Bool.{and_parts}
 use Rattle.roster_bundle.proofs.Ranges.{flat_map-range_more}
+use Rattle.roster_rules.specs.AllowedRows.{keeps_frozen_day, keeps_frozen_days}
 use Rattle.roster_rules.specs.Choices.{days_of}
 use Rattle.roster_rules.specs.Counting.{all_below}
 use Rattle.roster_rules.specs.Faults.{below, fault_if, is_none_of}
 use Rattle.roster_rules.specs.HardRules.{breaks_succession, hard_faults, is_able_on, keeps_hard, keeps_skills, keeps_successions, skill_faults, staffing_faults, succession_faults}
 use Rattle.roster_rules.specs.Meaning.{Meaning, day_count, nurse_count, shift_count, skill_count, minimum}
 use Rattle.roster_rules.specs.Rosters.{Row, Rows, choice_on, cover, days_of_nurse, row_of, with_row}
-use Rattle.roster_laws.specs.OneRow.{is_open, is_open_row, keeps_by_parts, others}
+use Rattle.roster_laws.specs.OneRow.{is_offered_row, is_open, is_open_row, keeps_by_parts, others}
 use Rattle.roster_laws.specs.Staffing.{meets, with_choice}
-use Rattle.roster_laws.proofs.Below.{all_at, all_both, all_elim}
+use Rattle.roster_laws.proofs.Below.{all_at, all_both, all_elim, all_same}
 use Rattle.roster_laws.proofs.OneRow.{cover-with_row, other_row, own_row}
 
 -- ---- no fault is a test
@@ -82,3 +83,22 @@ module _ (c : Meaning) (r : Rows) (keeps : keeps_hard c r ≡ true) (n : ℕ) (w
       ∙ and_turned (all_below D met) (keeps_successions c n (days_of row) D) (keeps_skills c n row D)
       ∙ ap (λ b. b && keeps_successions c n (days_of row) D) (sym (all_both D (is_able_on c n row) met))
       ∙ sym (all_both D (λ d. is_open c r n d (choice_on row d)) (λ d. not (breaks_succession c n (days_of row) d)))
+
+  -- ---- and keeps the frozen days: where each choice is offered
+
+  -- a choice is open, may follow, and stays
+  last_two : (a b d : Bool) → ((a && b) && d) ≡ ((a && d) && b)
+  last_two true true true = refl
+  last_two true true false = refl
+  last_two true false true = refl
+  last_two true false false = refl
+  last_two false b d = refl
+
+  pub allowed-with_row : (from : ℕ) → (keeps_hard c (with_row r n row) && keeps_frozen_days c from r n row) ≡ is_offered_row c from r n row (day_count c)
+  allowed-with_row from =
+      let open_on : ℕ → Bool = λ d. is_open c r n d (choice_on row d) in
+      let follows : ℕ → Bool = λ d. not (breaks_succession c n (days_of row) d) in
+      let stays : ℕ → Bool = λ d. keeps_frozen_day from r n d (choice_on row d) in
+      ap (λ b. b && keeps_frozen_days c from r n row) keeps_hard-with_row
+      ∙ sym (all_both (day_count c) (λ d. open_on d && follows d) stays)
+      ∙ all_same (day_count c) (λ d. (open_on d && follows d) && stays d) (λ d. (open_on d && stays d) && follows d) (λ d h. last_two (open_on d) (follows d) (stays d))

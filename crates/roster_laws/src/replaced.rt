@@ -1,6 +1,6 @@
 //! A roster's penalty and the hard rules by parts, and with one nurse's row replaced.
 
-ghost use Rattle.std.specs.Prelude.{◌≡◌, ◌+◌, ◌*◌, ◌<◌, ◌==◌, ℕ, true, length, nat_lt};
+ghost use Rattle.std.specs.Prelude.{◌≡◌, ◌+◌, ◌*◌, ◌<◌, ◌==◌, ◌&&◌, ℕ, true, length, nat_lt};
 ghost use Rattle.roster_rules.specs.declared.Choice.TheVariants.{Off, Work};
 ghost use Rattle.roster_rules.specs.declared.Shift.{Shift};
 ghost use Rattle.roster_rules.specs.declared.Skill.{Skill};
@@ -10,9 +10,9 @@ ghost use Rattle.roster_rules.specs.HardRules.{keeps_hard};
 ghost use Rattle.roster_rules.specs.Meaning.{Meaning, day_count, minimum, nurse_count, optimum, shift_count, skill_count};
 ghost use Rattle.roster_rules.specs.Penalties.{off_request_cost, over_nurses, own_cost, penalty, staffing_cost};
 ghost use Rattle.roster_rules.specs.Rosters.{Row, Rows, choice_on, cover, with_row};
-ghost use Rattle.roster_rules.specs.AllowedRows.{penalty_with};
+ghost use Rattle.roster_rules.specs.AllowedRows.{keeps_frozen_days, penalty_with};
 ghost use Rattle.roster_rules.specs.Weights.{staffing_weight};
-ghost use Rattle.roster_laws.specs.OneRow.{is_open_row, keeps_by_parts, others, prices, rest_of};
+ghost use Rattle.roster_laws.specs.OneRow.{is_offered_row, is_open_row, keeps_by_parts, others, prices, rest_of};
 ghost use Rattle.roster_laws.specs.Staffing.{lacking, meets, staffing_cost_by, with_choice};
 
 /// The penalty is that of the staffing, day by day, and each nurse's own cost and off requests.
@@ -27,12 +27,13 @@ pub fn hard_rules_by_parts()
 {}
 
 /// With one row replaced: the staffing is that of the others and of the row; the penalty is the rest, the nurse's own cost and
-/// the prices of the row's days; and where the hard rules were kept they are kept just where each choice of the row is open
-/// on its day and may follow the one before it.
+/// the prices of the row's days; and where the hard rules were kept they are kept exactly when each choice of the row is open
+/// on its day and may follow the one before it; the frozen days too, when each choice is offered.
 pub fn one_row_replaced()
     ensures cover { (r : Rows) (n : ℕ) → n < length r → (row : Row) (d s k : ℕ) → cover (with_row r n row) d s k ≡ with_choice (others r n d) (choice_on row d) s k }
     ensures penalty { (c : Meaning) (r : Rows) (n : ℕ) → n < length r → n < nurse_count c → (row : Row) → length row ≡ day_count c → penalty_with c r n row ≡ rest_of c r n + own_cost c n (days_of row) + prices c r n row }
     ensures keeps { (c : Meaning) (r : Rows) → keeps_hard c r ≡ true → (n : ℕ) → n < length r → n < nurse_count c → (row : Row) → keeps_hard c (with_row r n row) ≡ is_open_row c r n row (day_count c) }
+    ensures allowed { (c : Meaning) (r : Rows) → keeps_hard c r ≡ true → (n : ℕ) → n < length r → n < nurse_count c → (row : Row) (from : ℕ) → (keeps_hard c (with_row r n row) && keeps_frozen_days c from r n row) ≡ is_offered_row c from r n row (day_count c) }
 {}
 
 /// A day's staffing costs the same for each nurse that is lacking to the optimum, its minimums are met where none is lacking to them,

@@ -21,17 +21,17 @@ use Rattle.roster_search.specs.Offers.{best_by_states, choices_of}
 use Rattle.roster_search.specs.Tables.{no_row}
 use Rattle.roster_search.proofs.Best.{is_best, penalty_is}
 
-module _ (c : Meaning) (r : Rows) (fits : fits_case c r ≡ true) (keeps : keeps_hard c r ≡ true) (n : ℕ) (inside : n < nurse_count c) (cost : ℕ) (offers : List Offer) (is : best_by_states c r n ≡ Some (cost, offers)) where
+module _ (c : Meaning) (from : ℕ) (r : Rows) (fits : fits_case c r ≡ true) (keeps : keeps_hard c r ≡ true) (n : ℕ) (inside : n < nurse_count c) (cost : ℕ) (offers : List Offer) (is : best_by_states c from r n ≡ Some (cost, offers)) where
   abbrev row : Row
   row = choices_of offers
 
-  member : Contains (allowed_rows c r n) row
+  member : Contains (allowed_rows c from r n) row
   member =
-      let best = is_best c r fits keeps n inside cost offers is in
+      let best = is_best c from r fits keeps n inside cost offers is in
       subst (λ xs. Contains xs row) (sym best.split) (Contains-append_right best.before (row ∷ best.after) row (0, omega arith, refl))
 
   days : length row ≡ day_count c
-  days = eqb-true (length row) (day_count c) (and_parts (length row == day_count c) (list_all (is_choice_of c) row) (and_parts (is_row_of c row) (keeps_hard c (with_row r n row)) (allowed_keeps c r n row member)).0).0
+  days = eqb-true (length row) (day_count c) (and_parts (length row == day_count c) (list_all (is_choice_of c) row) (and_parts (is_row_of c row) (keeps_hard c (with_row r n row)) (allowed_keeps c from r n row member).0).0).0
 
   pub cost_below : HasSmallNumbers c → shift_count c ≤ most_shifts → skill_count c ≤ most_skills → week_count c ≤ most_weeks → cost < no_row
   unfolding own_cost
@@ -40,7 +40,7 @@ module _ (c : Meaning) (r : Rows) (fits : fits_case c r ≡ true) (keeps : keeps
       let few : length (days_of row) ≤ most_days = omega (arith, length-map row shift_of, days, weeks) in
       omega (
         arith,
-        penalty_is c r fits keeps n inside cost offers is,
+        penalty_is c from r fits keeps n inside cost offers is,
         penalty-with_row r n within row c inside days,
         prices-with_row r n within row c days,
         staffing_cost-within c (with_row r n row) small shifts skills (omega (arith, weeks)),

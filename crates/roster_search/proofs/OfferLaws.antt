@@ -2,15 +2,16 @@
 use Rattle.std.proofs.Common.{◌≡◌, ◌∙◌, ◌+◌, ◌-◌, ◌*◌, ◌<◌, ◌≤◌, ◌&&◌, ◌||◌, ◌==◌, ℕ, Bool, true, false, not, nat_lt, if◌then◌else◌, ap, arith, refl, sym, List, [], ◌∷◌, cond, filter, length, map, Contains}
 use Rattle.std.specs.List.{All, count_by, flat_map, list_all, list_any, range_with_len}
 use Rattle.std.proofs.Math.Nat.{suc-mul}
-use Rattle.std.proofs.lemmas.Bool.{and_parts}
+use Rattle.std.proofs.lemmas.Bool.{and_from, and_parts}
 use Rattle.std.proofs.lemmas.List.{length-map, set-get_or}
-use Rattle.std.proofs.lemmas.List.Elements.{All-contains_itself, All-filter, All-get_or, All-map, All-weaker}
+use Rattle.std.proofs.lemmas.List.Elements.{All-contains_itself, All-filter, All-get_or, All-head, All-map, All-weaker, filter_passes}
 use Rattle.std.proofs.lemmas.List.FromFn.{length-range_with_len}
 use Rattle.std.proofs.lemmas.List.Sums.{AllPass-from_list_all, length-filter, sum_by-append}
 use Rattle.roster_rules.specs.declared.Choice.{Choice}
 use Rattle.roster_rules.specs.declared.Choice.TheVariants.{Off, Work}
 use Rattle.roster_rules.specs.declared.Skill.{Skill}
 use Rattle.roster_rules.specs.Choices.{all_choices, days_of, same_choice, shift_of}
+use Rattle.roster_rules.specs.AllowedRows.{is_frozen, keeps_frozen_day}
 use Rattle.roster_rules.specs.Counting.{one_if, sum_below}
 use Rattle.roster_rules.specs.HardRules.{breaks_succession, keeps_hard}
 use Rattle.roster_rules.specs.Limits.{most_shifts, most_skills, most_small}
@@ -22,13 +23,15 @@ use Rattle.roster_rules.specs.Small.{HasSmallNumbers}
 use Rattle.roster_rules.specs.Weights.{off_request_weight, staffing_weight}
 use Rattle.roster_rules.proofs.RosterFacts.{has_row, row-length, row_fits}
 use Rattle.roster_rules.proofs.RunBounds.{sum_within}
-use Rattle.roster_laws.specs.OneRow.{is_offered, is_offered_row, others, price}
+use Rattle.roster_laws.specs.OneRow.{is_offered, is_open, is_open_row, others, price}
 use Rattle.roster_laws.specs.Staffing.{meets, staffing_cost_by, with_choice}
+use Rattle.roster_laws.proofs.Allowed.{present_stays}
 use Rattle.roster_laws.proofs.Below.{all_elim}
 use Rattle.roster_laws.proofs.Keeps.{keeps_hard-with_row}
 use Rattle.roster_laws.proofs.AllRows.{count-below, count-choices, count-cons, count-map, count-none, member_is_choice}
-use Rattle.roster_laws.proofs.SameRows.{same_choice_is}
-use Rattle.roster_search.specs.Offers.{offer_of, offers_of}
+use Rattle.roster_laws.proofs.Frozen.{frozen_is}
+use Rattle.roster_laws.proofs.SameRows.{same_choice_is, same_choice_self}
+use Rattle.roster_search.specs.Offers.{offer_of, offers_of, open_offers}
 use Rattle.roster_search.specs.Tables.{IsOfferOf, most_price}
 
 -- ---- how many pass a test
@@ -63,6 +66,16 @@ skills_few n [] = omega (arith, count-none (range_with_len 0 n))
 skills_few n (own ∷ skills) =
     omega (arith, count-either (λ k. own.0 == k) (λ k. list_any (λ s. s.0 == k) skills) (range_with_len 0 n), count-below n own.0, one_at_most (nat_lt own.0 n), skills_few n skills)
 
+-- a list of one thing
+only_one : {X : Type 0} (x : X) (xs : List X) → 0 < length xs → length xs ≤ 1 → All (λ y. y ≡ x) xs → xs ≡ x ∷ []
+only_one x [] some few all = absurd (omega (arith, some))
+only_one x (y ∷ []) some few all = ap (λ z. z ∷ []) (All-head (λ z. z ≡ x) y [] all)
+only_one x (y ∷ z ∷ zs) some few all = absurd (omega (arith, few))
+
+and_true : (b : Bool) → (b && true) ≡ b
+and_true true = refl
+and_true false = refl
+
 -- ---- the choices
 
 module _ (c : Meaning) where
@@ -74,11 +87,19 @@ module _ (c : Meaning) where
   choice_counted p x of_case passed =
       omega (arith, count-fewer (same_choice x) p (λ y same. ap p (sym (same_choice_is x y same)) ∙ passed) (all_choices c), count-choices c x, ap one_if of_case)
 
-module _ (c : Meaning) (r : Rows) (n d : ℕ) where
-  pub offers_few : length (offers_of c r n d) ≤ choice_count c n
+module _ (c : Meaning) (from : ℕ) (r : Rows) (n d : ℕ) where
+  -- an offered choice has one of the nurse's skills
+  able : (s k : ℕ) → is_offered c from r n d (Work (shift_at s) (skill_at k)) ≡ true → list_any (λ x. x.0 == k) (nurse_at c n).skills ≡ true
+  able s k e =
+      let x : Choice = Work (shift_at s) (skill_at k) in
+      let own : Bool = list_any (λ skill. skill.0 == k) (nurse_at c n).skills in
+      let met : Bool = meets c d (with_choice (others r n d) x) in
+      (and_parts own met (and_parts (own && met) (keeps_frozen_day from r n d x) e).0).0
+
+  pub offers_few : length (offers_of c from r n d) ≤ choice_count c n
   unfolding choice_count
   offers_few =
-      let offered : Choice → Bool = is_offered c r n d in
+      let offered : Choice → Bool = is_offered c from r n d in
       let own : List Skill = (nurse_at c n).skills in
       let skills : List ℕ = range_with_len 0 (skill_count c) in
       let shifts : List ℕ = range_with_len 0 (shift_count c) in
@@ -88,7 +109,7 @@ module _ (c : Meaning) (r : Rows) (n d : ℕ) where
         arith,
         count-map offered (λ k. offered (Work (shift_at s) (skill_at k))) (λ k. Work (shift_at s) (skill_at k)) (λ k. refl) skills,
         count-fewer (λ k. offered (Work (shift_at s) (skill_at k))) (λ k. list_any (λ x. x.0 == k) own)
-            (λ k e. (and_parts (list_any (λ x. x.0 == k) own) (meets c d (with_choice (others r n d) (Work (shift_at s) (skill_at k)))) e).0) skills,
+            (able s) skills,
         skills_few (skill_count c) own,
       ) in
       omega (
@@ -116,24 +137,56 @@ module _ (c : Meaning) (r : Rows) (n d : ℕ) where
     price_within : (x : Choice) → price c r n d x ≤ most_price
     price_within x = omega (arith, staffing_within (with_choice (others r n d) x), request_within (breaks_off_request c n d (shift_of x)))
 
-    pub offers_of_case : All (IsOfferOf c) (offers_of c r n d)
+    pub offers_of_case : All (IsOfferOf c) (offers_of c from r n d)
     offers_of_case =
-        All-map (IsOfferOf c) (offer_of c r n d) (filter (is_offered c r n d) (all_choices c))
-        (All-filter (is_offered c r n d) (λ x. IsOfferOf c (offer_of c r n d x)) (all_choices c)
+        All-map (IsOfferOf c) (offer_of c r n d) (filter (is_offered c from r n d) (all_choices c))
+        (All-filter (is_offered c from r n d) (λ x. IsOfferOf c (offer_of c r n d x)) (all_choices c)
         (All-weaker (λ x. is_choice_of c x ≡ true) (λ x. IsOfferOf c (offer_of c r n d x)) (λ x e. record { choice = e; price = price_within x }) (all_choices c) (choices_of_case c)))
 
   module _ (fits : fits_case c r ≡ true) (keeps : keeps_hard c r ≡ true) (inside : n < nurse_count c) (day : d < day_count c) where
-    -- the present choice is offered
-    pub offers_some : 0 < length (offers_of c r n d)
-    offers_some =
+    abbrev present : Choice
+    present = choice_on (row_of r n) d
+
+    -- the present choice is open, and offered
+    pub present_open : is_open c r n d present ≡ true
+    present_open =
         let row = row_of r n in
-        let kept : is_offered_row c r n row (day_count c) ≡ true = sym (keeps_hard-with_row c r keeps n (has_row c r n fits inside) inside row) ∙ ap (keeps_hard c) (set-get_or r n []) ∙ keeps in
-        let here = and_parts (is_offered c r n d (choice_on row d)) (not (breaks_succession c n (days_of row) d)) (all_elim (day_count c) (λ k. is_offered c r n k (choice_on row k) && not (breaks_succession c n (days_of row) k)) kept d day) in
-        let of_case : is_choice_of c (choice_on row d) ≡ true =
-        All-get_or (λ x. is_choice_of c x ≡ true) row d Off (omega (arith, day, row-length c r n fits inside)) (AllPass-from_list_all (is_choice_of c) row (and_parts (length row == day_count c) (list_all (is_choice_of c) row) (row_fits c r n fits inside)).1) in
+        let kept : is_open_row c r n row (day_count c) ≡ true = sym (keeps_hard-with_row c r keeps n (has_row c r n fits inside) inside row) ∙ ap (keeps_hard c) (set-get_or r n []) ∙ keeps in
+        (and_parts (is_open c r n d present) (not (breaks_succession c n (days_of row) d)) (all_elim (day_count c) (λ k. is_open c r n k (choice_on row k) && not (breaks_succession c n (days_of row) k)) kept d day)).0
+
+    present_offered : is_offered c from r n d present ≡ true
+    present_offered =
+        and_from (is_open c r n d present) (keeps_frozen_day from r n d present) present_open
+        (all_elim (day_count c) (λ k. keeps_frozen_day from r n k (choice_on (row_of r n) k)) (present_stays c from r n) d day)
+
+    present_of_case : is_choice_of c present ≡ true
+    present_of_case =
+        All-get_or (λ x. is_choice_of c x ≡ true) (row_of r n) d Off (omega (arith, day, row-length c r n fits inside))
+        (AllPass-from_list_all (is_choice_of c) (row_of r n) (and_parts (length (row_of r n) == day_count c) (list_all (is_choice_of c) (row_of r n)) (row_fits c r n fits inside)).1)
+
+    abbrev offered_choices : List Choice
+    offered_choices = filter (is_offered c from r n d) (all_choices c)
+
+    some_offered : 0 < length offered_choices
+    some_offered = omega (arith, length-filter (is_offered c from r n d) (all_choices c), choice_counted c (is_offered c from r n d) present present_of_case present_offered)
+
+    pub offers_some : 0 < length (offers_of c from r n d)
+    offers_some = omega (arith, length-map offered_choices (offer_of c r n d), some_offered)
+
+    -- on a frozen day it is the only one
+    pub offers_frozen : is_frozen from d ≡ true → offers_of c from r n d ≡ offer_of c r n d present ∷ []
+    offers_frozen frozen =
+        let is_present : (x : Choice) → is_offered c from r n d x ≡ true → x ≡ present = λ x e. frozen_is from r n d x (and_parts (is_open c r n d x) (keeps_frozen_day from r n d x) e).1 frozen in
+        let few : length offered_choices ≤ 1 =
         omega (
           arith,
-          length-map (filter (is_offered c r n d) (all_choices c)) (offer_of c r n d),
-          length-filter (is_offered c r n d) (all_choices c),
-          choice_counted c (is_offered c r n d) (choice_on row d) of_case here.0,
-        )
+          length-filter (is_offered c from r n d) (all_choices c),
+          count-fewer (is_offered c from r n d) (same_choice present) (λ x e. ap (same_choice present) (is_present x e) ∙ same_choice_self present) (all_choices c),
+          count-choices c present,
+          one_at_most (is_choice_of c present),
+        ) in
+        ap (map (offer_of c r n d)) (only_one present offered_choices some_offered few (All-weaker (λ x. is_offered c from r n d x ≡ true) (λ x. x ≡ present) is_present offered_choices (filter_passes (is_offered c from r n d) (all_choices c))))
+
+  -- on another day all that is open is offered
+  pub offers_free : is_frozen from d ≡ false → offers_of c from r n d ≡ open_offers c r n d
+  offers_free free = λ i. map (offer_of c r n d) (filter (λ x. (ap (λ b. is_open c r n d x && (not b || same_choice x (choice_on (row_of r n) d))) free ∙ and_true (is_open c r n d x)) i) (all_choices c))

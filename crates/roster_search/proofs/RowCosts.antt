@@ -36,17 +36,17 @@ shift_before_more : (last : Option Shift) (days : Days) (s : Option Shift) (d : 
 shift_before_more last days s zero h = refl
 shift_before_more last days s (suc d) h = ap (λ t. if suc d == 0 then last else t) (shift_before_it days s (suc d - 1) (omega arith))
 
-module _ (c : Meaning) (r : Rows) (n : ℕ) where
+module _ (c : Meaning) (from : ℕ) (r : Rows) (n : ℕ) where
   -- the nurse's step with a choice, where it is offered
   abbrev pub choice_step : Steps Summary Choice
-  choice_step d s x = if is_offered c r n d x then offer_step c n d s (offer_of c r n d x) else None
+  choice_step d s x = if is_offered c from r n d x then offer_step c n d s (offer_of c r n d x) else None
 
   -- what the first days of a row owe, and what a whole row costs its nurse and the staffing
   abbrev pub owed : Row → ℕ
   owed row = due c n (days_of row) + prices c r n row
 
   abbrev pub row_costs : Row → Option ℕ
-  row_costs row = if is_offered_row c r n row (length row) then Some (own_cost c n (days_of row) + prices c r n row) else None
+  row_costs row = if is_offered_row c from r n row (length row) then Some (own_cost c n (days_of row) + prices c r n row) else None
 
   -- ---- a row with one day more
 
@@ -69,17 +69,17 @@ module _ (c : Meaning) (r : Rows) (n : ℕ) where
   breaks_here days s = λ i. forbids c.successions (shift_before_more (last_shift (past_of c n).border) days s (length days) (omega arith) i) (shift_of_it days s i)
 
   abbrev rule : Row → ℕ → Bool
-  rule p d = is_offered c r n d (choice_on p d) && not (breaks_succession c n (days_of p) d)
+  rule p d = is_offered c from r n d (choice_on p d) && not (breaks_succession c n (days_of p) d)
 
-  offered_more : (p : Row) (x : Choice) → is_offered_row c r n (p ++ x ∷ []) (length (p ++ x ∷ [])) ≡ (is_offered_row c r n p (length p) && (is_offered c r n (length p) x && not (forbids c.successions (summary_of c n (days_of p)).last (shift_of x))))
+  offered_more : (p : Row) (x : Choice) → is_offered_row c from r n (p ++ x ∷ []) (length (p ++ x ∷ [])) ≡ (is_offered_row c from r n p (length p) && (is_offered c from r n (length p) x && not (forbids c.successions (summary_of c n (days_of p)).last (shift_of x))))
   unfolding summary_of
   offered_more p x =
       let q : Row = p ++ x ∷ [] in
       let m : length (days_of p) ≡ length p = length-map p shift_of in
       ap (λ m. all_below m (rule q)) (longer p x)
       ∙ ap₂ (λ a b. a && b)
-      (all_same (length p) (rule q) (rule p) (λ d h. ap₂ (λ a b. a && b) (ap (is_offered c r n d) (before p x d h)) (ap not (ap (λ days. breaks_succession c n days d) (days_more p x) ∙ breaks_before (days_of p) (shift_of x) d (omega arith)))))
-      (ap₂ (λ a b. a && b) (ap (is_offered c r n (length p)) (here p x)) (ap not (ap₂ (breaks_succession c n) (days_more p x) (sym m) ∙ breaks_here (days_of p) (shift_of x))))
+      (all_same (length p) (rule q) (rule p) (λ d h. ap₂ (λ a b. a && b) (ap (is_offered c from r n d) (before p x d h)) (ap not (ap (λ days. breaks_succession c n days d) (days_more p x) ∙ breaks_before (days_of p) (shift_of x) d (omega arith)))))
+      (ap₂ (λ a b. a && b) (ap (is_offered c from r n (length p)) (here p x)) (ap not (ap₂ (breaks_succession c n) (days_more p x) (sym m) ∙ breaks_here (days_of p) (shift_of x))))
 
   prices_more : (p : Row) (x : Choice) → prices c r n (p ++ x ∷ []) ≡ prices c r n p + price c r n (length p) x
   prices_more p x =
@@ -99,14 +99,14 @@ module _ (c : Meaning) (r : Rows) (n : ℕ) where
 
   -- ---- the rest of a row, from the state behind its first days on
 
-  pub costs_by_states : (rest p : Row) → row_costs (p ++ rest) ≡ (if is_offered_row c r n p (length p) then plus (owed p) (cost_from choice_step (end_cost_of c n) (length p) (summary_of c n (days_of p)) rest) else None)
+  pub costs_by_states : (rest p : Row) → row_costs (p ++ rest) ≡ (if is_offered_row c from r n p (length p) then plus (owed p) (cost_from choice_step (end_cost_of c n) (length p) (summary_of c n (days_of p)) rest) else None)
   costs_by_states [] p =
       let all : own_cost c n (days_of p) + prices c r n p ≡ owed p + end_cost_of c n (summary_of c n (days_of p)) = omega (arith, closes c n (days_of p)) in
-      ap row_costs (append-nil p) ∙ (λ i. if is_offered_row c r n p (length p) then Some (all i) else None)
+      ap row_costs (append-nil p) ∙ (λ i. if is_offered_row c from r n p (length p) then Some (all i) else None)
   costs_by_states (x ∷ rest) p =
       let s : Summary = summary_of c n (days_of p) in
       ap row_costs (sym (append_assoc p (x ∷ []) rest))
       ∙ costs_by_states rest (p ++ x ∷ [])
       ∙ (λ i. if offered_more p x i then plus (owed_with p x i) (cost_from choice_step (end_cost_of c n) (longer p x i) (summary_with p x i) rest) else None)
-      ∙ one_step (is_offered_row c r n p (length p)) (is_offered c r n (length p) x) (forbids c.successions s.last (shift_of x)) (owed p) (price c r n (length p) x) (step_cost c n (length p) s (shift_of x)) (next_of c n (length p) s (shift_of x))
+      ∙ one_step (is_offered_row c from r n p (length p)) (is_offered c from r n (length p) x) (forbids c.successions s.last (shift_of x)) (owed p) (price c r n (length p) x) (step_cost c n (length p) s (shift_of x)) (next_of c n (length p) s (shift_of x))
       (λ t. cost_from choice_step (end_cost_of c n) (suc (length p)) t rest)

@@ -6,7 +6,7 @@ use Rattle.roster_rules.specs.Choices.{all_choices, shift_of}
 use Rattle.roster_rules.specs.Meaning.{Meaning, day_count}
 use Rattle.roster_rules.specs.Prefix.{Summary, summary_of}
 use Rattle.roster_rules.specs.Rosters.{Row, Rows}
-use Rattle.roster_laws.specs.OneRow.{is_offered, price}
+use Rattle.roster_laws.specs.OneRow.{is_offered, is_open, price}
 use Rattle.roster_state.specs.Step.{end_cost_of, step_of}
 use Rattle.roster_search.specs.declared.offer.Offer.{Offer}
 use Rattle.roster_search.specs.Cheapest.{Priced}
@@ -15,9 +15,13 @@ use Rattle.roster_search.specs.ByStates.{Steps, best_from}
 abbrev pub offer_of : Meaning → Rows → ℕ → ℕ → Choice → Offer
 offer_of c r n d choice = record { choice = choice; price = price c r n d choice }
 
--- the offers of a nurse on a day
-abbrev pub offers_of : Meaning → Rows → ℕ → ℕ → List Offer
-offers_of c r n d = map (offer_of c r n d) (filter (is_offered c r n d) (all_choices c))
+-- what is open to a nurse on a day
+abbrev pub open_offers : Meaning → Rows → ℕ → ℕ → List Offer
+open_offers c r n d = map (offer_of c r n d) (filter (is_open c r n d) (all_choices c))
+
+-- the offers of a nurse on a day, where the days before week `from` are frozen
+abbrev pub offers_of : Meaning → ℕ → Rows → ℕ → ℕ → List Offer
+offers_of c from r n d = map (offer_of c r n d) (filter (is_offered c from r n d) (all_choices c))
 
 -- ---- one offer for each shift
 
@@ -39,8 +43,8 @@ cheapest_by_shift [] = []
 cheapest_by_shift (x ∷ xs) = in_front x (cheapest_by_shift xs)
 
 -- the cheapest offers of a nurse on a day
-abbrev pub shift_offers : Meaning → Rows → ℕ → ℕ → List Offer
-shift_offers c r n d = cheapest_by_shift (offers_of c r n d)
+abbrev pub shift_offers : Meaning → ℕ → Rows → ℕ → ℕ → List Offer
+shift_offers c from r n d = cheapest_by_shift (offers_of c from r n d)
 
 -- ---- the search over offers
 
@@ -60,5 +64,5 @@ abbrev pub best_of_offers : Meaning → ℕ → (ℕ → List Offer) → (m d : 
 best_of_offers c n offers m d s = best_from offers (offer_step c n) (end_cost_of c n) m d s
 
 -- the best row of a nurse
-abbrev pub best_by_states : Meaning → Rows → ℕ → Priced (List Offer)
-best_by_states c r n = best_of_offers c n (offers_of c r n) (day_count c) 0 (summary_of c n [])
+abbrev pub best_by_states : Meaning → ℕ → Rows → ℕ → Priced (List Offer)
+best_by_states c from r n = best_of_offers c n (offers_of c from r n) (day_count c) 0 (summary_of c n [])

@@ -1,18 +1,18 @@
 //! The best row is found from state to state. The functions here do nothing: each is a law, and its clauses say it.
 
-ghost use Rattle.std.specs.Prelude.{◌≡◌, ◌+◌, ◌<◌, ◌≤◌, ℕ, true, [], All, Contains, List, IsSome, Some, length};
-ghost use Rattle.roster_rules.specs.AllowedRows.{IsBestRow, penalty_with};
+ghost use Rattle.std.specs.Prelude.{◌≡◌, ◌+◌, ◌<◌, ◌≤◌, ℕ, true, false, [], ◌∷◌, All, Contains, List, IsSome, Some, length};
+ghost use Rattle.roster_rules.specs.AllowedRows.{IsBestRow, is_frozen, penalty_with};
 ghost use Rattle.roster_rules.specs.HardRules.{keeps_hard};
 ghost use Rattle.roster_rules.specs.Limits.{most_shifts, most_skills, most_weeks};
 ghost use Rattle.roster_rules.specs.Meaning.{Meaning, day_count, nurse_count, shift_count, skill_count, week_count};
 ghost use Rattle.roster_rules.specs.Prefix.{Summary, due};
-ghost use Rattle.roster_rules.specs.Rosters.{Rows, fits_case};
+ghost use Rattle.roster_rules.specs.Rosters.{Rows, choice_on, fits_case, row_of};
 ghost use Rattle.roster_rules.specs.Sizes.{choice_count};
 ghost use Rattle.roster_rules.specs.Small.{HasSmallNumbers};
 ghost use Rattle.roster_laws.specs.OneRow.{rest_of};
 ghost use Rattle.roster_search.specs.ByStates.{Steps, best_from, cost_from, rows_from};
 ghost use Rattle.roster_search.specs.Cheapest.{cheapest, with_cost};
-ghost use Rattle.roster_search.specs.Offers.{best_by_states, best_of_offers, cheapest_by_shift, choices_of, offers_of, shift_offers};
+ghost use Rattle.roster_search.specs.Offers.{best_by_states, best_of_offers, cheapest_by_shift, choices_of, offer_of, offers_of, open_offers, shift_offers};
 ghost use Rattle.roster_search.specs.Tables.{IsOfferOf, no_row};
 ghost use Rattle.roster_search.specs.declared.offer.Offer.{Offer};
 
@@ -26,18 +26,21 @@ pub fn cheapest_row_is_found_by_states()
 /// row, and the roster's penalty with it is what the other nurses' rows cost, what the start owes, and the cost that the search
 /// gives. In a case with small numbers that cost is below the label of no row.
 pub fn best_row_is_found_by_states()
-    ensures some { (c : Meaning) (r : Rows) → fits_case c r ≡ true → keeps_hard c r ≡ true → (n : ℕ) → n < nurse_count c → IsSome (best_by_states c r n) }
-    ensures best { (c : Meaning) (r : Rows) → fits_case c r ≡ true → keeps_hard c r ≡ true → (n : ℕ) → n < nurse_count c → (cost : ℕ) (offers : List Offer) → best_by_states c r n ≡ Some (cost, offers) → IsBestRow c r n (choices_of offers) }
-    ensures below { (c : Meaning) (r : Rows) → fits_case c r ≡ true → keeps_hard c r ≡ true → (n : ℕ) → n < nurse_count c → (cost : ℕ) (offers : List Offer) → best_by_states c r n ≡ Some (cost, offers) → HasSmallNumbers c → shift_count c ≤ most_shifts → skill_count c ≤ most_skills → week_count c ≤ most_weeks → cost < no_row }
-    ensures penalty { (c : Meaning) (r : Rows) → fits_case c r ≡ true → keeps_hard c r ≡ true → (n : ℕ) → n < nurse_count c → (cost : ℕ) (offers : List Offer) → best_by_states c r n ≡ Some (cost, offers) → penalty_with c r n (choices_of offers) ≡ rest_of c r n + due c n [] + cost }
+    ensures some { (c : Meaning) (from : ℕ) (r : Rows) → fits_case c r ≡ true → keeps_hard c r ≡ true → (n : ℕ) → n < nurse_count c → IsSome (best_by_states c from r n) }
+    ensures best { (c : Meaning) (from : ℕ) (r : Rows) → fits_case c r ≡ true → keeps_hard c r ≡ true → (n : ℕ) → n < nurse_count c → (cost : ℕ) (offers : List Offer) → best_by_states c from r n ≡ Some (cost, offers) → IsBestRow c from r n (choices_of offers) }
+    ensures below { (c : Meaning) (from : ℕ) (r : Rows) → fits_case c r ≡ true → keeps_hard c r ≡ true → (n : ℕ) → n < nurse_count c → (cost : ℕ) (offers : List Offer) → best_by_states c from r n ≡ Some (cost, offers) → HasSmallNumbers c → shift_count c ≤ most_shifts → skill_count c ≤ most_skills → week_count c ≤ most_weeks → cost < no_row }
+    ensures penalty { (c : Meaning) (from : ℕ) (r : Rows) → fits_case c r ≡ true → keeps_hard c r ≡ true → (n : ℕ) → n < nurse_count c → (cost : ℕ) (offers : List Offer) → best_by_states c from r n ≡ Some (cost, offers) → penalty_with c r n (choices_of offers) ≡ rest_of c r n + due c n [] + cost }
 {}
 
 /// The offers of a day are choices of the case at small prices, and not more than the nurse has choices. For a roster that fits
-/// the case and keeps the hard rules there is one at least.
+/// the case and keeps the hard rules there is one at least, and on a frozen day just one: the present choice. On another day all
+/// that is open is offered.
 pub fn offers_are_few()
-    ensures each { (c : Meaning) → HasSmallNumbers c → shift_count c ≤ most_shifts → skill_count c ≤ most_skills → (r : Rows) (n d : ℕ) → All (IsOfferOf c) (offers_of c r n d) }
-    ensures few { (c : Meaning) (r : Rows) (n d : ℕ) → length (offers_of c r n d) ≤ choice_count c n }
-    ensures some { (c : Meaning) (r : Rows) → fits_case c r ≡ true → keeps_hard c r ≡ true → (n : ℕ) → n < nurse_count c → (d : ℕ) → d < day_count c → 0 < length (offers_of c r n d) }
+    ensures each { (c : Meaning) → HasSmallNumbers c → shift_count c ≤ most_shifts → skill_count c ≤ most_skills → (from : ℕ) (r : Rows) (n d : ℕ) → All (IsOfferOf c) (offers_of c from r n d) }
+    ensures few { (c : Meaning) (from : ℕ) (r : Rows) (n d : ℕ) → length (offers_of c from r n d) ≤ choice_count c n }
+    ensures some { (c : Meaning) (from : ℕ) (r : Rows) → fits_case c r ≡ true → keeps_hard c r ≡ true → (n : ℕ) → n < nurse_count c → (d : ℕ) → d < day_count c → 0 < length (offers_of c from r n d) }
+    ensures frozen { (c : Meaning) (from : ℕ) (r : Rows) → fits_case c r ≡ true → keeps_hard c r ≡ true → (n : ℕ) → n < nurse_count c → (d : ℕ) → d < day_count c → is_frozen from d ≡ true → offers_of c from r n d ≡ offer_of c r n d (choice_on (row_of r n) d) ∷ [] }
+    ensures free { (c : Meaning) (from : ℕ) (r : Rows) (n d : ℕ) → is_frozen from d ≡ false → offers_of c from r n d ≡ open_offers c r n d }
 {}
 
 /// Of the offers for one shift the first of the cheapest is enough: over these the best row, with its cost, is the best row over
@@ -48,5 +51,5 @@ pub fn one_offer_for_each_shift_is_enough()
     ensures among { (offers : List Offer) (x : Offer) → Contains (cheapest_by_shift offers) x → Contains offers x }
     ensures fewer { (offers : List Offer) → length (cheapest_by_shift offers) ≤ length offers }
     ensures some { (offers : List Offer) → 0 < length offers → 0 < length (cheapest_by_shift offers) }
-    ensures few { (c : Meaning) (r : Rows) (n d : ℕ) → length (shift_offers c r n d) ≤ 1 + shift_count c }
+    ensures few { (c : Meaning) (from : ℕ) (r : Rows) (n d : ℕ) → length (shift_offers c from r n d) ≤ 1 + shift_count c }
 {}

@@ -1,4 +1,4 @@
-use Rattle.roster_laws.proofs.Keeps.{keeps_hard-with_row}
+use Rattle.roster_laws.proofs.Keeps.{allowed-with_row, keeps_hard-with_row}
 use Rattle.roster_laws.proofs.OneRow.{cover-with_row, penalty-with_row}
 use Rattle.roster_laws.proofs.replaced.one_row_replaced.Goals as goal
 
@@ -10,3 +10,6 @@ returns-clause-penalty c m r n within inside row days = penalty-with_row r n wit
 
 pub returns-clause-keeps : goal.returns-clause-keeps
 returns-clause-keeps c = keeps_hard-with_row
+
+pub returns-clause-allowed : goal.returns-clause-allowed
+returns-clause-allowed c = allowed-with_row
