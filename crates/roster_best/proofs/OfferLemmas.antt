@@ -16,7 +16,7 @@ use Rattle.roster_instance.specs.Rosters.{Rows}
 use Rattle.roster_rules.specs.HardRules.{is_able}
 use Rattle.roster_rules.specs.Penalties.{off_request_cost_on}
 use Rattle.roster_rules.specs.Weights.{staffing_weight}
-use Rattle.roster_case.specs.OneRow.{is_offered, others}
+use Rattle.roster_case.specs.OneRow.{is_open, others}
 use Rattle.roster_case.specs.Staffing.{lacking, with_choice}
 use Rattle.roster_case.proofs.Lacking.{lacking-off, lacking-work, meets-lacking, staffing-lacking}
 use Rattle.roster_search.specs.declared.Offer.{Offer}
@@ -34,16 +34,16 @@ module _ (c : Meaning) (r : Rows) (n d : ℕ) where
 
   -- what is offered of these choices
   abbrev pub offers_among : List Choice → List Offer
-  offers_among choices = map (offer_of c r n d) (filter (is_offered c r n d) choices)
+  offers_among choices = map (offer_of c r n d) (filter (is_open c r n d) choices)
 
   abbrev pub offered : Choice → Option Offer
-  offered choice = if is_offered c r n d choice then Some (offer_of c r n d choice) else None
+  offered choice = if is_open c r n d choice then Some (offer_of c r n d choice) else None
 
   offers_both : (xs ys : List Choice) → offers_among (xs ++ ys) ≡ offers_among xs ++ offers_among ys
-  offers_both xs ys = ap (map (offer_of c r n d)) (filter-append (is_offered c r n d) xs ys) ∙ map-append (offer_of c r n d) (filter (is_offered c r n d) xs) (filter (is_offered c r n d) ys)
+  offers_both xs ys = ap (map (offer_of c r n d)) (filter-append (is_open c r n d) xs ys) ∙ map-append (offer_of c r n d) (filter (is_open c r n d) xs) (filter (is_open c r n d) ys)
 
   offers_one : (x : Choice) → offers_among (x ∷ []) ≡ option_to_list (offered x)
-  offers_one x = go (is_offered c r n d x)
+  offers_one x = go (is_open c r n d x)
     where
       go : (b : Bool) → map (offer_of c r n d) (if b then x ∷ [] else []) ≡ option_to_list (if b then Some (offer_of c r n d x) else None)
       go true = refl
@@ -81,6 +81,11 @@ module _ (c : Meaning) (r : Rows) (n d : ℕ) where
       let met = ap (λ m. m == 0) least_is ∙ sym (meets-lacking c d have) in
       let staffed = ap (λ m. staffing_weight * m) most_is ∙ sym (staffing-lacking c d have) in
       (λ i. if able_is i && met i then Some (record { choice = choice; price = staffed i + asked_is i }) else None)
+
+  -- the only offer: one choice that is open
+  pub offer_alone : (choice now : Choice) (start items : List Offer) (o : Option Offer) → items ≡ start ++ option_to_list o → start ≡ [] → o ≡ offered choice → choice ≡ now → is_open c r n d now ≡ true → items ≡ offer_of c r n d now ∷ []
+  offer_alone choice now start items o pushed none is same is_so =
+      pushed ∙ (λ i. none i ++ option_to_list ((is ∙ ap offered same ∙ ap (λ b. if b then Some (offer_of c r n d now) else None) is_so) i))
 
   -- ---- what the day lacks with the nurse
 

@@ -33,23 +33,23 @@ use Rattle.roster_lanes.specs.Lanes.{SameOutside}
 use Rattle.roster_search.specs.Tables.{AreLabels, ArePointers, BeginsWith, BestOnward, IsOfferOf, LeadsOn, PointsWhereBest, Stands, best_at_end, best_by, best_on, no_row}
 use Rattle.roster_best.specs.Workspaces.{AreasLead, PointersFrom, areas_on, onward, search_day}
 
-module _ (c : Meaning) (r : Rows) (n : ℕ) where
+module _ (c : Meaning) (from : ℕ) (r : Rows) (n : ℕ) where
   -- ---- the best row from a day on
 
-  pub onward-first : onward c r n 0 (summary_of c n []) ≡ best_by_states c r n
-  onward-first = ap (λ m. best_of_offers c n (shift_offers c r n) m 0 (summary_of c n [])) all ∙ best_by_shift c n (offers_of c r n) (day_count c) 0 (summary_of c n [])
+  pub onward-first : onward c from r n 0 (summary_of c n []) ≡ best_by_states c from r n
+  onward-first = ap (λ m. best_of_offers c n (shift_offers c from r n) m 0 (summary_of c n [])) all ∙ best_by_shift c n (offers_of c from r n) (day_count c) 0 (summary_of c n [])
     where
       all : day_count c - 0 ≡ day_count c
       all = omega arith
 
-  pub onward-last : onward c r n (day_count c) ≡ best_at_end c n
-  onward-last = λ i s. best_of_offers c n (shift_offers c r n) (none i) (day_count c) s
+  pub onward-last : onward c from r n (day_count c) ≡ best_at_end c n
+  onward-last = λ i s. best_of_offers c n (shift_offers c from r n) (none i) (day_count c) s
     where
       none : day_count c - day_count c ≡ 0
       none = omega arith
 
-  pub onward-day : (d : ℕ) → d < day_count c → onward c r n d ≡ best_on c (search_day c n d) (shift_offers c r n d) (onward c r n (d + 1))
-  onward-day d within = (λ i s. best_of_offers c n (shift_offers c r n) (more i) d s) ∙ (λ i s. cheapest (λ x. best_behind x (offer_step c n d s x) (best_of_offers c n (shift_offers c r n) (day_count c - (d + 1)) (next i))) (shift_offers c r n d))
+  pub onward-day : (d : ℕ) → d < day_count c → onward c from r n d ≡ best_on c (search_day c n d) (shift_offers c from r n d) (onward c from r n (d + 1))
+  onward-day d within = (λ i s. best_of_offers c n (shift_offers c from r n) (more i) d s) ∙ (λ i s. cheapest (λ x. best_behind x (offer_step c n d s x) (best_of_offers c n (shift_offers c from r n) (day_count c - (d + 1)) (next i))) (shift_offers c from r n d))
     where
       more : day_count c - d ≡ suc (day_count c - (d + 1))
       more = omega (arith, within)
@@ -59,7 +59,7 @@ module _ (c : Meaning) (r : Rows) (n : ℕ) where
 
   -- ---- the tables of a day more
 
-  pub labels_before : (d : ℕ) → d < day_count c → (areas : List Area) (labels : List ℕ) → AreLabels c n areas (best_on c (search_day c n d) (shift_offers c r n d) (onward c r n (d + 1))) labels → AreLabels c n areas (onward c r n d) labels
+  pub labels_before : (d : ℕ) → d < day_count c → (areas : List Area) (labels : List ℕ) → AreLabels c n areas (best_on c (search_day c n d) (shift_offers c from r n d) (onward c from r n (d + 1))) labels → AreLabels c n areas (onward c from r n d) labels
   labels_before d within areas labels = subst (λ best. AreLabels c n areas best labels) (sym (onward-day d within))
 
   abbrev size : ℕ
@@ -67,19 +67,19 @@ module _ (c : Meaning) (r : Rows) (n : ℕ) where
 
   module _ (areas : List (List Area)) where
     abbrev DayPointed : List ℕ → ℕ → ℕ → Type 0
-    DayPointed pointers first d = ArePointers c (search_day c n d) (areas_on areas d) (shift_offers c r n d) (onward c r n (d + 1)) first pointers
+    DayPointed pointers first d = ArePointers c (search_day c n d) (areas_on areas d) (shift_offers c from r n d) (onward c from r n (d + 1)) first pointers
 
-    pub pointers_before : (d first : ℕ) (old new : List ℕ) → first ≡ d * size → DayPointed new first d → SameOutside first (first + size) old new → PointersFrom c r n areas (d + 1) old → PointersFrom c r n areas d new
-    pointers_before d first old new is here same later day from within = go (cases_lt d day)
+    pub pointers_before : (d first : ℕ) (old new : List ℕ) → first ≡ d * size → DayPointed new first d → SameOutside first (first + size) old new → PointersFrom c from r n areas (d + 1) old → PointersFrom c from r n areas d new
+    pointers_before d first old new is here same later day low within = go (cases_lt d day)
       where
         go : (d < day) ⊎ (day ≤ d) → DayPointed new (day * size) day
         go (inl behind) = λ s stands.
             let code = code_of (sizes_of c n) s in
             let place : first + size ≤ day * size + code = omega (arith, is, mul-le (d + 1) size day size (omega (arith, behind)) (omega arith)) in
-            subst (PointsWhereBest (best_by c (search_day c n day) (onward c r n (day + 1)) s) (shift_offers c r n day) (best_on c (search_day c n day) (shift_offers c r n day) (onward c r n (day + 1)) s))
+            subst (PointsWhereBest (best_by c (search_day c n day) (onward c from r n (day + 1)) s) (shift_offers c from r n day) (best_on c (search_day c n day) (shift_offers c from r n day) (onward c from r n (day + 1)) s))
             (sym (same.behind (day * size + code) place)) (later day (omega (arith, behind)) within s stands)
         go (inr this) =
-            let same_day : d ≡ day = omega (arith, this, from) in
+            let same_day : d ≡ day = omega (arith, this, low) in
             subst (λ k. DayPointed new (k * size) k) same_day (subst (λ place. DayPointed new place d) is here)
 
 -- ---- the states that stand on a day: there is one
@@ -104,28 +104,28 @@ some_cheapest f P (y ∷ ys) all some = elim (some_of_both (f y) (cheapest f ys)
 ]
 
 -- a state that stands on a day, from which a row goes on
-pub record GoesOn (c : Meaning) (r : Rows) (n : ℕ) (areas : List (List Area)) (day : ℕ) : Type 0 where
+pub record GoesOn (c : Meaning) (from : ℕ) (r : Rows) (n : ℕ) (areas : List (List Area)) (day : ℕ) : Type 0 where
   pub state : Summary
   pub stands : Stands c n (areas_on areas day) state
-  pub some : IsSome (onward c r n day state)
+  pub some : IsSome (onward c from r n day state)
 
-module _ (c : Meaning) (r : Rows) (n : ℕ) (areas : List (List Area)) (lead : AreasLead c r n areas) where
-  next_on : (day : ℕ) → day < day_count c → GoesOn c r n areas day → GoesOn c r n areas (day + 1)
+module _ (c : Meaning) (from : ℕ) (r : Rows) (n : ℕ) (areas : List (List Area)) (lead : AreasLead c from r n areas) where
+  next_on : (day : ℕ) → day < day_count c → GoesOn c from r n areas day → GoesOn c from r n areas (day + 1)
   next_on day within at =
       let s = at.state in
-      let later = onward c r n (day + 1) in
-      let some : IsSome (best_on c (search_day c n day) (shift_offers c r n day) later s) = subst (λ (f : BestOnward). IsSome (f s)) (onward-day c r n day within) at.some in
-      let found = some_cheapest (best_by c (search_day c n day) later s) (LeadsOn c (search_day c n day) (areas_on areas day) (areas_on areas (day + 1))) (shift_offers c r n day) (lead day within) some in
+      let later = onward c from r n (day + 1) in
+      let some : IsSome (best_on c (search_day c n day) (shift_offers c from r n day) later s) = subst (λ (f : BestOnward). IsSome (f s)) (onward-day c from r n day within) at.some in
+      let found = some_cheapest (best_by c (search_day c n day) later s) (LeadsOn c (search_day c n day) (areas_on areas day) (areas_on areas (day + 1))) (shift_offers c from r n day) (lead day within) some in
       let step = some_behind later found.0 (step_of c n day s (shift_of found.0.choice)) found.2 in
       record { state = step.0.0; stands = found.1 s step.0 at.stands step.1; some = step.2 }
 
-  pub goes_on : Stands c n (areas_on areas 0) (summary_of c n []) → IsSome (best_by_states c r n) → (day : ℕ) → day ≤ day_count c → GoesOn c r n areas day
-  goes_on start some zero within = record { state = summary_of c n []; stands = start; some = subst (λ (p : Priced (List Offer)). IsSome p) (sym (onward-first c r n)) some }
-  goes_on start some (suc day) within = subst (GoesOn c r n areas) (omega arith) (next_on day (omega (arith, within)) (goes_on start some day (omega (arith, within))))
+  pub goes_on : Stands c n (areas_on areas 0) (summary_of c n []) → IsSome (best_by_states c from r n) → (day : ℕ) → day ≤ day_count c → GoesOn c from r n areas day
+  goes_on start some zero within = record { state = summary_of c n []; stands = start; some = subst (λ (p : Priced (List Offer)). IsSome p) (sym (onward-first c from r n)) some }
+  goes_on start some (suc day) within = subst (GoesOn c from r n areas) (omega arith) (next_on day (omega (arith, within)) (goes_on start some day (omega (arith, within))))
 
 -- ---- the areas of a day more
 
-module _ (c : Meaning) (r : Rows) (n : ℕ) (areas : List (List Area)) (day : ℕ) (inside : day + 1 < length areas) (behind : List Area) where
+module _ (c : Meaning) (from : ℕ) (r : Rows) (n : ℕ) (areas : List (List Area)) (day : ℕ) (inside : day + 1 < length areas) (behind : List Area) where
   abbrev with_day : List (List Area)
   with_day = slice_set areas (day + 1) behind
 
@@ -136,38 +136,38 @@ module _ (c : Meaning) (r : Rows) (n : ℕ) (areas : List (List Area)) (day : �
   day_kept d up_to = let ne : d ≢ day + 1 = omega arith in get_or-set_other areas (day + 1) d behind [] ne
 
   abbrev LeadOn : List (List Area) → ℕ → Type 0
-  LeadOn table d = All (LeadsOn c (search_day c n d) (areas_on table d) (areas_on table (d + 1))) (shift_offers c r n d)
+  LeadOn table d = All (LeadsOn c (search_day c n d) (areas_on table d) (areas_on table (d + 1))) (shift_offers c from r n d)
 
-  pub lead_more : All (LeadsOn c (search_day c n day) (areas_on areas day) behind) (shift_offers c r n day) → ((d : ℕ) → d < day → LeadOn areas d) → (d : ℕ) → d < day + 1 → LeadOn with_day d
+  pub lead_more : All (LeadsOn c (search_day c n day) (areas_on areas day) behind) (shift_offers c from r n day) → ((d : ℕ) → d < day → LeadOn areas d) → (d : ℕ) → d < day + 1 → LeadOn with_day d
   lead_more here before d below = go (cases_lt d day)
     where
       go : (d < day) ⊎ (day ≤ d) → LeadOn with_day d
-      go (inl low) = transport (λ i. All (LeadsOn c (search_day c n d) (sym (day_kept d (omega (arith, low))) i) (sym (day_kept (d + 1) (omega (arith, low))) i)) (shift_offers c r n d)) (before d low)
+      go (inl low) = transport (λ i. All (LeadsOn c (search_day c n d) (sym (day_kept d (omega (arith, low))) i) (sym (day_kept (d + 1) (omega (arith, low))) i)) (shift_offers c from r n d)) (before d low)
       go (inr high) =
           let is : day ≡ d = omega (arith, high, below) in
-          subst (LeadOn with_day) is (transport (λ i. All (LeadsOn c (search_day c n day) (sym (day_kept day (omega arith)) i) (sym day_set i)) (shift_offers c r n day)) here)
+          subst (LeadOn with_day) is (transport (λ i. All (LeadsOn c (search_day c n day) (sym (day_kept day (omega arith)) i) (sym day_set i)) (shift_offers c from r n day)) here)
 
 -- ---- the row, read forward
 
 -- the first choices of the row are read, and the others are those of the best row from this state on
-pub record IsReadTo (c : Meaning) (r : Rows) (n day : ℕ) (s : Summary) (row : Row) (best : List Offer) : Type 0 where
+pub record IsReadTo (c : Meaning) (from : ℕ) (r : Rows) (n day : ℕ) (s : Summary) (row : Row) (best : List Offer) : Type 0 where
   pub cost : ℕ
   pub rest : List Offer
-  pub is : onward c r n day s ≡ Some (cost, rest)
+  pub is : onward c from r n day s ≡ Some (cost, rest)
   pub low : cost < no_row
   pub split : choices_of best ≡ take day row ++ choices_of rest
 
-module _ (c : Meaning) (r : Rows) (n : ℕ) where
-  pub read_first : (cost : ℕ) (best : List Offer) (s : Summary) (row : Row) → s ≡ summary_of c n [] → best_by_states c r n ≡ Some (cost, best) → cost < no_row → IsReadTo c r n 0 s row best
+module _ (c : Meaning) (from : ℕ) (r : Rows) (n : ℕ) where
+  pub read_first : (cost : ℕ) (best : List Offer) (s : Summary) (row : Row) → s ≡ summary_of c n [] → best_by_states c from r n ≡ Some (cost, best) → cost < no_row → IsReadTo c from r n 0 s row best
   read_first cost best s row start is low = record {
     cost = cost;
     rest = best;
-    is = ap (onward c r n 0) start ∙ onward-first c r n ∙ is;
+    is = ap (onward c from r n 0) start ∙ onward-first c from r n ∙ is;
     low = low;
     split = refl;
   }
 
-  pub read_on : (day : ℕ) (s next : Summary) (row : Row) (choice : Choice) (best : List Offer) → day < length row → (so_far : IsReadTo c r n day s row best) → BeginsWith (onward c r n (day + 1)) (so_far.cost, so_far.rest) choice next → IsReadTo c r n (day + 1) next (slice_set row day choice) best
+  pub read_on : (day : ℕ) (s next : Summary) (row : Row) (choice : Choice) (best : List Offer) → day < length row → (so_far : IsReadTo c from r n day s row best) → BeginsWith (onward c from r n (day + 1)) (so_far.cost, so_far.rest) choice next → IsReadTo c from r n (day + 1) next (slice_set row day choice) best
   read_on day s next row choice best within so_far begins = record {
     cost = begins.cost;
     rest = begins.others;
@@ -182,12 +182,12 @@ module _ (c : Meaning) (r : Rows) (n : ℕ) where
   }
 
   -- the day has a row from here on, and it is low
-  module _ (day : ℕ) (within : day < day_count c) (s : Summary) (row : Row) (best : List Offer) (read : IsReadTo c r n day s row best) where
+  module _ (day : ℕ) (within : day < day_count c) (s : Summary) (row : Row) (best : List Offer) (read : IsReadTo c from r n day s row best) where
     abbrev here : Priced (List Offer)
-    here = best_on c (search_day c n day) (shift_offers c r n day) (onward c r n (day + 1)) s
+    here = best_on c (search_day c n day) (shift_offers c from r n day) (onward c from r n (day + 1)) s
 
     here_is : here ≡ Some (read.cost, read.rest)
-    here_is = sym (ap (λ (f : BestOnward). f s) (onward-day c r n day within)) ∙ read.is
+    here_is = sym (ap (λ (f : BestOnward). f s) (onward-day c from r n day within)) ∙ read.is
 
     pub reads_some : IsSome here
     reads_some = ap is_some here_is
@@ -195,9 +195,9 @@ module _ (c : Meaning) (r : Rows) (n : ℕ) where
     pub reads_low : IfSome here (λ p. p.0 < no_row)
     reads_low = subst (λ (o : Priced (List Offer)). IfSome o (λ p. p.0 < no_row)) (sym here_is) read.low
 
-  pub read_last : (s : Summary) (row : Row) (best : List Offer) → IsReadTo c r n (day_count c) s row best → take (day_count c) row ≡ choices_of best
+  pub read_last : (s : Summary) (row : Row) (best : List Offer) → IsReadTo c from r n (day_count c) s row best → take (day_count c) row ≡ choices_of best
   read_last s row best read =
-      let nothing_left : [] ≡ read.rest = ap (thing_or []) (sym (ap (λ (f : BestOnward). f s) (onward-last c r n)) ∙ read.is) in
+      let nothing_left : [] ≡ read.rest = ap (thing_or []) (sym (ap (λ (f : BestOnward). f s) (onward-last c from r n)) ∙ read.is) in
       sym (read.split ∙ ap (λ rest. take (day_count c) row ++ choices_of rest) (sym nothing_left) ∙ append-nil (take (day_count c) row))
 
 -- ---- the greatest number of states, one nurse more
@@ -215,12 +215,12 @@ all_nurses c greatest n is all = is ∙ ap (λ m. greatest_of (map (state_count 
 
 -- ---- a day's offers are taken, also where the case is known by an equation alone
 
-pub offers_taken : (k m : Meaning) → k ≡ m → HasSmallNumbers m → shift_count m ≤ most_shifts → skill_count m ≤ most_skills → (r : Rows) (n d : ℕ) (offers : List Offer) → offers ≡ shift_offers k r n d → All (IsOfferOf m) offers
-offers_taken k m same small shifts skills r n d offers is =
-    subst (λ os. All (IsOfferOf m) os) (sym (is ∙ ap (λ (x : Meaning). shift_offers x r n d) same)) (by_shift_all (IsOfferOf m) (offers_of m r n d) (offers_of_case m r n d small shifts skills))
+pub offers_taken : (k m : Meaning) → k ≡ m → HasSmallNumbers m → shift_count m ≤ most_shifts → skill_count m ≤ most_skills → (from : ℕ) (r : Rows) (n d : ℕ) (offers : List Offer) → offers ≡ shift_offers k from r n d → All (IsOfferOf m) offers
+offers_taken k m same small shifts skills from r n d offers is =
+    subst (λ os. All (IsOfferOf m) os) (sym (is ∙ ap (λ (x : Meaning). shift_offers x from r n d) same)) (by_shift_all (IsOfferOf m) (offers_of m from r n d) (offers_of_case m from r n d small shifts skills))
 
-pub shift_offers_few : (c : Meaning) (r : Rows) (n d : ℕ) → length (shift_offers c r n d) ≤ choice_count c n
-shift_offers_few c r n d = omega (arith, by_shift_fewer (offers_of c r n d), offers_few c r n d)
+pub shift_offers_few : (c : Meaning) (from : ℕ) (r : Rows) (n d : ℕ) → length (shift_offers c from r n d) ≤ choice_count c n
+shift_offers_few c from r n d = omega (arith, by_shift_fewer (offers_of c from r n d), offers_few c from r n d)
 
 -- ---- a table that is written through its slice
 

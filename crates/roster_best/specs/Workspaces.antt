@@ -35,16 +35,16 @@ abbrev pub search_day : Meaning → ℕ → ℕ → SearchDay
 search_day c n day = record { nurse = n; day = day; ranges = sizes_of c n }
 
 -- the best row of the days from one on, from a state on, over one offer for each shift
-abbrev pub onward : Meaning → Rows → ℕ → ℕ → BestOnward
-onward c r n day s = best_of_offers c n (shift_offers c r n) (day_count c - day) day s
+abbrev pub onward : Meaning → ℕ → Rows → ℕ → ℕ → BestOnward
+onward c from r n day s = best_of_offers c n (shift_offers c from r n) (day_count c - day) day s
 
 -- the areas of a day
 abbrev pub areas_on : List (List Area) → ℕ → List Area
 areas_on areas day = slice_index_or areas day []
 
 -- each day's offers lead from its areas to those of the next day
-abbrev pub AreasLead : Meaning → Rows → ℕ → List (List Area) → Type 0
-AreasLead c r n areas = (day : ℕ) → day < day_count c → All (LeadsOn c (search_day c n day) (areas_on areas day) (areas_on areas (day + 1))) (shift_offers c r n day)
+abbrev pub AreasLead : Meaning → ℕ → Rows → ℕ → List (List Area) → Type 0
+AreasLead c from r n areas = (day : ℕ) → day < day_count c → All (LeadsOn c (search_day c n day) (areas_on areas day) (areas_on areas (day + 1))) (shift_offers c from r n day)
 
 -- a state that stands in these areas
 pub record SomeStands (c : Meaning) (n : ℕ) (areas : List Area) : Type 0 where
@@ -52,6 +52,6 @@ pub record SomeStands (c : Meaning) (n : ℕ) (areas : List Area) : Type 0 where
   pub stands : Stands c n areas state
 
 -- the pointers of each day from one on are right: places among these offers. The days stand one after another.
-abbrev pub PointersFrom : Meaning → Rows → ℕ → List (List Area) → ℕ → List ℕ → Type 0
-PointersFrom c r n areas from pointers =
-    (day : ℕ) → from ≤ day → day < day_count c → ArePointers c (search_day c n day) (areas_on areas day) (shift_offers c r n day) (onward c r n (day + 1)) (day * product (sizes_of c n)) pointers
+abbrev pub PointersFrom : Meaning → ℕ → Rows → ℕ → List (List Area) → ℕ → List ℕ → Type 0
+PointersFrom c from r n areas first pointers =
+    (day : ℕ) → first ≤ day → day < day_count c → ArePointers c (search_day c n day) (areas_on areas day) (shift_offers c from r n day) (onward c from r n (day + 1)) (day * product (sizes_of c n)) pointers

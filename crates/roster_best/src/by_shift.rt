@@ -13,14 +13,14 @@ use roster_search::Offer;
 /// The offers of a nurse on a day that the search goes over: to be off, and for each shift the cheapest, of equally cheap ones the
 /// first.
 #[tactic(auto, using(roster_search::proofs::ByShift::by_shift_few))]
-pub(crate) fn choices_by_shift(held: &Held, nurse: usize, day: u16) -> ArrayVec<Offer, 9>
+pub(crate) fn choices_by_shift(held: &Held, nurse: usize, day: u16, from: u16) -> ArrayVec<Offer, 9>
     requires nurse { nurse < nurse_count held.now.case }
     requires day { day < day_count held.now.case }
-    ensures offers { result.items ≡ shift_offers held.now.case held.now.roster nurse day }
+    ensures offers { result.items ≡ shift_offers held.now.case from held.now.roster nurse day }
     ensures few { length result.items ≤ 9 }
 {
     held.case().keeps_limits();
-    cheapest_by_shift(&choices(held, nurse, day))
+    cheapest_by_shift(&choices(held, nurse, day, from))
 }
 
 /// Of the offers for one shift, which stand side by side, the cheapest, of equally cheap ones the first.

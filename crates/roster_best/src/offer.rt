@@ -1,16 +1,18 @@
 //! What a nurse may do on a day, with its price.
 
-ghost use Rattle.std.specs.Prelude.{◌≡◌, ◌+◌, ◌-◌, ◌*◌, ◌<◌, ◌≤◌, ◌++◌, ◌&&◌, ◌==◌, if◌then◌else◌, length, nat_lt, Some, None};
+ghost use Rattle.std.specs.Prelude.{◌≡◌, ◌+◌, ◌-◌, ◌*◌, ◌<◌, ◌≤◌, ◌++◌, ◌&&◌, ◌==◌, if◌then◌else◌, [], ◌∷◌, length, nat_lt, true, Some, None};
 ghost use Rattle.std.specs.Option.{option_to_list};
 ghost use Rattle.roster_instance.specs.declared.Choice.TheVariants.{Off, Work};
 ghost use Rattle.roster_instance.specs.Counting.{one_if};
 ghost use Rattle.roster_instance.specs.Limits.{most_shifts, most_skills, most_small};
 ghost use Rattle.roster_instance.specs.Meaning.{day_count, minimum, nurse_count, optimum, shift_count, skill_count};
+ghost use Rattle.roster_instance.specs.Rosters.{choice_on, is_choice_of, row_of};
+ghost use Rattle.roster_rules.specs.AllowedRows.{is_frozen};
 ghost use Rattle.roster_rules.specs.Penalties.{off_request_cost_on};
 ghost use Rattle.roster_rules.specs.Weights.{off_request_weight};
-ghost use Rattle.roster_case.specs.OneRow.{is_offered, others};
+ghost use Rattle.roster_case.specs.OneRow.{is_open, others};
 ghost use Rattle.roster_case.specs.Staffing.{lacking, with_choice};
-ghost use Rattle.roster_search.specs.Offers.{offer_of, offers_of};
+ghost use Rattle.roster_search.specs.Offers.{offer_of, offers_of, open_offers};
 
 use arrayvec::ArrayVec;
 use roster_case::{Case, Choice, Held, Shift, Skill};
@@ -27,12 +29,43 @@ struct Lacking {
 
 /// What a nurse may do on a day while the others' rows stay, in the order of the choices: to be off, or to work a shift with one
 /// of the nurse's skills; each only where no minimum of the day is missed with it. The price is that of the day's staffing with
-/// this choice, and of an off request against it. The others are counted once for the day, not anew for each choice.
-#[tactic(auto, using(crate::proofs::OfferLemmas::offers_begin, crate::proofs::OfferLemmas::offers_skill, crate::proofs::OfferLemmas::offers_shift, crate::proofs::OfferLemmas::lacking_unchanged))]
-pub fn choices(held: &Held, nurse: usize, day: u16) -> ArrayVec<Offer, 65>
+/// this choice, and of an off request against it. The days of the weeks before week `from` are frozen: on these the nurse may do
+/// only what the roster says. Every `from` is allowed.
+pub fn choices(held: &Held, nurse: usize, day: u16, from: u16) -> ArrayVec<Offer, 65>
     requires nurse { nurse < nurse_count held.now.case }
     requires day { day < day_count held.now.case }
-    ensures offers { result.items ≡ offers_of held.now.case held.now.roster nurse day }
+    ensures offers { result.items ≡ offers_of held.now.case from held.now.roster nurse day }
+    ensures frozen { is_frozen from day ≡ true → result.items ≡ offer_of held.now.case held.now.roster nurse day (choice_on (row_of held.now.roster nurse) day) ∷ [] }
+    ensures few { length result.items ≤ 65 }
+{
+    let _ = held.roster();
+    if day / 7 < from {
+        return present_choice(held, nurse, day);
+    }
+    open_choices(held, nurse, day)
+}
+
+/// What the roster says that the nurse does on the day.
+fn present_choice(held: &Held, nurse: usize, day: u16) -> ArrayVec<Offer, 65>
+    requires nurse { nurse < nurse_count held.now.case }
+    requires day { day < day_count held.now.case }
+    ensures offer { result.items ≡ offer_of held.now.case held.now.roster nurse day (choice_on (row_of held.now.roster nurse) day) ∷ [] }
+{
+    let _ = held.roster();
+    let without = lacking_without(held, nurse, day);
+    let choice = held.row(nurse)[day as usize];
+    let lack = lacking_by(held, nurse, day, choice, without);
+    let mut offers = ArrayVec::new();
+    push_some(&mut offers, offered(held, nurse, day, choice, lack));
+    offers
+}
+
+/// All that the nurse may do on the day where it isn't frozen. The others are counted once for the day, not anew for each choice.
+#[tactic(auto, using(crate::proofs::OfferLemmas::offers_begin, crate::proofs::OfferLemmas::offers_skill, crate::proofs::OfferLemmas::offers_shift, crate::proofs::OfferLemmas::lacking_unchanged))]
+fn open_choices(held: &Held, nurse: usize, day: u16) -> ArrayVec<Offer, 65>
+    requires nurse { nurse < nurse_count held.now.case }
+    requires day { day < day_count held.now.case }
+    ensures offers { result.items ≡ open_offers held.now.case held.now.roster nurse day }
     ensures few { length result.items ≤ 65 }
 {
     let case = held.case();
@@ -61,13 +94,13 @@ fn push_some(offers: &mut ArrayVec<Offer, 65>, offer: Option<Offer>)
     }
 }
 
-/// The choice with its price, where it is offered, by what the day lacks with it.
+/// The choice with its price, where it is open, by what the day lacks with it.
 fn offered(held: &Held, nurse: usize, day: u16, choice: Choice, lack: Lacking) -> Option<Offer>
     requires nurse { nurse < nurse_count held.now.case }
     requires minimum { lack.minimum ≡ lacking held.now.case (minimum held.now.case day) (with_choice (others held.now.roster nurse day) choice) }
     requires optimum { lack.optimum ≡ lacking held.now.case (optimum held.now.case day) (with_choice (others held.now.roster nurse day) choice) }
     requires within { lack.optimum ≤ most_shifts * most_skills * most_small }
-    ensures { result ≡ (if is_offered held.now.case held.now.roster nurse day choice then Some (offer_of held.now.case held.now.roster nurse day choice) else None) }
+    ensures { result ≡ (if is_open held.now.case held.now.roster nurse day choice then Some (offer_of held.now.case held.now.roster nurse day choice) else None) }
 {
     let case = held.case();
     let able = is_able(case.skills_of(nurse), choice);
@@ -122,6 +155,24 @@ fn lacking_without(held: &Held, nurse: usize, day: u16) -> Lacking
         }
     }
     lacking
+}
+
+/// What it lacks with a choice of the nurse.
+#[tactic(auto, using(crate::proofs::OfferLemmas::lacking_unchanged))]
+fn lacking_by(held: &Held, nurse: usize, day: u16, choice: Choice, without: Lacking) -> Lacking
+    requires nurse { nurse < nurse_count held.now.case }
+    requires day { day < day_count held.now.case }
+    requires choice { is_choice_of held.now.case choice ≡ true }
+    requires minimum { without.minimum ≡ lacking held.now.case (minimum held.now.case day) (others held.now.roster nurse day) }
+    requires optimum { without.optimum ≡ lacking held.now.case (optimum held.now.case day) (others held.now.roster nurse day) }
+    ensures minimum { result.minimum ≡ lacking held.now.case (minimum held.now.case day) (with_choice (others held.now.roster nurse day) choice) }
+    ensures optimum { result.optimum ≡ lacking held.now.case (optimum held.now.case day) (with_choice (others held.now.roster nurse day) choice) }
+    ensures within { result.optimum ≤ without.optimum }
+{
+    match choice {
+        Choice::Off => without,
+        Choice::Work(shift, skill) => lacking_with(held, nurse, day, shift, skill, without),
+    }
 }
 
 /// What it lacks with the nurse at work: one nurse less, where the others don't reach the number.

@@ -27,16 +27,22 @@ pub struct Best {
     pub total: u64,
 }
 
-/// Searches a nurse's best row: among all rows with which the roster keeps the hard rules, the other rows as they are, the first
-/// of those with the least penalty. `Workspace::row` shows it afterwards. It takes no memory. The meter counts each state that is
+/// Searches a nurse's best row from a week on: among all rows with which the roster keeps the hard rules, the other rows and the
+/// nurse's days before that week as they are, the first of those with the least penalty. `Workspace::row` shows it afterwards. It takes no memory. The meter counts each state that is
 /// taken over a choice: one for each day at least, and at most one for each state, day and choice of the nurse.
-pub fn best_row(held: &Held, nurse: usize, workspace: &mut Workspace, meter: &mut Meter) -> Best
+pub fn best_row(
+    held: &Held,
+    nurse: usize,
+    from: u16,
+    workspace: &mut Workspace,
+    meter: &mut Meter,
+) -> Best
     requires nurse { nurse < nurse_count held.now.case }
     requires fits { fits_space held.now.case workspace.old ≡ true }
     requires room { meter.old + extension_count held.now.case nurse ≤ 18446744073709551615 }
 
     // The row, and the roster's penalty with it.
-    ensures best { IsBestRow held.now.case held.now.roster nurse workspace.new.row }
+    ensures best { IsBestRow held.now.case from held.now.roster nurse workspace.new.row }
     ensures keeps { row_keeps held.now.case held.now.roster nurse workspace.new.row ≡ true }
     ensures total { result.total ≡ penalty_with held.now.case held.now.roster nurse workspace.new.row }
 
@@ -58,9 +64,11 @@ pub fn best_row(held: &Held, nurse: usize, workspace: &mut Workspace, meter: &mu
         filled,
     } = workspace;
     let mut areas = [[NOWHERE; AREAS]; MOST_DAYS + 1];
-    stand_days(held, nurse, &ranges, &mut areas);
-    label_days(held, nurse, &ranges, &areas, labels, later, pointers, meter);
-    read_row(held, nurse, &ranges, &areas, pointers, choices);
+    stand_days(held, nurse, from, &ranges, &mut areas);
+    label_days(
+        held, nurse, from, &ranges, &areas, labels, later, pointers, meter,
+    );
+    read_row(held, nurse, from, &ranges, &areas, pointers, choices);
     *filled = held.case().days() as usize;
     let (first, owed) = start(held.case(), nurse);
     let label = later[first.code(&ranges) as usize];
@@ -73,12 +81,12 @@ pub fn best_row(held: &Held, nurse: usize, workspace: &mut Workspace, meter: &mu
 const MOST_DAYS: usize = 112;
 
 /// Sets the areas of each day, from the first day to the one behind the last.
-fn stand_days(held: &Held, nurse: usize, ranges: &Ranges, areas: &mut [[Area; 9]])
+fn stand_days(held: &Held, nurse: usize, from: u16, ranges: &Ranges, areas: &mut [[Area; 9]])
     requires nurse { nurse < nurse_count held.now.case }
     requires ranges { ranges.now ≡ sizes_of held.now.case nurse }
     requires room { day_count held.now.case < length areas.old }
     ensures start { Stands held.now.case nurse (areas_on areas.new 0) (summary_of held.now.case nurse []) }
-    ensures lead { AreasLead held.now.case held.now.roster nurse areas.new }
+    ensures lead { AreasLead held.now.case from held.now.roster nurse areas.new }
 {
     let case = held.case();
     case.keeps_limits();
@@ -90,18 +98,18 @@ fn stand_days(held: &Held, nurse: usize, ranges: &Ranges, areas: &mut [[Area; 9]
             day,
             ranges: *ranges,
         };
-        areas[day as usize + 1] = stand_behind(held, &at, &areas[day as usize]);
+        areas[day as usize + 1] = stand_behind(held, &at, from, &areas[day as usize]);
     }
 }
 
 /// The areas behind a day, by its offers.
-fn stand_behind(held: &Held, at: &SearchDay, areas: &[Area; 9]) -> [Area; 9]
+fn stand_behind(held: &Held, at: &SearchDay, from: u16, areas: &[Area; 9]) -> [Area; 9]
     requires day { IsDayOf held.now.case at.now }
-    ensures { All (LeadsOn held.now.case at.now areas.now result) (shift_offers held.now.case held.now.roster at.now.nurse at.now.day) }
+    ensures { All (LeadsOn held.now.case at.now areas.now result) (shift_offers held.now.case from held.now.roster at.now.nurse at.now.day) }
 {
     let case = held.case();
     case.keeps_limits();
-    let offers = choices_by_shift(held, at.nurse, at.day);
+    let offers = choices_by_shift(held, at.nurse, at.day, from);
     areas_behind(case, at, areas, &offers)
 }
 
@@ -110,6 +118,7 @@ fn stand_behind(held: &Held, at: &SearchDay, areas: &[Area; 9]) -> [Area; 9]
 fn label_days(
     held: &Held,
     nurse: usize,
+    from: u16,
     ranges: &Ranges,
     areas: &[[Area; 9]],
     labels: &mut Vec<u32>,
@@ -119,16 +128,16 @@ fn label_days(
 )
     requires nurse { nurse < nurse_count held.now.case }
     requires ranges { ranges.now ≡ sizes_of held.now.case nurse }
-    requires offered { (day : ℕ) → day < day_count held.now.case → 0 < length (shift_offers held.now.case held.now.roster nurse day) }
+    requires offered { (day : ℕ) → day < day_count held.now.case → 0 < length (shift_offers held.now.case from held.now.roster nurse day) }
     requires areas_room { day_count held.now.case < length areas.now }
-    requires lead { AreasLead held.now.case held.now.roster nurse areas.now }
+    requires lead { AreasLead held.now.case from held.now.roster nurse areas.now }
     requires stand { (day : ℕ) → day < day_count held.now.case → SomeStands held.now.case nurse (areas_on areas.now day) }
     requires labels_room { product ranges.now ≤ length labels.old.items }
     requires same_room { length later.old.items ≡ length labels.old.items }
     requires pointers_room { day_count held.now.case * product ranges.now ≤ length pointers.old }
     requires room { meter.old + extension_count held.now.case nurse ≤ 18446744073709551615 }
-    ensures labels { AreLabels held.now.case nurse (areas_on areas.now 0) (onward held.now.case held.now.roster nurse 0) later.new.items }
-    ensures pointers { PointersFrom held.now.case held.now.roster nurse areas.now 0 pointers.new }
+    ensures labels { AreLabels held.now.case nurse (areas_on areas.now 0) (onward held.now.case from held.now.roster nurse 0) later.new.items }
+    ensures pointers { PointersFrom held.now.case from held.now.roster nurse areas.now 0 pointers.new }
     ensures lengths { (length labels.new.items ≡ length labels.old.items) × (length later.new.items ≡ length later.old.items) × (length pointers.new ≡ length pointers.old) }
     ensures each_day { meter.old + day_count held.now.case ≤ meter.new }
     ensures counted { meter.new ≤ meter.old + extension_count held.now.case nurse }
@@ -141,7 +150,7 @@ fn label_days(
             day,
             ranges: *ranges,
         };
-        label_before(held, &at, areas, later, labels, pointers, meter);
+        label_before(held, &at, from, areas, later, labels, pointers, meter);
         mem::swap(labels, later);
     }
 }
@@ -150,6 +159,7 @@ fn label_days(
 fn label_before(
     held: &Held,
     at: &SearchDay,
+    from: u16,
     areas: &[[Area; 9]],
     later: &[u32],
     labels: &mut [u32],
@@ -158,18 +168,18 @@ fn label_before(
 )
     ghost rest: { Around }
     requires day { IsDayOf held.now.case at.now }
-    requires offered { 0 < length (shift_offers held.now.case held.now.roster at.now.nurse at.now.day) }
+    requires offered { 0 < length (shift_offers held.now.case from held.now.roster at.now.nurse at.now.day) }
     requires here { rest.here ≡ areas_on areas.now at.now.day }
     requires areas_room { day_count held.now.case < length areas.now }
-    requires leads { All (LeadsOn held.now.case at.now rest.here rest.behind) (shift_offers held.now.case held.now.roster at.now.nurse at.now.day) }
+    requires leads { All (LeadsOn held.now.case at.now rest.here rest.behind) (shift_offers held.now.case from held.now.roster at.now.nurse at.now.day) }
     requires stand { SomeStands held.now.case at.now.nurse rest.here }
     requires later { AreLabels held.now.case at.now.nurse rest.behind rest.best later.now }
     requires all { product at.now.ranges ≤ length later.now }
     requires labels_room { product at.now.ranges ≤ length labels.old }
     requires pointers_room { day_count held.now.case * product at.now.ranges ≤ length pointers.old }
     requires room { meter.old + product at.now.ranges * choice_count held.now.case at.now.nurse ≤ 18446744073709551615 }
-    ensures labels { AreLabels held.now.case at.now.nurse rest.here (best_on held.now.case at.now (shift_offers held.now.case held.now.roster at.now.nurse at.now.day) rest.best) labels.new }
-    ensures pointers { ArePointers held.now.case at.now rest.here (shift_offers held.now.case held.now.roster at.now.nurse at.now.day) rest.best (at.now.day * product at.now.ranges) pointers.new }
+    ensures labels { AreLabels held.now.case at.now.nurse rest.here (best_on held.now.case at.now (shift_offers held.now.case from held.now.roster at.now.nurse at.now.day) rest.best) labels.new }
+    ensures pointers { ArePointers held.now.case at.now rest.here (shift_offers held.now.case from held.now.roster at.now.nurse at.now.day) rest.best (at.now.day * product at.now.ranges) pointers.new }
     ensures others { SameOutside (at.now.day * product at.now.ranges) (at.now.day * product at.now.ranges + product at.now.ranges) pointers.old pointers.new }
     ensures lengths { (length labels.new ≡ length labels.old) × (length pointers.new ≡ length pointers.old) }
     ensures some { meter.old < meter.new }
@@ -178,7 +188,7 @@ fn label_before(
     let case = held.case();
     case.keeps_limits();
     let here = &areas[at.day as usize];
-    let offers = choices_by_shift(held, at.nurse, at.day);
+    let offers = choices_by_shift(held, at.nurse, at.day, from);
     let first = at.day as u32 * at.ranges.product();
     label_day(
         case, at, here, &offers, later, labels, pointers, first, meter,
@@ -189,6 +199,7 @@ fn label_before(
 fn read_row(
     held: &Held,
     nurse: usize,
+    from: u16,
     ranges: &Ranges,
     areas: &[[Area; 9]],
     pointers: &Pointers,
@@ -197,13 +208,13 @@ fn read_row(
     requires nurse { nurse < nurse_count held.now.case }
     requires ranges { ranges.now ≡ sizes_of held.now.case nurse }
     requires start { Stands held.now.case nurse (areas_on areas.now 0) (summary_of held.now.case nurse []) }
-    requires lead { AreasLead held.now.case held.now.roster nurse areas.now }
-    requires pointers { PointersFrom held.now.case held.now.roster nurse areas.now 0 pointers.now }
+    requires lead { AreasLead held.now.case from held.now.roster nurse areas.now }
+    requires pointers { PointersFrom held.now.case from held.now.roster nurse areas.now 0 pointers.now }
     requires pointers_room { day_count held.now.case * product ranges.now ≤ length pointers.now }
     requires row_room { day_count held.now.case ≤ length row.old }
-    requires some { IsSome (best_by_states held.now.case held.now.roster nurse) }
-    requires low { IfSome (best_by_states held.now.case held.now.roster nurse) (λ row. row.0 < no_row) }
-    ensures row { (cost : ℕ) (offers : List Offer) → best_by_states held.now.case held.now.roster nurse ≡ Some (cost, offers) → take (day_count held.now.case) row.new ≡ choices_of offers }
+    requires some { IsSome (best_by_states held.now.case from held.now.roster nurse) }
+    requires low { IfSome (best_by_states held.now.case from held.now.roster nurse) (λ row. row.0 < no_row) }
+    ensures row { (cost : ℕ) (offers : List Offer) → best_by_states held.now.case from held.now.roster nurse ≡ Some (cost, offers) → take (day_count held.now.case) row.new ≡ choices_of offers }
     ensures length { length row.new ≡ length row.old }
 {
     let case = held.case();
@@ -214,7 +225,7 @@ fn read_row(
             day,
             ranges: *ranges,
         };
-        let (choice, next) = read_choice(held, &at, areas, &state, pointers);
+        let (choice, next) = read_choice(held, &at, from, areas, &state, pointers);
         row[day as usize] = choice;
         state = next;
     }
@@ -224,6 +235,7 @@ fn read_row(
 fn read_choice(
     held: &Held,
     at: &SearchDay,
+    from: u16,
     areas: &[[Area; 9]],
     state: &State,
     pointers: &Pointers,
@@ -231,17 +243,17 @@ fn read_choice(
     ghost rest: { Around }
     requires day { IsDayOf held.now.case at.now }
     requires stands { Stands held.now.case at.now.nurse rest.here state.now }
-    requires leads { All (LeadsOn held.now.case at.now rest.here rest.behind) (shift_offers held.now.case held.now.roster at.now.nurse at.now.day) }
-    requires pointers { ArePointers held.now.case at.now rest.here (shift_offers held.now.case held.now.roster at.now.nurse at.now.day) rest.best (at.now.day * product at.now.ranges) pointers.now }
+    requires leads { All (LeadsOn held.now.case at.now rest.here rest.behind) (shift_offers held.now.case from held.now.roster at.now.nurse at.now.day) }
+    requires pointers { ArePointers held.now.case at.now rest.here (shift_offers held.now.case from held.now.roster at.now.nurse at.now.day) rest.best (at.now.day * product at.now.ranges) pointers.now }
     requires pointers_room { day_count held.now.case * product at.now.ranges ≤ length pointers.now }
-    requires some { IsSome (best_on held.now.case at.now (shift_offers held.now.case held.now.roster at.now.nurse at.now.day) rest.best state.now) }
-    requires low { IfSome (best_on held.now.case at.now (shift_offers held.now.case held.now.roster at.now.nurse at.now.day) rest.best state.now) (λ row. row.0 < no_row) }
-    ensures begins { (row : ℕ × List Offer) → best_on held.now.case at.now (shift_offers held.now.case held.now.roster at.now.nurse at.now.day) rest.best state.now ≡ Some row → BeginsWith rest.best row result.0 result.1 }
+    requires some { IsSome (best_on held.now.case at.now (shift_offers held.now.case from held.now.roster at.now.nurse at.now.day) rest.best state.now) }
+    requires low { IfSome (best_on held.now.case at.now (shift_offers held.now.case from held.now.roster at.now.nurse at.now.day) rest.best state.now) (λ row. row.0 < no_row) }
+    ensures begins { (row : ℕ × List Offer) → best_on held.now.case at.now (shift_offers held.now.case from held.now.roster at.now.nurse at.now.day) rest.best state.now ≡ Some row → BeginsWith rest.best row result.0 result.1 }
     ensures stands { Stands held.now.case at.now.nurse rest.behind result.1 }
 {
     let case = held.case();
     case.keeps_limits();
-    let offers = choices_by_shift(held, at.nurse, at.day);
+    let offers = choices_by_shift(held, at.nurse, at.day, from);
     let first = at.day as u32 * at.ranges.product();
     read_day(case, at, state, &offers, pointers, first)
 }

@@ -29,6 +29,9 @@ module _ (c : Meaning) (from : ℕ) where
   pub stays_self : (r : Rows) → FrozenDaysStay c from r r
   stays_self r n d within frozen = refl
 
+  pub stays_on : (r s t : Rows) → FrozenDaysStay c from r s → FrozenDaysStay c from s t → FrozenDaysStay c from r t
+  stays_on r s t first later n d within frozen = later n d within frozen ∙ first n d within frozen
+
   -- a row put in that keeps the nurse's frozen days
   row_stays : (r : Rows) (n : ℕ) (row : Row) → keeps_frozen_days c from r n row ≡ true → FrozenDaysStay c from r (with_row r n row)
   row_stays r n row keeps m d within frozen = go (cases_lt n (length r)) (cases_eq m n)
@@ -61,7 +64,7 @@ module _ (c : Meaning) (from : ℕ) where
 
   -- a step after others
   pub steps_stay : (first r : Rows) (n : ℕ) → FrozenDaysStay c from first r → FrozenDaysStay c from first (step c (best_row c from) r n)
-  steps_stay first r n so_far m d within frozen = step_stays r n m d within frozen ∙ so_far m d within frozen
+  steps_stay first r n so_far = stays_on first r (step c (best_row c from) r n) so_far (step_stays r n)
 
   -- ---- where all days are frozen
 

@@ -4,6 +4,7 @@ ghost use Rattle.std.specs.Prelude.{◌≡◌, ◌+◌, ◌*◌, ◌<◌, ◌≤
 ghost use Rattle.roster_instance.specs.Meaning.{nurse_count};
 ghost use Rattle.roster_rules.specs.AllowedRows.{best_row};
 ghost use Rattle.roster_rules.specs.Improver.{round_log};
+ghost use Rattle.roster_laws.specs.FrozenDays.{FrozenDaysStay};
 ghost use Rattle.roster_laws.specs.Greatest.{greatest_extension_count};
 ghost use Rattle.roster_best.specs.Workspaces.{SameRoom, fits_space};
 ghost use Rattle.roster_rounds.specs.RunLogs.{BreaksAmong, LogStops, Ran, RoundMade, extensions_in};
@@ -17,8 +18,8 @@ use roster_state::Meter;
 use roster_text::{Watch, WriteFault};
 use std::io::Write;
 
-/// Makes rounds until one changes nothing, or as many as are given. A round is a step for each nurse, in the order of the case. Each
-/// line of the log goes out as it is made.
+/// Makes rounds until one changes nothing, or as many as are given. A round is a step for each nurse, in the order of the case. The
+/// days of the weeks before week `from` stay as they are. Each line of the log goes out as it is made.
 ///
 /// # Errors
 ///
@@ -26,6 +27,7 @@ use std::io::Write;
 pub fn improve<W: Write>(
     held: &mut Held,
     rounds: u16,
+    from: u16,
     workspace: &mut Workspace,
     meter: &mut Meter,
     log: &mut Watch<W>,
@@ -33,8 +35,9 @@ pub fn improve<W: Write>(
     requires fits { fits_space held.old.case workspace.old ≡ true }
     requires room { meter.old + extensions_in held.old.case rounds ≤ 18446744073709551615 }
     ensures case { held.new.case ≡ held.old.case }
-    ensures ok { IfOk result (Ran W.contents held.old.case (best_row held.old.case) rounds held.old.roster held.new.roster log.old log.new) }
-    ensures err { IfErr result (LogStops W.contents held.old.case (best_row held.old.case) rounds held.old.roster held.new.roster log.old log.new) }
+    ensures ok { IfOk result (Ran W.contents held.old.case (best_row held.old.case from) rounds held.old.roster held.new.roster log.old log.new) }
+    ensures err { IfErr result (LogStops W.contents held.old.case (best_row held.old.case from) rounds held.old.roster held.new.roster log.old log.new) }
+    ensures frozen { FrozenDaysStay held.old.case from held.old.roster held.new.roster }
     ensures counted { meter.new ≤ meter.old + extensions_in held.old.case rounds }
     ensures room { SameRoom workspace.old workspace.new }
     ensures fits { fits_space held.old.case workspace.new ≡ true }
@@ -42,7 +45,7 @@ pub fn improve<W: Write>(
     let mut sent = log_word(log, 0, b"start", held.total())?;
     let mut changes = 0;
     for rounds_before in 0..rounds {
-        let made = make_round(held, rounds_before + 1, workspace, meter, log, sent)?;
+        let made = make_round(held, rounds_before + 1, from, workspace, meter, log, sent)?;
         sent = made.sent;
         changes += made.changes;
         if made.changes == 0 {
@@ -77,6 +80,7 @@ struct Round {
 fn make_round<W: Write>(
     held: &mut Held,
     round: u16,
+    from: u16,
     workspace: &mut Workspace,
     meter: &mut Meter,
     log: &mut Watch<W>,
@@ -85,15 +89,16 @@ fn make_round<W: Write>(
     requires fits { fits_space held.old.case workspace.old ≡ true }
     requires room { meter.old + nurse_count held.old.case * greatest_extension_count held.old.case ≤ 18446744073709551615 }
     ensures case { held.new.case ≡ held.old.case }
-    ensures ok { IfOk result (λ made. RoundMade W.contents held.old.case (best_row held.old.case) round held.old.roster held.new.roster log.old log.new sent made.sent made.changes) }
-    ensures err { IfErr result (BreaksAmong W.contents held.old.case (round_log held.old.case (best_row held.old.case) round held.old.roster) held.new.roster log.old log.new sent) }
+    ensures ok { IfOk result (λ made. RoundMade W.contents held.old.case (best_row held.old.case from) round held.old.roster held.new.roster log.old log.new sent made.sent made.changes) }
+    ensures err { IfErr result (BreaksAmong W.contents held.old.case (round_log held.old.case (best_row held.old.case from) round held.old.roster) held.new.roster log.old log.new sent) }
+    ensures frozen { FrozenDaysStay held.old.case from held.old.roster held.new.roster }
     ensures counted { meter.new ≤ meter.old + nurse_count held.old.case * greatest_extension_count held.old.case }
     ensures room { SameRoom workspace.old workspace.new }
     ensures fits { fits_space held.old.case workspace.new ≡ true }
 {
     let mut changes = 0;
     for nurse in 0..held.case().nurses() {
-        let step = step(held, nurse, workspace, meter);
+        let step = step(held, nurse, from, workspace, meter);
         if !step.changed {
             continue;
         }

@@ -159,7 +159,7 @@ module _ (c : Meaning) (from : ℕ) (r : Rows) (n d : ℕ) where
         and_from (is_open c r n d present) (keeps_frozen_day from r n d present) present_open
         (all_elim (day_count c) (λ k. keeps_frozen_day from r n k (choice_on (row_of r n) k)) (present_stays c from r n) d day)
 
-    present_of_case : is_choice_of c present ≡ true
+    pub present_of_case : is_choice_of c present ≡ true
     present_of_case =
         All-get_or (λ x. is_choice_of c x ≡ true) (row_of r n) d Off (omega (arith, day, row-length c r n fits inside))
         (AllPass-from_list_all (is_choice_of c) (row_of r n) (and_parts (length (row_of r n) == day_count c) (list_all (is_choice_of c) (row_of r n)) (row_fits c r n fits inside)).1)

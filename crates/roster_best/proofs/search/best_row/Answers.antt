@@ -29,8 +29,8 @@ limits c =
     subst KeepsLimits c.case.ensures (record { small = kept.small; weeks = kept.weeks; shifts = kept.shifts; skills = kept.skills; nurses = kept.nurses })
 
 -- the search finds a row
-found : (c : After-of-ranges) → LowRow (best_by_states c.args.held.now.case c.args.held.now.roster c.args.nurse)
-found c = low_best c.args.held.now.case c.args.held.now.roster (limits c) c.roster.ensures.fits c.roster.ensures.keeps c.args.nurse c.requires.nurse
+found : (c : After-of-ranges) → LowRow (best_by_states c.args.held.now.case c.args.from c.args.held.now.roster c.args.nurse)
+found c = low_best c.args.held.now.case c.args.from c.args.held.now.roster (limits c) c.roster.ensures.fits c.roster.ensures.keeps c.args.nurse c.requires.nurse
 
 -- the nurse has no more states than the greatest number
 few : (c : After-of-ranges) → product c.of-ranges.result ≤ greatest_state_count c.args.held.now.case
@@ -46,12 +46,12 @@ room c = room_of c.args.held.now.case c.args.workspace.now c.requires.fits
 
 pub label_days-requires-clause-offered : goal.label_days-requires-clause-offered
 label_days-requires-clause-offered c day within =
-    by_shift_some (offers_of c.args.held.now.case c.args.held.now.roster c.args.nurse day) (offers_some c.args.held.now.case c.args.held.now.roster c.args.nurse day c.roster.ensures.fits c.roster.ensures.keeps c.requires.nurse within)
+    by_shift_some (offers_of c.args.held.now.case c.args.from c.args.held.now.roster c.args.nurse day) (offers_some c.args.held.now.case c.args.from c.args.held.now.roster c.args.nurse day c.roster.ensures.fits c.roster.ensures.keeps c.requires.nurse within)
 
 pub label_days-requires-clause-stand : goal.label_days-requires-clause-stand
 label_days-requires-clause-stand c day within =
     let best = found (goal.at.label_days-requires-clause-stand c).After-of-ranges in
-    let at = goes_on c.args.held.now.case c.args.held.now.roster c.args.nurse c.stand_days.new.areas c.stand_days.ensures.lead c.stand_days.ensures.start (ap is_some best.is) day (omega (arith, within)) in
+    let at = goes_on c.args.held.now.case c.args.from c.args.held.now.roster c.args.nurse c.stand_days.new.areas c.stand_days.ensures.lead c.stand_days.ensures.start (ap is_some best.is) day (omega (arith, within)) in
     record { state = at.state; stands = at.stands }
 
 pub label_days-requires-clause-labels_room : goal.label_days-requires-clause-labels_room
@@ -107,7 +107,7 @@ label_is c =
     let told = ap (λ j. slice_index_or c.label_days.new.later.items j 0) here ∙ c.label_days.ensures.labels s stands in
     let all = later_room at (length c.workspace.inside.labels.items) (length c.workspace.inside.later.items) (length c.label_days.new.later.items) (ap (λ (w : Space). w.labels) c.workspace.view_is) c.workspace.invariant.0 c.label_days.ensures.lengths.1 in
     let read = get_or_read_under c.label_days.new.later.items code (length c.label_days.new.later.items) c.index-label.result.now 0 c.index-label.ensures (omega (arith, all, c.code.ensures.within)) refl in
-    first_label k rows n s c.index-label.result.now best.row.0 best.row.1 start (read ∙ told) best.is best.low
+    first_label k c.args.from rows n s c.index-label.result.now best.row.0 best.row.1 start (read ∙ told) best.is best.low
 
 row_is : (c : After-rest) → take c.days.result (with_items c.workspace.inside.choices c.read_row.new.row).items ≡ choices_of (found (goal.at.returns-clause-total c).After-of-ranges).row.1
 row_is c =
@@ -122,10 +122,10 @@ returns-clause-best c =
     let k = c.args.held.now.case in
     let rows = c.args.held.now.roster in
     let best = found (goal.at.returns-clause-best c).After-of-ranges in
-    subst (IsBestRow k rows c.args.nurse) (sym (row_is c)) (is_best k rows c.roster.ensures.fits c.roster.ensures.keeps c.args.nurse c.requires.nurse best.row.0 best.row.1 best.is)
+    subst (IsBestRow k c.args.from rows c.args.nurse) (sym (row_is c)) (is_best k c.args.from rows c.roster.ensures.fits c.roster.ensures.keeps c.args.nurse c.requires.nurse best.row.0 best.row.1 best.is)
 
 pub returns-clause-keeps : goal.returns-clause-keeps
-returns-clause-keeps c = best_keeps c.args.held.now.case c.args.held.now.roster c.args.nurse _ (returns-clause-best c)
+returns-clause-keeps c = best_keeps c.args.held.now.case c.args.from c.args.held.now.roster c.args.nurse _ (returns-clause-best c)
 
 -- ---- the penalty
 
@@ -135,7 +135,7 @@ owed_is c = c.start-first.ensures.cost ∙ ap (λ (m : Meaning). due m c.args.nu
 sum_fits : (c : After-rest) → c.rest.result + c.start-first.result.1 + c.index-label.result.now < penalty_room
 sum_fits c =
     let best = found (goal.at.returns-clause-total c).After-of-ranges in
-    let sum = sum_within c.args.held.now.case c.args.held.now.roster (limits (goal.at.returns-clause-total c).After-of-ranges) c.roster.ensures.fits c.roster.ensures.keeps c.args.nurse c.requires.nurse best.row.0 best.row.1 best.is in
+    let sum = sum_within c.args.held.now.case c.args.from c.args.held.now.roster (limits (goal.at.returns-clause-total c).After-of-ranges) c.roster.ensures.fits c.roster.ensures.keeps c.args.nurse c.requires.nurse best.row.0 best.row.1 best.is in
     omega (arith, sum, c.rest.ensures, owed_is c, label_is c)
 
 pub overflow_add-result : goal.overflow_add-result
@@ -149,5 +149,5 @@ returns-clause-total c =
     let k = c.args.held.now.case in
     let rows = c.args.held.now.roster in
     let best = found (goal.at.returns-clause-total c).After-of-ranges in
-    let is = penalty_is k rows c.roster.ensures.fits c.roster.ensures.keeps c.args.nurse c.requires.nurse best.row.0 best.row.1 best.is in
+    let is = penalty_is k c.args.from rows c.roster.ensures.fits c.roster.ensures.keeps c.args.nurse c.requires.nurse best.row.0 best.row.1 best.is in
     omega (arith, is, c.rest.ensures, owed_is c, label_is c) ∙ ap (penalty_with k rows c.args.nurse) (sym (row_is c))

@@ -20,7 +20,7 @@ label_day-requires g c =
     let same : k ≡ c.case-case.result.now = sym c.case-case.ensures in
     let offers = c.deref.ensures.0 ∙ c.choices_by_shift-offers.ensures.offers in
     let back = sym offers in
-    let few = shift_offers_few k rows at.nurse at.day in
+    let few = shift_offers_few k c.args.from rows at.nurse at.day in
     let length_is = ap length offers in
     let here = r.1.1.0 ∙ sym (areas_read c.args.areas.now at.day _ (omega (arith, r.0.day, r.1.1.1.0))) in
     let pointers_room : at.day * c.product.result + size ≤ length c.args.pointers.now = omega (arith, r.1.1.1.1.1.1.1.1.1.0, c.product.ensures.product, ap (λ n. at.day * n) c.product.ensures.product, mul-le (at.day + 1) size (day_count k) size (omega (arith, r.0.day)) (omega arith)) in
@@ -29,7 +29,7 @@ label_day-requires g c =
       (
         here,
         (
-          offers_taken k c.case-case.result.now same limits.small limits.shifts limits.skills rows at.nurse at.day c.deref.result.now offers,
+          offers_taken k c.case-case.result.now same limits.small limits.shifts limits.skills c.args.from rows at.nurse at.day c.deref.result.now offers,
           (
             omega (arith, ap length c.deref.ensures.0, c.choices_by_shift-offers.ensures.few),
             (
@@ -56,5 +56,5 @@ returns-clause-counted g c =
     let at = c.args.at.now in
     let size = product at.ranges in
     let offers = c.deref.ensures.0 ∙ c.choices_by_shift-offers.ensures.offers in
-    let few = shift_offers_few k c.args.held.now.roster at.nurse at.day in
+    let few = shift_offers_few k c.args.from c.args.held.now.roster at.nurse at.day in
     omega (arith, c.label_day.ensures.counted, mul-le size (length c.deref.result.now) size (choice_count k at.nurse) (omega arith) (omega (arith, few, ap length offers)))

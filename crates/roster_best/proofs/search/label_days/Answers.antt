@@ -21,7 +21,7 @@ loop-day-init c =
     let items = with_items_is c.args.later.now c.label_end.new.labels (c.label_end.ensures.length ∙ c.deref_mut.ensures.len) in
     let read = areas_read c.args.areas.now c.days-days.result _ (omega (arith, last, c.requires.areas_room)) in
     let end = transport (λ i. AreLabels (c.case-2.ensures i) n (read i) (best_at_end (c.case-2.ensures i) n) c.label_end.new.labels) c.label_end.ensures.labels in
-    let best : best_at_end k n ≡ onward k rows n c.days-days.result = sym (onward-last k rows n) ∙ ap (onward k rows n) last in
+    let best : best_at_end k n ≡ onward k c.args.from rows n c.days-days.result = sym (onward-last k c.args.from rows n) ∙ ap (onward k c.args.from rows n) last in
     record {
       labels = transport (λ i. AreLabels k n (areas_on c.args.areas.now c.days-days.result) (best i) (sym items i)) end;
       pointers = λ day from within. absurd (omega (arith, from, within, last));
@@ -57,7 +57,7 @@ label_before-requires c =
               (
                 r.stand (day - 1) within,
                 (
-                  transport (λ j. AreLabels k n (areas_on c.args.areas.now (again j)) (onward k rows n (again j)) (sym room j)) i.labels,
+                  transport (λ j. AreLabels k n (areas_on c.args.areas.now (again j)) (onward k c.args.from rows n (again j)) (sym room j)) i.labels,
                   (
                     omega (arith, r.labels_room, r.same_room, i.later_length, ap length room),
                     (
@@ -92,10 +92,10 @@ loop-day-preserved c =
     let items = table_after c.loop-day.labels c.swap.new.y c.label_before.new.labels c.swap.ensures.y_after (told.lengths.0 ∙ c.deref_mut-in-loop-day.ensures.len) in
     let first : day * product c.args.ranges.now ≡ day * product _ = ap (λ (z : Sizes). day * product z) r.ranges in
     record {
-      labels = subst (AreLabels k n (areas_on c.args.areas.now day) (onward k rows n day)) (sym items) (labels_before k rows n day within (areas_on c.args.areas.now day) c.label_before.new.labels told.labels);
-      pointers = pointers_before k rows n c.args.areas.now day (day * product c.args.ranges.now) c.loop-day.pointers c.label_before.new.pointers first told.pointers
+      labels = subst (AreLabels k n (areas_on c.args.areas.now day) (onward k c.args.from rows n day)) (sym items) (labels_before k c.args.from rows n day within (areas_on c.args.areas.now day) c.label_before.new.labels told.labels);
+      pointers = pointers_before k c.args.from rows n c.args.areas.now day (day * product c.args.ranges.now) c.loop-day.pointers c.label_before.new.pointers first told.pointers
           (subst (λ (z : Sizes). SameOutside (day * product c.args.ranges.now) (day * product c.args.ranges.now + product z) c.loop-day.pointers c.label_before.new.pointers) r.ranges told.others)
-          (subst (λ d. PointersFrom k rows n c.args.areas.now d c.loop-day.pointers) again i.pointers);
+          (subst (λ d. PointersFrom k c.args.from rows n c.args.areas.now d c.loop-day.pointers) again i.pointers);
       labels_length = length_after c.loop-day.later c.swap.new.x c.swap.ensures.x_after ∙ i.later_length ∙ r.same_room;
       later_length = ap length items ∙ told.lengths.0 ∙ ap length c.deref_mut-in-loop-day.ensures.value ∙ i.labels_length ∙ sym r.same_room;
       pointers_length = told.lengths.1 ∙ i.pointers_length;
@@ -106,12 +106,12 @@ loop-day-preserved c =
 pub returns-clause-labels : goal.returns-clause-labels
 returns-clause-labels c =
     let none : c.loop-day.day ≡ 0 = omega (arith, c.loop-day-test.false) in
-    subst (λ d. AreLabels c.args.held.now.case c.args.nurse (areas_on c.args.areas.now d) (onward c.args.held.now.case c.args.held.now.roster c.args.nurse d) c.loop-day.later.items) none c.loop-day.invariant.labels
+    subst (λ d. AreLabels c.args.held.now.case c.args.nurse (areas_on c.args.areas.now d) (onward c.args.held.now.case c.args.from c.args.held.now.roster c.args.nurse d) c.loop-day.later.items) none c.loop-day.invariant.labels
 
 pub returns-clause-pointers : goal.returns-clause-pointers
 returns-clause-pointers c =
     let none : c.loop-day.day ≡ 0 = omega (arith, c.loop-day-test.false) in
-    subst (λ d. PointersFrom c.args.held.now.case c.args.held.now.roster c.args.nurse c.args.areas.now d c.loop-day.pointers) none c.loop-day.invariant.pointers
+    subst (λ d. PointersFrom c.args.held.now.case c.args.from c.args.held.now.roster c.args.nurse c.args.areas.now d c.loop-day.pointers) none c.loop-day.invariant.pointers
 
 pub returns-clause-counted : goal.returns-clause-counted
 returns-clause-counted c =

@@ -13,13 +13,13 @@ abbrev pub ghost-label_before : goal.ghost-label_before
 ghost-label_before a = record {
   here = areas_on a.areas.now a.at.now.day;
   behind = areas_on a.areas.now (a.at.now.day + 1);
-  best = onward a.held.now.case a.held.now.roster a.at.now.nurse (a.at.now.day + 1);
+  best = onward a.held.now.case a.from a.held.now.roster a.at.now.nurse (a.at.now.day + 1);
 }
 
 abbrev pub invariant-loop-day : goal.invariant-loop-day
 invariant-loop-day l = record {
-  labels : AreLabels l.held.case l.nurse (areas_on l.areas l.day) (onward l.held.case l.held.roster l.nurse l.day) l.later.items;
-  pointers : PointersFrom l.held.case l.held.roster l.nurse l.areas l.day l.pointers;
+  labels : AreLabels l.held.case l.nurse (areas_on l.areas l.day) (onward l.held.case l.from l.held.roster l.nurse l.day) l.later.items;
+  pointers : PointersFrom l.held.case l.from l.held.roster l.nurse l.areas l.day l.pointers;
   labels_length : length l.labels.items ≡ length l.fn.labels.items;
   later_length : length l.later.items ≡ length l.fn.later.items;
   pointers_length : length l.pointers ≡ length l.fn.pointers;

@@ -25,7 +25,7 @@ read_day-requires g c =
       (
         transport (λ i. Stands (same i) at.nurse g.rest.here s) r.1.0,
         (
-          offers_taken k c.case-case.result.now same limits.small limits.shifts limits.skills rows at.nurse at.day c.deref.result.now offers,
+          offers_taken k c.case-case.result.now same limits.small limits.shifts limits.skills c.args.from rows at.nurse at.day c.deref.result.now offers,
           (
             transport (λ i. All (LeadsOn (same i) at g.rest.here g.rest.behind) (back i)) r.1.1.0,
             (

@@ -8,7 +8,7 @@ use Rattle.roster_best.proofs.search.stand_behind.Goals as goal
 pub areas_behind-requires-clause-offers : goal.areas_behind-requires-clause-offers
 areas_behind-requires-clause-offers c =
     let limits = c.keeps_limits.ensures in
-    offers_taken c.args.held.now.case c.case-case.result.now (sym c.case-case.ensures) limits.small limits.shifts limits.skills c.args.held.now.roster c.args.at.now.nurse c.args.at.now.day c.deref.result.now (c.deref.ensures.0 ∙ c.choices_by_shift-offers.ensures.offers)
+    offers_taken c.args.held.now.case c.case-case.result.now (sym c.case-case.ensures) limits.small limits.shifts limits.skills c.args.from c.args.held.now.roster c.args.at.now.nurse c.args.at.now.day c.deref.result.now (c.deref.ensures.0 ∙ c.choices_by_shift-offers.ensures.offers)
 
 pub returns : goal.returns
 returns c =

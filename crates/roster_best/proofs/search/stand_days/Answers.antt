@@ -23,10 +23,10 @@ loop-day-preserved c =
     let days : c.days-day-end.result ≡ day_count k = c.days-day-end.ensures.count ∙ ap day_count c.case-case.ensures in
     let inside : day + 1 < length c.loop-day.areas = omega (arith, c.loop-day-test.true, days, old.length, c.requires.room) in
     let read = areas_read c.loop-day.areas day _ (omega (arith, inside)) in
-    let here = subst (λ (x : _). All (LeadsOn k (search_day k n day) x c.stand_behind.result) (shift_offers k rows n day)) read c.stand_behind.ensures in
+    let here = subst (λ (x : _). All (LeadsOn k (search_day k n day) x c.stand_behind.result) (shift_offers k c.args.from rows n day)) read c.stand_behind.ensures in
     record {
-      start = subst (λ (x : _). Stands k n x (summary_of k n [])) (sym (day_kept k rows n c.loop-day.areas day inside c.stand_behind.result 0 (omega arith))) old.start;
-      lead = lead_more k rows n c.loop-day.areas day inside c.stand_behind.result here old.lead;
+      start = subst (λ (x : _). Stands k n x (summary_of k n [])) (sym (day_kept k c.args.from rows n c.loop-day.areas day inside c.stand_behind.result 0 (omega arith))) old.start;
+      lead = lead_more k c.args.from rows n c.loop-day.areas day inside c.stand_behind.result here old.lead;
       length = length-set c.loop-day.areas (day + 1) c.stand_behind.result ∙ old.length;
     }
 

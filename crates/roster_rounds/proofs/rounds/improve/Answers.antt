@@ -5,6 +5,8 @@ use Rattle.roster_instance.specs.Meaning.{Meaning}
 use Rattle.roster_rules.specs.AllowedRows.{best_row}
 use Rattle.roster_rules.specs.Improver.{round_log}
 use Rattle.roster_rules.specs.Penalties.{penalty}
+use Rattle.roster_laws.specs.FrozenDays.{FrozenDaysStay}
+use Rattle.roster_laws.proofs.Frozen.{stays_on, stays_self}
 use Rattle.roster_best.specs.Workspaces.{fits_space}
 use Rattle.roster_rounds.specs.RunLogs.{BreaksAmong, RoundMade}
 use Rattle.roster_rounds.proofs.Counts.{round_counted, round_room, round_within, same_room}
@@ -12,20 +14,27 @@ use Rattle.roster_rounds.proofs.OneRound.{settled_line, start_line, stopped_line
 use Rattle.roster_rounds.proofs.RunSteps.{Going-round, Going-settled, Going-start, Going-stopped, round_breaks, settled_breaks, start_breaks, stopped_breaks}
 use Rattle.roster_rounds.proofs.rounds.improve.Given as given
 use Rattle.roster_rounds.proofs.rounds.improve.Goals as goal
-use Rattle.roster_rounds.proofs.rounds.improve.Goals.{In_ok-made}
+use Rattle.roster_rounds.proofs.rounds.improve.Goals.{After-make_round, In_ok-made}
 
 -- the round that was made, in the case of the beginning
-made_is : (g : given.Over) (c : In_ok-made g) → RoundMade g.W.Write.contents c.args.held.now.case (best_row c.args.held.now.case) (c.loop-rounds_before.rounds_before + 1) c.loop-rounds_before.held.roster c.make_round.new.held.roster c.loop-rounds_before.log c.make_round.new.log c.loop-rounds_before.sent c.in_ok-made.made.sent c.in_ok-made.made.changes
+made_is : (g : given.Over) (c : In_ok-made g) → RoundMade g.W.Write.contents c.args.held.now.case (best_row c.args.held.now.case c.args.from) (c.loop-rounds_before.rounds_before + 1) c.loop-rounds_before.held.roster c.make_round.new.held.roster c.loop-rounds_before.log c.make_round.new.log c.loop-rounds_before.sent c.in_ok-made.made.sent c.in_ok-made.made.changes
 made_is g c =
     let l = c.loop-rounds_before in
     let made = c.in_ok-made.made in
-    subst (λ (m : Meaning). RoundMade g.W.Write.contents m (best_row m) (l.rounds_before + 1) l.held.roster c.make_round.new.held.roster l.log c.make_round.new.log l.sent made.sent made.changes) l.invariant.case_is c.in_ok-made.ensures.ok
+    subst (λ (m : Meaning). RoundMade g.W.Write.contents m (best_row m c.args.from) (l.rounds_before + 1) l.held.roster c.make_round.new.held.roster l.log c.make_round.new.log l.sent made.sent made.changes) l.invariant.case_is c.in_ok-made.ensures.ok
+
+-- the frozen days after the round
+stayed : (g : given.Over) (c : After-make_round g) → FrozenDaysStay c.args.held.now.case c.args.from c.args.held.now.roster c.make_round.new.held.roster
+stayed g c =
+    let l = c.loop-rounds_before in
+    stays_on c.args.held.now.case c.args.from c.args.held.now.roster l.held.roster c.make_round.new.held.roster l.invariant.frozen
+    (subst (λ (m : Meaning). FrozenDaysStay m c.args.from l.held.roster c.make_round.new.held.roster) l.invariant.case_is c.make_round.ensures.frozen)
 
 pub returns-in_err-sent-clause-err : goal.returns-in_err-sent-clause-err
 returns-in_err-sent-clause-err g c =
     let p = err_from_is_err_and c.from_residual.result c.from_residual.ensures.1 in
     let line = start_line c.args.held.now.case c.args.held.now.roster c.total.result c.total.ensures.total in
-    rw (p.1, p.2) (start_breaks g.W.Write.contents c.args.held.now.case (best_row c.args.held.now.case) c.args.rounds c.args.held.now.roster c.args.log.now c.log_word.new.log c.in_err-sent.field-0.0
+    rw (p.1, p.2) (start_breaks g.W.Write.contents c.args.held.now.case (best_row c.args.held.now.case c.args.from) c.args.rounds c.args.held.now.roster c.args.log.now c.log_word.new.log c.in_err-sent.field-0.0
     (subst (λ text. BreaksIn g.W.Write.contents c.args.log.now c.log_word.new.log 0 text c.in_err-sent.field-0.0) line c.in_err-sent.ensures.err))
 
 pub loop-rounds_before-init : goal.loop-rounds_before-init
@@ -34,9 +43,10 @@ loop-rounds_before-init g c =
     record {
       case_is = refl;
       counted = omega arith;
+      frozen = stays_self c.args.held.now.case c.args.from c.args.held.now.roster;
       room = record { labels = refl; pointers = refl; room = refl };
       fits = c.requires.fits;
-      going = Going-start g.W.Write.contents c.args.held.now.case (best_row c.args.held.now.case) c.args.rounds c.args.held.now.roster c.args.log.now c.log_word.new.log c.in_ok-sent.sent
+      going = Going-start g.W.Write.contents c.args.held.now.case (best_row c.args.held.now.case c.args.from) c.args.rounds c.args.held.now.roster c.args.log.now c.log_word.new.log c.in_ok-sent.sent
           (subst (Sends g.W.Write.contents c.args.log.now c.log_word.new.log 0 c.in_ok-sent.sent) line c.in_ok-sent.ensures.ok);
     }
 
@@ -46,9 +56,9 @@ returns-in_err-made-clause-err g c =
     let contents = g.W.Write.contents in
     let l = c.loop-rounds_before in
     let k = l.rounds_before + 1 in
-    rw (p.1, p.2) (round_breaks contents c.args.held.now.case (best_row c.args.held.now.case) c.args.rounds c.args.held.now.roster c.args.log.now l.held.roster c.make_round.new.held.roster l.log c.make_round.new.log l.sent
+    rw (p.1, p.2) (round_breaks contents c.args.held.now.case (best_row c.args.held.now.case c.args.from) c.args.rounds c.args.held.now.roster c.args.log.now l.held.roster c.make_round.new.held.roster l.log c.make_round.new.log l.sent
     l.changes l.rounds_before c.in_err-made.field-0.0 l.invariant.going c.loop-rounds_before-test.true
-    (subst (λ (m : Meaning). BreaksAmong contents m (round_log m (best_row m) k l.held.roster) c.make_round.new.held.roster l.log c.make_round.new.log l.sent c.in_err-made.field-0.0) l.invariant.case_is c.in_err-made.ensures.err))
+    (subst (λ (m : Meaning). BreaksAmong contents m (round_log m (best_row m c.args.from) k l.held.roster) c.make_round.new.held.roster l.log c.make_round.new.log l.sent c.in_err-made.field-0.0) l.invariant.case_is c.in_err-made.ensures.err))
 
 pub returns-in_err-log_word-clause-err : goal.returns-in_err-log_word-clause-err
 returns-in_err-log_word-clause-err g c =
@@ -61,7 +71,7 @@ returns-in_err-log_word-clause-err g c =
     let made = c.in_ok-made.made in
     let round = made_is g (goal.at.returns-in_err-log_word-clause-err g c).In_ok-made in
     let line = settled_line case next c.total-total.result (c.total-total.ensures.total ∙ ap (λ (m : Meaning). penalty m next) (c.make_round.ensures.case ∙ l.invariant.case_is)) in
-    rw (p.1, p.2) (settled_breaks contents case (best_row case) c.args.rounds c.args.held.now.roster c.args.log.now now next l.log c.make_round.new.log c.log_word-then-made-eq0.new.log l.sent made.sent l.changes l.rounds_before
+    rw (p.1, p.2) (settled_breaks contents case (best_row case c.args.from) c.args.rounds c.args.held.now.roster c.args.log.now now next l.log c.make_round.new.log c.log_word-then-made-eq0.new.log l.sent made.sent l.changes l.rounds_before
     made.changes c.in_err-log_word.field-0.0 l.invariant.going c.loop-rounds_before-test.true round c.if-made-eq0.true
     (subst (λ text. BreaksIn contents c.make_round.new.log c.log_word-then-made-eq0.new.log made.sent text c.in_err-log_word.field-0.0) line c.in_err-log_word.ensures.err))
 
@@ -75,7 +85,7 @@ returns-then-made-eq0-clause-ok g c =
     let made = c.in_ok-made.made in
     let round = made_is g (goal.at.returns-then-made-eq0-clause-ok g c).In_ok-made in
     let total = c.total-total.ensures.total ∙ ap (λ (m : Meaning). penalty m next) (c.make_round.ensures.case ∙ l.invariant.case_is) in
-    Going-settled contents case (best_row case) c.args.rounds c.args.held.now.roster c.args.log.now now next l.log c.make_round.new.log c.log_word-then-made-eq0.new.log l.sent made.sent c.in_ok-log_word.field-0 l.changes
+    Going-settled contents case (best_row case c.args.from) c.args.rounds c.args.held.now.roster c.args.log.now now next l.log c.make_round.new.log c.log_word-then-made-eq0.new.log l.sent made.sent c.in_ok-log_word.field-0 l.changes
     l.rounds_before made.changes c.total-total.result l.invariant.going c.loop-rounds_before-test.true round c.if-made-eq0.true total
     (subst (Sends contents c.make_round.new.log c.log_word-then-made-eq0.new.log made.sent c.in_ok-log_word.field-0) (settled_line case next c.total-total.result total) c.in_ok-log_word.ensures.ok)
 
@@ -91,9 +101,10 @@ loop-rounds_before-preserved g c =
     record {
       case_is = c.make_round.ensures.case ∙ l.invariant.case_is;
       counted = round_counted case l.held.case l.invariant.case_is l.rounds_before c.args.meter.now l.meter l.invariant.counted c.make_round.new.meter c.make_round.ensures.counted;
+      frozen = stayed g (goal.at.loop-rounds_before-preserved g c).After-make_round;
       room = same_room _ _ _ l.invariant.room c.make_round.ensures.room;
       fits = subst (λ (m : Meaning). fits_space m c.make_round.new.workspace ≡ true) l.invariant.case_is c.make_round.ensures.fits;
-      going = Going-round contents case (best_row case) c.args.rounds c.args.held.now.roster c.args.log.now now next l.log c.make_round.new.log l.sent made.sent l.changes l.rounds_before made.changes l.invariant.going
+      going = Going-round contents case (best_row case c.args.from) c.args.rounds c.args.held.now.roster c.args.log.now now next l.log c.make_round.new.log l.sent made.sent l.changes l.rounds_before made.changes l.invariant.going
           c.loop-rounds_before-test.true round (omega (arith, c.if-made-eq0.false));
     }
 
@@ -106,7 +117,7 @@ returns-in_err-log_word-2-clause-err g c =
     let now = l.held.roster in
     let all : l.rounds_before ≡ c.args.rounds = omega (arith, c.loop-rounds_before-test.false, l.auto.rounds_before-end) in
     let line = stopped_line case now c.total-total-2.result (c.total-total-2.ensures.total ∙ ap (λ (m : Meaning). penalty m now) l.invariant.case_is) in
-    rw (p.1, p.2) (stopped_breaks contents case (best_row case) c.args.rounds c.args.held.now.roster c.args.log.now now l.log c.log_word-2.new.log l.sent l.changes l.rounds_before c.in_err-log_word-2.field-0.0 l.invariant.going all
+    rw (p.1, p.2) (stopped_breaks contents case (best_row case c.args.from) c.args.rounds c.args.held.now.roster c.args.log.now now l.log c.log_word-2.new.log l.sent l.changes l.rounds_before c.in_err-log_word-2.field-0.0 l.invariant.going all
     (subst (λ text. BreaksIn contents l.log c.log_word-2.new.log l.sent text c.in_err-log_word-2.field-0.0) line c.in_err-log_word-2.ensures.err))
 
 pub returns-clause-ok : goal.returns-clause-ok
@@ -117,7 +128,7 @@ returns-clause-ok g c =
     let now = l.held.roster in
     let all : l.rounds_before ≡ c.args.rounds = omega (arith, c.loop-rounds_before-test.false, l.auto.rounds_before-end) in
     let total = c.total-total-2.ensures.total ∙ ap (λ (m : Meaning). penalty m now) l.invariant.case_is in
-    Going-stopped contents case (best_row case) c.args.rounds c.args.held.now.roster c.args.log.now now l.log c.log_word-2.new.log l.sent c.in_ok-log_word-2.field-0 l.changes l.rounds_before c.total-total-2.result l.invariant.going
+    Going-stopped contents case (best_row case c.args.from) c.args.rounds c.args.held.now.roster c.args.log.now now l.log c.log_word-2.new.log l.sent c.in_ok-log_word-2.field-0 l.changes l.rounds_before c.total-total-2.result l.invariant.going
     all total (subst (Sends contents l.log c.log_word-2.new.log l.sent c.in_ok-log_word-2.field-0) (stopped_line case now c.total-total-2.result total) c.in_ok-log_word-2.ensures.ok)
 
 pub make_round-requires-clause-room : goal.make_round-requires-clause-room

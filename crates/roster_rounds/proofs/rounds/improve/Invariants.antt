@@ -1,6 +1,7 @@
 -- The rounds so far are made, and the lines so far are sent.
 use Rattle.std.proofs.Common.{◌≡◌, ◌+◌, ◌≤◌, true}
 use Rattle.roster_rules.specs.AllowedRows.{best_row}
+use Rattle.roster_laws.specs.FrozenDays.{FrozenDaysStay}
 use Rattle.roster_best.specs.Workspaces.{SameRoom, fits_space}
 use Rattle.roster_rounds.specs.RunLogs.{extensions_in}
 use Rattle.roster_rounds.proofs.RunSteps.{Going}
@@ -9,8 +10,9 @@ use Rattle.roster_rounds.proofs.rounds.improve.Given as goal
 abbrev pub invariant-loop-rounds_before : goal.invariant-loop-rounds_before
 invariant-loop-rounds_before g l = record {
   case_is : l.held.case ≡ l.fn.held.case;
-  going : Going g.W.Write.contents l.fn.held.case (best_row l.fn.held.case) l.rounds l.fn.held.roster l.held.roster l.fn.log l.log l.sent l.changes l.rounds_before;
+  going : Going g.W.Write.contents l.fn.held.case (best_row l.fn.held.case l.from) l.rounds l.fn.held.roster l.held.roster l.fn.log l.log l.sent l.changes l.rounds_before;
   counted : l.meter ≤ l.fn.meter + extensions_in l.fn.held.case l.rounds_before;
+  frozen : FrozenDaysStay l.fn.held.case l.from l.fn.held.roster l.held.roster;
   room : SameRoom l.fn.workspace l.workspace;
   fits : fits_space l.fn.held.case l.workspace ≡ true;
 }

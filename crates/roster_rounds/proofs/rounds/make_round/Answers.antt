@@ -6,6 +6,8 @@ use Rattle.roster_rules.specs.AllowedRows.{best_row}
 use Rattle.roster_rules.specs.Improver.{changed, entry, line_of, step}
 use Rattle.roster_rules.specs.Penalties.{penalty}
 use Rattle.roster_laws.specs.Greatest.{greatest_extension_count}
+use Rattle.roster_laws.specs.FrozenDays.{FrozenDaysStay}
+use Rattle.roster_laws.proofs.Frozen.{stays_on}
 use Rattle.roster_best.specs.Workspaces.{fits_space}
 use Rattle.roster_rounds.specs.RunLogs.{line}
 use Rattle.roster_rounds.proofs.Counts.{same_room, step_counted, step_room, step_within}
@@ -22,8 +24,8 @@ step-step-requires-clause-room g c =
     step_room c.args.held.now.case c.loop-nurse.held.case c.loop-nurse.invariant.case_is c.loop-nurse.nurse c.args.meter.now c.loop-nurse.meter c.loop-nurse.invariant.counted (inside g (goal.at.step-step-requires-clause-room g c).In-loop-nurse) 18446744073709551615 c.requires.room
 
 -- the step in the case of the round
-taken : (g : _) (c : After-step-step g) → c.step-step.new.held.roster ≡ step c.args.held.now.case (best_row c.args.held.now.case) c.loop-nurse.held.roster c.loop-nurse.nurse
-taken g c = c.step-step.ensures.roster ∙ ap (λ (m : Meaning). step m (best_row m) c.loop-nurse.held.roster c.loop-nurse.nurse) c.loop-nurse.invariant.case_is
+taken : (g : _) (c : After-step-step g) → c.step-step.new.held.roster ≡ step c.args.held.now.case (best_row c.args.held.now.case c.args.from) c.loop-nurse.held.roster c.loop-nurse.nurse
+taken g c = c.step-step.ensures.roster ∙ ap (λ (m : Meaning). step m (best_row m c.args.from) c.loop-nurse.held.roster c.loop-nurse.nurse) c.loop-nurse.invariant.case_is
 
 counted : (g : _) (c : After-step-step g) → c.loop-nurse.nurse < nurse_count c.args.held.now.case → c.step-step.new.meter ≤ c.args.meter.now + (c.loop-nurse.nurse + 1) * greatest_extension_count c.args.held.now.case
 counted g c within =
@@ -31,6 +33,13 @@ counted g c within =
 
 fitting : (g : _) (c : After-step-step g) → fits_space c.args.held.now.case c.step-step.new.workspace ≡ true
 fitting g c = subst (λ (m : Meaning). fits_space m c.step-step.new.workspace ≡ true) c.loop-nurse.invariant.case_is c.step-step.ensures.fits
+
+-- the frozen days after the step
+stayed : (g : _) (c : After-step-step g) → FrozenDaysStay c.args.held.now.case c.args.from c.args.held.now.roster c.step-step.new.held.roster
+stayed g c =
+    let l = c.loop-nurse in
+    stays_on c.args.held.now.case c.args.from c.args.held.now.roster l.held.roster c.step-step.new.held.roster l.invariant.frozen
+    (subst (λ (m : Meaning). FrozenDaysStay m c.args.from l.held.roster c.step-step.new.held.roster) l.invariant.case_is c.step-step.ensures.frozen)
 
 pub loop-nurse-preserved-then-not-step : goal.loop-nurse-preserved-then-not-step
 loop-nurse-preserved-then-not-step g c =
@@ -40,6 +49,7 @@ loop-nurse-preserved-then-not-step g c =
       case_is = c.step-step.ensures.case ∙ i.case_is;
       so_far = SoFar-same _ _ _ _ _ _ _ c.loop-nurse.held.roster c.step-step.new.held.roster _ _ _ c.loop-nurse.nurse i.so_far (taken g at) (unchanged c.step-step.result.changed _ c.step-step.ensures.changed c.if-not-step.true);
       counted = counted g at (inside g (goal.at.loop-nurse-preserved-then-not-step g c).In-loop-nurse);
+      frozen = stayed g at;
       room = same_room _ _ _ i.room c.step-step.ensures.room;
       fits = fitting g at;
     }
@@ -61,6 +71,7 @@ loop-nurse-preserved g c =
       so_far = SoFar-changed _ _ _ _ _ _ _ c.loop-nurse.held.roster c.step-step.new.held.roster _ _ _ _ _ c.loop-nurse.nurse i.so_far (taken g at) (is_changed c.step-step.result.changed _ c.step-step.ensures.changed c.if-not-step.false)
           (subst (Sends g.W.Write.contents c.loop-nurse.log c.log_change.new.log c.loop-nurse.sent c.in_ok-sent.sent) (line_is g (goal.at.loop-nurse-preserved g c).After-nurse_name) c.in_ok-sent.ensures.ok);
       counted = counted g at (inside g (goal.at.loop-nurse-preserved g c).In-loop-nurse);
+      frozen = stayed g at;
       room = same_room _ _ _ i.room c.step-step.ensures.room;
       fits = fitting g at;
     }

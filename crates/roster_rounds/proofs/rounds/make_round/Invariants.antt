@@ -2,6 +2,7 @@
 use Rattle.std.proofs.Common.{◌≡◌, ◌+◌, ◌*◌, ◌≤◌, true}
 use Rattle.roster_rules.specs.AllowedRows.{best_row}
 use Rattle.roster_laws.specs.Greatest.{greatest_extension_count}
+use Rattle.roster_laws.specs.FrozenDays.{FrozenDaysStay}
 use Rattle.roster_best.specs.Workspaces.{SameRoom, fits_space}
 use Rattle.roster_rounds.proofs.OneRound.{SoFar}
 use Rattle.roster_rounds.proofs.rounds.make_round.Given as goal
@@ -9,8 +10,9 @@ use Rattle.roster_rounds.proofs.rounds.make_round.Given as goal
 abbrev pub invariant-loop-nurse : goal.invariant-loop-nurse
 invariant-loop-nurse g l = record {
   case_is : l.held.case ≡ l.fn.held.case;
-  so_far : SoFar g.W.Write.contents l.fn.held.case (best_row l.fn.held.case) l.round l.fn.held.roster l.held.roster l.fn.log l.log l.fn.sent l.sent l.changes l.nurse;
+  so_far : SoFar g.W.Write.contents l.fn.held.case (best_row l.fn.held.case l.from) l.round l.fn.held.roster l.held.roster l.fn.log l.log l.fn.sent l.sent l.changes l.nurse;
   counted : l.meter ≤ l.fn.meter + l.nurse * greatest_extension_count l.fn.held.case;
+  frozen : FrozenDaysStay l.fn.held.case l.from l.fn.held.roster l.held.roster;
   room : SameRoom l.fn.workspace l.workspace;
   fits : fits_space l.fn.held.case l.workspace ≡ true;
 }

@@ -1,6 +1,6 @@
 use Rattle.std.proofs.Common.{◌≡◌, ◌*◌, ◌+◌, ◌≤◌, ◌++◌, length}
 use Rattle.roster_best.proofs.OfferLemmas.{of_shift, of_shifts, offers_among}
-use Rattle.roster_best.proofs.offer.choices.Given as goal
+use Rattle.roster_best.proofs.offer.open_choices.Given as goal
 
 abbrev pub invariant-loop-shift : goal.invariant-loop-shift
 invariant-loop-shift l = record {
