@@ -12,12 +12,12 @@ use Rattle.roster_answer.specs.Lines.{Text}
 use Rattle.roster_answer.specs.declared.fault.Fault.{Fault}
 use Rattle.roster_answer.specs.declared.fault.Fault.TheVariants as fault
 
-module _ (c : Meaning) (r : Rows) (n : ℕ) (row : Row) (best : IsBestRow c r n row) where
+module _ (c : Meaning) (from : ℕ) (r : Rows) (n : ℕ) (row : Row) (best : IsBestRow c from r n row) where
   -- it is the one of the definition
-  pub best_put : with_row r n row ≡ with_best c r n
-  best_put = ap (λ o. with_row r n (unwrap_or o [])) (sym (only (penalty_with c r n) (allowed_rows c r n) row best))
+  pub best_put : with_row r n row ≡ with_best c from r n
+  best_put = ap (λ o. with_row r n (unwrap_or o [])) (sym (only (penalty_with c r n) (allowed_rows c from r n) row best))
 
-  pub total_put : (total : ℕ) → total ≡ penalty_with c r n row → total ≡ penalty c (with_best c r n)
+  pub total_put : (total : ℕ) → total ≡ penalty_with c r n row → total ≡ penalty c (with_best c from r n)
   total_put total is = is ∙ ap (penalty c) best_put
 
 -- ---- a log that fails in one of two texts

@@ -146,18 +146,18 @@ number_of c name = unwrap_or (find_name c.nurse_names name) 0
 abbrev pub unknown_in : Meaning → Text → Option Text
 unknown_in c name = if is_some (find_name c.nurse_names name) then None else Some name
 
--- the roster with the best row of this nurse put in
-abbrev pub with_best : Meaning → Rows → ℕ → Rows
-with_best c r n = with_row r n (unwrap_or (best_row c r n) [])
+-- the roster with the best row of this nurse from a week on put in
+abbrev pub with_best : Meaning → ℕ → Rows → ℕ → Rows
+with_best c from r n = with_row r n (unwrap_or (best_row c from r n) [])
 
 -- what each soft rule costs
 abbrev pub cost_report : Meaning → Rows → Report
 cost_report c r = record (plain (costs_text (costs_of c r))) { is_held = true; broken = hard_faults c r }
 
--- the best row of the nurse of this name
-abbrev pub best_report : Text → Meaning → Rows → Report
-best_report name c r =
-    let better = with_best c r (number_of c name) in
+-- the best row of the nurse of this name from a week on
+abbrev pub best_report : Text → ℕ → Meaning → Rows → Report
+best_report name from c r =
+    let better = with_best c from r (number_of c name) in
     record {
       is_held = true;
       broken = hard_faults c r;
@@ -166,25 +166,25 @@ best_report name c r =
       log = Some (best_log (penalty c r) name (penalty c better));
     }
 
--- the roster behind a run of at most so many rounds
-abbrev pub improved : Meaning → ℕ → Rows → Rows
-improved c rounds r = (run c (best_row c) rounds r).roster
+-- the roster after a run of at most so many rounds from a week on
+abbrev pub improved : Meaning → (rounds from : ℕ) → Rows → Rows
+improved c rounds from r = (run c (best_row c from) rounds r).roster
 
 -- the lines of the run's log
-abbrev pub run_log : Meaning → ℕ → Rows → Text
-run_log c rounds r = text_of c (log_of c (best_row c) rounds r)
+abbrev pub run_log : Meaning → (rounds from : ℕ) → Rows → Text
+run_log c rounds from r = text_of c (log_of c (best_row c from) rounds r)
 
 -- the run
-abbrev pub improve_report : ℕ → Meaning → Rows → Report
-improve_report rounds c r =
-    record (plain (weeks_text c (improved c rounds r))) { is_held = true; broken = hard_faults c r; log = Some (run_log c rounds r) }
+abbrev pub improve_report : (rounds from : ℕ) → Meaning → Rows → Report
+improve_report rounds from c r =
+    record (plain (weeks_text c (improved c rounds from r))) { is_held = true; broken = hard_faults c r; log = Some (run_log c rounds from r) }
 
 abbrev pub report_of : Command → Meaning → Rows → Report
 report_of command.Show c r = plain (weeks_text c r)
 report_of command.Cost c r = cost_report c r
 report_of command.Sizes c r = plain (sizes_text c)
-report_of (command.Best nurse) c r = best_report (string_bytes nurse) c r
-report_of (command.Improve rounds) c r = improve_report rounds c r
+report_of (command.Best nurse from) c r = best_report (string_bytes nurse) from c r
+report_of (command.Improve rounds from) c r = improve_report rounds from c r
 
 -- a command that tells nothing of its work
 abbrev pub IsSilent : Command → Type 0

@@ -22,19 +22,20 @@ use roster_text::{Piece, Watch, write_pieces};
 use std::alloc::Global;
 use std::io::Write;
 
-/// Writes the weeks of an instance with the best row of the nurse of this name put in, also where it isn't cheaper. What the
+/// Writes the weeks of an instance with the best row of the nurse of this name from a week on put in, also where it isn't cheaper. What the
 /// roster costs before and with it goes to the log first.
 pub(crate) fn best<'a, Out: Write, Log: Write>(
     alloc: Global,
     name: &'a [u8],
+    from: u16,
     source: &'a [u8],
     mut instance: Instance,
     output: &mut Watch<Out>,
     log: &mut Watch<Log>,
 ) -> Result<(), Fault<'a>>
     requires { fits_case instance.case instance.roster ≡ true }
-    ensures ends { Ends (record { contents = Out.contents; before = output.old; after = output.new }) (best_report name.now instance.case instance.roster) source.now instance.bundle (outcome_of result) }
-    ensures logged { LeavesLog (record { contents = Log.contents; before = log.old; after = log.new }) (best_report name.now instance.case instance.roster).log (outcome_of result) }
+    ensures ends { Ends (record { contents = Out.contents; before = output.old; after = output.new }) (best_report name.now from instance.case instance.roster) source.now instance.bundle (outcome_of result) }
+    ensures logged { LeavesLog (record { contents = Log.contents; before = log.old; after = log.new }) (best_report name.now from instance.case instance.roster).log (outcome_of result) }
 {
     let mut meter = Meter::new(&mut instance.case);
     let mut held = hold(alloc, source, instance)?;
@@ -46,16 +47,17 @@ pub(crate) fn best<'a, Out: Write, Log: Write>(
     };
     // A new meter has room for so many.
     let _ = most_steps(held.case(), nurse);
-    put_best_row(&mut held, name, nurse, &mut workspace, &mut meter, log)?;
+    put_best_row(&mut held, name, nurse, from, &mut workspace, &mut meter, log)?;
     Ok(write_weeks(output, held.case(), held.roster())?)
 }
 
-/// Puts the best row of a nurse in. What the roster costs is logged before the search begins, and what it costs with the row
+/// Puts the best row of a nurse from a week on in. What the roster costs is logged before the search begins, and what it costs with the row
 /// behind it.
 fn put_best_row<'a, Log: Write>(
     held: &mut Held,
     name: &[u8],
     nurse: usize,
+    from: u16,
     workspace: &mut Workspace,
     meter: &mut Meter,
     log: &mut Watch<Log>,
@@ -64,12 +66,12 @@ fn put_best_row<'a, Log: Write>(
     requires fits { fits_space held.old.case workspace.old ≡ true }
     requires none { meter.old ≡ 0 }
     requires room { extension_count held.old.case nurse ≤ 18446744073709551615 }
-    ensures put { OnOk result (held.new ≡ record { case = held.old.case; roster = with_best held.old.case held.old.roster nurse }) }
-    ensures ok { OnOk result (Writes Log.contents log.old log.new (best_log (penalty held.old.case held.old.roster) name.now (penalty held.old.case (with_best held.old.case held.old.roster nurse)))) }
-    ensures err { IfErr result (StopsSearch Log.contents log.old log.new (best_log (penalty held.old.case held.old.roster) name.now (penalty held.old.case (with_best held.old.case held.old.roster nurse)))) }
+    ensures put { OnOk result (held.new ≡ record { case = held.old.case; roster = with_best held.old.case from held.old.roster nurse }) }
+    ensures ok { OnOk result (Writes Log.contents log.old log.new (best_log (penalty held.old.case held.old.roster) name.now (penalty held.old.case (with_best held.old.case from held.old.roster nurse)))) }
+    ensures err { IfErr result (StopsSearch Log.contents log.old log.new (best_log (penalty held.old.case held.old.roster) name.now (penalty held.old.case (with_best held.old.case from held.old.roster nurse)))) }
 {
     write_start(held.total(), log)?;
-    let best = best_row(held, nurse, workspace, meter);
+    let best = best_row(held, nurse, from, workspace, meter);
     write_best(name, best.total, log)?;
     held.replace_row(nurse, workspace.row());
     Ok(())

@@ -39,8 +39,12 @@ pub(crate) fn report<'a, Out: Write, Log: Write>(
         Command::Show => show(&instance.case, &instance.roster, output),
         Command::Cost => cost(alloc, source, instance, output),
         Command::Sizes => sizes(&instance.case, output),
-        Command::Best { nurse } => best(alloc, nurse.as_bytes(), source, instance, output, log),
-        Command::Improve { rounds } => improve(alloc, *rounds, source, instance, output, log),
+        Command::Best { nurse, from } => {
+            best(alloc, nurse.as_bytes(), *from, source, instance, output, log)
+        }
+        Command::Improve { rounds, from } => {
+            improve(alloc, *rounds, *from, source, instance, output, log)
+        }
     }
 }
 

@@ -1,3 +1,3 @@
 pub mod CommandLineLemmas
-pub mod RoundsLemmas
+pub mod NumberLemmas
 pub mod NurseLemmas

@@ -41,13 +41,23 @@ rounds_rule = record (new_rule (codes "rounds")) {
   defaults = codes "100" ∷ [];
 }
 
+-- the first week that may change, 0 to 16; where it isn't given, 0
+abbrev pub from_rule : Rule
+from_rule = record (new_rule (codes "from")) {
+  long = Some (codes "from");
+  action = Some action.Set;
+  value_names = 1;
+  parser = Some (parser.Signed (pos 0) (pos 16));
+  defaults = codes "0" ∷ [];
+}
+
 -- a command that reads files
 abbrev pub command_of : Text → App
 command_of name = with_rule (new_app name) files_rule
 
--- one with an argument of its own
-abbrev pub own_command_of : Rule → Text → App
-own_command_of rule name = with_rule (with_rule (new_app name) rule) files_rule
+-- one with arguments of its own
+abbrev pub own_command_of : List Rule → Text → App
+own_command_of rules name = with_rule (fold with_rule (new_app name) rules) files_rule
 
 -- the program before its commands: it has a version, and one of its commands is wanted
 abbrev pub bare : App
@@ -60,7 +70,7 @@ bare = record {
 abbrev pub commands : List Shape
 commands =
     (command_of (codes "show")).top ∷ (command_of (codes "cost")).top ∷ (command_of (codes "sizes")).top
-    ∷ (own_command_of nurse_rule (codes "best")).top ∷ (own_command_of rounds_rule (codes "improve")).top ∷ []
+    ∷ (own_command_of (nurse_rule ∷ from_rule ∷ []) (codes "best")).top ∷ (own_command_of (rounds_rule ∷ from_rule ∷ []) (codes "improve")).top ∷ []
 
 -- the program's definition for clap
 abbrev pub program : App
@@ -71,8 +81,8 @@ abbrev pub name_of : Command → Text
 name_of command.Show = codes "show"
 name_of command.Cost = codes "cost"
 name_of command.Sizes = codes "sizes"
-name_of (command.Best nurse) = codes "best"
-name_of (command.Improve rounds) = codes "improve"
+name_of (command.Best nurse from) = codes "best"
+name_of (command.Improve rounds from) = codes "improve"
 
 -- it is the name of one of these commands
 abbrev pub IsNameOf : List Shape → Text → Type 0
@@ -84,38 +94,45 @@ abbrev pub HasNurse : Option (Text × List Row) → Type 0
 HasNurse None = Unit {0}
 HasNurse (Some met) = met.0 ≡ codes "best" → is_some (first_of (codes "nurse") met.1) ≡ true
 
--- the text that clap has for the rounds, as it was given and as it is read, is a number from 0 to 1000
-pub record HasRounds (rows : List Row) : Type 0 where
+-- the text that clap has for an argument of this name, as it was given and as it is read, is a number from 0 to the greatest
+pub record HasNumber (name : Text) (most : ℕ) (rows : List Row) : Type 0 where
   pub text : Text
-  pub read : one_of (codes "rounds") rows ≡ Some (without_minus text)
-  pub within : IsSignedIn (pos 0) (pos 1000) text
+  pub read : one_of name rows ≡ Some (without_minus text)
+  pub within : IsSignedIn (pos 0) (pos most) text
 
--- where a command was met that makes rounds, its matches have the number
-abbrev pub MeetsRounds : Option (Text × List Row) → Type 0
-MeetsRounds None = Unit {0}
-MeetsRounds (Some met) = met.0 ≡ codes "improve" → HasRounds met.1
+abbrev pub HasRounds : List Row → Type 0
+HasRounds rows = HasNumber (codes "rounds") 1000 rows
+
+abbrev pub HasFrom : List Row → Type 0
+HasFrom rows = HasNumber (codes "from") 16 rows
+
+-- where this command was met, its matches have the number
+abbrev pub Meets : Text → (List Row → Type 0) → Option (Text × List Row) → Type 0
+Meets command has None = Unit {0}
+Meets command has (Some met) = met.0 ≡ command → has met.1
 
 -- the files among the matches of a command
 abbrev pub files_in : List Row → List Text
 files_in rows = unwrap_or (all_of (codes "FILE") rows) []
 
--- they are the number, of 16 bits, of the text that clap reads for the rounds: the text given, or else its rule's default
-pub record AreRounds (rounds : ℕ) (rows : List Row) : Type 0 where
+-- it is the number, of 16 bits, of the text that clap reads for an argument of this name: the text given, or else its rule's default
+pub record IsNumberOf (name : Text) (number : ℕ) (rows : List Row) : Type 0 where
   pub text : Text
-  pub read : one_of (codes "rounds") rows ≡ Some text
+  pub read : one_of name rows ≡ Some text
   pub numeral : IsNumeral 10 (without_leading_plus text)
-  pub fits : rounds < 2 ^ 16
-  pub number : rounds ≡ digits_value 10 (without_leading_plus text)
+  pub fits : number < 2 ^ 16
+  pub value : number ≡ digits_value 10 (without_leading_plus text)
 
 -- the command's own arguments are those among its matches
 abbrev pub HasArguments : Command → List Row → Type 0
-HasArguments (command.Best nurse) rows = first_of (codes "nurse") rows ≡ Some (string_bytes nurse)
-HasArguments (command.Improve rounds) rows = AreRounds rounds rows
+HasArguments (command.Best nurse from) rows = (first_of (codes "nurse") rows ≡ Some (string_bytes nurse)) × IsNumberOf (codes "from") from rows
+HasArguments (command.Improve rounds from) rows = IsNumberOf (codes "rounds") rounds rows × IsNumberOf (codes "from") from rows
 HasArguments _ rows = Unit {0}
 
--- the rounds of a command that has some are at most 1000
+-- the rounds of a command that has some are at most 1000, and its first week at most 16
 abbrev pub IsInRange : Command → Type 0
-IsInRange (command.Improve rounds) = rounds ≤ 1000
+IsInRange (command.Best nurse from) = from ≤ 16
+IsInRange (command.Improve rounds from) = (rounds ≤ 1000) × (from ≤ 16)
 IsInRange _ = Unit {0}
 
 -- the command that was met, by its name and its matches, is that of the request, with its arguments and its files

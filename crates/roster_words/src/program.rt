@@ -1,12 +1,12 @@
 //! The command line of the program, as `clap` reads it.
 
-ghost use Rattle.std.specs.Prelude.{◌≡◌, IfOk, false};
+ghost use Rattle.std.specs.Prelude.{◌≡◌, [], ◌∷◌, IfOk, false};
 ghost use Rattle.clap.specs.Words.{app_of, rule_of, with_subcommand};
-ghost use Rattle.roster_words.specs.CommandLine.{command_of, files_rule, nurse_rule, own_command_of, program, rounds_rule};
+ghost use Rattle.roster_words.specs.CommandLine.{command_of, files_rule, from_rule, nurse_rule, own_command_of, program, rounds_rule};
 
 use crate::texts::{
-    ABOUT, BEST, BEST_HELP, COST, COST_HELP, EXAMPLES, IMPROVE, IMPROVE_HELP, NURSE_NAME,
-    ROUND_COUNT, SHOW, SHOW_HELP, SIZES, SIZES_HELP, TEXTS,
+    ABOUT, BEST, BEST_HELP, COST, COST_HELP, EXAMPLES, FIRST_WEEK, IMPROVE, IMPROVE_HELP,
+    NURSE_NAME, ROUND_COUNT, SHOW, SHOW_HELP, SIZES, SIZES_HELP, TEXTS,
 };
 use clap::{Arg, ArgAction, Command, value_parser};
 use std::alloc::{AllocError, Global};
@@ -19,6 +19,9 @@ pub(crate) const NURSE: &str = "nurse";
 
 /// The name by which the rounds of a command are asked for.
 pub(crate) const ROUNDS: &str = "rounds";
+
+/// The name by which the first week that may change is asked for.
+pub(crate) const FROM: &str = "from";
 
 /// The command line of the program.
 pub(crate) fn program<'a>(alloc: Global) -> Result<Command<'a>, AllocError>
@@ -66,7 +69,7 @@ fn files_command<'a>(
         .arg(files_arg(alloc))
 }
 
-/// A command that reads files and has an argument of its own, with what its help says.
+/// A command that reads files and has an argument of its own and a first week, with what its help says.
 fn own_command<'a>(
     alloc: Global,
     name: &'a str,
@@ -75,12 +78,13 @@ fn own_command<'a>(
     own: Arg<'a>,
 ) -> Result<Command<'a>, AllocError>
     requires local { own.global ≡ false }
-    ensures { IfOk result (λ c. app_of c ≡ own_command_of (rule_of own.entry) name.now) }
+    ensures { IfOk result (λ c. app_of c ≡ own_command_of (rule_of own.entry ∷ from_rule ∷ []) name.now) }
 {
     Command::new(alloc, name)
         .about(about)
         .after_help(help)
         .arg(own)?
+        .arg(from_arg(alloc))?
         .arg(files_arg(alloc))
 }
 
@@ -120,4 +124,18 @@ fn rounds_arg<'a>(alloc: Global) -> Arg<'a>
         .value_parser(value_parser!(u16).range(0..=1000))
         .default_value("100")
         .help(ROUND_COUNT)
+}
+
+/// The first week that may change, 0 to 16. Where it isn't given, 0.
+fn from_arg<'a>(alloc: Global) -> Arg<'a>
+    ensures rule { rule_of result ≡ from_rule }
+    ensures local { result.global ≡ false }
+{
+    Arg::new(alloc, FROM)
+        .long("from")
+        .value_name("V")
+        .action(ArgAction::Set)
+        .value_parser(value_parser!(u16).range(0..=16))
+        .default_value("0")
+        .help(FIRST_WEEK)
 }

@@ -13,10 +13,12 @@ pub enum Command {
     Cost,
     /// Writes how much the search for each nurse takes.
     Sizes,
-    /// Writes the solutions with the best row of the nurse of this name put in, also where it isn't cheaper.
-    Best { nurse: String },
-    /// Writes the solutions after a run of the improver of at most so many rounds, 0 to 1000.
-    Improve { rounds: u16 },
+    /// Writes the solutions with the best row of the nurse of this name put in, also where it isn't cheaper. The weeks before week
+    /// `from`, 0 to 16, stay as they are.
+    Best { nurse: String, from: u16 },
+    /// Writes the solutions after a run of the improver of at most so many rounds, 0 to 1000. The weeks before week `from`, 0 to 16,
+    /// stay as they are.
+    Improve { rounds: u16, from: u16 },
 }
 
 /// A command with the files that it reads, in order. With none it reads standard input.

@@ -67,6 +67,9 @@ texts are read from standard input.";
 
 pub(crate) const NURSE_NAME: &str = "The nurse of this name in the scenario, letter for letter";
 
+pub(crate) const FIRST_WEEK: &str =
+    "The first week that may change, 0 to 16: the weeks before it stay as they stand";
+
 pub(crate) const BEST: &str = "Put a nurse's best row into the rosters, and write them";
 
 pub(crate) const BEST_HELP: &str =
@@ -81,12 +84,17 @@ lines, what the roster costs before, and what it costs with the row:
   start 470
   best Ann 180
 
+With --from V the weeks 0 to V - 1 are frozen: the nurse's days in them stay as
+they stand, and the row is the best of those that keep them. All weeks are read,
+and count for what the roster costs. Where V is above the last week, all stays.
+
 What isn't promised: that this is the best roster, since the others' rows stay;
 that it is best for two nurses at once; how long the search takes. For its
 memory and its greatest number of steps see 'roster sizes'.
 
-Example:
+Examples:
   roster best --nurse Ann examples/mini.txt > better.txt
+  roster best --nurse Kim --from 2 examples/ward.txt > better.txt
 
 The files are read one after another, in the order given. Without a file, the
 texts are read from standard input.";
@@ -118,6 +126,10 @@ The last line begins with one of two words:
   stopped  all rounds were made, and the last one still changed something, or
            there was none to make. More rounds may make the rosters cheaper.
 
+With --from V the weeks 0 to V - 1 are frozen: their days stay as they stand, for
+each nurse, as where they are published. All weeks are read, and count for what
+the roster costs. Where V is above the last week, all stays.
+
 What isn't promised: that these are the best rosters of all, settled or not,
 since two rows changed at once may still save something; how long the run takes.
 For its memory and the greatest number of steps for a nurse see 'roster sizes'.
@@ -125,6 +137,7 @@ For its memory and the greatest number of steps for a nurse see 'roster sizes'.
 Examples:
   roster improve examples/ward.txt > better.txt
   roster improve --rounds 5 examples/ward.txt > better.txt
+  roster improve --from 2 examples/ward.txt > better.txt
 
 The files are read one after another, in the order given. Without a file, the
 texts are read from standard input.";

@@ -2,9 +2,9 @@
 
 ghost use Rattle.std.specs.Prelude.{◌≡◌, ◌≢◌, ◌≤◌, [], Some, codes, IfOk, IfErr, OnOk, IsSomeAnd, is_some, true, map, string_bytes};
 ghost use Rattle.clap.specs.Words.{fault_of, first_of, found_of, kind_of, rows_of, subcommand_rows_of};
-ghost use Rattle.roster_words.specs.CommandLine.{AreRounds, HasArguments, HasNurse, HasRounds, HasText, IsAsked, IsAskedIn, IsInRange, IsNameOf, MeetsRounds, Refuses, TellsKind, commands, files_in, name_of, program};
+ghost use Rattle.roster_words.specs.CommandLine.{HasArguments, HasFrom, HasNurse, HasRounds, HasText, IsAsked, IsAskedIn, IsInRange, IsNameOf, IsNumberOf, Meets, Refuses, TellsKind, commands, files_in, name_of, program};
 
-use crate::program::{FILES, NURSE, ROUNDS, program};
+use crate::program::{FILES, FROM, NURSE, ROUNDS, program};
 use crate::request::{CliFault, Command, Request};
 use crate::texts::EXAMPLES;
 use clap::ArgMatches;
@@ -16,7 +16,7 @@ use std::convert::AsStr;
 pub fn request_of<S: AsStr>(alloc: Global, words: &[S]) -> Result<Request, CliFault>
     // The command with its arguments, and the files, are those that clap's matches give for the words.
     ensures request { IfOk result (IsAsked (map S.text words.now)) }
-    // A run of the improver may make 0 to 1000 rounds.
+    // A run of the improver may make 0 to 1000 rounds, and the first week that may change is at most 16.
     ensures range { IfOk result (λ r. IsInRange r.command) }
     ensures faultless { OnOk result (fault_of program (map S.text words.now) ≡ []) }
     ensures refusal { IfErr result (Refuses (map S.text words.now)) }
@@ -31,7 +31,9 @@ pub fn request_of<S: AsStr>(alloc: Global, words: &[S]) -> Result<Request, CliFa
 fn request_in(alloc: Global, matches: &ArgMatches<'_>) -> Result<Request, CliFault>
     requires met { IsSomeAnd (subcommand_rows_of matches.now) (λ met. IsNameOf commands met.0) }
     requires nurse { HasNurse (subcommand_rows_of matches.now) }
-    requires rounds { MeetsRounds (subcommand_rows_of matches.now) }
+    requires rounds { Meets (codes "improve") HasRounds (subcommand_rows_of matches.now) }
+    requires best_from { Meets (codes "best") HasFrom (subcommand_rows_of matches.now) }
+    requires improve_from { Meets (codes "improve") HasFrom (subcommand_rows_of matches.now) }
     ensures request { IfOk result (IsAskedIn (subcommand_rows_of matches.now)) }
     ensures range { IfOk result (λ r. IsInRange r.command) }
     ensures memory { IfErr result (λ e. e ≡ CliFault.Memory) }
@@ -50,6 +52,8 @@ fn command_in(alloc: Global, name: &str, given: &ArgMatches<'_>) -> Result<Comma
     requires name { IsNameOf commands name.now }
     requires nurse { name.now ≡ codes "best" → is_some (first_of (codes "nurse") (rows_of (found_of given.now))) ≡ true }
     requires rounds { name.now ≡ codes "improve" → HasRounds (rows_of (found_of given.now)) }
+    requires best_from { name.now ≡ codes "best" → HasFrom (rows_of (found_of given.now)) }
+    requires improve_from { name.now ≡ codes "improve" → HasFrom (rows_of (found_of given.now)) }
     ensures name { IfOk result (λ command. name_of command ≡ name.now) }
     ensures arguments { IfOk result (λ command. HasArguments command (rows_of (found_of given.now))) }
     ensures range { IfOk result IsInRange }
@@ -60,9 +64,11 @@ fn command_in(alloc: Global, name: &str, given: &ArgMatches<'_>) -> Result<Comma
         "sizes" => Ok(Command::Sizes),
         "best" => Ok(Command::Best {
             nurse: nurse_of(alloc, given)?,
+            from: from_of(given),
         }),
         "improve" => Ok(Command::Improve {
             rounds: rounds_of(given),
+            from: from_of(given),
         }),
         _ => unreachable!(),
     }
@@ -82,13 +88,25 @@ fn nurse_of(alloc: Global, given: &ArgMatches<'_>) -> Result<String, AllocError>
 /// The number of rounds, which `clap` has read in its range, or has by its default.
 fn rounds_of(given: &ArgMatches<'_>) -> u16
     requires { HasRounds (rows_of (found_of given.now)) }
-    ensures rounds { AreRounds result (rows_of (found_of given.now)) }
+    ensures rounds { IsNumberOf (codes "rounds") result (rows_of (found_of given.now)) }
     ensures range { result ≤ 1000 }
 {
     let Some(rounds) = given.get_one::<u16>(ROUNDS) else {
         unreachable!()
     };
     rounds
+}
+
+/// The first week that may change, which `clap` has read in its range, or has by its default.
+fn from_of(given: &ArgMatches<'_>) -> u16
+    requires { HasFrom (rows_of (found_of given.now)) }
+    ensures from { IsNumberOf (codes "from") result (rows_of (found_of given.now)) }
+    ensures range { result ≤ 16 }
+{
+    let Some(from) = given.get_one::<u16>(FROM) else {
+        unreachable!()
+    };
+    from
 }
 
 fn files_of(alloc: Global, given: &ArgMatches<'_>) -> Result<Vec<String>, AllocError>

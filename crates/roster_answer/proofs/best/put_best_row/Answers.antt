@@ -21,7 +21,7 @@ returns-in_err-write_start-clause-err g c =
     let stops = subst (λ t. StopsSearch contents old mid (report_line (codes "start") t) f) c.total.ensures.total c.in_err-write_start.ensures.err in
     let p = err_from_is_err_and c.from_residual.result c.from_residual.ensures.1 in
     rw (p.1, p.2)
-    (stops_before contents old mid mid (report_line (codes "start") (penalty now.case now.roster)) (report_line (codes "best " ++ c.args.name.now) (penalty now.case (with_best now.case now.roster c.args.nurse))) f stops)
+    (stops_before contents old mid mid (report_line (codes "start") (penalty now.case now.roster)) (report_line (codes "best " ++ c.args.name.now) (penalty now.case (with_best now.case c.args.from now.roster c.args.nurse))) f stops)
 
 pub returns-in_err-write_best-clause-err : goal.returns-in_err-write_best-clause-err
 returns-in_err-write_best-clause-err g c =
@@ -34,11 +34,11 @@ returns-in_err-write_best-clause-err g c =
     let row = c.best_row-best.new.workspace.row in
     let f = c.in_err-write_best.field-0.0 in
     let start = subst (λ t. Writes contents old mid (report_line (codes "start") t)) c.total.ensures.total c.in_ok-write_start.ensures.ok in
-    let total = total_put now.case now.roster n row c.best_row-best.ensures.best c.best_row-best.result.total c.best_row-best.ensures.total in
+    let total = total_put now.case c.args.from now.roster n row c.best_row-best.ensures.best c.best_row-best.result.total c.best_row-best.ensures.total in
     let stops = subst (λ t. StopsSearch contents mid new (report_line (codes "best " ++ c.args.name.now) t) f) total c.in_err-write_best.ensures.err in
     let p = err_from_is_err_and c.from_residual-in_err-write_best.result c.from_residual-in_err-write_best.ensures.1 in
     rw (p.1, p.2)
-    (stops_behind contents old mid new (report_line (codes "start") (penalty now.case now.roster)) (report_line (codes "best " ++ c.args.name.now) (penalty now.case (with_best now.case now.roster n))) f start stops)
+    (stops_behind contents old mid new (report_line (codes "start") (penalty now.case now.roster)) (report_line (codes "best " ++ c.args.name.now) (penalty now.case (with_best now.case c.args.from now.roster n))) f start stops)
 
 pub replace_row-requires-clause-keeps : goal.replace_row-requires-clause-keeps
 replace_row-requires-clause-keeps g c =
@@ -51,7 +51,7 @@ returns-clause-put g c =
     let n = c.args.nurse in
     let with_roster : Rows → HeldRoster = λ r. record { case = now.case; roster = r } in
     c.replace_row.ensures
-    ∙ ap with_roster (ap (with_row now.roster n) c.row.ensures ∙ best_put now.case now.roster n c.best_row-best.new.workspace.row c.best_row-best.ensures.best)
+    ∙ ap with_roster (ap (with_row now.roster n) c.row.ensures ∙ best_put now.case c.args.from now.roster n c.best_row-best.new.workspace.row c.best_row-best.ensures.best)
 
 pub returns-clause-ok : goal.returns-clause-ok
 returns-clause-ok g c =
@@ -63,6 +63,6 @@ returns-clause-ok g c =
     let n = c.args.nurse in
     let row = c.best_row-best.new.workspace.row in
     let start = subst (λ t. Writes contents old mid (report_line (codes "start") t)) c.total.ensures.total c.in_ok-write_start.ensures.ok in
-    let total = total_put now.case now.roster n row c.best_row-best.ensures.best c.best_row-best.result.total c.best_row-best.ensures.total in
+    let total = total_put now.case c.args.from now.roster n row c.best_row-best.ensures.best c.best_row-best.result.total c.best_row-best.ensures.total in
     let best = subst (λ t. Writes contents mid new (report_line (codes "best " ++ c.args.name.now) t)) total c.in_ok-write_best.ensures.ok in
-    Writes-append contents old mid new (report_line (codes "start") (penalty now.case now.roster)) (report_line (codes "best " ++ c.args.name.now) (penalty now.case (with_best now.case now.roster n))) start best
+    Writes-append contents old mid new (report_line (codes "start") (penalty now.case now.roster)) (report_line (codes "best " ++ c.args.name.now) (penalty now.case (with_best now.case c.args.from now.roster n))) start best

@@ -18,7 +18,7 @@ returns-in-Best-clause-logged g c =
     let log : Output g.row.Log.Denot = record { contents = g.Log.Write.contents; before = c.args.log.now; after = c.best.new.log } in
     subst (λ (p : Report). LeavesLog log p.log (outcome_of c.best.result)) (is_best g c) c.best.ensures.logged
 
-is_improve : (g : given.Over) (c : After-improve g) → improve_report c.in-Improve.rounds c.args.instance.case c.args.instance.roster ≡ report_of c.args.command.now c.args.instance.case c.args.instance.roster
+is_improve : (g : given.Over) (c : After-improve g) → improve_report c.in-Improve.rounds c.in-Improve.from c.args.instance.case c.args.instance.roster ≡ report_of c.args.command.now c.args.instance.case c.args.instance.roster
 is_improve g c = ap (λ x. report_of x c.args.instance.case c.args.instance.roster) (sym c.in-Improve.is)
 
 pub returns-clause-ends : goal.returns-clause-ends

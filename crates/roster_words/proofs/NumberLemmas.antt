@@ -1,6 +1,6 @@
--- That the rounds of a command line without a fault are a number of their range: along clap's walk over the words each
--- use of the argument keeps to its rule, and where there is none, the default does.
-use Rattle.std.proofs.Common.{arith, ◌≡◌, ◌<◌, ◌≤◌, ◌^◌, ◌∙◌, ◌+◌, ◌&&◌, ◌||◌, ℕ, zero, suc, get_or, Bool, cond, true, false, refl, sym, ap, ap₂, subst, List, [], ◌∷◌, ◌++◌, length, drop, Option, Some, None, is_some, codes, true≢false}
+-- That each number of a command line without a fault is one of its range: along clap's walk over the words each use of the
+-- argument keeps to its rule, and where there is none, the default does.
+use Rattle.std.proofs.Common.{arith, ◌≡◌, ◌<◌, ◌≤◌, ◌^◌, ◌∙◌, ◌+◌, ◌&&◌, ◌||◌, ◌⊎◌, inl, inr, ℕ, pos, zero, suc, get_or, Bool, cond, true, false, refl, sym, ap, ap₂, subst, List, [], ◌∷◌, ◌++◌, length, drop, Option, Some, None, is_some, codes, true≢false}
 use Rattle.std.specs.Prelude.{IsSomeAnd, Ok, Result, encode_utf8, find, min, option_map, option_and_then, slice_get, ⊤}
 use Rattle.std.specs.List.{fold}
 use Rattle.std.specs.Option.{option_map_or}
@@ -20,6 +20,7 @@ use Rattle.clap.specs.Simple.{Shape, argument_words, built, entered, help_shape,
 use Rattle.clap.specs.declared.builder.action.ArgAction.{ArgAction}
 use Rattle.clap.specs.declared.builder.action.ArgAction.TheVariants as action
 use Rattle.clap.specs.declared.builder.value_parser.Reading.{Reading}
+use Rattle.clap.specs.declared.builder.value_parser.ValueParser.TheVariants as parser
 use Rattle.clap.specs.declared.error.kind.ErrorKind.{ErrorKind}
 use Rattle.clap.specs.declared.error.kind.ErrorKind.TheVariants as kind
 use Rattle.clap.specs.declared.parser.matches.Found.{Found}
@@ -28,7 +29,7 @@ use Rattle.clap.specs.declared.parser.matches.ValueSource.TheVariants.{CommandLi
 use Rattle.clap.specs.Words.{ReadsOne, fault_of, one_text, rows_of, subcommand_of}
 use Rattle.clap.proofs.WalkLemmas.{one_text-rows}
 use Rattle.clap.proofs.CallerReads.{signed_reads}
-use Rattle.roster_words.specs.CommandLine.{AreRounds, HasRounds, MeetsRounds, program, rounds_rule}
+use Rattle.roster_words.specs.CommandLine.{HasFrom, HasNumber, HasRounds, IsNumberOf, Meets, program, rounds_rule}
 
 -- ---- lists
 
@@ -303,30 +304,29 @@ module _ (s : Shape) (a : Rule) (only : Each (IsOnly a) s.rules) (passes : UsesP
       let second = both_none (settle_fault c again (walk c [] nothing_held words).held) _ first.1 in
       settle_keeps (walk c [] nothing_held words).held (walk_keeps words (walk_from nothing_held) tt first.0) second.0
 
--- ---- the rounds
+-- ---- the defaults
 
--- the commands as clap completes them, with `help` behind them
-abbrev subs : List Shape
-subs = (built program).subs
+-- a row stays where values come to another, or to it
+has_stays : (id other : Text) (how : Reading) (source : ValueSource) (vs : List Text) (rows : List Row) → has_row id rows ≡ true → has_row id (with_values other how source vs rows) ≡ true
+has_stays id other how source vs [] has = absurd (true≢false (sym has))
+has_stays id other how source vs (r ∷ rs) has = go (bytes_eq r.id other) (has_stays id other how source vs rs)
+  where
+    own : (b later : Bool) → (b || has_row id rs) ≡ true → (has_row id rs ≡ true → later ≡ true) → (b || later) ≡ true
+    own true later h rest = refl
+    own false later h rest = rest h
 
-abbrev improve : Shape
-improve = get_or subs 4 help_shape
+    go : (t : Bool) → (has_row id rs ≡ true → has_row id (with_values other how source vs rs) ≡ true) → has_row id (cond t (more_values source vs r ++ rs) (r ∷ with_values other how source vs rs)) ≡ true
+    go true rest = has
+    go false rest = own (bytes_eq r.id id) (has_row id (with_values other how source vs rs)) has rest
 
-abbrev rounds : Rule
-rounds = get_or improve.rules 0 rounds_rule
-
-only_rounds : Each (IsOnly rounds) improve.rules
-only_rounds = ((λ e. refl), ((λ e. absurd (true≢false (sym e))), ((λ e. absurd (true≢false (sym e))), tt)))
-
-rounds_pass : UsesPass improve.args_override_self rounds
-rounds_pass [] rows kept none =
-    let bad : kind.InvalidValue ∷ [] ≡ [] = none in
-    absurd (cc)
-rounds_pass (v ∷ vs) rows kept none =
-    let one = both_none (range_kinds 1 1 (length (v ∷ vs))) _ none in
-    let fresh = both_none (repeat_fault improve.args_override_self rounds.id rows) (values_fault rounds (v ∷ vs)) one.1 in
-    let first = both_none (value_kinds rounds.ignore_case (parser_of_value rounds.parser) v) _ fresh.1 in
-    own_values rounds CommandLine (v ∷ vs) (without rounds.id rows) first.0 (without_keeps (Keeps rounds) rounds.id rows kept)
+-- values that come to a row make one
+has_new : (id : Text) (how : Reading) (source : ValueSource) (vs : List Text) → bytes_eq id id ≡ true → (rows : List Row) → has_row id (with_values id how source vs rows) ≡ true
+has_new id how source vs self [] = ap (λ b. b || false) self
+has_new id how source vs self (r ∷ rs) = go (bytes_eq r.id id) refl (has_new id how source vs self rs)
+  where
+    go : (t : Bool) → bytes_eq r.id id ≡ t → has_row id (with_values id how source vs rs) ≡ true → has_row id (cond t (more_values source vs r ++ rs) (r ∷ with_values id how source vs rs)) ≡ true
+    go true e rest = ap (λ b. b || has_row id rs) e
+    go false e rest = ap (λ b. b || has_row id (with_values id how source vs rs)) e ∙ rest
 
 -- the row of a rule that has one
 record HasRow (a : Rule) (rows : List Row) : Type 0 where
@@ -355,103 +355,180 @@ passed : (t : Bool) (k : ErrorKind) → cond t [] (k ∷ []) ≡ [] → t ≡ tr
 passed true k e = refl
 passed false k e = absurd (cc)
 
-has_rounds : (rows : List Row) → HasRow rounds rows → HasRounds rows
-has_rounds rows h = go h.row.values refl h.first
-  where
-    go : (values : List Text) → h.row.values ≡ values → FirstPasses rounds values → HasRounds rows
-    go [] same first = absurd first
-    go (v ∷ vs) same first = record {
-      text = v;
-      read = ap (option_and_then row_text) h.found ∙ ap₂ (λ how (vals : List Text). option_map (read_as how) (slice_get vals 0)) h.reading same;
-      within = accepts-Accepts rounds.ignore_case (parser_of_value rounds.parser) v (passed (accepts rounds.ignore_case (parser_of_value rounds.parser) v) _ first);
-    }
+-- ---- the numbers of the program
 
-there : (vs : List Text) (r : Row) (rs later : List Row) (t : Bool) → bytes_eq r.id rounds.id ≡ t → has_row rounds.id later ≡ true
-    → has_row rounds.id (cond t (more_values DefaultValue vs r ++ rs) (r ∷ later)) ≡ true
-there vs r rs later true e rest = ap (λ b. b || has_row rounds.id rs) e
-there vs r rs later false e rest = ap (λ b. b || has_row rounds.id later) e ∙ rest
+-- the commands as clap completes them, with `help` behind them
+abbrev subs : List Shape
+subs = (built program).subs
 
-default_there : (rows : List Row) → has_row rounds.id (with_values rounds.id (reading_by rounds) DefaultValue (codes "100" ∷ []) rows) ≡ true
-default_there [] = refl
-default_there (r ∷ rs) =
-    there (codes "100" ∷ []) r rs (with_values rounds.id (reading_by rounds) DefaultValue (codes "100" ∷ []) rs) (bytes_eq r.id rounds.id) refl (default_there rs)
+abbrev best : Shape
+best = get_or subs 3 help_shape
 
-default_row : (rows : List Row) → Each (Keeps rounds) rows → HasRow rounds (with_default rows rounds)
-default_row rows kept = go (has_row rounds.id rows) refl
-  where
-    go : (t : Bool) → has_row rounds.id rows ≡ t → HasRow rounds (cond t rows (with_values rounds.id (reading_by rounds) DefaultValue (codes "100" ∷ []) rows))
-    go true e = row_by_rule rounds rows kept e
-    go false e =
-        row_by_rule rounds (with_values rounds.id (reading_by rounds) DefaultValue (codes "100" ∷ []) rows)
-        (own_values rounds DefaultValue (codes "100" ∷ []) rows refl kept) (default_there rows)
+abbrev improve : Shape
+improve = get_or subs 4 help_shape
 
-no_default : (b : Rule) (rows : List Row) → b.defaults ≡ [] → with_default rows b ≡ rows
-no_default b rows e = ap (λ ds. cond (has_row b.id rows) rows (default_rows b.id (reading_by b) ds rows)) e ∙ same (has_row b.id rows)
-  where
-    same : (t : Bool) → cond t rows rows ≡ rows
-    same true = refl
-    same false = refl
+-- an argument that is a number, as clap completes its rule
+abbrev number : Text → ℕ → Text → Rule
+number name most default = record (get_or improve.rules 0 rounds_rule) { id = name; long = Some name; parser = Some (parser.Signed (pos 0) (pos most)); defaults = default ∷ [] }
 
-improve_rounds : (words : List Text) → level_fault improve [] nothing_held words false [] ≡ [] → HasRounds (rows_after improve.rules [] words)
-improve_rounds words none =
-    let rows = (settled improve.rules (walk improve.rules [] nothing_held words).held).rows in
-    let kept = rows_keep improve rounds only_rounds rounds_pass words none in
-    let first = with_default rows rounds in
-    let second = with_default first (get_or improve.rules 1 rounds_rule) in
-    let same = no_default (get_or improve.rules 2 rounds_rule) second refl ∙ no_default (get_or improve.rules 1 rounds_rule) first refl in
-    subst HasRounds (sym same) (has_rounds first (default_row rows kept))
+abbrev rounds : Rule
+rounds = number (codes "rounds") 1000 (codes "100")
+
+abbrev from : Rule
+from = number (codes "from") 16 (codes "0")
+
+Among : Rule → List Rule → Type 0
+Among a [] = ⊥
+Among a (b ∷ bs) = (b ≡ a) ⊎ Among a bs
+
+module _ (name : Text) (most : ℕ) (default : Text) (self : bytes_eq name name ≡ true) (default_passes : FirstPasses (number name most default) (default ∷ [])) where
+  abbrev a : Rule
+  a = number name most default
+
+  number_pass : (again : Bool) → UsesPass again a
+  number_pass again [] rows kept none =
+      let bad : kind.InvalidValue ∷ [] ≡ [] = none in
+      absurd (cc)
+  number_pass again (v ∷ vs) rows kept none =
+      let one = both_none (range_kinds 1 1 (length (v ∷ vs))) _ none in
+      let fresh = both_none (repeat_fault again a.id rows) (values_fault a (v ∷ vs)) one.1 in
+      let first = both_none (value_kinds a.ignore_case (parser_of_value a.parser) v) _ fresh.1 in
+      own_values a CommandLine (v ∷ vs) (without a.id rows) first.0 (without_keeps (Keeps a) a.id rows kept)
+
+  -- the default of a rule keeps the rows of the argument
+  default_keeps : (b : Rule) → IsOnly a b → (rows : List Row) → Each (Keeps a) rows → Each (Keeps a) (with_default rows b)
+  default_keeps b only rows kept = go (has_row b.id rows) (bytes_eq b.id a.id) refl
+    where
+      other : bytes_eq b.id a.id ≡ false → (ds : List Text) → Each (Keeps a) (default_rows b.id (reading_by b) ds rows)
+      other e [] = kept
+      other e (v ∷ vs) = other_values a b.id e (reading_by b) DefaultValue (v ∷ vs) rows kept
+
+      own : b ≡ a → Each (Keeps a) (default_rows b.id (reading_by b) b.defaults rows)
+      own same = subst (λ (r : Rule). Each (Keeps a) (default_rows r.id (reading_by r) r.defaults rows)) (sym same) (own_values a DefaultValue (default ∷ []) rows default_passes kept)
+
+      go : (t u : Bool) → bytes_eq b.id a.id ≡ u → Each (Keeps a) (cond t rows (default_rows b.id (reading_by b) b.defaults rows))
+      go true u e = kept
+      go false true e = own (only e)
+      go false false e = other e b.defaults
+
+  defaults_keep : (rules : List Rule) → Each (IsOnly a) rules → (rows : List Row) → Each (Keeps a) rows → Each (Keeps a) (fold with_default rows rules)
+  defaults_keep [] only rows kept = kept
+  defaults_keep (b ∷ bs) only rows kept = defaults_keep bs only.1 (with_default rows b) (default_keeps b only.0 rows kept)
+
+  -- its own default makes a row, and the others leave it
+  stays_there : (b : Rule) (rows : List Row) → has_row a.id rows ≡ true → has_row a.id (with_default rows b) ≡ true
+  stays_there b rows has = go (has_row b.id rows)
+    where
+      more : (ds : List Text) → has_row a.id (default_rows b.id (reading_by b) ds rows) ≡ true
+      more [] = has
+      more (v ∷ vs) = has_stays a.id b.id (reading_by b) DefaultValue (v ∷ vs) rows has
+
+      go : (t : Bool) → has_row a.id (cond t rows (default_rows b.id (reading_by b) b.defaults rows)) ≡ true
+      go true = has
+      go false = more b.defaults
+
+  all_stay : (rules : List Rule) (rows : List Row) → has_row a.id rows ≡ true → has_row a.id (fold with_default rows rules) ≡ true
+  all_stay [] rows has = has
+  all_stay (b ∷ bs) rows has = all_stay bs (with_default rows b) (stays_there b rows has)
+
+  own_there : (rows : List Row) → has_row a.id (with_default rows a) ≡ true
+  own_there rows = go (has_row a.id rows) refl
+    where
+      go : (t : Bool) → has_row a.id rows ≡ t → has_row a.id (cond t rows (default_rows a.id (reading_by a) (default ∷ []) rows)) ≡ true
+      go true e = e
+      go false e = has_new a.id (reading_by a) DefaultValue (default ∷ []) self rows
+
+  is_there : (rules : List Rule) → Among a rules → (rows : List Row) → has_row a.id (fold with_default rows rules) ≡ true
+  unfolding Among
+  is_there [] among rows = absurd among
+  is_there (b ∷ bs) (inl same) rows = all_stay bs (with_default rows b) (subst (λ (r : Rule). has_row a.id (with_default rows r) ≡ true) (sym same) (own_there rows))
+  is_there (b ∷ bs) (inr later) rows = is_there bs later (with_default rows b)
+
+  has_number : (rows : List Row) → HasRow a rows → HasNumber name most rows
+  has_number rows h = go h.row.values refl h.first
+    where
+      go : (values : List Text) → h.row.values ≡ values → FirstPasses a values → HasNumber name most rows
+      go [] same first = absurd first
+      go (v ∷ vs) same first = record {
+        text = v;
+        read = ap (option_and_then row_text) h.found ∙ ap₂ (λ how (vals : List Text). option_map (read_as how) (slice_get vals 0)) h.reading same;
+        within = accepts-Accepts a.ignore_case (parser_of_value a.parser) v (passed (accepts a.ignore_case (parser_of_value a.parser) v) _ first);
+      }
+
+  -- at the end of the words of a command with this argument
+  level_number : (s : Shape) → Each (IsOnly a) s.rules → Among a s.rules → (words : List Text) → level_fault s [] nothing_held words false [] ≡ [] → HasNumber name most (rows_after s.rules [] words)
+  level_number s only among words none =
+      let rows = (settled s.rules (walk s.rules [] nothing_held words).held).rows in
+      let kept = rows_keep s a only (number_pass s.args_override_self) words none in
+      has_number (fold with_default rows s.rules) (row_by_rule a (fold with_default rows s.rules) (defaults_keep s.rules only rows kept) (is_there s.rules among rows))
 
 -- ---- the command that was met
 
-abbrev RoundsAt : Shape → Type 0
-RoundsAt s = (words : List Text) → level_fault s [] nothing_held words false [] ≡ [] → s.name ≡ codes "improve" → HasRounds (rows_after s.rules [] words)
+module _ (command : Text) (has : List Row → Type 0) where
+  abbrev HasAt : Shape → Type 0
+  HasAt s = (words : List Text) → level_fault s [] nothing_held words false [] ≡ [] → s.name ≡ command → has (rows_after s.rules [] words)
 
-not_improve : (s : Shape) → bytes_eq s.name (codes "improve") ≡ false → RoundsAt s
-not_improve s other words none e = absurd (true≢false (sym (ap (λ n. bytes_eq n (codes "improve")) e) ∙ other))
+  another : (s : Shape) → bytes_eq s.name command ≡ false → HasAt s
+  another s other words none e = absurd (true≢false (sym ((bytes_eq-Decides s.name command).1 e) ∙ other))
 
-each_command : Each RoundsAt subs
-each_command = (
-  not_improve (get_or subs 0 help_shape) refl,
-  (
-    not_improve (get_or subs 1 help_shape) refl,
-    (
-      not_improve (get_or subs 2 help_shape) refl,
-      (not_improve (get_or subs 3 help_shape) refl, ((λ words none e. improve_rounds words none), (not_improve (get_or subs 5 help_shape) refl, tt))),
-    ),
-  ),
-)
+  entered_meets : Each HasAt subs → (stop : Option (Text × List Text)) → entered_fault (built program) stop ≡ [] → Meets command has (entered (built program) stop)
+  entered_meets each None e = tt
+  entered_meets each (Some p) e =
+      go (find (λ (s : Shape). answers_to p.0 (label_of s)) subs) (λ s found. found_has HasAt (λ (s : Shape). answers_to p.0 (label_of s)) subs each s found) e
+    where
+      go : (o : Option Shape) → ((s : Shape) → o ≡ Some s → HasAt s) → option_map_or (λ (s : Shape). level_fault s [] nothing_held p.1 false []) o [] ≡ []
+          → Meets command has (option_map (λ (s : Shape). rows_at s p.1) o)
+      go None all none = tt
+      go (Some s) all none = all s refl p.1 none
 
-entered_rounds : (stop : Option (Text × List Text)) → entered_fault (built program) stop ≡ [] → MeetsRounds (entered (built program) stop)
-entered_rounds None e = tt
-entered_rounds (Some p) e =
-    go (find (λ (s : Shape). answers_to p.0 (label_of s)) subs) (λ s found. found_has RoundsAt (λ (s : Shape). answers_to p.0 (label_of s)) subs each_command s found) e
-  where
-    go : (o : Option Shape) → ((s : Shape) → o ≡ Some s → RoundsAt s) → option_map_or (λ (s : Shape). level_fault s [] nothing_held p.1 false []) o [] ≡ []
-        → MeetsRounds (option_map (λ (s : Shape). rows_at s p.1) o)
-    go None each e = tt
-    go (Some s) each e = each s refl p.1 e
+  words_meet : Each HasAt subs → (words : List Text) → fault_of program words ≡ [] → Meets command has (subcommand_of program words)
+  words_meet each words none =
+      let top = (built program).top in
+      let names = names_of (built program) in
+      let given = argument_words program words in
+      let stop = stop_after top.rules names given in
+      let first = both_none (walk_fault top names (walk_from nothing_held) given) _ none in
+      let below = both_none (entered_fault (built program) stop) _ first.1 in
+      entered_meets each stop below.0
 
--- where words without a fault name `improve`, its rounds are a number of their range
-pub meets_rounds : (words : List Text) → fault_of program words ≡ [] → MeetsRounds (subcommand_of program words)
-meets_rounds words none =
-    let top = (built program).top in
-    let names = names_of (built program) in
-    let given = argument_words program words in
-    let stop = stop_after top.rules names given in
-    let first = both_none (walk_fault top names (walk_from nothing_held) given) _ none in
-    let below = both_none (entered_fault (built program) stop) _ first.1 in
-    entered_rounds stop below.0
+another_in : (command : Text) (has : List Row → Type 0) (k : ℕ) → bytes_eq (get_or subs k help_shape).name command ≡ false → HasAt command has (get_or subs k help_shape)
+another_in command has k other = another command has (get_or subs k help_shape) other
+
+-- where words without a fault name this command, it has its number
+pub meets_rounds : (words : List Text) → fault_of program words ≡ [] → Meets (codes "improve") HasRounds (subcommand_of program words)
+unfolding Among
+meets_rounds =
+    let no = another_in (codes "improve") HasRounds in
+    let here : HasAt (codes "improve") HasRounds improve = λ words none e.
+    level_number (codes "rounds") 1000 (codes "100") refl refl improve ((λ f. refl), ((λ f. absurd (true≢false (sym f))), ((λ f. absurd (true≢false (sym f))), ((λ f. absurd (true≢false (sym f))), tt)))) (inl refl) words none in
+    words_meet (codes "improve") HasRounds (no 0 refl, (no 1 refl, (no 2 refl, (no 3 refl, (here, (no 5 refl, tt))))))
+
+pub improve_meets_from : (words : List Text) → fault_of program words ≡ [] → Meets (codes "improve") HasFrom (subcommand_of program words)
+unfolding Among
+improve_meets_from =
+    let no = another_in (codes "improve") HasFrom in
+    let here : HasAt (codes "improve") HasFrom improve = λ words none e.
+    level_number (codes "from") 16 (codes "0") refl refl improve ((λ f. absurd (true≢false (sym f))), ((λ f. refl), ((λ f. absurd (true≢false (sym f))), ((λ f. absurd (true≢false (sym f))), tt)))) (inr (inl refl)) words none in
+    words_meet (codes "improve") HasFrom (no 0 refl, (no 1 refl, (no 2 refl, (no 3 refl, (here, (no 5 refl, tt))))))
+
+pub best_meets_from : (words : List Text) → fault_of program words ≡ [] → Meets (codes "best") HasFrom (subcommand_of program words)
+unfolding Among
+best_meets_from =
+    let no = another_in (codes "best") HasFrom in
+    let here : HasAt (codes "best") HasFrom best = λ words none e.
+    level_number (codes "from") 16 (codes "0") refl refl best ((λ f. absurd (true≢false (sym f))), ((λ f. refl), ((λ f. absurd (true≢false (sym f))), ((λ f. absurd (true≢false (sym f))), tt)))) (inr (inl refl)) words none in
+    words_meet (codes "best") HasFrom (no 0 refl, (no 1 refl, (no 2 refl, (here, (no 4 refl, (no 5 refl, tt))))))
 
 -- ---- the number
 
--- what a getter reads at a type of 16 bits of such matches: a number from 0 to 1000
-pub rounds_read : {F : Type 0} (found : Found) (gives : Text → Result ℕ F → Type 0) → ((t : Text) (r : Result ℕ F) → gives t r → ParsesUnsigned 16 10 t r)
-    → HasRounds (rows_of found) → (o : Option ℕ) → ((t : Text) → one_text found (codes "rounds") ≡ Some t → ReadsOne gives t o)
-    → IsSomeAnd o (λ n. AreRounds n (rows_of found) × (n ≤ 1000))
-rounds_read {F} found gives parses has o reads =
+-- what a getter reads at a type of 16 bits of such matches: a number of the range
+pub number_read : {F : Type 0} (name : Text) (most : ℕ) → most < 2 ^ 16 → (found : Found) (gives : Text → Result ℕ F → Type 0) → ((t : Text) (r : Result ℕ F) → gives t r → ParsesUnsigned 16 10 t r)
+    → HasNumber name most (rows_of found) → (o : Option ℕ) → ((t : Text) → one_text found name ≡ Some t → ReadsOne gives t o)
+    → IsSomeAnd o (λ n. IsNumberOf name n (rows_of found) × (n ≤ most))
+number_read {F} name most few found gives parses has o reads =
     let text = without_minus has.text in
-    let one = reads text (one_text-rows found (codes "rounds") ∙ has.read) in
-    let got = signed_reads F gives 16 0 1000 has.text o one parses (omega arith) has.within in
+    let one = reads text (one_text-rows found name ∙ has.read) in
+    let got = signed_reads F gives 16 0 most has.text o one parses few has.within in
     let read = parses text (Ok got.0) (subst (λ (x : Option ℕ). ReadsOne gives text x) got.1 one) in
-    subst (λ (x : Option ℕ). IsSomeAnd x (λ n. AreRounds n (rows_of found) × (n ≤ 1000))) (sym got.1)
-    (record { text = text; read = has.read; numeral = read.0.0; fits = subst (λ m. m < 2 ^ 16) (sym read.1) read.0.1; number = read.1 }, got.3)
+    subst (λ (x : Option ℕ). IsSomeAnd x (λ n. IsNumberOf name n (rows_of found) × (n ≤ most))) (sym got.1)
+    (record { text = text; read = has.read; numeral = read.0.0; fits = subst (λ m. m < 2 ^ 16) (sym read.1) read.0.1; value = read.1 }, got.3)
