@@ -47,7 +47,15 @@ pub(crate) fn best<'a, Out: Write, Log: Write>(
     };
     // A new meter has room for so many.
     let _ = most_steps(held.case(), nurse);
-    put_best_row(&mut held, name, nurse, from, &mut workspace, &mut meter, log)?;
+    put_best_row(
+        &mut held,
+        name,
+        nurse,
+        from,
+        &mut workspace,
+        &mut meter,
+        log,
+    )?;
     Ok(write_weeks(output, held.case(), held.roster())?)
 }
 

@@ -40,7 +40,15 @@ pub(crate) fn report<'a, Out: Write, Log: Write>(
         Command::Cost => cost(alloc, source, instance, output),
         Command::Sizes => sizes(&instance.case, output),
         Command::Best { nurse, from } => {
-            best(alloc, nurse.as_bytes(), *from, source, instance, output, log)
+            best(
+                alloc,
+                nurse.as_bytes(),
+                *from,
+                source,
+                instance,
+                output,
+                log,
+            )
         }
         Command::Improve { rounds, from } => {
             improve(alloc, *rounds, *from, source, instance, output, log)

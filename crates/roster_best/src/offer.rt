@@ -38,6 +38,7 @@ pub fn choices(held: &Held, nurse: usize, day: u16, from: u16) -> ArrayVec<Offer
     ensures frozen { is_frozen from day ≡ true → result.items ≡ offer_of held.now.case held.now.roster nurse day (choice_on (row_of held.now.roster nurse) day) ∷ [] }
     ensures few { length result.items ≤ 65 }
 {
+    // The roster keeps the hard rules: so the present choice is one of those that are open.
     let _ = held.roster();
     if day / 7 < from {
         return present_choice(held, nurse, day);

@@ -24,7 +24,7 @@ unfolding run
 settled_run c best m r e same = rw (e, same) refl
 
 abbrev best : BestRows
-best = best_row mini_of_one_shift
+best = best_row mini_of_one_shift 0
 
 -- the rosters in their order: with Ann's row, with Bob's, and with Ann's in the second round
 abbrev with_ann : Rows

@@ -14,7 +14,7 @@ ghost use Rattle.roster_run_examples.specs.Mini.{all_free, ann, early_but, mini,
 pub fn rows_in_order()
     ensures order { all_rows {A = ℕ} (0 ∷ 1 ∷ []) 2 ≡ (0 ∷ 0 ∷ []) ∷ (0 ∷ 1 ∷ []) ∷ (1 ∷ 0 ∷ []) ∷ (1 ∷ 1 ∷ []) ∷ [] }
     ensures first_of_equals { first_least (penalty_with mini all_free ann) (map early_but (0 ∷ 1 ∷ 2 ∷ 3 ∷ 4 ∷ 5 ∷ 6 ∷ [])) ≡ Some (early_but 1) }
-    ensures best { best_row mini_of_one_shift all_free ann ≡ Some (early_but 1) }
+    ensures best { best_row mini_of_one_shift 0 all_free ann ≡ Some (early_but 1) }
 {}
 
 /// What a prefix owes, and its summary.
@@ -30,5 +30,5 @@ pub fn prefixes_of_rows()
 
 /// The log of a run of no rounds.
 pub fn log_of_no_rounds()
-    ensures { flat_map (line_of mini) (log_of mini (best_row mini) 0 all_free) ≡ codes "start 470\nstopped 470\n" }
+    ensures { flat_map (line_of mini) (log_of mini (best_row mini 0) 0 all_free) ≡ codes "start 470\nstopped 470\n" }
 {}

@@ -39,7 +39,7 @@ fn search(
         return None;
     }
     let before = meter.count();
-    let best = best_row(held, nurse, workspace, meter);
+    let best = best_row(held, nurse, 0, workspace, meter);
     Some((best.total, meter.count() - before))
 }
 

@@ -70,8 +70,12 @@ fn command_of(alloc: Global, name: &str) -> Result<Command, AllocError> {
         "sizes" => Command::Sizes,
         "best" => Command::Best {
             nurse: String::from_str(alloc, "Ann")?,
+            from: 0,
         },
-        _ => Command::Improve { rounds: 100 },
+        _ => Command::Improve {
+            rounds: 100,
+            from: 0,
+        },
     })
 }
 
@@ -240,7 +244,7 @@ fn rosters_behind_a_log_that_fails(rt: HostRuntime) -> Result<(), Fail> {
             let mut log_room = [0; 78];
             let writer = ShortWriter::new(&mut log_room[..sent.min(78)], AtEnd::Fail);
             let mut log = Watch::new(writer);
-            let ended = improve(&mut held, 100, &mut workspace, &mut meter, &mut log);
+            let ended = improve(&mut held, 100, 0, &mut workspace, &mut meter, &mut log);
             assert!(rt; ended == Err(LogFault::LogFailed { sent }), "{sent}");
             assert!(rt; fill(log.into_inner().written(), RUN_LOG, sent), "{sent}");
             assert!(rt; held.total() == total, "{sent}");

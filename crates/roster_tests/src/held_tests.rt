@@ -22,11 +22,11 @@ fn held(alloc: Global, source: &[u8]) -> Result<Held, Fail> {
 
 // ---- what a nurse may do
 
-/// Whether these are the offers of a nurse on a day.
-fn offers_are(held: &Held, nurse: usize, day: u16, expected: &[Offer]) -> bool {
+/// Whether these are the offers of a nurse on a day, where the days before week `from` are frozen.
+fn offers_are(held: &Held, nurse: usize, day: u16, from: u16, expected: &[Offer]) -> bool {
     nurse < held.case().nurses()
         && day < held.case().days()
-        && choices(held, nurse, day).as_slice() == expected
+        && choices(held, nurse, day, from).as_slice() == expected
 }
 
 fn off(price: u32) -> Offer {
@@ -56,8 +56,12 @@ fn offers_at_a_minimum(rt: HostRuntime) -> Result<(), Fail> {
     ];
     let text = changed(alloc, &changes)?;
     let held = held(alloc, text.as_bytes())?;
-    assert!(rt; offers_are(&held, 1, 3, &[work(1, 0, 30)]));
-    assert!(rt; offers_are(&held, 1, 0, &[off(30), work(0, 0, 0), work(1, 0, 30)]));
+    assert!(rt; offers_are(&held, 1, 3, 0, &[work(1, 0, 30)]));
+    assert!(rt; offers_are(&held, 1, 0, 0, &[off(30), work(0, 0, 0), work(1, 0, 30)]));
+    // In a frozen week the present choice is the only one, with its price.
+    assert!(rt; offers_are(&held, 1, 3, 1, &[work(1, 0, 30)]));
+    assert!(rt; offers_are(&held, 1, 0, 1, &[off(30)]));
+    assert!(rt; offers_are(&held, 1, 0, u16::MAX, &[off(30)]));
     Ok(())
 }
 
@@ -80,7 +84,7 @@ fn offers_by_shift_and_then_by_skill(rt: HostRuntime) -> Result<(), Fail> {
         work(1, 0, 60),
         work(1, 1, 60),
     ];
-    assert!(rt; offers_are(&held, 0, 0, &expected));
+    assert!(rt; offers_are(&held, 0, 0, 0, &expected));
     Ok(())
 }
 

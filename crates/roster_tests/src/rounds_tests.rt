@@ -14,7 +14,17 @@ fn steps_and_a_run(rt: HostRuntime) -> Result<(), Fail> {
     if !can_step || meter.room() < most_steps(held.case(), 0) {
         return Err(Fail::new("no room"));
     }
-    let first = step(&mut held, 0, &mut workspace, &mut meter);
+    let frozen = step(&mut held, 0, 1, &mut workspace, &mut meter);
+    let wanted = Step {
+        before: 470,
+        after: 470,
+        changed: false,
+    };
+    assert!(rt; frozen == wanted);
+    if meter.room() < most_steps(held.case(), 0) {
+        return Err(Fail::new("no room for a step more"));
+    }
+    let first = step(&mut held, 0, 0, &mut workspace, &mut meter);
     let wanted = Step {
         before: 470,
         after: 180,
@@ -26,7 +36,7 @@ fn steps_and_a_run(rt: HostRuntime) -> Result<(), Fail> {
     }
     let mut room = [0; 80];
     let mut log = Watch::new(ShortWriter::new(&mut room, AtEnd::Fail));
-    let ended = improve(&mut held, 3, &mut workspace, &mut meter, &mut log);
+    let ended = improve(&mut held, 3, 0, &mut workspace, &mut meter, &mut log);
     let wanted = Outcome {
         settled: true,
         rounds: 3,

@@ -277,8 +277,13 @@ fn a_flush_that_fails_behind_a_full_answer(rt: HostRuntime) -> Result<(), Fail> 
     Ok(())
 }
 
-/// Whether the words ask for a run of so many rounds over these files.
-fn asks_for_rounds(alloc: Global, words: &[&str], rounds: u16, files: &[&str]) -> bool {
+/// Whether the words ask for a run of so many rounds from a week on over these files.
+fn asks_for_run(
+    alloc: Global,
+    words: &[&str],
+    (rounds, from): (u16, u16),
+    files: &[&str],
+) -> bool {
     let Ok(request) = request_of(alloc, words) else {
         return false;
     };
@@ -286,15 +291,20 @@ fn asks_for_rounds(alloc: Global, words: &[&str], rounds: u16, files: &[&str]) -
         command,
         files: given,
     } = request;
-    matches!(command, Command::Improve { rounds: asked } if asked == rounds)
+    matches!(command, Command::Improve { rounds: some, from: first } if some == rounds && first == from)
         && given.iter().map(|it| it.as_str()).eq(files.iter().copied())
 }
 
 #[test]
 fn requests_of_words(rt: HostRuntime) {
     let words = ["roster", "improve", "--rounds", "5", "a.txt"];
-    assert!(rt; asks_for_rounds(rt.alloc(), &words, 5, &["a.txt"]));
-    assert!(rt; asks_for_rounds(rt.alloc(), &words[..2], 100, &[]));
+    assert!(rt; asks_for_run(rt.alloc(), &words, (5, 0), &["a.txt"]));
+    assert!(rt; asks_for_run(rt.alloc(), &words[..2], (100, 0), &[]));
+    let frozen = ["roster", "improve", "--from", "16", "--rounds", "5", "a.txt"];
+    assert!(rt; asks_for_run(rt.alloc(), &frozen, (5, 16), &["a.txt"]));
+    assert!(rt; asks_for_run(rt.alloc(), &frozen[..4], (100, 16), &[]));
+    let too_late = request_of(rt.alloc(), &["roster", "improve", "--from", "17"]);
+    assert!(rt; matches!(too_late, Err(CliFault::Usage(_))));
     let above = request_of(rt.alloc(), &["roster", "improve", "--rounds", "1001"]);
     assert!(rt; matches!(above, Err(CliFault::Usage(_))));
     let nameless = request_of(rt.alloc(), &["roster", "best"]);

@@ -4,9 +4,9 @@ use Rattle.roster_answer.proofs.commands.report.Given as given
 use Rattle.roster_answer.proofs.commands.report.Goals as goal
 use Rattle.roster_answer.proofs.commands.report.Goals.{After-best, After-improve}
 
-is_best : (g : given.Over) (c : After-best g) → best_report c.as_bytes.result.now c.args.instance.case c.args.instance.roster ≡ report_of c.args.command.now c.args.instance.case c.args.instance.roster
+is_best : (g : given.Over) (c : After-best g) → best_report c.as_bytes.result.now c.in-Best.from c.args.instance.case c.args.instance.roster ≡ report_of c.args.command.now c.args.instance.case c.args.instance.roster
 is_best g c =
-    ap (λ name. best_report name c.args.instance.case c.args.instance.roster) c.as_bytes.ensures.value ∙ ap (λ x. report_of x c.args.instance.case c.args.instance.roster) (sym c.in-Best.is)
+    ap (λ name. best_report name c.in-Best.from c.args.instance.case c.args.instance.roster) c.as_bytes.ensures.value ∙ ap (λ x. report_of x c.args.instance.case c.args.instance.roster) (sym c.in-Best.is)
 
 pub returns-in-Best-clause-ends : goal.returns-in-Best-clause-ends
 returns-in-Best-clause-ends g c =
