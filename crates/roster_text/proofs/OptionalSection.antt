@@ -50,30 +50,30 @@ which false = inr refl
 abbrev err_of : {B : Type 0} → Refusal × List Seen → Read B
 err_of x = Err x
 
-module _ {B : Type 0} (V W0 W1 : B → Type 0) (pat : B → List Pattern) (k : Keyword) (due : What)
-    (read0 read1 : List Seen → Read B) (r0 : Reader W0 pat read0) (r1 : Reader W1 pat read1)
-    (cases : (b : B) → V b → W0 b ⊎ W1 b) (from0 : (b : B) → W0 b → V b) (from1 : (b : B) → W1 b → V b)
-    (begins0 : (b : B) → W0 b → BeginsElse due (keyword_text k) (pat b)) (begins1 : (b : B) → W1 b → BeginsSo due (keyword_text k) (pat b)) where
+module _ {B : Type 0} (V IsElse IsSo : B → Type 0) (pat : B → List Pattern) (k : Keyword) (due : What)
+    (read_else read_so : List Seen → Read B) (reader_else : Reader IsElse pat read_else) (reader_so : Reader IsSo pat read_so)
+    (cases : (b : B) → V b → IsElse b ⊎ IsSo b) (valid_else : (b : B) → IsElse b → V b) (valid_so : (b : B) → IsSo b → V b)
+    (begins_else : (b : B) → IsElse b → BeginsElse due (keyword_text k) (pat b)) (begins_so : (b : B) → IsSo b → BeginsSo due (keyword_text k) (pat b)) where
   abbrev pub either : List Seen → Read B
-  either ts = cond (begins_with k ts) (read1 ts) (read0 ts)
+  either ts = cond (begins_with k ts) (read_so ts) (read_else ts)
 
-  either_so : (ts : List Seen) → begins_with k ts ≡ true → either ts ≡ read1 ts
+  either_so : (ts : List Seen) → begins_with k ts ≡ true → either ts ≡ read_so ts
   either_so ts e = rw e refl
 
-  either_else : (ts : List Seen) → begins_with k ts ≡ false → either ts ≡ read0 ts
+  either_else : (ts : List Seen) → begins_with k ts ≡ false → either ts ≡ read_else ts
   either_else ts e = rw e refl
 
-  sound0 : (ts rest : List Seen) (b : B) → read0 ts ≡ Ok (b, rest) → Found V pat ts rest b
-  sound0 ts rest b e = let f = r0.sound ts rest b e in record { valid = from0 b f.valid; takes = f.takes }
+  sound_else : (ts rest : List Seen) (b : B) → read_else ts ≡ Ok (b, rest) → Found V pat ts rest b
+  sound_else ts rest b e = let f = reader_else.sound ts rest b e in record { valid = valid_else b f.valid; takes = f.takes }
 
-  sound1 : (ts rest : List Seen) (b : B) → read1 ts ≡ Ok (b, rest) → Found V pat ts rest b
-  sound1 ts rest b e = let f = r1.sound ts rest b e in record { valid = from1 b f.valid; takes = f.takes }
+  sound_so : (ts rest : List Seen) (b : B) → read_so ts ≡ Ok (b, rest) → Found V pat ts rest b
+  sound_so ts rest b e = let f = reader_so.sound ts rest b e in record { valid = valid_so b f.valid; takes = f.takes }
 
   either_sound : (ts rest : List Seen) (b : B) → either ts ≡ Ok (b, rest) → Found V pat ts rest b
   either_sound ts rest b e =
       elim (which (begins_with k ts)) [
-        | inl so ↦ sound1 ts rest b (sym (either_so ts so) ∙ e)
-        | inr other_way ↦ sound0 ts rest b (sym (either_else ts other_way) ∙ e)
+        | inl so ↦ sound_so ts rest b (sym (either_so ts so) ∙ e)
+        | inr other_way ↦ sound_else ts rest b (sym (either_else ts other_way) ∙ e)
       ]
 
   -- ---- which way the patterns go
@@ -82,41 +82,41 @@ module _ {B : Type 0} (V W0 W1 : B → Type 0) (pat : B → List Pattern) (k : K
   not_true true h = absurd (h refl)
   not_true false h = refl
 
-  goes_else : (b : B) → W0 b → (d : Pattern) (rest : List Pattern) → pat b ≡ d ∷ rest → (t : Seen) → Fits d t → (ts : List Seen) → begins_with k (t ∷ ts) ≡ false
+  goes_else : (b : B) → IsElse b → (d : Pattern) (rest : List Pattern) → pat b ≡ d ∷ rest → (t : Seen) → Fits d t → (ts : List Seen) → begins_with k (t ∷ ts) ≡ false
   goes_else b w d rest e t fits ts =
-      let x = begins0 b w in
+      let x = begins_else b w in
       let both : x.next ∷ x.rest ≡ d ∷ rest = sym x.is ∙ e in
       let same : x.next ≡ d = cc in
       not_true (bytes_eq t.text (keyword_text k)) (λ h. x.other t (subst (λ (p : Pattern). Fits p t) (sym same) fits) ((bytes_eq-Decides t.text (keyword_text k)).0 h))
 
-  goes_so : (b : B) → W1 b → (d : Pattern) (rest : List Pattern) → pat b ≡ d ∷ rest → (t : Seen) → Fits d t → (ts : List Seen) → begins_with k (t ∷ ts) ≡ true
+  goes_so : (b : B) → IsSo b → (d : Pattern) (rest : List Pattern) → pat b ≡ d ∷ rest → (t : Seen) → Fits d t → (ts : List Seen) → begins_with k (t ∷ ts) ≡ true
   goes_so b w d rest e t fits ts =
-      let x = begins1 b w in
+      let x = begins_so b w in
       let both : fixed due (keyword_text k) ∷ x.rest ≡ d ∷ rest = sym x.is ∙ e in
       let same : fixed due (keyword_text k) ≡ d = cc in
       (bytes_eq-Decides t.text (keyword_text k)).1 (subst (λ (p : Pattern). Fits p t) (sym same) fits)
 
   -- ---- what is spelled is read
 
-  whole0 : (b : B) (front rest : List Seen) → W0 b → Spelled (pat b) front → either (front ++ rest) ≡ Ok (b, rest)
-  whole0 b [] rest w s = absurd (let x = begins0 b w in subst (λ (ps : List Pattern). Spelled ps []) x.is s)
-  whole0 b (t ∷ ts) rest w s =
-      let x = begins0 b w in
+  whole_else : (b : B) (front rest : List Seen) → IsElse b → Spelled (pat b) front → either (front ++ rest) ≡ Ok (b, rest)
+  whole_else b [] rest w s = absurd (let x = begins_else b w in subst (λ (ps : List Pattern). Spelled ps []) x.is s)
+  whole_else b (t ∷ ts) rest w s =
+      let x = begins_else b w in
       let s' : Spelled (x.next ∷ x.rest) (t ∷ ts) = subst (λ (ps : List Pattern). Spelled ps (t ∷ ts)) x.is s in
-      either_else (t ∷ ts ++ rest) (goes_else b w x.next x.rest x.is t s'.0 (ts ++ rest)) ∙ r0.whole b (t ∷ ts) rest w s
+      either_else (t ∷ ts ++ rest) (goes_else b w x.next x.rest x.is t s'.0 (ts ++ rest)) ∙ reader_else.whole b (t ∷ ts) rest w s
 
-  whole1 : (b : B) (front rest : List Seen) → W1 b → Spelled (pat b) front → either (front ++ rest) ≡ Ok (b, rest)
-  whole1 b [] rest w s = absurd (let x = begins1 b w in subst (λ (ps : List Pattern). Spelled ps []) x.is s)
-  whole1 b (t ∷ ts) rest w s =
-      let x = begins1 b w in
+  whole_so : (b : B) (front rest : List Seen) → IsSo b → Spelled (pat b) front → either (front ++ rest) ≡ Ok (b, rest)
+  whole_so b [] rest w s = absurd (let x = begins_so b w in subst (λ (ps : List Pattern). Spelled ps []) x.is s)
+  whole_so b (t ∷ ts) rest w s =
+      let x = begins_so b w in
       let s' : Spelled (fixed due (keyword_text k) ∷ x.rest) (t ∷ ts) = subst (λ (ps : List Pattern). Spelled ps (t ∷ ts)) x.is s in
-      either_so (t ∷ ts ++ rest) (goes_so b w (fixed due (keyword_text k)) x.rest x.is t s'.0 (ts ++ rest)) ∙ r1.whole b (t ∷ ts) rest w s
+      either_so (t ∷ ts ++ rest) (goes_so b w (fixed due (keyword_text k)) x.rest x.is t s'.0 (ts ++ rest)) ∙ reader_so.whole b (t ∷ ts) rest w s
 
   either_whole : (b : B) (front rest : List Seen) → V b → Spelled (pat b) front → either (front ++ rest) ≡ Ok (b, rest)
   either_whole b front rest v s =
       elim (cases b v) [
-        | inl w ↦ whole0 b front rest w s
-        | inr w ↦ whole1 b front rest w s
+        | inl w ↦ whole_else b front rest w s
+        | inr w ↦ whole_so b front rest w s
       ]
 
   -- ---- where it stops
@@ -124,88 +124,79 @@ module _ {B : Type 0} (V W0 W1 : B → Type 0) (pat : B → List Pattern) (k : K
   same_way : (ts front left : List Seen) → ts ≡ front ++ left → (t : Seen) (us other : List Seen) → left ≡ t ∷ us → begins_with k ts ≡ begins_with k (front ++ t ∷ other)
   same_way ts front left split t us other e = ap (begins_with k) (split ∙ ap (λ (vs : List Seen). front ++ vs) e) ∙ same_head k front us other t
 
+  -- where it goes one way it stops as that reader does
+  stops_so_far : (read : List Seen → Read B) (W : B → Type 0) → ((b : B) → W b → V b) → (ts : List Seen) (r : Refusal) (left : List Seen) (s : Stops W pat read ts r left)
+      → ((t : Seen) (us other : List Seen) → left ≡ t ∷ us → either (s.front ++ t ∷ other) ≡ read (s.front ++ t ∷ other)) → Stops V pat either ts r left
+  stops_so_far read W valid ts r left s same = record {
+    front = s.front;
+    split = s.split;
+    value = s.value;
+    valid = valid s.value s.valid;
+    done = s.done;
+    next = s.next;
+    due = s.due;
+    patterns = s.patterns;
+    spelled = s.spelled;
+    more = s.more;
+    goes_on = s.goes_on;
+    is = s.is;
+    again = λ t us other f. same t us other f ∙ s.again t us other f;
+  }
+
   either_stops : (ts : List Seen) (r : Refusal) (left : List Seen) → either ts ≡ Err (r, left) → Stops V pat either ts r left
   either_stops ts r left e =
       elim (which (begins_with k ts)) [
         | inl so ↦
-            let s = r1.stops ts r left (sym (either_so ts so) ∙ e) in
-            record {
-              front = s.front;
-              split = s.split;
-              value = s.value;
-              valid = from1 s.value s.valid;
-              done = s.done;
-              next = s.next;
-              due = s.due;
-              patterns = s.patterns;
-              spelled = s.spelled;
-              more = s.more;
-              goes_on = s.goes_on;
-              is = s.is;
-              again = λ t us other f. either_so (s.front ++ t ∷ other) (sym (same_way ts s.front left s.split t us other f) ∙ so) ∙ s.again t us other f;
-            }
+            let s = reader_so.stops ts r left (sym (either_so ts so) ∙ e) in
+            stops_so_far read_so IsSo valid_so ts r left s (λ t us other f. either_so (s.front ++ t ∷ other) (sym (same_way ts s.front left s.split t us other f) ∙ so))
         | inr other_way ↦
-            let s = r0.stops ts r left (sym (either_else ts other_way) ∙ e) in
-            record {
-              front = s.front;
-              split = s.split;
-              value = s.value;
-              valid = from0 s.value s.valid;
-              done = s.done;
-              next = s.next;
-              due = s.due;
-              patterns = s.patterns;
-              spelled = s.spelled;
-              more = s.more;
-              goes_on = s.goes_on;
-              is = s.is;
-              again = λ t us other f. either_else (s.front ++ t ∷ other) (sym (same_way ts s.front left s.split t us other f) ∙ other_way) ∙ s.again t us other f;
-            }
+            let s = reader_else.stops ts r left (sym (either_else ts other_way) ∙ e) in
+            stops_so_far read_else IsElse valid_else ts r left s (λ t us other f. either_else (s.front ++ t ∷ other) (sym (same_way ts s.front left s.split t us other f) ∙ other_way))
       ]
 
   -- ---- a front that lacks something
 
   empty_ends : either [] ≡ Err (Due due, [])
   empty_ends =
-      let x = r0.some in
-      let b = begins0 x.value x.valid in
+      let x = reader_else.some in
+      let b = begins_else x.value x.valid in
       let s : Spelled (b.next ∷ b.rest) x.tokens = subst (λ (ps : List Pattern). Spelled ps x.tokens) b.is x.spelled in
-      r0.ends x.value [] b.rest b.next [] x.tokens x.valid b.is tt s ∙ ap (λ (w : What). err_of (Due w, [])) b.labelled
+      reader_else.ends x.value [] b.rest b.next [] x.tokens x.valid b.is tt s ∙ ap (λ (w : What). err_of (Due w, [])) b.labelled
 
-  ends0 : (b : B) (done after : List Pattern) (p : Pattern) (front more : List Seen) → W0 b → pat b ≡ done ++ p ∷ after → Spelled done front → Spelled (p ∷ after) more → either front ≡ Err (Due (label p), [])
-  ends0 b [] after p [] more w e s m =
-      let x = begins0 b w in
+  ends_else : (b : B) (done after : List Pattern) (p : Pattern) (front more : List Seen) → IsElse b → pat b ≡ done ++ p ∷ after → Spelled done front → Spelled (p ∷ after) more → either front ≡ Err (Due (label p), [])
+  ends_else b [] after p [] more w e s m =
+      let x = begins_else b w in
       let both : x.next ∷ x.rest ≡ p ∷ after = sym x.is ∙ e in
       let same : x.next ≡ p = cc in
       empty_ends ∙ ap (λ (w : What). err_of (Due w, [])) (sym x.labelled ∙ ap label same)
-  ends0 b [] after p (t ∷ ts) more w e s m = absurd s
-  ends0 b (d ∷ done) after p [] more w e s m = absurd s
-  ends0 b (d ∷ done) after p (t ∷ ts) more w e s m =
-      either_else (t ∷ ts) (goes_else b w d (done ++ p ∷ after) e t s.0 ts) ∙ r0.ends b (d ∷ done) after p (t ∷ ts) more w e s m
+  ends_else b [] after p (t ∷ ts) more w e s m = absurd s
+  ends_else b (d ∷ done) after p [] more w e s m = absurd s
+  ends_else b (d ∷ done) after p (t ∷ ts) more w e s m =
+      either_else (t ∷ ts) (goes_else b w d (done ++ p ∷ after) e t s.0 ts) ∙ reader_else.ends b (d ∷ done) after p (t ∷ ts) more w e s m
 
-  ends1 : (b : B) (done after : List Pattern) (p : Pattern) (front more : List Seen) → W1 b → pat b ≡ done ++ p ∷ after → Spelled done front → Spelled (p ∷ after) more → either front ≡ Err (Due (label p), [])
-  ends1 b [] after p [] more w e s m =
-      let x = begins1 b w in
+  ends_so : (b : B) (done after : List Pattern) (p : Pattern) (front more : List Seen) → IsSo b → pat b ≡ done ++ p ∷ after → Spelled done front → Spelled (p ∷ after) more → either front ≡ Err (Due (label p), [])
+  ends_so b [] after p [] more w e s m =
+      let x = begins_so b w in
       let both : fixed due (keyword_text k) ∷ x.rest ≡ p ∷ after = sym x.is ∙ e in
       let same : fixed due (keyword_text k) ≡ p = cc in
       empty_ends ∙ ap (λ (q : Pattern). err_of (Due (label q), [])) same
-  ends1 b [] after p (t ∷ ts) more w e s m = absurd s
-  ends1 b (d ∷ done) after p [] more w e s m = absurd s
-  ends1 b (d ∷ done) after p (t ∷ ts) more w e s m =
-      either_so (t ∷ ts) (goes_so b w d (done ++ p ∷ after) e t s.0 ts) ∙ r1.ends b (d ∷ done) after p (t ∷ ts) more w e s m
+  ends_so b [] after p (t ∷ ts) more w e s m = absurd s
+  ends_so b (d ∷ done) after p [] more w e s m = absurd s
+  ends_so b (d ∷ done) after p (t ∷ ts) more w e s m =
+      either_so (t ∷ ts) (goes_so b w d (done ++ p ∷ after) e t s.0 ts) ∙ reader_so.ends b (d ∷ done) after p (t ∷ ts) more w e s m
 
   either_ends : (b : B) (done after : List Pattern) (p : Pattern) (front more : List Seen) → V b → pat b ≡ done ++ p ∷ after → Spelled done front → Spelled (p ∷ after) more → either front ≡ Err (Due (label p), [])
   either_ends b done after p front more v e s m =
       elim (cases b v) [
-        | inl w ↦ ends0 b done after p front more w e s m
-        | inr w ↦ ends1 b done after p front more w e s m
+        | inl w ↦ ends_else b done after p front more w e s m
+        | inr w ↦ ends_so b done after p front more w e s m
       ]
 
   pub either_reader : Reader V pat either
   either_reader = record {
     sound = either_sound;
     whole = either_whole;
-    some = let x = r0.some in record { value = x.value; tokens = x.tokens; valid = from0 x.value x.valid; spelled = x.spelled };
+    some = let x = reader_else.some in record { value = x.value; tokens = x.tokens; valid = valid_else x.value x.valid; spelled = x.spelled };
     stops = either_stops;
     ends = either_ends;
   }
