@@ -14,7 +14,7 @@ use Rattle.roster_instance.specs.Counting.{one_if}
 use Rattle.roster_instance.specs.Meaning.{Meaning, minimum, nurse_at, optimum, shift_at, shift_count, skill_at, skill_count}
 use Rattle.roster_instance.specs.Rosters.{Rows}
 use Rattle.roster_rules.specs.HardRules.{is_able}
-use Rattle.roster_rules.specs.Penalties.{off_request_cost_on}
+use Rattle.roster_rules.specs.Penalties.{request_cost_on}
 use Rattle.roster_rules.specs.Weights.{staffing_weight}
 use Rattle.roster_case.specs.OneRow.{is_open, others}
 use Rattle.roster_case.specs.Staffing.{lacking, with_choice}
@@ -74,7 +74,7 @@ module _ (c : Meaning) (r : Rows) (n d : ℕ) where
       → able ≡ is_able (nurse_at c n).skills choice
       → least ≡ lacking c (minimum c d) (with_choice (others r n d) choice)
       → most ≡ lacking c (optimum c d) (with_choice (others r n d) choice)
-      → asked ≡ off_request_cost_on c n d (shift_of choice)
+      → asked ≡ request_cost_on c n d (shift_of choice)
       → (if able && (least == 0) then Some (record { choice = choice; price = staffing_weight * most + asked }) else None) ≡ offered choice
   offer_is choice able least most asked able_is least_is most_is asked_is =
       let have : ℕ → ℕ → ℕ = with_choice (others r n d) choice in

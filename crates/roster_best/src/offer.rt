@@ -8,16 +8,16 @@ ghost use Rattle.roster_instance.specs.Limits.{most_shifts, most_skills, most_sm
 ghost use Rattle.roster_instance.specs.Meaning.{day_count, minimum, nurse_count, optimum, shift_count, skill_count};
 ghost use Rattle.roster_instance.specs.Rosters.{choice_on, is_choice_of, row_of};
 ghost use Rattle.roster_rules.specs.AllowedRows.{is_frozen};
-ghost use Rattle.roster_rules.specs.Penalties.{off_request_cost_on};
-ghost use Rattle.roster_rules.specs.Weights.{off_request_weight};
+ghost use Rattle.roster_rules.specs.Penalties.{off_request_cost_on, request_cost_on, wish_cost_on};
+ghost use Rattle.roster_rules.specs.Weights.{off_request_weight, wish_weight};
 ghost use Rattle.roster_case.specs.OneRow.{is_open, others};
 ghost use Rattle.roster_case.specs.Staffing.{lacking, with_choice};
 ghost use Rattle.roster_search.specs.Offers.{offer_of, offers_of, open_offers};
 
 use arrayvec::ArrayVec;
 use roster_case::{Case, Choice, Held, Shift, Skill};
-use roster_rules::is_able;
-use roster_rules::weights::{OFF_REQUEST, STAFFING};
+use roster_rules::weights::{OFF_REQUEST, STAFFING, WISH};
+use roster_rules::{is_able, meets_wishes};
 use roster_search::Offer;
 
 /// How many nurses a day lacks to its minimums and to its optimums, over all shifts and skills.
@@ -29,8 +29,8 @@ struct Lacking {
 
 /// What a nurse may do on a day while the others' rows stay, in the order of the choices: to be off, or to work a shift with one
 /// of the nurse's skills; each only where no minimum of the day is missed with it. The price is that of the day's staffing with
-/// this choice, and of an off request against it. The days of the weeks before week `from` are frozen: on these the nurse may do
-/// only what the roster says. Every `from` is allowed.
+/// this choice, of an off request against it, and of a wish to work that it doesn't meet. The days of the weeks before week `from`
+/// are frozen: on these the nurse may do only what the roster says. Every `from` is allowed.
 pub fn choices(held: &Held, nurse: usize, day: u16, from: u16) -> ArrayVec<Offer, 65>
     requires nurse { nurse < nurse_count held.now.case }
     requires day { day < day_count held.now.case }
@@ -105,7 +105,7 @@ fn offered(held: &Held, nurse: usize, day: u16, choice: Choice, lack: Lacking) -
 {
     let case = held.case();
     let able = is_able(case.skills_of(nurse), choice);
-    let price = STAFFING * lack.optimum + off_request_cost(case, nurse, day, choice.shift());
+    let price = STAFFING * lack.optimum + request_cost(case, nurse, day, choice.shift());
     offer_if(able, lack.minimum, choice, price)
 }
 
@@ -118,6 +118,15 @@ fn offer_if(able: bool, lacking: u32, choice: Choice, price: u32) -> Option<Offe
     None
 }
 
+/// The points for the nurse's requests of a day, by the shift that is worked then, if one is.
+fn request_cost(case: &Case, nurse: usize, day: u16, shift: Option<Shift>) -> u32
+    requires { nurse < nurse_count case.now }
+    ensures cost { result ≡ request_cost_on case.now nurse day shift }
+    ensures within { result ≤ off_request_weight + wish_weight }
+{
+    off_request_cost(case, nurse, day, shift) + wish_cost(case, nurse, day, shift)
+}
+
 /// The points for an off request against the shift of a day, if one is worked.
 fn off_request_cost(case: &Case, nurse: usize, day: u16, shift: Option<Shift>) -> u32
     requires { nurse < nurse_count case.now }
@@ -128,6 +137,15 @@ fn off_request_cost(case: &Case, nurse: usize, day: u16, shift: Option<Shift>) -
         Some(shift) => OFF_REQUEST * case.has_off_request(nurse, day, shift) as u32,
         None => 0,
     }
+}
+
+/// The points for a wish to work that isn't met, also by a day off.
+fn wish_cost(case: &Case, nurse: usize, day: u16, shift: Option<Shift>) -> u32
+    requires { nurse < nurse_count case.now }
+    ensures cost { result ≡ wish_cost_on case.now nurse day shift }
+    ensures within { result ≤ wish_weight }
+{
+    WISH * !meets_wishes(case, nurse, day, shift) as u32
 }
 
 // ---- what a day lacks

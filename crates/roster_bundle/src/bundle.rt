@@ -235,9 +235,9 @@ pub struct Requirement {
     pub days: WeekPairs,
 }
 
-/// An off request: a nurse asks for a day free of a shift; the shift may be the word `Any`.
+/// A request: a nurse asks for a day free of a shift, or for a day with it; the shift may be the word `Any`.
 #[derive(Clone, Copy)]
-pub struct OffRequest {
+pub struct Request {
     pub nurse: Token,
     pub shift: Token,
     pub day: Day,
@@ -248,7 +248,9 @@ pub struct OffRequest {
 pub struct WeekData {
     pub scenario: Token,
     pub requirements: Items<Requirement>,
-    pub off_requests: Listed<OffRequest>,
+    pub off_requests: Listed<Request>,
+    /// The wishes to work, where the week has their section.
+    pub on_requests: Option<Listed<Request>>,
 }
 
 /// A nurse works a shift with a skill on a day.

@@ -9,7 +9,7 @@ ghost use Rattle.roster_instance.specs.Rosters.{fits_case};
 
 use crate::runs::{free_run_cost, shift_run_cost, working_run_cost};
 use crate::staffing::staffing_cost;
-use crate::weekends::{off_request_cost, split_cost, totals_cost, weekends_cost};
+use crate::weekends::{off_request_cost, split_cost, totals_cost, weekends_cost, wish_cost};
 use roster_instance::{Case, Choice, Roster};
 use roster_rules::Costs;
 
@@ -41,6 +41,7 @@ pub fn nurse_cost(case: &Case, nurse: usize, row: &[Choice]) -> u32
         + shift_run_cost(case, nurse, row)
         + free_run_cost(case, nurse, row)
         + off_request_cost(case, nurse, row)
+        + wish_cost(case, nurse, row)
         + split_cost(case, nurse, row, weeks)
         + totals_cost(case, nurse, row)
         + weekends_cost(case, nurse, row, weeks);
@@ -65,6 +66,7 @@ fn by_rule(case: &Case, roster: &Roster) -> Costs
         costs.s5 += split_cost(case, nurse, row, weeks);
         costs.s6 += totals_cost(case, nurse, row);
         costs.s7 += weekends_cost(case, nurse, row, weeks);
+        costs.s8 += wish_cost(case, nurse, row);
     }
     costs
 }

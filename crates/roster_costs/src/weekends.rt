@@ -1,14 +1,15 @@
-//! The worked days and the weekends of a row, and the off requests against it.
+//! The worked days and the weekends of a row, and the requests for its days.
 
 ghost use Rattle.std.specs.Prelude.{◌≡◌, ◌*◌, ◌<◌, ◌≤◌, length};
 ghost use Rattle.roster_instance.specs.Choices.{days_of};
 ghost use Rattle.roster_instance.specs.Days.{days_worked, one_alone, split_weekends, worked_weekends, works};
 ghost use Rattle.roster_instance.specs.Limits.{most_days, most_weeks};
 ghost use Rattle.roster_instance.specs.Meaning.{nurse_count};
-ghost use Rattle.roster_rules.specs.Penalties.{breaks_off_request, extra_cost, missing_cost, off_request_cost, split_cost, totals_cost, weekends_cost};
+ghost use Rattle.roster_rules.specs.Penalties.{breaks_off_request, extra_cost, missing_cost, off_request_cost, split_cost, totals_cost, weekends_cost, wish_cost};
 
 use roster_instance::{Case, Choice, Shift};
-use roster_rules::weights::{ASSIGNMENT, OFF_REQUEST, SPLIT, WEEKEND};
+use roster_rules::meets_wishes;
+use roster_rules::weights::{ASSIGNMENT, OFF_REQUEST, SPLIT, WEEKEND, WISH};
 
 /// The points for each day with a shift that an off request names.
 pub(crate) fn off_request_cost(case: &Case, nurse: usize, row: &[Choice]) -> u64
@@ -34,6 +35,22 @@ fn breaks_off_request(case: &Case, nurse: usize, day: u16, shift: Option<Shift>)
         Some(shift) => case.has_off_request(nurse, day, shift),
         None => false,
     }
+}
+
+/// The points for each day with a wish to work that isn't met.
+pub(crate) fn wish_cost(case: &Case, nurse: usize, row: &[Choice]) -> u64
+    requires nurse { nurse < nurse_count case.now }
+    requires days { length row.now ≤ most_days }
+    ensures cost { result ≡ wish_cost case.now nurse (days_of row.now) }
+    ensures within { result ≤ 4294967296 }
+{
+    let mut cost = 0;
+    for (day, choice) in row.iter().enumerate() {
+        if !meets_wishes(case, nurse, day as u16, choice.shift()) {
+            cost += WISH as u64;
+        }
+    }
+    cost
 }
 
 /// The points for each weekend of which exactly one day is worked, where the contract wants whole weekends.

@@ -7,7 +7,7 @@ pub mod SizeLemmas
 pub mod TableSteps
 pub mod WeekTableLemmas
 pub mod HistoryLemmas
-pub mod OffRequestLemmas
+pub mod RequestLemmas
 pub mod FlagLemmas
 pub mod ScenarioLemmas
 mod CaseLemmas

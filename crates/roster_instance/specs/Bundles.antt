@@ -1,13 +1,14 @@
 -- The meaning of a bundle in which nothing is refused (INRC-II; how a history line is read, and (0,0) where no requirement
 -- line stands, are our profile).
-use Rattle.std.specs.Prelude.{ℕ, ◌+◌, ◌*◌, ◌/◌, ◌%◌, Bool, ◌&&◌, ◌||◌, ◌==◌, if◌then◌else◌, List, [], ◌∷◌, length, map, codes, Option, None, option_and_then, option_map, slice_index_or, unwrap_or}
+use Rattle.std.specs.Prelude.{ℕ, ◌+◌, ◌*◌, ◌/◌, ◌%◌, Bool, not, ◌&&◌, ◌==◌, if◌then◌else◌, List, [], ◌∷◌, length, map, codes, Option, Some, None, option_and_then, option_map, slice_index_or, unwrap_or}
 use Rattle.std.specs.List.{list_any, range_with_len}
 use Rattle.roster_bundle.specs.declared.bundle.Assignment.{Assignment}
 use Rattle.roster_bundle.specs.declared.bundle.Bundle.{Bundle}
 use Rattle.roster_bundle.specs.declared.bundle.Contract.{Contract}
+use Rattle.roster_bundle.specs.declared.bundle.Listed.{Listed}
 use Rattle.roster_bundle.specs.declared.bundle.Nurse.{Nurse}
 use Rattle.roster_bundle.specs.declared.bundle.NurseHistory.{NurseHistory}
-use Rattle.roster_bundle.specs.declared.bundle.OffRequest.{OffRequest}
+use Rattle.roster_bundle.specs.declared.bundle.Request.{Request}
 use Rattle.roster_bundle.specs.declared.bundle.Pair.{Pair}
 use Rattle.roster_bundle.specs.declared.bundle.Requirement.{Requirement}
 use Rattle.roster_bundle.specs.declared.bundle.ShiftType.{ShiftType}
@@ -25,6 +26,7 @@ use Rattle.roster_instance.specs.declared.choice.Skill.{Skill}
 use Rattle.roster_instance.specs.declared.rules.Border.{Border}
 use Rattle.roster_instance.specs.declared.rules.Border.TheVariants.{Free, Working}
 use Rattle.roster_instance.specs.declared.rules.ContractRules.{ContractRules}
+use Rattle.roster_instance.specs.declared.rules.DayRequests.{DayRequests}
 use Rattle.roster_instance.specs.declared.rules.Limits.{Limits}
 use Rattle.roster_instance.specs.declared.rules.Past.{Past}
 use Rattle.roster_instance.specs.Meaning.{Meaning, NurseFacts, WeekFacts, nurse_count, shift_at, skill_at}
@@ -99,22 +101,36 @@ abbrev pub needs_meant : List ℕ → Names → Names → List Requirement → L
 needs_meant source shifts skills qs = table_of (place_of_need source shifts skills) (λ (q : Requirement). limits_of_week q.days) 64 qs
 
 -- the place of a nurse and weekday
-abbrev pub place_of_off_request : List ℕ → Names → OffRequest → Option ℕ
-place_of_off_request source nurses q = option_map (λ n. 7 * n + weekday q.day) (found source nurses q.nurse)
+abbrev pub place_of_request : List ℕ → Names → Request → Option ℕ
+place_of_request source nurses q = option_map (λ n. 7 * n + weekday q.day) (found source nurses q.nurse)
 
--- the off request names this shift; `Any` names each
-abbrev pub off_request_names : List ℕ → Names → ℕ → OffRequest → Bool
-off_request_names source shifts s q = reads source (codes "Any") q.shift || has_number source shifts s q.shift
+-- the request says `Any`, or it names the shift of this number
+abbrev pub says_any : List ℕ → Request → Bool
+says_any source q = reads source (codes "Any") q.shift
 
--- for each place, and each shift number, whether an off request names that shift
-unfoldable pub off_requests_meant : List ℕ → Names → Names → List OffRequest → List (List Bool)
-off_requests_meant source nurses shifts qs =
-    map (λ p. map (λ s. list_any (λ q. is_at p (place_of_off_request source nurses q) && off_request_names source shifts s q) qs) (range_with_len 0 8)) (range_with_len 0 (7 * length nurses))
+abbrev pub names_shift : List ℕ → Names → ℕ → Request → Bool
+names_shift source shifts s q = not (says_any source q) && has_number source shifts s q.shift
+
+-- what the requests of a place name: whether one says `Any`, and for each shift number whether one names that shift
+abbrev pub requests_at : List ℕ → Names → Names → List Request → ℕ → DayRequests
+requests_at source nurses shifts qs p = record {
+  any = list_any (λ q. is_at p (place_of_request source nurses q) && says_any source q) qs;
+  shifts = map (λ s. list_any (λ q. is_at p (place_of_request source nurses q) && names_shift source shifts s q) qs) (range_with_len 0 8);
+}
+
+unfoldable pub requests_meant : List ℕ → Names → Names → List Request → List DayRequests
+requests_meant source nurses shifts qs = map (requests_at source nurses shifts qs) (range_with_len 0 (7 * length nurses))
+
+-- the lines of a section that may be absent: without it there are none
+abbrev pub lines_of : {T : Type 0} → Option (Listed T) → List T
+lines_of None = []
+lines_of (Some section) = section.items
 
 abbrev pub week_meant : List ℕ → Names → Names → Names → WeekData → WeekFacts
 week_meant source shifts skills nurses w = record {
   needs = needs_meant source shifts skills w.requirements;
-  off_requests = off_requests_meant source nurses shifts w.off_requests.items;
+  off_requests = requests_meant source nurses shifts w.off_requests.items;
+  wishes = requests_meant source nurses shifts (lines_of w.on_requests);
 }
 
 -- ---- the case

@@ -1,12 +1,13 @@
 -- What the four texts of an instance mean, apart from the roster. Shifts, skills, contracts and nurses are numbered
 -- from 0 in the order of the scenario.
-use Rattle.std.specs.Prelude.{ℕ, ◌+◌, ◌*◌, ◌/◌, ◌%◌, Bool, false, List, [], length, Option, Some, None, slice_index_or, unwrap_or}
+use Rattle.std.specs.Prelude.{ℕ, ◌+◌, ◌*◌, ◌/◌, ◌%◌, Bool, false, ◌||◌, List, [], length, replicate, Option, Some, None, slice_index_or, unwrap_or}
 use Rattle.std.specs.Option.{option_map_or}
 use Rattle.roster_instance.specs.declared.choice.Shift.{Shift}
 use Rattle.roster_instance.specs.declared.choice.Skill.{Skill}
 use Rattle.roster_instance.specs.declared.rules.Border.{Border}
 use Rattle.roster_instance.specs.declared.rules.Border.TheVariants.{Free, Working}
 use Rattle.roster_instance.specs.declared.rules.ContractRules.{ContractRules}
+use Rattle.roster_instance.specs.declared.rules.DayRequests.{DayRequests}
 use Rattle.roster_instance.specs.declared.rules.Limits.{Limits}
 use Rattle.roster_instance.specs.declared.rules.Past.{Past}
 
@@ -16,10 +17,11 @@ pub record NurseFacts : Type 0 where
   pub skills : List Skill
 
 -- a week: at place 8 s + k the requirements of shift s and skill k from Monday to Sunday, where a line has them; at place
--- 7 n + w, for each shift, whether an off request names it for nurse n on weekday w
+-- 7 n + w what the off requests of nurse n for weekday w name, and what the wishes to work name
 pub record WeekFacts : Type 0 where
   pub needs : List (Option (List Limits))
-  pub off_requests : List (List Bool)
+  pub off_requests : List DayRequests
+  pub wishes : List DayRequests
 
 -- `runs` has the days in a row of each shift; `successions`, for each shift that has such a line, which shifts may not
 -- follow; `past` what stands in the history of each nurse
@@ -73,8 +75,11 @@ nobody = record { contract = 0; skills = [] }
 abbrev pub no_past : Past
 no_past = record { border = Free 0; assignments = 0; weekends = 0 }
 
+abbrev pub no_requests : DayRequests
+no_requests = record { any = false; shifts = replicate 8 false }
+
 abbrev pub no_week : WeekFacts
-no_week = record { needs = []; off_requests = [] }
+no_week = record { needs = []; off_requests = []; wishes = [] }
 
 -- how many days in a row a shift is to be worked
 abbrev pub run_of_shift : Meaning → ℕ → Limits
@@ -108,9 +113,24 @@ minimum c d s k = (need c d s k).least
 abbrev pub optimum : Meaning → ℕ → ℕ → ℕ → ℕ
 optimum c d s k = (need c d s k).greatest
 
--- an off request names this nurse, day and shift
+-- what the off requests of a nurse for a day name, and what the wishes name
+abbrev pub off_requests_of : Meaning → ℕ → ℕ → DayRequests
+off_requests_of c n d = slice_index_or (week_of c d).off_requests (7 * n + d % 7) no_requests
+
+abbrev pub wishes_of : Meaning → ℕ → ℕ → DayRequests
+wishes_of c n d = slice_index_or (week_of c d).wishes (7 * n + d % 7) no_requests
+
+-- an off request names this nurse, day and shift; `Any` names each
 abbrev pub has_off_request : Meaning → ℕ → ℕ → ℕ → Bool
-has_off_request c n d s = slice_index_or (slice_index_or (week_of c d).off_requests (7 * n + d % 7) []) s false
+has_off_request c n d s = (off_requests_of c n d).any || slice_index_or (off_requests_of c n d).shifts s false
+
+-- a wish to work names this nurse and day, and this shift
+abbrev pub has_wish : Meaning → ℕ → ℕ → ℕ → Bool
+has_wish c n d s = slice_index_or (wishes_of c n d).shifts s false
+
+-- a wish to work names this nurse and day, and `Any` for the shift
+abbrev pub has_wish_for_any : Meaning → ℕ → ℕ → Bool
+has_wish_for_any c n d = (wishes_of c n d).any
 
 -- ---- the history (profile: of a line whose last shift is `None` only the days off count, else only the two other runs)
 

@@ -9,7 +9,7 @@ use Rattle.roster_bundle.specs.declared.bundle.History.{History}
 use Rattle.roster_bundle.specs.declared.bundle.Listed.{Listed}
 use Rattle.roster_bundle.specs.declared.bundle.Nurse.{Nurse}
 use Rattle.roster_bundle.specs.declared.bundle.NurseHistory.{NurseHistory}
-use Rattle.roster_bundle.specs.declared.bundle.OffRequest.{OffRequest}
+use Rattle.roster_bundle.specs.declared.bundle.Request.{Request}
 use Rattle.roster_bundle.specs.declared.bundle.Requirement.{Requirement}
 use Rattle.roster_bundle.specs.declared.bundle.ShiftType.{ShiftType}
 use Rattle.roster_bundle.specs.declared.bundle.Solution.{Solution}
@@ -20,7 +20,7 @@ use Rattle.roster_bundle.specs.Token.{text_of}
 use Rattle.roster_instance.specs.declared.fault.CaseFault.{CaseFault}
 use Rattle.roster_instance.specs.declared.fault.CaseFault.TheVariants.{Repeated, Unknown, Reserved, OtherInstance, HistoryWeek, HistoryNurses, RepeatedRequirement, Limit, TooManyStates, H1}
 use Rattle.roster_bundle.specs.Weekdays.{weekday}
-use Rattle.roster_instance.specs.Bundles.{Names, meaning_of}
+use Rattle.roster_instance.specs.Bundles.{Names, lines_of, meaning_of}
 use Rattle.roster_instance.specs.Faults.{fault_if, each}
 use Rattle.roster_instance.specs.Meaning.{Meaning}
 use Rattle.roster_instance.specs.Names.{same_name, reads, skill_names, shift_names, contract_names, nurse_names, is_known, name_number}
@@ -163,14 +163,15 @@ requirement_faults source shifts skills earlier q =
     ++ unknown_fault source skills q.skill
     ++ fault_if (list_any (λ (e : Requirement). same_name source q.shift e.shift && same_name source q.skill e.skill) earlier) (RepeatedRequirement q.skill.line)
 
-abbrev pub off_request_faults : List ℕ → Names → Names → OffRequest → List CaseFault
-off_request_faults source nurses shifts q = unknown_fault source nurses q.nurse ++ unknown_unless source (codes "Any") shifts q.shift
+abbrev pub request_faults : List ℕ → Names → Names → Request → List CaseFault
+request_faults source nurses shifts q = unknown_fault source nurses q.nurse ++ unknown_unless source (codes "Any") shifts q.shift
 
 abbrev pub week_faults : Known → WeekData → List CaseFault
 week_faults known w =
     instance_fault known.source known.name w.scenario
     ++ each (requirement_faults known.source known.shifts known.skills) w.requirements
-    ++ flat_map (off_request_faults known.source known.nurses known.shifts) w.off_requests.items
+    ++ flat_map (request_faults known.source known.nurses known.shifts) w.off_requests.items
+    ++ flat_map (request_faults known.source known.nurses known.shifts) (lines_of w.on_requests)
 
 -- ---- the states: for the first nurse whose search would need too many
 

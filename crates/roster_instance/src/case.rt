@@ -9,7 +9,7 @@ ghost use Rattle.roster_instance.specs.Bundles.{meaning_of, past_meant, week_mea
 ghost use Rattle.roster_instance.specs.Checking.{IsFirst};
 ghost use Rattle.roster_instance.specs.Faults.{first_fault};
 ghost use Rattle.roster_instance.specs.Limits.{most_days, most_nurses, most_shifts, most_skills, most_small, most_states, most_weeks};
-ghost use Rattle.roster_instance.specs.Meaning.{contract_of, day_count, has_off_request, last_shift, need, nurse_at, nurse_count, nurse_name, past_of, run_of_shift, shift_count, skill_count, week_count, forbids};
+ghost use Rattle.roster_instance.specs.Meaning.{contract_of, day_count, has_off_request, last_shift, need, nurse_at, nurse_count, nurse_name, past_of, run_of_shift, shift_count, skill_count, week_count, wishes_of, forbids};
 ghost use Rattle.roster_instance.specs.Names.{find_name};
 ghost use Rattle.roster_instance.specs.Refusals.{case_faults, state_fault};
 ghost use Rattle.roster_instance.specs.Sizes.{choice_count, greatest_of, state_count, cap};
@@ -18,7 +18,7 @@ ghost use Rattle.roster_instance.specs.Small.{AreSmall, HasSmallNumbers, HasSmal
 use crate::choice::{Shift, Skill};
 use crate::fault::CaseFault;
 use crate::history::past_of;
-use crate::rules::{Border, ContractRules, Limits, Past};
+use crate::rules::{Border, ContractRules, DayRequests, Limits, Past};
 use crate::scenario::Scenario;
 use crate::sizes::{greatest_cap, state_count};
 use crate::table::Table;
@@ -265,8 +265,22 @@ impl Case {
         ensures { result ≡ has_off_request self.now nurse day shift.0 }
     {
         match self.weeks.get(day as usize / 7) {
-            Some(week) => week.has_off_request(7 * nurse + day as usize % 7, shift.0 as usize),
+            Some(week) => {
+                let requests = week.off_requests(7 * nurse + day as usize % 7);
+                requests.any || requests.names(shift)
+            }
             None => false,
+        }
+    }
+
+    /// What the wishes to work of a nurse name for a day.
+    pub fn wishes(&self, nurse: usize, day: u16) -> DayRequests
+        requires { nurse < nurse_count self.now }
+        ensures { result ≡ wishes_of self.now nurse day }
+    {
+        match self.weeks.get(day as usize / 7) {
+            Some(week) => week.wishes(7 * nurse + day as usize % 7),
+            None => DayRequests::default(),
         }
     }
 

@@ -1,6 +1,6 @@
 //! The numbers of an instance.
 
-ghost use Rattle.std.specs.Prelude.{◌≡◌, ◌≤◌};
+ghost use Rattle.std.specs.Prelude.{◌≡◌, ◌≤◌, false, slice_index_or};
 ghost use Rattle.roster_instance.specs.Sizes.{cap};
 ghost use Rattle.roster_instance.specs.RunLaw.{day_violations};
 
@@ -48,6 +48,25 @@ pub struct ContractRules {
     pub free: Limits,
     pub weekends: u16,
     pub whole_weekends: bool,
+}
+
+/// What the requests of a nurse for a day name: whether one says `Any`, and for each shift whether one names it.
+#[derive(Clone, Copy, Default)]
+pub struct DayRequests {
+    pub any: bool,
+    pub shifts: [bool; 8],
+}
+
+impl DayRequests {
+    /// Whether one of them names a shift by its own name.
+    pub fn names(&self, shift: Shift) -> bool
+        ensures { result ≡ slice_index_or self.now.shifts shift.0 false }
+    {
+        match self.shifts.get(shift.0 as usize) {
+            Some(named) => *named,
+            None => false,
+        }
+    }
 }
 
 /// The run that stands before the first Monday.

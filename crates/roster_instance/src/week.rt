@@ -1,30 +1,31 @@
-//! The data of the weeks: requirements and off requests.
+//! The data of the weeks: requirements, off requests and wishes to work.
 
 ghost use Rattle.std.specs.Prelude.{◌≡◌, ◌*◌, ◌<◌, ℕ, List, [], IfOk, IfErr, OnOk, codes, false, flat_map, length, map, replicate, slice_index_or, slice_set, true};
 ghost use Rattle.std.specs.Option.{option_map_or};
 ghost use Rattle.roster_bundle.specs.Weekdays.{weekday};
 ghost use Rattle.roster_bundle.specs.declared.bundle.WeekData.{WeekData};
 ghost use Rattle.roster_instance.specs.CaseParts.{known_of};
-ghost use Rattle.roster_instance.specs.Bundles.{limits_of_week, needs_meant, off_requests_meant, week_meant};
+ghost use Rattle.roster_instance.specs.Bundles.{limits_of_week, lines_of, needs_meant, requests_meant, week_meant};
 ghost use Rattle.roster_instance.specs.Checking.{IsFirst};
 ghost use Rattle.roster_instance.specs.Faults.{each};
-ghost use Rattle.roster_instance.specs.Meaning.{no_limits};
-ghost use Rattle.roster_instance.specs.Refusals.{Known, off_request_faults, requirement_faults, week_faults};
+ghost use Rattle.roster_instance.specs.Meaning.{no_limits, no_requests};
+ghost use Rattle.roster_instance.specs.Refusals.{Known, request_faults, requirement_faults, week_faults};
 
 use crate::fault::CaseFault;
 use crate::history::check_instance;
-use crate::rules::Limits;
+use crate::rules::{DayRequests, Limits};
 use crate::scenario::{Scenario, limits_of};
 use crate::section::{Section, add_all};
 use crate::table::Table;
-use roster_bundle::{Day, OffRequest, Requirement, WeekData, WeekPairs};
+use roster_bundle::{Day, Listed, Request, Requirement, WeekData, WeekPairs};
 use std::alloc::{AllocError, Global};
 use std::marker::Model;
 
-/// A week: what each shift and skill needs, and which shifts the off requests of each nurse name on each weekday.
+/// A week: what each shift and skill needs, and what the off requests and the wishes of each nurse name on each weekday.
 pub(crate) struct Week {
     needs: Table<[Limits; 7]>,
-    off_requests: Vec<[bool; 8]>,
+    off_requests: Vec<DayRequests>,
+    wishes: Vec<DayRequests>,
 }
 
 // By hand, so that who lets a week go has one call to prove.
@@ -33,6 +34,7 @@ impl Drop for Week {
         let Week {
             needs: _,
             off_requests: _,
+            wishes: _,
         } = self;
     }
 }
@@ -42,7 +44,7 @@ impl Model for Week {
 
     ghost Value = { WeekFacts };
 
-    ghost view = { λ w. record { needs = w.needs; off_requests = w.off_requests.items } };
+    ghost view = { λ w. record { needs = w.needs; off_requests = w.off_requests.items; wishes = w.wishes.items } };
 }
 
 impl Week {
@@ -59,16 +61,23 @@ impl Week {
         }
     }
 
-    /// Whether an off request names a shift at a place.
-    pub(crate) fn has_off_request(&self, place: usize, shift: usize) -> bool
-        ensures { result ≡ slice_index_or (slice_index_or self.now.off_requests place []) shift false }
+    /// What the off requests of a place name.
+    pub(crate) fn off_requests(&self, place: usize) -> DayRequests
+        ensures { result ≡ slice_index_or self.now.off_requests place no_requests }
     {
         match self.off_requests.get(place) {
-            Some(shifts) => match shifts.get(shift) {
-                Some(requested) => *requested,
-                None => false,
-            },
-            None => false,
+            Some(requests) => *requests,
+            None => DayRequests::default(),
+        }
+    }
+
+    /// What the wishes to work of a place name.
+    pub(crate) fn wishes(&self, place: usize) -> DayRequests
+        ensures { result ≡ slice_index_or self.now.wishes place no_requests }
+    {
+        match self.wishes.get(place) {
+            Some(requests) => *requests,
+            None => DayRequests::default(),
         }
     }
 }
@@ -154,79 +163,97 @@ fn needs_of(
     Ok(section.lines)
 }
 
-// ---- off requests
+// ---- off requests and wishes
 
 #[derive(Drop)]
-struct OffRequestSection<'a> {
+struct RequestSection<'a> {
     source: &'a [u8],
     scenario: &'a Scenario,
-    off_requests: Vec<[bool; 8]>,
+    requests: Vec<DayRequests>,
 }
 
-impl<'a> Section<OffRequest> for OffRequestSection<'a> {
+impl<'a> Section<Request> for RequestSection<'a> {
     ghost About = { Known };
 
     ghost about = { λ s. known_of s.source.now s.scenario.now };
 
-    ghost faults = { λ k earlier q. off_request_faults k.source k.nurses k.shifts q };
+    ghost faults = { λ k earlier q. request_faults k.source k.nurses k.shifts q };
 
-    ghost built = { λ s earlier. s.off_requests.items ≡ off_requests_meant s.source.now s.scenario.now.nurses s.scenario.now.shifts earlier };
+    ghost built = { λ s earlier. s.requests.items ≡ requests_meant s.source.now s.scenario.now.nurses s.scenario.now.shifts earlier };
 
-    fn add(&mut self, request: &OffRequest) -> Result<(), CaseFault> {
+    fn add(&mut self, request: &Request) -> Result<(), CaseFault> {
         let nurse = self.scenario.nurses.number(self.source, request.nurse)?;
         let place = 7 * nurse + weekday(request.day);
         if request.shift.text(self.source) == b"Any".as_slice() {
-            request_all_off(&mut self.off_requests, place);
+            request_any(&mut self.requests, place);
         } else {
             let shift = self.scenario.shifts.number(self.source, request.shift)?;
-            request_off(&mut self.off_requests, place, shift);
+            request_shift(&mut self.requests, place, shift);
         }
         Ok(())
     }
 }
 
-/// Marks all shifts of a place.
-fn request_all_off(off_requests: &mut [[bool; 8]], place: usize)
-    ensures { off_requests.new ≡ slice_set off_requests.old place (replicate 8 true) }
+/// Marks that a request of a place says `Any`.
+fn request_any(requests: &mut [DayRequests], place: usize)
+    ensures { requests.new ≡ slice_set requests.old place (record { any = true; shifts = (slice_index_or requests.old place no_requests).shifts }) }
 {
-    if place < off_requests.len() {
-        off_requests[place] = [true; 8];
+    if place < requests.len() {
+        requests[place].any = true;
     }
 }
 
-/// Marks a shift of a place.
-fn request_off(off_requests: &mut [[bool; 8]], place: usize, shift: usize)
-    ensures { off_requests.new ≡ slice_set off_requests.old place (slice_set (slice_index_or off_requests.old place []) shift true) }
+/// Marks that a request of a place names a shift.
+fn request_shift(requests: &mut [DayRequests], place: usize, shift: usize)
+    ensures { requests.new ≡ slice_set requests.old place (record { any = (slice_index_or requests.old place no_requests).any; shifts = slice_set (slice_index_or requests.old place no_requests).shifts shift true }) }
 {
-    if place < off_requests.len() && shift < 8 {
-        off_requests[place][shift] = true;
+    if place < requests.len() {
+        name_shift(&mut requests[place].shifts, shift);
     }
 }
 
-/// So many places without an off request.
-fn no_off_requests(alloc: Global, places: usize) -> Result<Vec<[bool; 8]>, AllocError>
-    ensures { IfOk result (λ off_requests. off_requests.items ≡ replicate places (replicate 8 false)) }
+fn name_shift(shifts: &mut [bool; 8], shift: usize)
+    ensures { shifts.new ≡ slice_set shifts.old shift true }
 {
-    vec![in alloc; [false; 8]; places]
+    if shift < 8 {
+        shifts[shift] = true;
+    }
 }
 
-fn off_requests_of(
+/// So many places without a request.
+fn no_requests(alloc: Global, places: usize) -> Result<Vec<DayRequests>, AllocError>
+    ensures { IfOk result (λ requests. requests.items ≡ replicate places no_requests) }
+{
+    vec![in alloc; DayRequests::default(); places]
+}
+
+fn requests_of(
     alloc: Global,
     source: &[u8],
     scenario: &Scenario,
-    requests: &[OffRequest],
-) -> Result<Vec<[bool; 8]>, CaseFault>
-    ensures meant { IfOk result (λ off_requests. off_requests.items ≡ off_requests_meant source.now scenario.now.nurses scenario.now.shifts requests.now) }
-    ensures none { OnOk result (flat_map (off_request_faults source.now scenario.now.nurses scenario.now.shifts) requests.now ≡ []) }
-    ensures first { IfErr result (IsFirst (flat_map (off_request_faults source.now scenario.now.nurses scenario.now.shifts) requests.now)) }
+    lines: &[Request],
+) -> Result<Vec<DayRequests>, CaseFault>
+    ensures meant { IfOk result (λ requests. requests.items ≡ requests_meant source.now scenario.now.nurses scenario.now.shifts lines.now) }
+    ensures none { OnOk result (flat_map (request_faults source.now scenario.now.nurses scenario.now.shifts) lines.now ≡ []) }
+    ensures first { IfErr result (IsFirst (flat_map (request_faults source.now scenario.now.nurses scenario.now.shifts) lines.now)) }
 {
-    let mut section = OffRequestSection {
+    let mut section = RequestSection {
         source,
         scenario,
-        off_requests: no_off_requests(alloc, 7 * scenario.nurses.len())?,
+        requests: no_requests(alloc, 7 * scenario.nurses.len())?,
     };
-    add_all(&mut section, requests)?;
-    Ok(section.off_requests)
+    add_all(&mut section, lines)?;
+    Ok(section.requests)
+}
+
+/// The lines of a section that may be absent.
+fn lines_of(section: &Option<Listed<Request>>) -> &[Request]
+    ensures { result.now ≡ lines_of section.now }
+{
+    match section {
+        Some(section) => section.items.as_slice(),
+        None => &[],
+    }
 }
 
 // ---- weeks
@@ -256,15 +283,22 @@ impl<'a> Section<WeekData> for WeekSection<'a> {
             self.scenario,
             week.requirements.as_slice(),
         )?;
-        let off_requests = off_requests_of(
+        let off_requests = requests_of(
             self.alloc,
             self.source,
             self.scenario,
             week.off_requests.items.as_slice(),
         )?;
+        let wishes = requests_of(
+            self.alloc,
+            self.source,
+            self.scenario,
+            lines_of(&week.on_requests),
+        )?;
         self.weeks.push(Week {
             needs,
             off_requests,
+            wishes,
         })?;
         Ok(())
     }

@@ -3,8 +3,8 @@ use Rattle.std.proofs.Common.{◌≡◌, ◌+◌, ◌*◌, ◌%◌, ℕ, zero, s
 use Rattle.roster_rules.specs.Counting.{sum_below}
 use Rattle.roster_rules.specs.Days.{Days, split_weekends}
 use Rattle.roster_rules.specs.Meaning.{Meaning, contract_of, day_count, nurse_count, shift_count, skill_count}
-use Rattle.roster_rules.specs.Penalties.{breaks_off_request, costs_of, free_run_cost, off_request_cost, over_nurses, penalty, run_cost_of_shift, shift_run_cost, split_cost, staffing_cost, staffing_cost_of_day, staffing_cost_of_place, totals_cost, weekends_cost, working_run_cost}
-use Rattle.roster_rules.specs.Weights.{staffing_weight, working_run_weight, shift_run_weight, free_run_weight, off_request_weight, split_weight, assignment_weight, weekend_weight}
+use Rattle.roster_rules.specs.Penalties.{breaks_off_request, meets_wishes, costs_of, free_run_cost, off_request_cost, over_nurses, penalty, run_cost_of_shift, shift_run_cost, split_cost, staffing_cost, staffing_cost_of_day, staffing_cost_of_place, totals_cost, weekends_cost, wish_cost, working_run_cost}
+use Rattle.roster_rules.specs.Weights.{staffing_weight, working_run_weight, shift_run_weight, free_run_weight, off_request_weight, split_weight, assignment_weight, weekend_weight, wish_weight}
 use Rattle.roster_rules.specs.Rosters.{Rows, days_of_nurse}
 
 abbrev pub IsFive : ℕ → Type 0
@@ -26,6 +26,10 @@ sum_is (suc n) f each = plus (sum_below n f) (f n) (sum_is n f each) (each n)
 where_is : (b : Bool) (n : ℕ) → IsFive n → IsFive (if b then n else 0)
 where_is true n e = e
 where_is false n e = refl
+
+unless_is : (b : Bool) (n : ℕ) → IsFive n → IsFive (if b then 0 else n)
+unless_is true n e = refl
+unless_is false n e = e
 
 by_staffing : (n : ℕ) → IsFive (staffing_weight * n)
 by_staffing n = omega arith
@@ -58,6 +62,9 @@ module _ (c : Meaning) where
   off_requests_are : (n : ℕ) (days : Days) → IsFive (off_request_cost c n days)
   off_requests_are n days = sum_is _ _ (λ d. where_is (breaks_off_request c n d _) off_request_weight refl)
 
+  wishes_are : (n : ℕ) (days : Days) → IsFive (wish_cost c n days)
+  wishes_are n days = sum_is _ _ (λ d. unless_is (meets_wishes c n d _) wish_weight refl)
+
   split_is : (n : ℕ) (days : Days) → IsFive (split_cost c n days)
   split_is n days = where_is (contract_of c n).whole_weekends (split_weight * split_weekends days) (by_split (split_weekends days))
 
@@ -81,4 +88,5 @@ module _ (c : Meaning) where
       let requests = plus _ _ free (over_nurses_is r (off_request_cost c) off_requests_are) in
       let weekends = plus _ _ requests (over_nurses_is r (split_cost c) split_is) in
       let assignments = plus _ _ weekends (over_nurses_is r (totals_cost c) totals_are) in
-      plus _ _ assignments (over_nurses_is r (weekends_cost c) weekends_are)
+      let worked = plus _ _ assignments (over_nurses_is r (weekends_cost c) weekends_are) in
+      plus _ _ worked (over_nurses_is r (wish_cost c) wishes_are)

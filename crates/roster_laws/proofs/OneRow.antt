@@ -7,7 +7,7 @@ use Rattle.roster_rules.specs.declared.Choice.TheVariants.{Off, Work}
 use Rattle.roster_rules.specs.Choices.{days_of, same_choice, shift_of}
 use Rattle.roster_rules.specs.Counting.{sum_below, one_if}
 use Rattle.roster_rules.specs.Meaning.{Meaning, day_count, nurse_count, shift_at, skill_at}
-use Rattle.roster_rules.specs.Penalties.{costs_of, free_run_cost, nurse_cost, off_request_cost, off_request_cost_on, over_nurses, own_cost, penalty, shift_run_cost, split_cost, staffing_cost, totals_cost, weekends_cost, working_run_cost}
+use Rattle.roster_rules.specs.Penalties.{costs_of, free_run_cost, nurse_cost, off_request_cost, off_request_cost_on, over_nurses, own_cost, penalty, request_cost, request_cost_on, shift_run_cost, split_cost, staffing_cost, totals_cost, weekends_cost, wish_cost, wish_cost_on, working_run_cost}
 use Rattle.roster_rules.specs.Rosters.{Row, Rows, choice_on, cover, days_of_nurse, row_of, with_row}
 use Rattle.roster_laws.specs.OneRow.{others, prices, rest_of}
 use Rattle.roster_laws.specs.Staffing.{staffing_cost_by, with_choice}
@@ -15,9 +15,9 @@ use Rattle.roster_laws.proofs.Below.{sum_at, sum_both}
 
 -- ---- the penalty is the staffing and each nurse's cost
 
-regroup : (m : ℕ) (w s f u p t e : ℕ → ℕ) → sum_below m (λ n. w n + s n) + sum_below m f + sum_below m u + sum_below m p + sum_below m t + sum_below m e ≡ sum_below m (λ n. (w n + s n + f n + p n + t n + e n) + u n)
-regroup zero w s f u p t e = refl
-regroup (suc m) w s f u p t e = omega (arith, regroup m w s f u p t e)
+regroup : (m : ℕ) (w s f u p t e v : ℕ → ℕ) → sum_below m (λ n. w n + s n) + sum_below m f + sum_below m u + sum_below m p + sum_below m t + sum_below m e + sum_below m v ≡ sum_below m (λ n. (w n + s n + f n + p n + t n + e n) + (u n + v n))
+regroup zero w s f u p t e v = refl
+regroup (suc m) w s f u p t e v = omega (arith, regroup m w s f u p t e v)
 
 pub penalty-parts : (c : Meaning) (r : Rows) → penalty c r ≡ staffing_cost c r + over_nurses c r (nurse_cost c)
 unfolding penalty costs_of own_cost
@@ -25,7 +25,7 @@ penalty-parts c r =
     omega (
       arith,
       regroup (nurse_count c) (λ n. working_run_cost c n (days_of_nurse r n)) (λ n. shift_run_cost c n (days_of_nurse r n)) (λ n. free_run_cost c n (days_of_nurse r n)) (λ n. off_request_cost c n (days_of_nurse r n))
-          (λ n. split_cost c n (days_of_nurse r n)) (λ n. totals_cost c n (days_of_nurse r n)) (λ n. weekends_cost c n (days_of_nurse r n)),
+          (λ n. split_cost c n (days_of_nurse r n)) (λ n. totals_cost c n (days_of_nurse r n)) (λ n. weekends_cost c n (days_of_nurse r n)) (λ n. wish_cost c n (days_of_nurse r n)),
     )
 
 -- ---- one row replaced
@@ -47,15 +47,18 @@ module _ (r : Rows) (n : ℕ) (within : n < length r) (row : Row) where
       sum_at (nurse_count c) n (λ k. nurse_cost c k (days_of_nurse (with_row r n row) k)) (λ k. nurse_cost c k (days_of_nurse r k)) inside (λ k e. ap (λ own. nurse_cost c k (days_of own)) (other_row k e))
       ∙ ap (λ own. rest_of c r n + nurse_cost c n (days_of own)) own_row
 
-  pub prices-with_row : (c : Meaning) → length row ≡ day_count c → prices c r n row ≡ staffing_cost c (with_row r n row) + off_request_cost c n (days_of row)
+  pub prices-with_row : (c : Meaning) → length row ≡ day_count c → prices c r n row ≡ staffing_cost c (with_row r n row) + request_cost c n (days_of row)
   prices-with_row c days =
       let staff : ℕ → ℕ = λ d. staffing_cost_by c d (with_choice (others r n d) (choice_on row d)) in
-      let requests : ℕ → ℕ = λ d. off_request_cost_on c n d (shift_of (choice_on row d)) in
+      let off : ℕ → ℕ = λ d. off_request_cost_on c n d (shift_of (choice_on row d)) in
+      let wished : ℕ → ℕ = λ d. wish_cost_on c n d (shift_of (choice_on row d)) in
       let staffed : staffing_cost c (with_row r n row) ≡ sum_below (length row) staff =
       λ i. sum_below (sym days i) (λ d. staffing_cost_by c d (λ s k. cover-with_row d s k i)) in
-      let requested : off_request_cost c n (days_of row) ≡ sum_below (length row) requests =
+      let requested : off_request_cost c n (days_of row) ≡ sum_below (length row) off =
       λ i. sum_below (length-map row shift_of i) (λ d. off_request_cost_on c n d (get_or-map shift_of row d Off i)) in
-      omega (arith, sum_both (length row) staff requests, staffed, requested)
+      let unmet : wish_cost c n (days_of row) ≡ sum_below (length row) wished =
+      λ i. sum_below (length-map row shift_of i) (λ d. wish_cost_on c n d (get_or-map shift_of row d Off i)) in
+      omega (arith, sum_both (length row) staff (λ d. off d + wished d), sum_both (length row) off wished, staffed, requested, unmet)
 
   pub penalty-with_row : (c : Meaning) → n < nurse_count c → length row ≡ day_count c → penalty c (with_row r n row) ≡ rest_of c r n + own_cost c n (days_of row) + prices c r n row
   penalty-with_row c inside days = omega (arith, penalty-parts c (with_row r n row), nurses-with_row c inside, prices-with_row c days)

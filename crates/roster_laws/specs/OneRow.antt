@@ -7,7 +7,7 @@ use Rattle.roster_instance.specs.Meaning.{Meaning, day_count, nurse_at, nurse_co
 use Rattle.roster_instance.specs.Rosters.{Row, Rows, choice_on, cover, days_of_nurse, row_of, with_row}
 use Rattle.roster_rules.specs.AllowedRows.{keeps_frozen_day}
 use Rattle.roster_rules.specs.HardRules.{breaks_succession, is_able, keeps_skills, keeps_successions}
-use Rattle.roster_rules.specs.Penalties.{nurse_cost, off_request_cost_on}
+use Rattle.roster_rules.specs.Penalties.{nurse_cost, request_cost_on}
 use Rattle.roster_laws.specs.Staffing.{meets, staffing_cost_by, with_choice}
 
 -- ---- the penalty
@@ -20,9 +20,9 @@ rest_of c r n = sum_below (nurse_count c) (λ m. if m == n then 0 else nurse_cos
 abbrev pub others : Rows → ℕ → ℕ → ℕ → ℕ → ℕ
 others r n d s k = cover (with_row r n []) d s k
 
--- the price of a choice on a day: that day's staffing with it, and the nurse's own off requests
+-- the price of a choice on a day: that day's staffing with it, and the nurse's own requests
 abbrev pub price : Meaning → Rows → ℕ → ℕ → Choice → ℕ
-price c r n d choice = staffing_cost_by c d (with_choice (others r n d) choice) + off_request_cost_on c n d (shift_of choice)
+price c r n d choice = staffing_cost_by c d (with_choice (others r n d) choice) + request_cost_on c n d (shift_of choice)
 
 abbrev pub prices : Meaning → Rows → ℕ → Row → ℕ
 prices c r n row = sum_below (length row) (λ d. price c r n d (choice_on row d))

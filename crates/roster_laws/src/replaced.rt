@@ -8,16 +8,16 @@ ghost use Rattle.roster_rules.specs.Choices.{days_of};
 ghost use Rattle.roster_rules.specs.Counting.{one_if, sum_below};
 ghost use Rattle.roster_rules.specs.HardRules.{keeps_hard};
 ghost use Rattle.roster_rules.specs.Meaning.{Meaning, day_count, minimum, nurse_count, optimum, shift_count, skill_count};
-ghost use Rattle.roster_rules.specs.Penalties.{off_request_cost, over_nurses, own_cost, penalty, staffing_cost};
+ghost use Rattle.roster_rules.specs.Penalties.{over_nurses, own_cost, penalty, request_cost, staffing_cost};
 ghost use Rattle.roster_rules.specs.Rosters.{Row, Rows, choice_on, cover, with_row};
 ghost use Rattle.roster_rules.specs.AllowedRows.{keeps_frozen_days, penalty_with};
 ghost use Rattle.roster_rules.specs.Weights.{staffing_weight};
 ghost use Rattle.roster_laws.specs.OneRow.{is_offered_row, is_open_row, keeps_by_parts, others, prices, rest_of};
 ghost use Rattle.roster_laws.specs.Staffing.{lacking, meets, staffing_cost_by, with_choice};
 
-/// The penalty is that of the staffing, day by day, and each nurse's own cost and off requests.
+/// The penalty is that of the staffing, day by day, and each nurse's own cost and requests.
 pub fn penalty_by_parts()
-    ensures penalty { (c : Meaning) (r : Rows) → penalty c r ≡ staffing_cost c r + over_nurses c r (λ n days. own_cost c n days + off_request_cost c n days) }
+    ensures penalty { (c : Meaning) (r : Rows) → penalty c r ≡ staffing_cost c r + over_nurses c r (λ n days. own_cost c n days + request_cost c n days) }
     ensures staffing { (c : Meaning) (r : Rows) → staffing_cost c r ≡ sum_below (day_count c) (λ d. staffing_cost_by c d (cover r d)) }
 {}
 

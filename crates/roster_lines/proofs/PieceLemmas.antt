@@ -21,19 +21,22 @@ missing-line a week b day c shift d skill e have f need end = simp append_assoc
 
 -- ---- the report of `cost`
 
--- eight lines, each a word and a number
-lines_joined : (blank end s1 a s2 b s3 c s4 d s5 e s6 f s7 g s8 h : Text)
+-- nine lines, each a word and a number
+lines_joined : (blank end s1 a s2 b s3 c s4 d s5 e s6 f s7 g s8 h s9 i : Text)
     → s1 ++ (blank ++ (a ++ (end ++ (s2 ++ (blank ++ (b ++ (end ++ (s3 ++ (blank ++ (c ++ (end ++ (s4 ++ (blank ++ (d ++ (end ++ (s5 ++ (blank ++ (e
-    ++ (end ++ (s6 ++ (blank ++ (f ++ (end ++ (s7 ++ (blank ++ (g ++ (end ++ (s8 ++ (blank ++ (h ++ end))))))))))))))))))))))))))))))
+    ++ (end ++ (s6 ++ (blank ++ (f ++ (end ++ (s7 ++ (blank ++ (g ++ (end ++ (s8 ++ (blank ++ (h
+    ++ (end ++ (s9 ++ (blank ++ (i ++ end))))))))))))))))))))))))))))))))))
     ≡ (s1 ++ blank ++ a ++ end) ++ (s2 ++ blank ++ b ++ end) ++ (s3 ++ blank ++ c ++ end) ++ (s4 ++ blank ++ d ++ end)
     ++ (s5 ++ blank ++ e ++ end) ++ (s6 ++ blank ++ f ++ end) ++ (s7 ++ blank ++ g ++ end) ++ (s8 ++ blank ++ h ++ end)
-lines_joined blank end s1 a s2 b s3 c s4 d s5 e s6 f s7 g s8 h = simp append_assoc
+    ++ (s9 ++ blank ++ i ++ end)
+lines_joined blank end s1 a s2 b s3 c s4 d s5 e s6 f s7 g s8 h s9 i = simp append_assoc
 
 -- its pieces
 abbrev pub cost_pieces : Costs → ℕ → Text
 cost_pieces k total =
     codes "S1 " ++ (decimal k.s1 ++ (codes "\nS2 " ++ (decimal k.s2 ++ (codes "\nS3 " ++ (decimal k.s3 ++ (codes "\nS4 " ++ (decimal k.s4 ++ (codes "\nS5 " ++ (decimal k.s5
-    ++ (codes "\nS6 " ++ (decimal k.s6 ++ (codes "\nS7 " ++ (decimal k.s7 ++ (codes "\ntotal " ++ (decimal total ++ codes "\n")))))))))))))))
+    ++ (codes "\nS6 " ++ (decimal k.s6 ++ (codes "\nS7 " ++ (decimal k.s7 ++ (codes "\nS8 " ++ (decimal k.s8
+    ++ (codes "\ntotal " ++ (decimal total ++ codes "\n")))))))))))))))))
 
 -- they are the report, where the total is a small one
 pub cost_pieces-are : (k : Costs) (total : ℕ) → total ≡ min (total_cost k) 18446744073709551615 → total_cost k < penalty_room → cost_pieces k total ≡ costs_text k
@@ -42,7 +45,7 @@ cost_pieces-are k total is within =
     let sum : total ≡ total_cost k = is ∙ min-eq_left (omega (arith, within)) in
     ap (cost_pieces k) sum
     ∙ lines_joined (codes " ") (codes "\n") (codes "S1") (decimal k.s1) (codes "S2") (decimal k.s2) (codes "S3") (decimal k.s3) (codes "S4") (decimal k.s4)
-    (codes "S5") (decimal k.s5) (codes "S6") (decimal k.s6) (codes "S7") (decimal k.s7) (codes "total") (decimal (total_cost k))
+    (codes "S5") (decimal k.s5) (codes "S6") (decimal k.s6) (codes "S7") (decimal k.s7) (codes "S8") (decimal k.s8) (codes "total") (decimal (total_cost k))
 
 -- ---- the report of `sizes`
 

@@ -89,7 +89,8 @@ report_line word n = word ++ codes " " ++ decimal n ++ codes "\n"
 unfoldable pub costs_text : Costs → Text
 costs_text k =
     report_line (codes "S1") k.s1 ++ report_line (codes "S2") k.s2 ++ report_line (codes "S3") k.s3 ++ report_line (codes "S4") k.s4
-    ++ report_line (codes "S5") k.s5 ++ report_line (codes "S6") k.s6 ++ report_line (codes "S7") k.s7 ++ report_line (codes "total") (total_cost k)
+    ++ report_line (codes "S5") k.s5 ++ report_line (codes "S6") k.s6 ++ report_line (codes "S7") k.s7 ++ report_line (codes "S8") k.s8
+    ++ report_line (codes "total") (total_cost k)
 
 -- a name and the sizes of a search of so many states, days and choices a day: its states, labels in two tables, pointers, and
 -- steps at most

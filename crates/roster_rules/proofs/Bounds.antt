@@ -1,13 +1,13 @@
 -- Bounds of the penalties of a roster, where the numbers of an instance are small: all sums stay below 2^31. The bounds are
 -- for the largest case, by its limits and the weights.
-use Rattle.std.proofs.Common.{◌≡◌, arith, ℕ, ◌+◌, ◌-◌, ◌*◌, ◌<◌, ◌≤◌, true, ◌||◌, length, if◌then◌else◌}
+use Rattle.std.proofs.Common.{◌≡◌, arith, ℕ, Bool, ◌+◌, ◌-◌, ◌*◌, ◌<◌, ◌≤◌, true, false, ◌||◌, length, if◌then◌else◌}
 use Rattle.roster_instance.specs.Counting.{sum_below}
 use Rattle.roster_instance.specs.Days.{Days, shift_on, works, is_off, days_worked, saturday, worked_weekends, weekends_begun, weekends_ended, split_weekends, one_alone}
 use Rattle.roster_instance.specs.Limits.{most_days, most_nurses, most_shifts, most_skills, most_small, most_weeks}
 use Rattle.roster_instance.specs.Meaning.{Meaning, week_count, day_count, shift_count, skill_count, nurse_count, run_of_shift, past_of, contract_of, optimum}
-use Rattle.roster_rules.specs.Penalties.{staffing_cost, staffing_cost_of_day, free_before, worked_before, working_run_cost, shift_run_cost, free_run_cost, breaks_off_request, off_request_cost, split_cost, totals_cost, weekends_cost, over_nurses, costs_of, total_cost}
+use Rattle.roster_rules.specs.Penalties.{staffing_cost, staffing_cost_of_day, free_before, worked_before, working_run_cost, shift_run_cost, free_run_cost, breaks_off_request, meets_wishes, off_request_cost, request_cost, wish_cost, wish_cost_on, split_cost, totals_cost, weekends_cost, over_nurses, costs_of, total_cost}
 use Rattle.roster_rules.specs.Room.{most_staffing, penalty_room}
-use Rattle.roster_rules.specs.Weights.{staffing_weight, working_run_weight, shift_run_weight, free_run_weight, off_request_weight, split_weight, assignment_weight, weekend_weight}
+use Rattle.roster_rules.specs.Weights.{staffing_weight, working_run_weight, shift_run_weight, free_run_weight, off_request_weight, split_weight, assignment_weight, weekend_weight, wish_weight}
 use Rattle.roster_instance.specs.Rosters.{Rows, days_of_nurse, cover, fits_case}
 use Rattle.roster_instance.specs.Small.{HasSmallNumbers}
 use Rattle.roster_instance.proofs.RosterFacts.{days_of_nurse-length}
@@ -62,6 +62,9 @@ most_free = free_run_weight * most_run_violations
 abbrev most_off_requests : ℕ
 most_off_requests = off_request_weight * most_days
 
+abbrev most_wishes : ℕ
+most_wishes = wish_weight * most_days
+
 abbrev most_split : ℕ
 most_split = split_weight * most_weeks
 
@@ -71,6 +74,10 @@ most_totals = assignment_weight * most_small + assignment_weight * (most_small +
 
 abbrev most_weekends : ℕ
 most_weekends = weekend_weight * (most_small + most_weeks)
+
+unless_within : (met : Bool) → (if met then 0 else wish_weight) ≤ wish_weight
+unless_within true = omega arith
+unless_within false = omega arith
 
 module _ (c : Meaning) (n : ℕ) (days : Days) (small : HasSmallNumbers c) (few : length days ≤ most_days) where
   pub working_run_cost-within : working_run_cost c n days ≤ most_working
@@ -87,6 +94,12 @@ module _ (c : Meaning) (n : ℕ) (days : Days) (small : HasSmallNumbers c) (few 
   off_request_cost-within =
       omega (arith, sum_within (length days) off_request_weight (λ d. if breaks_off_request c n d (shift_on days d) then off_request_weight else 0) (λ d h. where_within (breaks_off_request c n d (shift_on days d)) off_request_weight off_request_weight (omega arith)))
 
+  pub wish_cost-within : wish_cost c n days ≤ most_wishes
+  wish_cost-within = omega (arith, sum_within (length days) wish_weight (λ d. wish_cost_on c n d (shift_on days d)) (λ d h. unless_within (meets_wishes c n d (shift_on days d))))
+
+  pub request_cost-within : request_cost c n days ≤ most_off_requests + most_wishes
+  request_cost-within = omega (arith, off_request_cost-within, wish_cost-within)
+
   pub split_cost-within : split_cost c n days ≤ most_split
   split_cost-within =
       let count : split_weekends days ≤ weekends_ended days = count_within (weekends_ended days) (λ v. one_alone (works days (saturday v)) (works days (saturday v + 1))) in
@@ -102,16 +115,16 @@ module _ (c : Meaning) (n : ℕ) (days : Days) (small : HasSmallNumbers c) (few 
       let count : worked_weekends days ≤ weekends_begun days = count_within (weekends_begun days) (λ v. works days (saturday v) || works days (saturday v + 1)) in
       omega (arith, (small.past n).weekends)
 
-  -- in numbers at most 8,549,175
-  pub parts-within : working_run_cost c n days + shift_run_cost c n days + free_run_cost c n days + off_request_cost c n days + split_cost c n days + totals_cost c n days + weekends_cost c n days < 4294967296
-  parts-within = omega (arith, working_run_cost-within, shift_run_cost-within, free_run_cost-within, off_request_cost-within, split_cost-within, totals_cost-within, weekends_cost-within)
+  -- in numbers at most 8,550,295
+  pub parts-within : working_run_cost c n days + shift_run_cost c n days + free_run_cost c n days + request_cost c n days + split_cost c n days + totals_cost c n days + weekends_cost c n days < 4294967296
+  parts-within = omega (arith, working_run_cost-within, shift_run_cost-within, free_run_cost-within, request_cost-within, split_cost-within, totals_cost-within, weekends_cost-within)
 
 -- ---- all nurses
 
 over_nurses-within : (c : Meaning) (r : Rows) (rule : ℕ → Days → ℕ) (m : ℕ) → ((n : ℕ) (days : Days) → length days ≤ most_days → rule n days ≤ m) → ((n : ℕ) → n < nurse_count c → length (days_of_nurse r n) ≤ most_days) → over_nurses c r rule ≤ nurse_count c * m
 over_nurses-within c r rule m each few = sum_within (nurse_count c) m (λ n. rule n (days_of_nurse r n)) (λ n h. each n (days_of_nurse r n) (few n h))
 
--- in numbers 214,824,960, and 8,549,175 for each of 200 nurses: 1,924,659,960
+-- in numbers 214,824,960, and 8,550,295 for each of 200 nurses: 1,924,883,960
 pub penalty-within : (c : Meaning) (r : Rows) → HasSmallNumbers c → shift_count c ≤ most_shifts → skill_count c ≤ most_skills → week_count c ≤ most_weeks → nurse_count c ≤ most_nurses → fits_case c r ≡ true → total_cost (costs_of c r) < penalty_room
 unfolding costs_of
 penalty-within c r small shifts skills weeks nurses fit =
@@ -122,4 +135,5 @@ penalty-within c r small shifts skills weeks nurses fit =
     let splits = over_nurses-within c r (split_cost c) most_split (λ n days d. split_cost-within c n days small d) few in
     let total = over_nurses-within c r (totals_cost c) most_totals (λ n days d. totals_cost-within c n days small d) few in
     let weekends = over_nurses-within c r (weekends_cost c) most_weekends (λ n days d. weekends_cost-within c n days small d) few in
-    omega (arith, staffing_cost-within c r small shifts skills (omega arith), runs, free, off_requests, splits, total, weekends)
+    let wishes = over_nurses-within c r (wish_cost c) most_wishes (λ n days d. wish_cost-within c n days small d) few in
+    omega (arith, staffing_cost-within c r small shifts skills (omega arith), runs, free, off_requests, splits, total, weekends, wishes)

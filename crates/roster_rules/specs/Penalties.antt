@@ -1,16 +1,16 @@
 -- The penalties of the soft rules with their weights, and the penalty of a roster (INRC-II; totals and weekends are counted
--- once, at the end of the horizon, with the history's: our profile).
-use Rattle.std.specs.Prelude.{ℕ, ◌+◌, ◌-◌, ◌*◌, Bool, false, ◌==◌, if◌then◌else◌, length, Option, Some, None}
+-- once, at the end of the horizon, with the history's: our profile; wishes to work are our own rule).
+use Rattle.std.specs.Prelude.{ℕ, ◌+◌, ◌-◌, ◌*◌, Bool, false, not, ◌&&◌, ◌||◌, ◌==◌, if◌then◌else◌, length, Option, Some, None, is_some}
 use Rattle.roster_instance.specs.declared.Shift.{Shift}
 use Rattle.roster_rules.specs.declared.penalties.Costs.{Costs}
 use Rattle.roster_instance.specs.declared.Border.{Border}
 use Rattle.roster_instance.specs.declared.Border.TheVariants.{Free, Working}
-use Rattle.roster_instance.specs.Counting.{sum_below}
-use Rattle.roster_instance.specs.Days.{Days, shift_on, works, is_off, has_shift, days_worked, worked_weekends, split_weekends}
-use Rattle.roster_instance.specs.Meaning.{Meaning, day_count, shift_count, skill_count, nurse_count, run_of_shift, past_of, contract_of, has_off_request, optimum}
+use Rattle.roster_instance.specs.Counting.{all_below, sum_below}
+use Rattle.roster_instance.specs.Days.{Days, shift_on, works, is_off, is_shift, has_shift, days_worked, worked_weekends, split_weekends}
+use Rattle.roster_instance.specs.Meaning.{Meaning, day_count, shift_count, skill_count, nurse_count, run_of_shift, past_of, contract_of, has_off_request, has_wish, has_wish_for_any, optimum}
 use Rattle.roster_instance.specs.Rosters.{Rows, days_of_nurse, cover}
 use Rattle.roster_rules.specs.Runs.{run_violations}
-use Rattle.roster_rules.specs.Weights.{staffing_weight, working_run_weight, shift_run_weight, free_run_weight, off_request_weight, split_weight, assignment_weight, weekend_weight}
+use Rattle.roster_rules.specs.Weights.{staffing_weight, working_run_weight, shift_run_weight, free_run_weight, off_request_weight, split_weight, assignment_weight, weekend_weight, wish_weight}
 
 -- ---- staffing: points for each nurse missing to the optimum of a day, shift and skill
 
@@ -66,6 +66,18 @@ off_request_cost_on c n d shift = if breaks_off_request c n d shift then off_req
 abbrev pub off_request_cost : Meaning → ℕ → Days → ℕ
 off_request_cost c n days = sum_below (length days) (λ d. off_request_cost_on c n d (shift_on days d))
 
+-- ---- wishes to work (our own rule): points for each day with a wish that isn't met, once, however many there are
+
+-- Each wish of a nurse for a day is met: one with `Any` where the nurse works, one for a shift where the nurse works that shift.
+abbrev pub meets_wishes : Meaning → ℕ → ℕ → Option Shift → Bool
+meets_wishes c n d shift = (not (has_wish_for_any c n d) || is_some shift) && all_below (shift_count c) (λ s. not (has_wish c n d s) || is_shift s shift)
+
+abbrev pub wish_cost_on : Meaning → ℕ → ℕ → Option Shift → ℕ
+wish_cost_on c n d shift = if meets_wishes c n d shift then 0 else wish_weight
+
+abbrev pub wish_cost : Meaning → ℕ → Days → ℕ
+wish_cost c n days = sum_below (length days) (λ d. wish_cost_on c n d (shift_on days d))
+
 -- ---- weekends and totals
 
 -- points for each weekend of which exactly one day is worked, where the contract wants whole weekends
@@ -99,9 +111,16 @@ weekends_cost c n days = weekend_weight * (weekends_of c n days - (contract_of c
 unfoldable pub own_cost : Meaning → ℕ → Days → ℕ
 own_cost c n days = working_run_cost c n days + shift_run_cost c n days + free_run_cost c n days + split_cost c n days + totals_cost c n days + weekends_cost c n days
 
+-- what the nurse's requests cost on a day, and on all days: off requests and wishes to work
+abbrev pub request_cost_on : Meaning → ℕ → ℕ → Option Shift → ℕ
+request_cost_on c n d shift = off_request_cost_on c n d shift + wish_cost_on c n d shift
+
+abbrev pub request_cost : Meaning → ℕ → Days → ℕ
+request_cost c n days = off_request_cost c n days + wish_cost c n days
+
 -- all that a nurse's row costs, apart from staffing
 abbrev pub nurse_cost : Meaning → ℕ → Days → ℕ
-nurse_cost c n days = own_cost c n days + off_request_cost c n days
+nurse_cost c n days = own_cost c n days + request_cost c n days
 
 -- one rule over all nurses
 abbrev pub over_nurses : Meaning → Rows → (ℕ → Days → ℕ) → ℕ
@@ -117,10 +136,11 @@ costs_of c r = record {
   s5 = over_nurses c r (split_cost c);
   s6 = over_nurses c r (totals_cost c);
   s7 = over_nurses c r (weekends_cost c);
+  s8 = over_nurses c r (wish_cost c);
 }
 
 abbrev pub total_cost : Costs → ℕ
-total_cost k = k.s1 + k.s2 + k.s3 + k.s4 + k.s5 + k.s6 + k.s7
+total_cost k = k.s1 + k.s2 + k.s3 + k.s4 + k.s5 + k.s6 + k.s7 + k.s8
 
 -- the roster's penalty
 unfoldable pub penalty : Meaning → Rows → ℕ

@@ -32,3 +32,7 @@ assignment_weight = 20
 -- a worked weekend above the greatest number
 abbrev pub weekend_weight : ℕ
 weekend_weight = 30
+
+-- a day of a nurse with a wish to work that isn't met (our own rule)
+abbrev pub wish_weight : ℕ
+wish_weight = 10

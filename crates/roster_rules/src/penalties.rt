@@ -4,7 +4,7 @@ ghost use Rattle.std.specs.Prelude.{◌≡◌, min};
 ghost use Rattle.roster_rules.specs.Penalties.{total_cost};
 
 /// What each soft rule costs, in penalty points, weights included: staffing below the optimum, runs of work and of shifts,
-/// runs of days off, off requests, split weekends, totals of assignments, worked weekends.
+/// runs of days off, off requests, split weekends, totals of assignments, worked weekends, wishes to work.
 #[derive(Clone, Copy, Debug, Default, PartialEq, Eq)]
 pub struct Costs {
     pub s1: u64,
@@ -14,6 +14,7 @@ pub struct Costs {
     pub s5: u64,
     pub s6: u64,
     pub s7: u64,
+    pub s8: u64,
 }
 
 impl Costs {
@@ -29,5 +30,6 @@ impl Costs {
             .saturating_add(self.s5)
             .saturating_add(self.s6)
             .saturating_add(self.s7)
+            .saturating_add(self.s8)
     }
 }

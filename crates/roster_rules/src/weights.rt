@@ -23,3 +23,6 @@ pub const ASSIGNMENT: u32 = 20;
 
 /// For each worked weekend above the greatest number.
 pub const WEEKEND: u32 = 30;
+
+/// For each day of a nurse with a wish to work that isn't met.
+pub const WISH: u32 = 10;

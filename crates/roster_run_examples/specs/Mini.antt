@@ -8,7 +8,7 @@ use Rattle.roster_rules.specs.declared.Border.TheVariants.{Free}
 use Rattle.roster_rules.specs.declared.ContractRules.{ContractRules}
 use Rattle.roster_rules.specs.declared.Limits.{Limits}
 use Rattle.roster_rules.specs.declared.Past.{Past}
-use Rattle.roster_rules.specs.Meaning.{Meaning, NurseFacts, WeekFacts, shift_at, skill_at}
+use Rattle.roster_rules.specs.Meaning.{Meaning, NurseFacts, WeekFacts, no_requests, shift_at, skill_at}
 use Rattle.roster_rules.specs.Rosters.{Row, Rows}
 
 abbrev pub limits : ℕ → ℕ → Limits
@@ -25,11 +25,12 @@ a_nurse = record { contract = 0; skills = skill_at 0 ∷ [] }
 abbrev pub off_for : ℕ → Option Past
 off_for days = Some (record { border = Free days; assignments = 0; weekends = 0 })
 
--- a week that wants one nurse at best on each day, for each of these places, and without off requests
+-- a week that wants one nurse at best on each day, for each of these places, and without requests
 abbrev pub week_wanting : List Bool → ℕ → WeekFacts
 week_wanting places nurses = record {
   needs = map (λ wanted. if wanted then Some (replicate 7 (limits 0 1)) else None) places;
-  off_requests = replicate (7 * nurses) (replicate 8 false);
+  off_requests = replicate (7 * nurses) no_requests;
+  wishes = replicate (7 * nurses) no_requests;
 }
 
 -- each day wants one nurse on Early at best, and Early may not follow Night
@@ -84,8 +85,13 @@ ann = 0
 abbrev pub bob : ℕ
 bob = 1
 
+-- without wishes to work
 abbrev pub costs : ℕ → ℕ → ℕ → ℕ → ℕ → ℕ → ℕ → Costs
-costs a b c d e f g = record { s1 = a; s2 = b; s3 = c; s4 = d; s5 = e; s6 = f; s7 = g }
+costs a b c d e f g = record { s1 = a; s2 = b; s3 = c; s4 = d; s5 = e; s6 = f; s7 = g; s8 = 0 }
+
+-- the same with points for wishes to work
+abbrev pub costs_with_wishes : ℕ → Costs → Costs
+costs_with_wishes n k = record k { s8 = n }
 
 -- ---- an instance of eight weeks: four shifts, four skills, thirty nurses with one skill each who were off for two days
 

@@ -4,7 +4,7 @@ use Rattle.std.specs.List.{range_with_len}
 use Rattle.roster_rules.specs.declared.Choice.{Choice}
 use Rattle.roster_rules.specs.declared.Choice.TheVariants.{Work}
 use Rattle.roster_rules.specs.declared.Border.TheVariants.{Working}
-use Rattle.roster_rules.specs.Meaning.{Meaning, shift_at, skill_at}
+use Rattle.roster_rules.specs.Meaning.{Meaning, no_requests, shift_at, skill_at}
 use Rattle.roster_run_examples.specs.Mini.{a_nurse, free_week, is_among, limits, mini_of_one_shift, off_for}
 use Rattle.roster_rules.specs.Rosters.{Row}
 
@@ -13,7 +13,8 @@ abbrev pub needing : List ℕ → Meaning
 needing days = record mini_of_one_shift {
   weeks = record {
     needs = Some (map (λ d. limits (if is_among days d then 1 else 0) 1) (range_with_len 0 7)) ∷ replicate 63 None;
-    off_requests = replicate 14 (replicate 8 false);
+    off_requests = replicate 14 no_requests;
+    wishes = replicate 14 no_requests;
   } ∷ [];
 }
 

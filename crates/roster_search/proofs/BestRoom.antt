@@ -12,7 +12,7 @@ use Rattle.roster_rules.specs.Penalties.{own_cost}
 use Rattle.roster_rules.specs.Rosters.{Row, Rows, fits_case, is_choice_of, is_row_of, with_row}
 use Rattle.roster_rules.specs.AllowedRows.{allowed_rows}
 use Rattle.roster_rules.specs.Small.{HasSmallNumbers}
-use Rattle.roster_rules.proofs.Bounds.{free_run_cost-within, off_request_cost-within, shift_run_cost-within, split_cost-within, staffing_cost-within, totals_cost-within, weekends_cost-within, working_run_cost-within}
+use Rattle.roster_rules.proofs.Bounds.{free_run_cost-within, request_cost-within, shift_run_cost-within, split_cost-within, staffing_cost-within, totals_cost-within, weekends_cost-within, working_run_cost-within}
 use Rattle.roster_rules.proofs.RosterFacts.{has_row}
 use Rattle.roster_laws.proofs.OneRow.{penalty-with_row, prices-with_row}
 use Rattle.roster_laws.proofs.Allowed.{allowed_keeps}
@@ -47,7 +47,7 @@ module _ (c : Meaning) (from : ℕ) (r : Rows) (fits : fits_case c r ≡ true) (
         working_run_cost-within c n (days_of row) small few,
         free_run_cost-within c n (days_of row) small few,
         shift_run_cost-within c n (days_of row) small few,
-        off_request_cost-within c n (days_of row) small few,
+        request_cost-within c n (days_of row) small few,
         split_cost-within c n (days_of row) small few,
         totals_cost-within c n (days_of row) small few,
         weekends_cost-within c n (days_of row) small few,

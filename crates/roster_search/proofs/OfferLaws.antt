@@ -16,11 +16,11 @@ use Rattle.roster_rules.specs.Counting.{one_if, sum_below}
 use Rattle.roster_rules.specs.HardRules.{breaks_succession, keeps_hard}
 use Rattle.roster_rules.specs.Limits.{most_shifts, most_skills, most_small}
 use Rattle.roster_rules.specs.Meaning.{Meaning, day_count, nurse_at, nurse_count, optimum, shift_at, shift_count, skill_at, skill_count}
-use Rattle.roster_rules.specs.Penalties.{breaks_off_request}
+use Rattle.roster_rules.specs.Penalties.{breaks_off_request, meets_wishes}
 use Rattle.roster_rules.specs.Rosters.{Rows, choice_on, fits_case, is_choice_of, row_of}
 use Rattle.roster_rules.specs.Sizes.{choice_count}
 use Rattle.roster_rules.specs.Small.{HasSmallNumbers}
-use Rattle.roster_rules.specs.Weights.{off_request_weight, staffing_weight}
+use Rattle.roster_rules.specs.Weights.{off_request_weight, staffing_weight, wish_weight}
 use Rattle.roster_rules.proofs.RosterFacts.{has_row, row-length, row_fits}
 use Rattle.roster_rules.proofs.RunBounds.{sum_within}
 use Rattle.roster_laws.specs.OneRow.{is_offered, is_open, is_open_row, others, price}
@@ -134,8 +134,12 @@ module _ (c : Meaning) (from : ℕ) (r : Rows) (n d : ℕ) where
     request_within true = omega arith
     request_within false = omega arith
 
+    wish_within : (b : Bool) → (if b then 0 else wish_weight) ≤ wish_weight
+    wish_within true = omega arith
+    wish_within false = omega arith
+
     price_within : (x : Choice) → price c r n d x ≤ most_price
-    price_within x = omega (arith, staffing_within (with_choice (others r n d) x), request_within (breaks_off_request c n d (shift_of x)))
+    price_within x = omega (arith, staffing_within (with_choice (others r n d) x), request_within (breaks_off_request c n d (shift_of x)), wish_within (meets_wishes c n d (shift_of x)))
 
     pub offers_of_case : All (IsOfferOf c) (offers_of c from r n d)
     offers_of_case =

@@ -7,7 +7,7 @@ use Rattle.roster_rules.specs.Limits.{most_shifts, most_skills, most_small}
 use Rattle.roster_rules.specs.Meaning.{Meaning, day_count, nurse_count}
 use Rattle.roster_rules.specs.Prefix.{Summary}
 use Rattle.roster_rules.specs.Rosters.{is_choice_of}
-use Rattle.roster_rules.specs.Weights.{off_request_weight, staffing_weight}
+use Rattle.roster_rules.specs.Weights.{off_request_weight, staffing_weight, wish_weight}
 use Rattle.roster_state.specs.declared.area.Area.{Area}
 use Rattle.roster_state.specs.Areas.{InArea, area_at}
 use Rattle.roster_state.specs.Codes.{Sizes, code_of, fits_sizes, shift_digit, sizes_of}
@@ -19,9 +19,9 @@ use Rattle.roster_search.specs.ByStates.{best_behind}
 use Rattle.roster_search.specs.Cheapest.{Priced, cheapest}
 use Rattle.roster_search.specs.Offers.{offer_step}
 
--- what an offer costs at most: 1,918,090
+-- what an offer costs at most: 1,918,100
 abbrev pub most_price : ℕ
-most_price = most_shifts * most_skills * staffing_weight * most_small + off_request_weight
+most_price = most_shifts * most_skills * staffing_weight * most_small + off_request_weight + wish_weight
 
 -- the label of a state from which no row goes on, 2^28: each row costs less
 abbrev pub no_row : ℕ

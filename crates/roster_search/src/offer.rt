@@ -3,7 +3,7 @@
 use roster_rules::Choice;
 
 /// A choice that is offered to a nurse on a day, with its price in penalty points: that day's staffing with it, and the
-/// nurse's own off requests.
+/// nurse's own requests.
 #[derive(Clone, Copy, Debug, Default, PartialEq, Eq)]
 pub struct Offer {
     pub choice: Choice,

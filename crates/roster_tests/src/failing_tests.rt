@@ -18,7 +18,7 @@ struct Answer {
     log: &'static str,
 }
 
-const COSTS: &str = "S1 210\nS2 0\nS3 180\nS4 0\nS5 0\nS6 80\nS7 0\ntotal 470\n";
+const COSTS: &str = "S1 210\nS2 0\nS3 180\nS4 0\nS5 0\nS6 80\nS7 0\nS8 0\ntotal 470\n";
 
 const SIZES: &str = "Ann 1296 2592 9072 27216\nBob 1296 2592 9072 27216\n";
 

@@ -88,6 +88,21 @@ fn offers_by_shift_and_then_by_skill(rt: HostRuntime) -> Result<(), Fail> {
     Ok(())
 }
 
+#[test]
+fn offers_with_wishes(rt: HostRuntime) -> Result<(), Fail> {
+    let alloc = rt.alloc();
+    let requests = "SHIFT_OFF_REQUESTS = 1\nAnn Early Thu\n\
+        SHIFT_ON_REQUESTS = 4\nAnn Early Tue\nAnn Any Wed\nAnn Night Thu\nBob Any Fri";
+    let text = changed(alloc, &[("SHIFT_OFF_REQUESTS = 0", requests)])?;
+    let held = held(alloc, text.as_bytes())?;
+    assert!(rt; offers_are(&held, 0, 0, &[off(30), work(0, 0, 0), work(1, 0, 30)]));
+    assert!(rt; offers_are(&held, 0, 1, &[off(40), work(0, 0, 0), work(1, 0, 40)]));
+    assert!(rt; offers_are(&held, 0, 2, &[off(40), work(0, 0, 0), work(1, 0, 30)]));
+    assert!(rt; offers_are(&held, 0, 3, &[off(40), work(0, 0, 20), work(1, 0, 30)]));
+    assert!(rt; offers_are(&held, 0, 4, &[off(30), work(0, 0, 0), work(1, 0, 30)]));
+    Ok(())
+}
+
 // ---- rows replaced
 
 /// A row of the instance big that is the same each week: for each weekday a digit, the number of a shift that is worked with this

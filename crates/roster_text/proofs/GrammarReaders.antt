@@ -1,12 +1,18 @@
 -- The parts of the four texts, field by field.
-use Rattle.std.proofs.Common.{◌≡◌, ℕ, true, false, List, [], ◌∷◌, ◌++◌, length, Ok, refl, sym, ap, ◌∙◌, codes}
+use Rattle.std.proofs.Common.{◌≡◌, ◌<◌, inl, inr, ℕ, zero, suc, true, false, List, [], ◌∷◌, ◌++◌, Option, None, length, Ok, refl, sym, ap, ◌∙◌, append_assoc, codes, arith}
+use Rattle.std.proofs.lemmas.List.{append-nil}
 use Rattle.std.specs.List.{flat_map}
 use Rattle.roster_bundle.specs.declared.bundle.Bundle.{Bundle}
 use Rattle.roster_bundle.specs.declared.bundle.History.{History}
+use Rattle.roster_bundle.specs.declared.bundle.Listed.{Listed}
 use Rattle.roster_bundle.specs.declared.bundle.Number.{Number}
+use Rattle.roster_bundle.specs.declared.bundle.Request.{Request}
 use Rattle.roster_bundle.specs.declared.bundle.Requirement.{Requirement}
 use Rattle.roster_bundle.specs.declared.bundle.Scenario.{Scenario}
+use Rattle.roster_bundle.specs.declared.bundle.Solution.{Solution}
 use Rattle.roster_bundle.specs.declared.bundle.Succession.{Succession}
+use Rattle.roster_bundle.specs.declared.bundle.WeekData.{WeekData}
+use Rattle.roster_text.specs.declared.fault.Keyword.{Keyword}
 use Rattle.roster_text.specs.declared.fault.Keyword.TheVariants as keyword
 use Rattle.roster_text.specs.declared.fault.What.{What}
 use Rattle.roster_text.specs.declared.fault.What.TheVariants as what
@@ -16,11 +22,12 @@ use Rattle.roster_text.specs.Words.{keyword_text}
 use Rattle.roster_text.specs.Grammar as grammar
 use Rattle.roster_text.specs.Grammar.{Pattern, Fits, Spelled, fixed, name, number, placed, day, named, small, is_number}
 use Rattle.roster_text.specs.FirstFault.{wants_number}
-use Rattle.roster_text.specs.Reading.{Read, ◌>>=◌, word_at, name_at, number_at, value_at, small_at, day_at, times_at, until_at, pair_at, shift_type_at, succession_at, contract_at, nurse_at, title_at, scenario_at, nurse_history_at, history_at, week_pairs_at, requirement_at, off_request_at, week_data_at, assignment_at, solution_at, bundle_at}
+use Rattle.roster_text.specs.Reading.{Read, ◌>>=◌, word_at, name_at, number_at, value_at, small_at, day_at, times_at, listed_at, key_at, until_at, pair_at, shift_type_at, succession_at, contract_at, nurse_at, title_at, scenario_at, nurse_history_at, history_at, week_pairs_at, requirement_at, request_at, optional_at, week_data_at, assignment_at, solution_at, bundle_at}
 use Rattle.roster_text.proofs.Readers.{Reader, done_reader, then}
 use Rattle.roster_text.proofs.OneToken.{one_reader, name_one, placed_one, value_one, zero_seen, zero_fits, day_one}
 use Rattle.roster_text.proofs.UntilSection.{Start, LineFrom, Lines, no_equals_name, until_reader}
-use Rattle.roster_text.proofs.Several.{AreMany, every, then_word, name_reader, names_reader, section_reader, listed_reader, times_reader}
+use Rattle.roster_text.proofs.OptionalSection.{BeginsWith, outcome, with_read, optional_reader}
+use Rattle.roster_text.proofs.Several.{AreMany, every, with_fact, with_patterns, then_word, name_reader, names_reader, section_reader, listed_reader, times_reader}
 use Rattle.roster_bundle.specs.Limits.{most_counted, most_small}
 
 -- a field, and then the rest
@@ -204,21 +211,196 @@ requirement_lines = record { starts = start; any = line }
 requirements_reader : Reader every (grammar.lines_until keyword.ShiftOffRequests what.Name grammar.requirement) (until_at requirement_at keyword.ShiftOffRequests)
 requirements_reader = until_reader grammar.requirement requirement_at requirement_reader keyword.ShiftOffRequests what.Name requirement_lines
 
-off_request_reader : Reader every grammar.off_request off_request_at
-unfolding off_request_at
-off_request_reader =
+request_reader : Reader every grammar.request request_at
+unfolding request_at
+request_reader =
     step name_reader (λ b. b.nurse) (λ nurse.
     step name_reader (λ b. b.shift) (λ shift.
     step day_reader (λ b. b.day) (λ day.
     done (record { nurse = nurse; shift = shift; day = day }) (((tt, refl), refl), refl) (λ b v i. record { nurse = v.0.0.1 i; shift = v.0.1 i; day = v.1 i }))))
 
-week_data_reader : Reader every grammar.week_data week_data_at
-unfolding week_data_at
-week_data_reader =
-    word (what.Keyword keyword.WeekData) (keyword_text keyword.WeekData) refl (step name_reader (λ b. b.scenario) (λ scenario.
-    word (what.Keyword keyword.Requirements) (keyword_text keyword.Requirements) refl (step requirements_reader (λ b. b.requirements) (λ requirements.
-    step (listed_reader grammar.off_request off_request_at off_request_reader) (λ b. b.off_requests) (λ off_requests.
-    done (record { scenario = scenario; requirements = requirements; off_requests = off_requests }) (((tt, refl), refl), refl) (λ b v i. record { scenario = v.0.0.1 i; requirements = v.0.1 i; off_requests = v.1 i }))))))
+-- the keywords after a week are none that may begin a section of wishes
+data FollowsWeek : Keyword → Type 0 where
+  solutions : FollowsWeek keyword.Solution
+  week : FollowsWeek keyword.WeekData
+
+no_wishes : (k : Keyword) → FollowsWeek k → keyword_text k ≡ keyword_text keyword.ShiftOnRequests → ⊥
+no_wishes _ solutions e = cc
+no_wishes _ week e = cc
+
+-- a week, and then a part that begins with the keyword after it
+module _ (after : Keyword) (is : FollowsWeek after) {B : Type 0} (V : B → Type 0) (get : B → WeekData) (patB : B → List Pattern) (k : WeekData → List Seen → Read B)
+    (begins : (b : B) → V b → BeginsWith after (patB b)) (rest : (w : WeekData) → Reader (λ b. V b × (get b ≡ w)) patB (k w)) where
+  -- the fields that the reader has read, but for the wishes
+  abbrev IsAsked : Token → List Requirement → Listed Request → B → Type 0
+  IsAsked scenario requirements off b = ((V b × ((get b).scenario ≡ scenario)) × ((get b).requirements ≡ requirements)) × ((get b).off_requests ≡ off)
+
+  abbrev week_of : Token → List Requirement → Listed Request → Option (Listed Request) → WeekData
+  week_of scenario requirements off on = record { scenario = scenario; requirements = requirements; off_requests = off; on_requests = on }
+
+  abbrev by_fields : B → List Pattern
+  by_fields b =
+      fixed (what.Keyword keyword.WeekData) (keyword_text keyword.WeekData) ∷ name (get b).scenario ∷ fixed (what.Keyword keyword.Requirements) (keyword_text keyword.Requirements)
+      ∷ (grammar.lines_until keyword.ShiftOffRequests what.Name grammar.requirement (get b).requirements
+      ++ (grammar.rest_of_section grammar.request (get b).off_requests
+      ++ (grammar.optional_section keyword.ShiftOnRequests after grammar.request (get b).on_requests ++ patB b)))
+
+  abbrev field_by_field : List Seen → Read B
+  field_by_field ts =
+      word_at (what.Keyword keyword.WeekData) (keyword_text keyword.WeekData) ts >>= λ a. name_at a.1 >>= λ scenario.
+      word_at (what.Keyword keyword.Requirements) (keyword_text keyword.Requirements) scenario.1 >>= λ b. until_at requirement_at keyword.ShiftOffRequests b.1 >>= λ requirements.
+      listed_at request_at requirements.1 >>= λ off. optional_at keyword.ShiftOnRequests request_at off.1 >>= λ on.
+      k (week_of scenario.0 requirements.0 off.0 on.0) on.1
+
+  wishes : (scenario : Token) (requirements : List Requirement) (off : Listed Request)
+      → Reader (IsAsked scenario requirements off) (λ b. grammar.optional_section keyword.ShiftOnRequests after grammar.request (get b).on_requests ++ patB b)
+      (λ ts. optional_at keyword.ShiftOnRequests request_at ts >>= λ on. k (week_of scenario requirements off on.0) on.1)
+  wishes scenario requirements off =
+      optional_reader grammar.request request_at request_reader keyword.ShiftOnRequests after (no_wishes after is)
+      (IsAsked scenario requirements off) (λ b. (get b).on_requests) patB (λ on ts. k (week_of scenario requirements off on) ts) (λ b v. begins b v.0.0.0)
+      (λ on. with_fact (λ b. V b × (get b ≡ week_of scenario requirements off on)) (λ b. IsAsked scenario requirements off b × ((get b).on_requests ≡ on)) patB (k (week_of scenario requirements off on))
+      (λ b v. ((((v.0, λ i. (v.1 i).scenario), λ i. (v.1 i).requirements), λ i. (v.1 i).off_requests), λ i. (v.1 i).on_requests))
+      (λ b v. (v.0.0.0.0, λ i. record { scenario = v.0.0.0.1 i; requirements = v.0.0.1 i; off_requests = v.0.1 i; on_requests = v.1 i }))
+      (rest (week_of scenario requirements off on)))
+
+  same_patterns : (b : B) → V b → by_fields b ≡ grammar.week_data after (get b) ++ patB b
+  same_patterns b v =
+      let lines = grammar.lines_until keyword.ShiftOffRequests what.Name grammar.requirement (get b).requirements in
+      let off = grammar.rest_of_section grammar.request (get b).off_requests in
+      let on = grammar.optional_section keyword.ShiftOnRequests after grammar.request (get b).on_requests in
+      let one : on ++ patB b ≡ (on ++ []) ++ patB b = ap (λ (ps : List Pattern). ps ++ patB b) (sym (append-nil on)) in
+      let two : off ++ (on ++ patB b) ≡ (off ++ (on ++ [])) ++ patB b = ap (λ (ps : List Pattern). off ++ ps) one ∙ sym (append_assoc off (on ++ []) (patB b)) in
+      let all : lines ++ (off ++ (on ++ patB b)) ≡ (lines ++ (off ++ (on ++ []))) ++ patB b = ap (λ (ps : List Pattern). lines ++ ps) two ∙ sym (append_assoc lines (off ++ (on ++ [])) (patB b)) in
+      ap (λ (ps : List Pattern). fixed (what.Keyword keyword.WeekData) (keyword_text keyword.WeekData) ∷ name (get b).scenario ∷ fixed (what.Keyword keyword.Requirements) (keyword_text keyword.Requirements) ∷ ps) all
+
+  same_read : (ts : List Seen) → field_by_field ts ≡ (week_data_at ts >>= λ x. k x.0 x.1)
+  unfolding week_data_at
+  same_read ts =
+      elim (outcome (key_at keyword.WeekData ts)) [
+        | inl a ↦
+            elim (outcome (name_at a.0.1)) [
+              | inl scenario ↦
+                  elim (outcome (key_at keyword.Requirements scenario.0.1)) [
+                    | inl b ↦
+                        elim (outcome (until_at requirement_at keyword.ShiftOffRequests b.0.1)) [
+                          | inl requirements ↦
+                              elim (outcome (listed_at request_at requirements.0.1)) [
+                                | inl off ↦
+                                    elim (outcome (optional_at keyword.ShiftOnRequests request_at off.0.1)) [
+                                      | inl on ↦ rw (a.1, scenario.1, b.1, requirements.1, off.1, on.1) refl
+                                      | inr d ↦ rw (a.1, scenario.1, b.1, requirements.1, off.1, d.1) refl
+                                    ]
+                                | inr d ↦ rw (a.1, scenario.1, b.1, requirements.1, d.1) refl
+                              ]
+                          | inr d ↦ rw (a.1, scenario.1, b.1, d.1) refl
+                        ]
+                    | inr d ↦ rw (a.1, scenario.1, d.1) refl
+                  ]
+              | inr d ↦ rw (a.1, d.1) refl
+            ]
+        | inr d ↦ rw d.1 refl
+      ]
+
+  week_step : Reader V (λ b. grammar.week_data after (get b) ++ patB b) (λ ts. week_data_at ts >>= λ x. k x.0 x.1)
+  week_step =
+      with_patterns V by_fields (λ b. grammar.week_data after (get b) ++ patB b) (λ ts. week_data_at ts >>= λ x. k x.0 x.1) same_patterns
+      (with_read field_by_field (λ ts. week_data_at ts >>= λ x. k x.0 x.1) same_read
+      (word (what.Keyword keyword.WeekData) (keyword_text keyword.WeekData) refl (step name_reader (λ b. (get b).scenario) (λ scenario.
+      word (what.Keyword keyword.Requirements) (keyword_text keyword.Requirements) refl (step requirements_reader (λ b. (get b).requirements) (λ requirements.
+      step (listed_reader grammar.request request_at request_reader) (λ b. (get b).off_requests) (λ off. wishes scenario requirements off)))))))
+
+-- the first week and the others, where there is one
+abbrev first_or : WeekData → List WeekData → WeekData
+first_or d [] = d
+first_or d (w ∷ ws) = w
+
+abbrev later : List WeekData → List WeekData
+later [] = []
+later (w ∷ ws) = ws
+
+-- some week
+example : WeekData
+example = record { scenario = name_one.value; requirements = requirements_reader.some.value; off_requests = (listed_reader grammar.request request_at request_reader).some.value; on_requests = None }
+
+no_weeks : (ws : List WeekData) → length ws ≡ 0 → ws ≡ []
+no_weeks [] e = refl
+no_weeks (w ∷ ws) e = absurd (omega arith)
+
+later_many : (n : ℕ) (ws : List WeekData) → length ws ≡ suc n → length (later ws) ≡ n
+later_many n [] e = absurd (omega arith)
+later_many n (w ∷ ws) e = omega (arith, e)
+
+made_of : (d w : WeekData) (n : ℕ) (ws b : List WeekData) → length b ≡ suc n → first_or d b ≡ w → later b ≡ ws → b ≡ w ∷ ws
+made_of d w n ws [] len e f = absurd (omega arith)
+made_of d w n ws (x ∷ b) len e f = λ i. e i ∷ f i
+
+-- the keyword after a week that so many follow
+abbrev keyword_after : ℕ → Keyword
+keyword_after zero = keyword.Solution
+keyword_after (suc n) = keyword.WeekData
+
+follows : (n : ℕ) → FollowsWeek (keyword_after n)
+follows zero = solutions
+follows (suc n) = week
+
+after_is : (n : ℕ) (ws : List WeekData) → length ws ≡ n → grammar.after_week ws ≡ keyword_after n
+after_is zero [] e = refl
+after_is zero (w ∷ ws) e = absurd (omega arith)
+after_is (suc n) [] e = absurd (omega arith)
+after_is (suc n) (w ∷ ws) e = refl
+
+weeks_begin : (n : ℕ) (ws : List WeekData) (ps : List Pattern) → length ws ≡ n → BeginsWith keyword.Solution ps → BeginsWith (keyword_after n) (grammar.weeks ws ++ ps)
+weeks_begin zero [] ps e begins = begins
+weeks_begin zero (w ∷ ws) ps e begins = absurd (omega arith)
+weeks_begin (suc n) [] ps e begins = absurd (omega arith)
+weeks_begin (suc n) (w ∷ ws) ps e begins = record { rest = _; is = refl }
+
+-- one week, so many others, and then the solutions
+module _ (n : ℕ) {B : Type 0} (V : B → Type 0) (get : B → List WeekData) (many : (b : B) → V b → length (get b) ≡ suc n) (patB : B → List Pattern) (k : List WeekData → List Seen → Read B)
+    (begins : (b : B) → V b → BeginsWith keyword.Solution (patB b))
+    (rest : (w : WeekData) → Reader (λ b. V b × (first_or example (get b) ≡ w)) (λ b. grammar.weeks (later (get b)) ++ patB b) (λ ts. times_at week_data_at n ts >>= λ ws. k (w ∷ ws.0) ws.1)) where
+  abbrev one_by_one : B → List Pattern
+  one_by_one b = grammar.week_data (keyword_after n) (first_or example (get b)) ++ (grammar.weeks (later (get b)) ++ patB b)
+
+  reads_one : (ts : List Seen) → (week_data_at ts >>= λ w. times_at week_data_at n w.1 >>= λ ws. k (w.0 ∷ ws.0) ws.1) ≡ (times_at week_data_at (suc n) ts >>= λ x. k x.0 x.1)
+  unfolding times_at
+  reads_one ts =
+      elim (outcome (week_data_at ts)) [
+        | inl w ↦
+            elim (outcome (times_at week_data_at n w.0.1)) [
+              | inl ws ↦ rw (w.1, ws.1) refl
+              | inr d ↦ rw (w.1, d.1) refl
+            ]
+        | inr d ↦ rw d.1 refl
+      ]
+
+  of_weeks : (ws : List WeekData) (ps : List Pattern) → length ws ≡ suc n → grammar.week_data (keyword_after n) (first_or example ws) ++ (grammar.weeks (later ws) ++ ps) ≡ grammar.weeks ws ++ ps
+  of_weeks [] ps e = absurd (omega arith)
+  of_weeks (w ∷ ws) ps e =
+      ap (λ (kw : Keyword). grammar.week_data kw w ++ (grammar.weeks ws ++ ps)) (sym (after_is n ws (omega (arith, e))))
+      ∙ sym (append_assoc (grammar.week_data (grammar.after_week ws) w) (grammar.weeks ws) ps)
+
+  one_more : Reader V (λ b. grammar.weeks (get b) ++ patB b) (λ ts. times_at week_data_at (suc n) ts >>= λ x. k x.0 x.1)
+  one_more =
+      with_patterns V one_by_one (λ b. grammar.weeks (get b) ++ patB b) (λ ts. times_at week_data_at (suc n) ts >>= λ x. k x.0 x.1) (λ b v. of_weeks (get b) (patB b) (many b v))
+      (with_read (λ ts. week_data_at ts >>= λ w. times_at week_data_at n w.1 >>= λ ws. k (w.0 ∷ ws.0) ws.1) (λ ts. times_at week_data_at (suc n) ts >>= λ x. k x.0 x.1) reads_one
+      (week_step (keyword_after n) (follows n) V (λ b. first_or example (get b)) (λ b. grammar.weeks (later (get b)) ++ patB b) (λ w ts. times_at week_data_at n ts >>= λ ws. k (w ∷ ws.0) ws.1)
+      (λ b v. weeks_begin n (later (get b)) (patB b) (later_many n (get b) (many b v)) (begins b v)) rest))
+
+-- so many weeks, and then the solutions
+weeks_step : (n : ℕ) {B : Type 0} (V : B → Type 0) (get : B → List WeekData) → ((b : B) → V b → length (get b) ≡ n) → (patB : B → List Pattern) (k : List WeekData → List Seen → Read B) → ((b : B) → V b → 0 < n → BeginsWith keyword.Solution (patB b)) → ((ws : List WeekData) → length ws ≡ n → Reader (λ b. V b × (get b ≡ ws)) patB (k ws))
+    → Reader V (λ b. grammar.weeks (get b) ++ patB b) (λ ts. times_at week_data_at n ts >>= λ x. k x.0 x.1)
+unfolding times_at
+weeks_step zero V get many patB k begins rest =
+    with_patterns V patB (λ b. grammar.weeks (get b) ++ patB b) (k []) (λ b v. ap (λ (ws : List WeekData). grammar.weeks ws ++ patB b) (sym (no_weeks (get b) (many b v))))
+    (with_fact (λ b. V b × (get b ≡ [])) V patB (k []) (λ b w. w.0) (λ b v. (v, no_weeks (get b) (many b v))) (rest [] refl))
+weeks_step (suc n) V get many patB k begins rest =
+    one_more n V get many patB k (λ b v. begins b v (omega arith)) (λ w.
+    weeks_step n (λ b. V b × (first_or example (get b) ≡ w)) (λ b. later (get b)) (λ b v. later_many n (get b) (many b v.0)) patB (λ ws. k (w ∷ ws)) (λ b v some. begins b v.0 (omega arith)) (λ ws e.
+    with_fact (λ b. V b × (get b ≡ w ∷ ws)) (λ b. (V b × (first_or example (get b) ≡ w)) × (later (get b) ≡ ws)) patB (k (w ∷ ws))
+    (λ b v. ((v.0, ap (first_or example) v.1), ap later v.1))
+    (λ b v. (v.0.0, made_of example w n ws (get b) (many b v.0.0) v.0.1 v.1))
+    (rest (w ∷ ws) (omega (arith, e)))))
 
 -- ---- the solutions
 
@@ -251,12 +433,20 @@ history_step : (s : Scenario) {V : Bundle → Type 0} → ((b : Bundle) → V b 
     → Reader V (λ b. grammar.history b.history ++ patB b) (λ ts. history_at (length s.nurses.items) ts >>= λ x. k x.0 x.1)
 history_step s {V} valid {patB} {k} rest = then (HasLines (length s.nurses.items)) grammar.history (history_at (length s.nurses.items)) (history_reader (length s.nurses.items)) V (λ b. b.history) valid patB k rest
 
+solutions_begin : (ss : List Solution) → 0 < length ss → BeginsWith keyword.Solution (flat_map grammar.solution ss ++ [])
+solutions_begin [] some = absurd (omega arith)
+solutions_begin (s ∷ ss) some = record { rest = _; is = refl }
+
+some_solutions : (b : Bundle) → Counted b → (n : ℕ) → b.scenario.weeks.value ≡ n → 0 < n → 0 < length b.solutions
+some_solutions b c n e some = omega (arith, c.solution_parts, e)
+
 pub bundle_reader : Reader Counted grammar.bundle bundle_at
 unfolding bundle_at
 bundle_reader =
     step scenario_reader (λ b. b.scenario) (λ s.
     history_step s (λ b v. v.0.history_lines ∙ ap (λ (x : Scenario). length x.nurses.items) v.1) (λ h lines.
-    many week_data_reader s.weeks.value (λ b. b.week_data) (λ b v. v.0.0.week_data_parts ∙ ap (λ (x : Scenario). x.weeks.value) v.0.1) (λ ws weeks.
+    weeks_step s.weeks.value (λ b. (Counted b × (b.scenario ≡ s)) × (b.history ≡ h)) (λ b. b.week_data) (λ b v. v.0.0.week_data_parts ∙ ap (λ (x : Scenario). x.weeks.value) v.0.1) (λ b. flat_map grammar.solution b.solutions ++ [])
+    (λ ws ts. times_at solution_at s.weeks.value ts >>= λ ss. Ok (record { scenario = s; history = h; week_data = ws; solutions = ss.0 }, ss.1)) (λ b v some. solutions_begin b.solutions (some_solutions b v.0.0 s.weeks.value (ap (λ (x : Scenario). x.weeks.value) v.0.1) some)) (λ ws weeks.
     many solution_reader s.weeks.value (λ b. b.solutions) (λ b v. v.0.0.0.solution_parts ∙ ap (λ (x : Scenario). x.weeks.value) v.0.0.1) (λ ss solutions.
     done (record { scenario = s; history = h; week_data = ws; solutions = ss }) ((((record { history_lines = lines; week_data_parts = weeks; solution_parts = solutions }, refl), refl), refl), refl)
     (λ b v i. record { scenario = v.0.0.0.1 i; history = v.0.0.1 i; week_data = v.0.1 i; solutions = v.1 i })))))

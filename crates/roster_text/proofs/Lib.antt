@@ -9,6 +9,7 @@ pub mod Readers
 pub mod OneToken
 pub mod Several
 pub mod UntilSection
+pub mod OptionalSection
 pub mod GrammarReaders
 pub mod FirstFaults
 pub mod SmallNumbers

@@ -116,14 +116,21 @@ rest_within P pat item xs w = items_within P pat item xs.items (parts_within (fl
 section_within : {T : Type 0} (P : T → Type 0) (k : Keyword) (pat : T → List Pattern) → ((x : T) → AreWithin (pat x) → P x) → (xs : Listed T) → AreWithin (grammar.section k pat xs) → All P xs.items
 section_within P k pat item xs w = rest_within P pat item xs w.1.1
 
-needs_within : (w : WeekData) → AreWithin (grammar.week_data w) → AreSmallNeeds w
-needs_within w within =
+needs_within : (after : Keyword) (w : WeekData) → AreWithin (grammar.week_data after w) → AreSmallNeeds w
+needs_within after w within =
     let each = parts_within (
     grammar.key keyword.WeekData ∷ grammar.named w.scenario
     ∷ grammar.key keyword.Requirements ∷ grammar.lines_until keyword.ShiftOffRequests what.Name grammar.requirement w.requirements
-    ∷ grammar.rest_of_section grammar.off_request w.off_requests ∷ []) within in
+    ∷ grammar.rest_of_section grammar.request w.off_requests
+    ∷ grammar.optional_section keyword.ShiftOnRequests after grammar.request w.on_requests ∷ []) within in
     let ended = parts_within (flat_map grammar.requirement w.requirements ∷ (fixed what.Name (keyword_text keyword.ShiftOffRequests) ∷ fixed what.Name (codes "=") ∷ []) ∷ []) each.1.1.1.0 in
     items_within (λ (r : Requirement). AreSmallPairs r.days) grammar.requirement small_requirement w.requirements ended.0
+
+weeks_within : (ws : List WeekData) → AreWithin (grammar.weeks ws) → All AreSmallNeeds ws
+weeks_within [] w = All-nil AreSmallNeeds
+weeks_within (x ∷ later) w =
+    let both = both_within (grammar.week_data (grammar.after_week later) x) (grammar.weeks later) w in
+    All-cons AreSmallNeeds x later (needs_within (grammar.after_week later) x both.0) (weeks_within later both.1)
 
 -- ---- the bundle
 
@@ -154,11 +161,11 @@ pub small_numbers : (ts : List Seen) (b : Bundle) → Spells ts b → SaysSmallN
 small_numbers ts b s =
     let each = parts_within (
     grammar.scenario b.scenario ∷ grammar.history b.history
-    ∷ flat_map grammar.week_data b.week_data ∷ flat_map grammar.solution b.solutions ∷ []) (spelled_within (grammar.bundle b) ts s.fits) in
+    ∷ grammar.weeks b.week_data ∷ flat_map grammar.solution b.solutions ∷ []) (spelled_within (grammar.bundle b) ts s.fits) in
     let scenario = scenario_within b.scenario each.0 in
     record {
       runs = scenario.0;
       contracts = scenario.1;
       history = history_within b.history each.1.0;
-      needs = items_within AreSmallNeeds grammar.week_data needs_within b.week_data each.1.1.0;
+      needs = weeks_within b.week_data each.1.1.0;
     }

@@ -1,6 +1,6 @@
 -- The grammar of the four texts: what is due at each place of a text that spells a bundle, as a list of
 -- patterns computed from the bundle.
-use Rattle.std.specs.Prelude.{◌≡◌, ◌≤◌, ◌⊎◌, ℕ, Bool, true, false, ◌&&◌, List, [], ◌∷◌, length, codes, not}
+use Rattle.std.specs.Prelude.{◌≡◌, ◌≤◌, ◌⊎◌, ℕ, Bool, true, false, ◌&&◌, List, [], ◌∷◌, ◌++◌, Option, Some, None, length, codes, not}
 use Rattle.std.specs.List.{flat_map, list_all}
 use Rattle.std.specs.Char.{is_ascii_digit}
 use Rattle.std.specs.Str.Parse.{digits_value}
@@ -12,7 +12,7 @@ use Rattle.roster_bundle.specs.declared.bundle.History.{History}
 use Rattle.roster_bundle.specs.declared.bundle.Listed.{Listed}
 use Rattle.roster_bundle.specs.declared.bundle.Nurse.{Nurse}
 use Rattle.roster_bundle.specs.declared.bundle.NurseHistory.{NurseHistory}
-use Rattle.roster_bundle.specs.declared.bundle.OffRequest.{OffRequest}
+use Rattle.roster_bundle.specs.declared.bundle.Request.{Request}
 use Rattle.roster_bundle.specs.declared.bundle.Pair.{Pair}
 use Rattle.roster_bundle.specs.declared.bundle.Requirement.{Requirement}
 use Rattle.roster_bundle.specs.declared.bundle.Scenario.{Scenario}
@@ -120,6 +120,12 @@ lines_until end second line xs = parts (flat_map line xs ∷ (fixed what.Name (k
 abbrev pub rest_of_section : {T : Type 0} → (T → List Pattern) → Listed T → List Pattern
 rest_of_section item xs = parts ((placed xs.count most_counted (length xs.items) ∷ []) ∷ flat_map item xs.items ∷ [])
 
+-- A section that may be absent, by its keyword and that of the part after it: where the section may stand, that
+-- part is due.
+abbrev pub optional_section : {T : Type 0} → Keyword → Keyword → (T → List Pattern) → Option (Listed T) → List Pattern
+optional_section k after item None = []
+optional_section k after item (Some xs) = parts ((fixed (what.Keyword after) (keyword_text k) ∷ []) ∷ equals ∷ (placed xs.count most_counted (length xs.items) ∷ []) ∷ flat_map item xs.items ∷ [])
+
 -- ---- the scenario
 
 abbrev pub shift_type : ShiftType → List Pattern
@@ -162,14 +168,26 @@ week_pairs d = parts (pair d.monday ∷ pair d.tuesday ∷ pair d.wednesday ∷ 
 abbrev pub requirement : Requirement → List Pattern
 requirement r = parts (named r.shift ∷ named r.skill ∷ week_pairs r.days ∷ [])
 
-abbrev pub off_request : OffRequest → List Pattern
-off_request r = parts (named r.nurse ∷ named r.shift ∷ (day r.day ∷ []) ∷ [])
+abbrev pub request : Request → List Pattern
+request r = parts (named r.nurse ∷ named r.shift ∷ (day r.day ∷ []) ∷ [])
 
-abbrev pub week_data : WeekData → List Pattern
-week_data w = parts (
+-- by the keyword of the part after the week
+abbrev pub week_data : Keyword → WeekData → List Pattern
+week_data after w = parts (
     key keyword.WeekData ∷ named w.scenario
     ∷ key keyword.Requirements ∷ lines_until keyword.ShiftOffRequests what.Name requirement w.requirements
-    ∷ rest_of_section off_request w.off_requests ∷ [])
+    ∷ rest_of_section request w.off_requests
+    ∷ optional_section keyword.ShiftOnRequests after request w.on_requests ∷ [])
+
+-- the keyword after a week: that of the weeks that follow, or of the solutions
+abbrev pub after_week : List WeekData → Keyword
+after_week [] = keyword.Solution
+after_week (_ ∷ _) = keyword.WeekData
+
+-- the weeks one after the other
+abbrev pub weeks : List WeekData → List Pattern
+weeks [] = []
+weeks (w ∷ later) = week_data (after_week later) w ++ weeks later
 
 -- ---- the solutions
 
@@ -184,7 +202,7 @@ solution s = parts (
 -- ---- the bundle
 
 abbrev pub bundle : Bundle → List Pattern
-bundle b = parts (scenario b.scenario ∷ history b.history ∷ flat_map week_data b.week_data ∷ flat_map solution b.solutions ∷ [])
+bundle b = parts (scenario b.scenario ∷ history b.history ∷ weeks b.week_data ∷ flat_map solution b.solutions ∷ [])
 
 -- The tokens spell the bundle: they fit its patterns, and the history has a line for each nurse, and each
 -- week has its data and its solution.

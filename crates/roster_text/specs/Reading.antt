@@ -13,7 +13,7 @@ use Rattle.roster_bundle.specs.declared.bundle.Listed.{Listed}
 use Rattle.roster_bundle.specs.declared.bundle.Number.{Number}
 use Rattle.roster_bundle.specs.declared.bundle.Nurse.{Nurse}
 use Rattle.roster_bundle.specs.declared.bundle.NurseHistory.{NurseHistory}
-use Rattle.roster_bundle.specs.declared.bundle.OffRequest.{OffRequest}
+use Rattle.roster_bundle.specs.declared.bundle.Request.{Request}
 use Rattle.roster_bundle.specs.declared.bundle.Pair.{Pair}
 use Rattle.roster_bundle.specs.declared.bundle.Requirement.{Requirement}
 use Rattle.roster_bundle.specs.declared.bundle.Scenario.{Scenario}
@@ -129,6 +129,18 @@ section_at k read ts = do
   a ← key_at k ts
   b ← word_at what.Equals (codes "=") a.1
   listed_at read b.1
+
+-- the first token is the keyword
+abbrev pub begins_with : Keyword → List Seen → Bool
+begins_with k [] = false
+begins_with k (t ∷ ts) = bytes_eq t.text (keyword_text k)
+
+-- a section, where its keyword stands
+unfoldable pub optional_at : {A : Type 0} → Keyword → (List Seen → Read A) → List Seen → Read (Option (Listed A))
+optional_at k read ts =
+    if begins_with k ts then (do
+      xs ← section_at k read ts
+      Ok (Some xs.0, xs.1)) else Ok (None, ts)
 
 -- a count of names, and the names
 unfoldable pub names_at : List Seen → Read (List Token)
@@ -260,8 +272,8 @@ requirement_at ts = do
   pairs ← week_pairs_at skill.1
   Ok (record { shift = shift.0; skill = skill.0; days = pairs.0 }, pairs.1)
 
-unfoldable pub off_request_at : List Seen → Read OffRequest
-off_request_at ts = do
+unfoldable pub request_at : List Seen → Read Request
+request_at ts = do
   nurse ← name_at ts
   shift ← name_at nurse.1
   day ← day_at shift.1
@@ -273,8 +285,9 @@ week_data_at ts = do
   scenario ← name_at a.1
   b ← key_at keyword.Requirements scenario.1
   requirements ← until_at requirement_at keyword.ShiftOffRequests b.1
-  requests ← listed_at off_request_at requirements.1
-  Ok (record { scenario = scenario.0; requirements = requirements.0; off_requests = requests.0 }, requests.1)
+  off ← listed_at request_at requirements.1
+  on ← optional_at keyword.ShiftOnRequests request_at off.1
+  Ok (record { scenario = scenario.0; requirements = requirements.0; off_requests = off.0; on_requests = on.0 }, on.1)
 
 -- ---- the solutions
 

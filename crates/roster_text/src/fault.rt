@@ -21,6 +21,7 @@ pub enum Keyword {
     WeekData,
     Requirements,
     ShiftOffRequests,
+    ShiftOnRequests,
     Solution,
     Assignments,
 }
@@ -45,6 +46,7 @@ impl Keyword {
             Keyword::WeekData => "WEEK_DATA",
             Keyword::Requirements => "REQUIREMENTS",
             Keyword::ShiftOffRequests => "SHIFT_OFF_REQUESTS",
+            Keyword::ShiftOnRequests => "SHIFT_ON_REQUESTS",
             Keyword::Solution => "SOLUTION",
             Keyword::Assignments => "ASSIGNMENTS",
         }

@@ -5,7 +5,7 @@ ghost use Rattle.std.specs.Char.{digit_value, is_ascii_digit};
 ghost use Rattle.std.specs.List.{list_all};
 ghost use Rattle.std.specs.Str.Parse.{digits_value};
 ghost use Rattle.roster_text.specs.Grammar.{is_number, is_name};
-ghost use Rattle.roster_text.specs.Reading.{Read, Reads, begins_section, first_of, day_at, day_of, key_at, listed_at, name_at, names_at, number_at, section_at, small_at, times_at, until_at, value_at, word_at};
+ghost use Rattle.roster_text.specs.Reading.{Read, Reads, begins_section, begins_with, first_of, day_at, day_of, key_at, listed_at, name_at, names_at, number_at, optional_at, section_at, small_at, times_at, until_at, value_at, word_at};
 ghost use Rattle.roster_bundle.specs.Token.{Seen};
 ghost use Rattle.roster_text.specs.Words.{keyword_text};
 
@@ -260,6 +260,32 @@ impl<'a> Parser<'a> {
         self.key(keyword)?;
         self.equals()?;
         self.listed()
+    }
+
+    /// The next token is the keyword.
+    fn begins_with(&self, keyword: Keyword) -> bool
+        ensures { result ≡ begins_with keyword self.now }
+    {
+        match self.next() {
+            Some((_, text)) => text == keyword.text().as_bytes(),
+            None => false,
+        }
+    }
+
+    /// A section, where its keyword stands.
+    #[tactic(auto, unfolding(crate::specs::Reading::optional_at))]
+    pub(crate) fn optional_section<T: Parse>(
+        &mut self,
+        keyword: Keyword,
+    ) -> Result<Option<Listed<T>>, Stop>
+        ensures reads { Reads result self.new (optional_at keyword T.read self.old) }
+        ensures takes { OnOk result (length self.new ≤ length self.old) }
+    {
+        if !self.begins_with(keyword) {
+            return Ok(None);
+        }
+        let section = self.section(keyword)?;
+        Ok(Some(section))
     }
 
     /// A count of names, and the names.

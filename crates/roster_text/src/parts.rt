@@ -1,13 +1,13 @@
 //! The parts of the four texts, each read as the grammar says.
 
 ghost use Rattle.std.specs.Prelude.{◌≡◌, ◌<◌, length, OnOk};
-ghost use Rattle.roster_text.specs.Reading.{Reads, assignment_at, bundle_at, contract_at, history_at, nurse_at, nurse_history_at, off_request_at, pair_at, requirement_at, scenario_at, shift_type_at, solution_at, succession_at, title_at, week_data_at, week_pairs_at};
+ghost use Rattle.roster_text.specs.Reading.{Reads, assignment_at, bundle_at, contract_at, history_at, nurse_at, nurse_history_at, pair_at, request_at, requirement_at, scenario_at, shift_type_at, solution_at, succession_at, title_at, week_data_at, week_pairs_at};
 
 use crate::fault::{Keyword, What};
 use crate::parser::{MAX_COUNT, MAX_SMALL, Parse, Parser, Stop};
 use roster_bundle::{
-    Assignment, Bundle, Contract, History, Number, Nurse, NurseHistory, OffRequest, Pair,
-    Requirement, Scenario, ShiftType, Solution, Succession, Token, WeekData, WeekPairs,
+    Assignment, Bundle, Contract, History, Number, Nurse, NurseHistory, Pair, Request, Requirement,
+    Scenario, ShiftType, Solution, Succession, Token, WeekData, WeekPairs,
 };
 
 impl Parse for Pair {
@@ -187,15 +187,15 @@ impl Parse for Requirement {
     }
 }
 
-impl Parse for OffRequest {
-    ghost read = { off_request_at };
+impl Parse for Request {
+    ghost read = { request_at };
 
-    #[tactic(auto, unfolding(crate::specs::Reading::off_request_at))]
-    fn parse(parser: &mut Parser<'_>) -> Result<OffRequest, Stop> {
+    #[tactic(auto, unfolding(crate::specs::Reading::request_at))]
+    fn parse(parser: &mut Parser<'_>) -> Result<Request, Stop> {
         let nurse = parser.name()?;
         let shift = parser.name()?;
         let day = parser.day()?;
-        Ok(OffRequest { nurse, shift, day })
+        Ok(Request { nurse, shift, day })
     }
 }
 
@@ -209,10 +209,12 @@ impl Parse for WeekData {
         parser.key(Keyword::Requirements)?;
         let requirements = parser.until(Keyword::ShiftOffRequests)?;
         let off_requests = parser.listed()?;
+        let on_requests = parser.optional_section(Keyword::ShiftOnRequests)?;
         Ok(WeekData {
             scenario,
             requirements,
             off_requests,
+            on_requests,
         })
     }
 }

@@ -33,6 +33,7 @@ A line is written for each soft rule, and a last one for their total:
   S5  30 for each half worked weekend, where the contract wants whole weekends
   S6  20 for each assignment below the least or above the greatest total
   S7  30 for each worked weekend above the greatest number
+  S8  10 for each day of a nurse with a wish to work that isn't met
 
 Example:
   roster cost examples/mini.txt

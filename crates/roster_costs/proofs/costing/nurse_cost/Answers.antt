@@ -17,4 +17,5 @@ overflow_cast-result c =
       c.split_cost.ensures.cost,
       c.totals_cost.ensures.cost,
       c.weekends_cost.ensures.cost,
+      c.wish_cost.ensures.cost,
     )
