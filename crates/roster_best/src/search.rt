@@ -78,7 +78,7 @@ pub fn best_row(
 }
 
 /// The greatest number of days.
-const MOST_DAYS: usize = 112;
+const MOST_DAYS: usize = 364;
 
 /// Sets the areas of each day, from the first day to the one behind the last.
 fn stand_days(held: &Held, nurse: usize, from: u16, ranges: &Ranges, areas: &mut [[Area; 9]])

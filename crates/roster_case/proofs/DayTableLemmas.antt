@@ -9,6 +9,7 @@ use Rattle.roster_instance.specs.declared.Shift.{Shift}
 use Rattle.roster_instance.specs.declared.Skill.{Skill}
 use Rattle.roster_instance.specs.Choices.{same_choice}
 use Rattle.roster_instance.specs.Counting.{one_if}
+use Rattle.roster_instance.specs.Limits.{most_nurses}
 use Rattle.roster_instance.specs.Meaning.{Meaning, need, optimum, shift_at, shift_count, skill_at, skill_count}
 use Rattle.roster_instance.specs.Rosters.{Row, Rows, choice_on, cover, is_choice_of, row_of}
 use Rattle.roster_rules.specs.Covers.{AreCovers}
@@ -54,5 +55,5 @@ module _ (r : Rows) (n : ℕ) (within : n < length r) where
       omega (arith, are shift.0 skill.0 place.0 place.1, cover-parts d shift.0 skill.0, own)
 
 -- no number of a table is above that of the nurses
-pub room : (r : Rows) (d : ℕ) (table : List ℕ) → AreCovers r d table → length r ≤ 200 → (s k : ℕ) → s < 8 → k < 8 → number_at table s k < 65535
+pub room : (r : Rows) (d : ℕ) (table : List ℕ) → AreCovers r d table → length r ≤ most_nurses → (s k : ℕ) → s < 8 → k < 8 → number_at table s k < 65535
 room r d table are few s k s_in k_in = omega (arith, are s k s_in k_in, count_by-le-length (λ row. same_choice (choice_on row d) (Work (shift_at s) (skill_at k))) r, few)

@@ -127,7 +127,7 @@ impl Held {
         self.counts.rest(nurse)
     }
 
-    /// The roster's penalty, below 2^31.
+    /// The roster's penalty, below 2^33.
     pub fn total(&self) -> u64
         ensures total { result ≡ penalty self.now.case self.now.roster }
         ensures within { result < penalty_room }

@@ -19,7 +19,7 @@ pub fn costs(case: &Case, roster: &Roster) -> Costs
     requires { fits_case case.now roster.now ≡ true }
     ensures costs { result ≡ costs_of case.now roster.now }
 
-    // No sum comes near the end of its numbers: the penalty is below 2^31, and the part of staffing is at most that of as
+    // No sum comes near the end of its numbers: the penalty is below 2^33, and the part of staffing is at most that of as
     // many missing nurses as a pair can want, for each shift and skill on each day.
     ensures within { total_cost result < penalty_room }
     ensures staffing { result.s1 ≤ most_staffing }

@@ -4,7 +4,7 @@ pub use Rattle.roster_bundle.specs.Limits.{most_small}
 
 -- the most weeks, and their days
 abbrev pub most_weeks : ℕ
-most_weeks = 16
+most_weeks = 52
 
 abbrev pub most_days : ℕ
 most_days = 7 * most_weeks
@@ -19,7 +19,7 @@ abbrev pub most_contracts : ℕ
 most_contracts = 64
 
 abbrev pub most_nurses : ℕ
-most_nurses = 200
+most_nurses = 400
 
 -- the most states of the search for a nurse
 abbrev pub most_states : ℕ

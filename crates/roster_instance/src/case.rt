@@ -120,7 +120,7 @@ impl Case {
 
     // ---- how many there are
 
-    /// How many weeks, from 1 to 16.
+    /// How many weeks, 1 at least.
     pub fn weeks(&self) -> u16
         ensures count { result ≡ week_count self.now }
         ensures some { 0 < result }
@@ -137,7 +137,7 @@ impl Case {
         7 * self.weeks()
     }
 
-    /// How many nurses, from 1 to 200.
+    /// How many nurses, 1 at least.
     pub fn nurses(&self) -> usize
         ensures count { result ≡ nurse_count self.now }
         ensures some { 0 < result }

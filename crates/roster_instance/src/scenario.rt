@@ -27,7 +27,7 @@ use std::alloc::Global;
 use std::marker::Model;
 
 /// The most weeks, skills, shifts, contracts and nurses.
-const MAX_WEEKS: usize = 16;
+const MAX_WEEKS: usize = 52;
 
 const MAX_SKILLS: usize = 8;
 
@@ -35,7 +35,7 @@ const MAX_SHIFTS: usize = 8;
 
 const MAX_CONTRACTS: usize = 64;
 
-const MAX_NURSES: usize = 200;
+const MAX_NURSES: usize = 400;
 
 /// What a scenario says.
 pub(crate) struct Scenario {

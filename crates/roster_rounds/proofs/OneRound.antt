@@ -5,6 +5,7 @@ use Rattle.std.proofs.lemmas.Bool.{not-true, not-false}
 use Rattle.roster_text.specs.declared.fault.WriteFault.{WriteFault}
 use Rattle.roster_text.specs.Io.{Watched, Sends, BreaksIn}
 use Rattle.roster_rules.specs.Improver.{BestRows, round_log, entry, started, changed, round_done, settled, stopped, step, round, changes, line_of, same_rows}
+use Rattle.roster_instance.specs.Limits.{most_nurses}
 use Rattle.roster_instance.specs.Meaning.{Meaning, nurse_count, nurse_name}
 use Rattle.roster_rules.specs.Penalties.{penalty}
 use Rattle.roster_instance.specs.Rosters.{Rows}
@@ -79,7 +80,7 @@ module _ {W : Type 0} (contents : W → Option (List ℕ)) (c : Meaning) (best :
   unfolding round
   whole_round now n now_is all = now_is ∙ ap (λ m. fold (step c best) r (range_with_len 0 m)) all
 
-  pub SoFar-done : (now : Rows) (mid new : Watched W) (sent after count n : ℕ) → SoFar contents c best k r now old mid before sent count n → n ≡ nurse_count c → n ≤ 200
+  pub SoFar-done : (now : Rows) (mid new : Watched W) (sent after count n : ℕ) → SoFar contents c best k r now old mid before sent count n → n ≡ nurse_count c → n ≤ most_nurses
       → Sends contents mid new sent after (line_of c (entry (round_done k) now)) → RoundMade contents c best k r now old new before after count
   SoFar-done now mid new sent after count n p all within q =
       let last = whole_round now n p.roster_is all in

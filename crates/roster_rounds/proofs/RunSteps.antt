@@ -4,6 +4,7 @@ use Rattle.std.specs.List.{range_with_len}
 use Rattle.roster_text.specs.declared.fault.WriteFault.{WriteFault}
 use Rattle.roster_text.specs.Io.{Watched, Sends, BreaksIn, sent_of, saturated}
 use Rattle.roster_rules.specs.Improver.{BestRows, round_log, Entry, Run, entry, started, settled, stopped, round, run, changes, entries_from, log_of, line_of, same_rows}
+use Rattle.roster_instance.specs.Limits.{most_nurses}
 use Rattle.roster_instance.specs.Meaning.{Meaning, nurse_count}
 use Rattle.roster_rules.specs.Penalties.{penalty}
 use Rattle.roster_instance.specs.Rosters.{Rows}
@@ -51,7 +52,7 @@ pub record Going {W : Type 0} (contents : W → Option (List ℕ)) (c : Meaning)
   pub sends : Sends contents old mid 0 sent (text_of c done)
   pub counted : count ≡ changes_in done
   pub rounds_are : made ≡ rounds_in done
-  pub few : count ≤ 200 * made
+  pub few : count ≤ most_nurses * made
 
 module _ {W : Type 0} (contents : W → Option (List ℕ)) (c : Meaning) (best : BestRows) (rounds : ℕ) (r : Rows) (old : Watched W) where
   outcome_from : (is_settled : Bool) (made count total : ℕ) → is_settled ≡ (run c best rounds r).is_settled → made ≡ rounds_in (log_of c best rounds r) → count ≡ changes_in (log_of c best rounds r)
@@ -111,8 +112,8 @@ module _ {W : Type 0} (contents : W → Option (List ℕ)) (c : Meaning) (best :
       let differs = round_moves c best k now (omega (arith, n_is, some)) in
       let count_is : count ≡ changes_in p.done = p.counted in
       let made_is : made ≡ rounds_in p.done = p.rounds_are in
-      let count_few : count ≤ 200 * made = p.few in
-      let few : n ≤ 200 = q.few in
+      let count_few : count ≤ most_nurses * made = p.few in
+      let few : n ≤ most_nurses = q.few in
       let step_run = ap (λ m. run c best m now) more ∙ run-goes_on c best m now differs in
       let step_log = ap (λ m. entries_from c best k m now) more ∙ entries-goes_on c best k m now differs in
       record {

@@ -4,6 +4,7 @@ use Rattle.std.specs.List.{range_with_len}
 use Rattle.roster_text.specs.Io.{Sends, StopsAt, Watched, Writes, saturated}
 use Rattle.roster_text.specs.declared.fault.WriteFault.{WriteFault}
 use Rattle.roster_text.specs.declared.fault.WriteFault.TheVariants.{WriteFailed}
+use Rattle.roster_instance.specs.Limits.{most_nurses}
 use Rattle.roster_instance.specs.Meaning.{Meaning, nurse_count}
 use Rattle.roster_instance.specs.Rosters.{Rows}
 use Rattle.roster_rules.specs.Improver.{BestRows, Entry, changes, line_of, log_of, round, round_log, run}
@@ -61,7 +62,7 @@ pub record RoundMade {W : Type 0} (contents : W → Option (List ℕ)) (c : Mean
   pub roster_is : after ≡ round c best before
   pub sends : Sends contents old new sent_before sent (text_of c (round_log c best k before))
   pub counted : count ≡ length (changes c best k (range_with_len 0 (nurse_count c)) before)
-  pub few : count ≤ 200
+  pub few : count ≤ most_nurses
 
 -- a run was made, and its log went out
 pub record Ran {W : Type 0} (contents : W → Option (List ℕ)) (c : Meaning) (best : BestRows) (rounds : ℕ) (before after : Rows) (old new : Watched W) (outcome : Outcome) : Type 0 where

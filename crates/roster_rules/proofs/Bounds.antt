@@ -1,6 +1,6 @@
--- Bounds of the penalties of a roster, where the numbers of an instance are small: all sums stay below 2^31. The bounds are
+-- Bounds of the penalties of a roster, where the numbers of an instance are small: all sums stay below 2^33. The bounds are
 -- for the largest case, by its limits and the weights.
-use Rattle.std.proofs.Common.{◌≡◌, arith, ℕ, Bool, ◌+◌, ◌-◌, ◌*◌, ◌<◌, ◌≤◌, true, false, ◌||◌, length, if◌then◌else◌}
+use Rattle.std.proofs.Common.{◌≡◌, sym, arith, ℕ, Bool, ◌+◌, ◌-◌, ◌*◌, ◌<◌, ◌≤◌, true, false, ◌||◌, length, max, if◌then◌else◌}
 use Rattle.roster_instance.specs.Counting.{sum_below}
 use Rattle.roster_instance.specs.Days.{Days, shift_on, works, is_off, days_worked, saturday, worked_weekends, weekends_begun, weekends_ended, split_weekends, one_alone}
 use Rattle.roster_instance.specs.Limits.{most_days, most_nurses, most_shifts, most_skills, most_small, most_weeks}
@@ -11,7 +11,7 @@ use Rattle.roster_rules.specs.Weights.{staffing_weight, working_run_weight, shif
 use Rattle.roster_instance.specs.Rosters.{Rows, days_of_nurse, cover, fits_case}
 use Rattle.roster_instance.specs.Small.{HasSmallNumbers}
 use Rattle.roster_instance.proofs.RosterFacts.{days_of_nurse-length}
-use Rattle.roster_rules.proofs.RunBounds.{where_within, sum_within, count_within, all_runs_within, all_shifts_within}
+use Rattle.roster_rules.proofs.RunBounds.{where_within, sum_both, sum_within, count_within, both_runs_within, all_shifts_within}
 
 -- ---- staffing
 
@@ -49,15 +49,12 @@ staffing_cost-within c r small shifts skills days =
 abbrev most_run_violations : ℕ
 most_run_violations = most_small + (most_small + 1) * most_days
 
--- the points of working days, of all shifts and of days off
-abbrev most_working : ℕ
-most_working = working_run_weight * most_run_violations
+-- the points of working days and of days off together, and those of all shifts
+abbrev most_working_and_free : ℕ
+most_working_and_free = max working_run_weight free_run_weight * most_run_violations
 
 abbrev most_shift : ℕ
 most_shift = shift_run_weight * most_run_violations
-
-abbrev most_free : ℕ
-most_free = free_run_weight * most_run_violations
 
 abbrev most_off_requests : ℕ
 most_off_requests = off_request_weight * most_days
@@ -80,12 +77,9 @@ unless_within true = omega arith
 unless_within false = omega arith
 
 module _ (c : Meaning) (n : ℕ) (days : Days) (small : HasSmallNumbers c) (few : length days ≤ most_days) where
-  pub working_run_cost-within : working_run_cost c n days ≤ most_working
-  working_run_cost-within =
-      omega (arith, all_runs_within (contract_of c n).working (worked_before (past_of c n).border) (works days) (length days) (small.contracts n).working)
-
-  pub free_run_cost-within : free_run_cost c n days ≤ most_free
-  free_run_cost-within = omega (arith, all_runs_within (contract_of c n).free (free_before (past_of c n).border) (is_off days) (length days) (small.contracts n).free)
+  pub both_run_costs-within : working_run_cost c n days + free_run_cost c n days ≤ most_working_and_free
+  both_run_costs-within =
+      omega (arith, both_runs_within (contract_of c n).working (contract_of c n).free (past_of c n).border days (small.contracts n).working (small.contracts n).free)
 
   pub shift_run_cost-within : shift_run_cost c n days ≤ most_shift
   shift_run_cost-within = omega (arith, all_shifts_within (shift_count c) (run_of_shift c) (past_of c n).border days small.runs)
@@ -115,25 +109,29 @@ module _ (c : Meaning) (n : ℕ) (days : Days) (small : HasSmallNumbers c) (few 
       let count : worked_weekends days ≤ weekends_begun days = count_within (weekends_begun days) (λ v. works days (saturday v) || works days (saturday v + 1)) in
       omega (arith, (small.past n).weekends)
 
-  -- in numbers at most 8,550,295
+  -- in numbers at most 16,512,565
   pub parts-within : working_run_cost c n days + shift_run_cost c n days + free_run_cost c n days + request_cost c n days + split_cost c n days + totals_cost c n days + weekends_cost c n days < 4294967296
-  parts-within = omega (arith, working_run_cost-within, shift_run_cost-within, free_run_cost-within, request_cost-within, split_cost-within, totals_cost-within, weekends_cost-within)
+  parts-within = omega (arith, both_run_costs-within, shift_run_cost-within, request_cost-within, split_cost-within, totals_cost-within, weekends_cost-within)
 
 -- ---- all nurses
 
 over_nurses-within : (c : Meaning) (r : Rows) (rule : ℕ → Days → ℕ) (m : ℕ) → ((n : ℕ) (days : Days) → length days ≤ most_days → rule n days ≤ m) → ((n : ℕ) → n < nurse_count c → length (days_of_nurse r n) ≤ most_days) → over_nurses c r rule ≤ nurse_count c * m
 over_nurses-within c r rule m each few = sum_within (nurse_count c) m (λ n. rule n (days_of_nurse r n)) (λ n h. each n (days_of_nurse r n) (few n h))
 
--- in numbers 214,824,960, and 8,550,295 for each of 200 nurses: 1,924,883,960
+both_rules : (c : Meaning) (r : Rows) (rule other : ℕ → Days → ℕ) → over_nurses c r rule + over_nurses c r other ≡ over_nurses c r (λ n days. rule n days + other n days)
+both_rules c r rule other = sym (sum_both (nurse_count c) (λ n. rule n (days_of_nurse r n)) (λ n. other n (days_of_nurse r n)))
+
+-- in numbers 698,181,120, and 16,512,565 for each of 400 nurses: 7,303,207,120
 pub penalty-within : (c : Meaning) (r : Rows) → HasSmallNumbers c → shift_count c ≤ most_shifts → skill_count c ≤ most_skills → week_count c ≤ most_weeks → nurse_count c ≤ most_nurses → fits_case c r ≡ true → total_cost (costs_of c r) < penalty_room
 unfolding costs_of
 penalty-within c r small shifts skills weeks nurses fit =
     let few : (n : ℕ) → n < nurse_count c → length (days_of_nurse r n) ≤ most_days = λ n h. omega (arith, days_of_nurse-length c r n fit h) in
-    let runs = over_nurses-within c r (λ n days. working_run_cost c n days + shift_run_cost c n days) (most_working + most_shift) (λ n days d. omega (arith, working_run_cost-within c n days small d, shift_run_cost-within c n days small d)) few in
-    let free = over_nurses-within c r (free_run_cost c) most_free (λ n days d. free_run_cost-within c n days small d) few in
+    let working : ℕ → Days → ℕ = λ n days. working_run_cost c n days + shift_run_cost c n days in
+    let together = both_rules c r working (free_run_cost c) in
+    let runs = over_nurses-within c r (λ n days. working n days + free_run_cost c n days) (most_working_and_free + most_shift) (λ n days d. omega (arith, both_run_costs-within c n days small d, shift_run_cost-within c n days small d)) few in
     let off_requests = over_nurses-within c r (off_request_cost c) most_off_requests (λ n days d. off_request_cost-within c n days small d) few in
     let splits = over_nurses-within c r (split_cost c) most_split (λ n days d. split_cost-within c n days small d) few in
     let total = over_nurses-within c r (totals_cost c) most_totals (λ n days d. totals_cost-within c n days small d) few in
     let weekends = over_nurses-within c r (weekends_cost c) most_weekends (λ n days d. weekends_cost-within c n days small d) few in
     let wishes = over_nurses-within c r (wish_cost c) most_wishes (λ n days d. wish_cost-within c n days small d) few in
-    omega (arith, staffing_cost-within c r small shifts skills (omega arith), runs, free, off_requests, splits, total, weekends, wishes)
+    omega (arith, staffing_cost-within c r small shifts skills (omega arith), together, runs, off_requests, splits, total, weekends, wishes)

@@ -1,16 +1,16 @@
 -- How many violations the runs of a row can have, where the numbers of an instance are small: for each day of the kind one more
 -- than the greatest small number. So the runs of all shifts together have no more than those of one, since a day has one
--- shift at most.
-use Rattle.std.proofs.Common.{◌≡◌, refl, arith, ℕ, zero, suc, ◌+◌, ◌-◌, ◌*◌, ◌<◌, ◌≤◌, Bool, true, false, nat_lt, ◌==◌, mul-add, length, if◌then◌else◌, Option, Some, None}
+-- shift at most, and those of working days and of days off together no more than those of one, since a day is one of them.
+use Rattle.std.proofs.Common.{◌≡◌, refl, arith, ℕ, zero, suc, ◌+◌, ◌-◌, ◌*◌, ◌<◌, ◌≤◌, Bool, true, false, not, nat_lt, ◌==◌, mul-add, length, if◌then◌else◌, Option, Some, None}
 use Rattle.std.proofs.lemmas.Bool.{eqb-true, ne_eqb}
 use Rattle.roster_instance.specs.declared.Shift.{Shift}
 use Rattle.roster_instance.specs.declared.Border.{Border}
 use Rattle.roster_instance.specs.declared.Border.TheVariants.{Free, Working}
 use Rattle.roster_instance.specs.declared.Limits.{Limits}
 use Rattle.roster_instance.specs.Counting.{sum_below, one_if, count_below}
-use Rattle.roster_instance.specs.Days.{Days, shift_on, is_shift, has_shift}
+use Rattle.roster_instance.specs.Days.{Days, shift_on, works, is_off, is_shift, has_shift}
 use Rattle.roster_instance.specs.Limits.{most_small}
-use Rattle.roster_rules.specs.Penalties.{shift_run_before}
+use Rattle.roster_rules.specs.Penalties.{free_before, worked_before, shift_run_before}
 use Rattle.roster_rules.specs.Weights.{shift_run_weight}
 use Rattle.roster_instance.specs.RunLaw.{day_violations}
 use Rattle.roster_rules.specs.Runs.{run_violations, open_run}
@@ -87,10 +87,30 @@ runs_and_debt l b p (suc d) small =
 runs_within : (l : Limits) (b : ℕ) (p : ℕ → Bool) (d : ℕ) → AreSmall l → run_violations l b p d ≤ debt b + (most_small + 1) * count_below d p
 runs_within l b p d small = omega (arith, runs_and_debt l b p d small)
 
-pub all_runs_within : (l : Limits) (b : ℕ) (p : ℕ → Bool) (d : ℕ) → AreSmall l → run_violations l b p d ≤ most_small + (most_small + 1) * d
-all_runs_within l b p d small =
-    let before : debt b ≤ most_small = where_within (nat_lt 0 b) most_small most_small (omega arith) in
-    omega (arith, runs_within l b p d small, count_within d p)
+-- ---- working days and days off together: each day is one of them, and so are the days before day 0
+
+one_of : (q : Bool) → one_if q + one_if (not q) ≡ 1
+one_of true = refl
+one_of false = refl
+
+all_days : (days : Days) (d : ℕ) → count_below d (works days) + count_below d (is_off days) ≡ d
+all_days days zero = refl
+all_days days (suc d) = omega (arith, all_days days d, one_of (works days d))
+
+debts_of_both : (before : Border) → debt (worked_before before) + debt (free_before before) ≤ most_small
+debts_of_both (Free k) = omega (arith, where_within (nat_lt 0 k) most_small most_small (omega arith))
+debts_of_both (Working t own all) = omega (arith, where_within (nat_lt 0 all) most_small most_small (omega arith))
+
+pub both_runs_within : (working free : Limits) (before : Border) (days : Days) → AreSmall working → AreSmall free
+    → run_violations working (worked_before before) (works days) (length days) + run_violations free (free_before before) (is_off days) (length days) ≤ most_small + (most_small + 1) * length days
+both_runs_within working free before days small_working small_free =
+    omega (
+      arith,
+      runs_within working (worked_before before) (works days) (length days) small_working,
+      runs_within free (free_before before) (is_off days) (length days) small_free,
+      debts_of_both before,
+      all_days days (length days),
+    )
 
 -- ---- the shifts together: each day has one at most, and so have the days before day 0
 

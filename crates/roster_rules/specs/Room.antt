@@ -3,10 +3,10 @@ use Rattle.std.specs.Prelude.{ℕ, ◌*◌}
 use Rattle.roster_instance.specs.Limits.{most_days, most_shifts, most_skills, most_small}
 use Rattle.roster_rules.specs.Weights.{staffing_weight}
 
--- what the missing nurses cost at most: 214,824,960
+-- what the missing nurses cost at most: 698,181,120
 abbrev pub most_staffing : ℕ
 most_staffing = most_days * most_shifts * most_skills * staffing_weight * most_small
 
--- each penalty is below 2^31
+-- each penalty is below 2^33
 abbrev pub penalty_room : ℕ
-penalty_room = 2147483648
+penalty_room = 8589934592

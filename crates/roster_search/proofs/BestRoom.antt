@@ -12,7 +12,7 @@ use Rattle.roster_rules.specs.Penalties.{own_cost}
 use Rattle.roster_rules.specs.Rosters.{Row, Rows, fits_case, is_choice_of, is_row_of, with_row}
 use Rattle.roster_rules.specs.AllowedRows.{allowed_rows}
 use Rattle.roster_rules.specs.Small.{HasSmallNumbers}
-use Rattle.roster_rules.proofs.Bounds.{free_run_cost-within, request_cost-within, shift_run_cost-within, split_cost-within, staffing_cost-within, totals_cost-within, weekends_cost-within, working_run_cost-within}
+use Rattle.roster_rules.proofs.Bounds.{both_run_costs-within, request_cost-within, shift_run_cost-within, split_cost-within, staffing_cost-within, totals_cost-within, weekends_cost-within}
 use Rattle.roster_rules.proofs.RosterFacts.{has_row}
 use Rattle.roster_laws.proofs.OneRow.{penalty-with_row, prices-with_row}
 use Rattle.roster_laws.proofs.Allowed.{allowed_keeps}
@@ -44,8 +44,7 @@ module _ (c : Meaning) (from : ℕ) (r : Rows) (fits : fits_case c r ≡ true) (
         penalty-with_row r n within row c inside days,
         prices-with_row r n within row c days,
         staffing_cost-within c (with_row r n row) small shifts skills (omega (arith, weeks)),
-        working_run_cost-within c n (days_of row) small few,
-        free_run_cost-within c n (days_of row) small few,
+        both_run_costs-within c n (days_of row) small few,
         shift_run_cost-within c n (days_of row) small few,
         request_cost-within c n (days_of row) small few,
         split_cost-within c n (days_of row) small few,

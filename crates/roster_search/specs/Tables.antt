@@ -23,9 +23,9 @@ use Rattle.roster_search.specs.Offers.{offer_step}
 abbrev pub most_price : ℕ
 most_price = most_shifts * most_skills * staffing_weight * most_small + off_request_weight + wish_weight
 
--- the label of a state from which no row goes on, 2^28: each row costs less
+-- the label of a state from which no row goes on, 2^30: each row costs less
 abbrev pub no_row : ℕ
-no_row = 268435456
+no_row = 1073741824
 
 -- the label that a best row gives
 abbrev pub label_of : {X : Type 0} → Priced X → ℕ

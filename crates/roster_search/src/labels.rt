@@ -23,7 +23,7 @@ use roster_rules::weights::ASSIGNMENT;
 use roster_state::{Area, Block, BlockStep, Meter, Ranges, end_cost, extend_block};
 
 /// The label of a state from which no row goes on. Each row costs less.
-pub const NO_ROW: u32 = 268_435_456;
+pub const NO_ROW: u32 = 1_073_741_824;
 
 /// The labels behind the last day, of the states that stand there: what is missing in the end.
 pub fn label_end(case: &Case, nurse: usize, ranges: &Ranges, areas: &[Area; 9], labels: &mut [u32])

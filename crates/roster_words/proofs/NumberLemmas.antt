@@ -29,6 +29,7 @@ use Rattle.clap.specs.declared.parser.matches.ValueSource.TheVariants.{CommandLi
 use Rattle.clap.specs.Words.{ReadsOne, fault_of, one_text, rows_of, subcommand_of}
 use Rattle.clap.proofs.WalkLemmas.{one_text-rows}
 use Rattle.clap.proofs.CallerReads.{signed_reads}
+use Rattle.roster_words.specs.Limits.{most_from, most_rounds}
 use Rattle.roster_words.specs.CommandLine.{HasFrom, HasNumber, HasRounds, IsNumberOf, Meets, program, rounds_rule}
 
 -- ---- lists
@@ -372,10 +373,10 @@ abbrev number : Text → ℕ → Text → Rule
 number name most default = record (get_or improve.rules 0 rounds_rule) { id = name; long = Some name; parser = Some (parser.Signed (pos 0) (pos most)); defaults = default ∷ [] }
 
 abbrev rounds : Rule
-rounds = number (codes "rounds") 1000 (codes "100")
+rounds = number (codes "rounds") most_rounds (codes "100")
 
 abbrev from : Rule
-from = number (codes "from") 16 (codes "0")
+from = number (codes "from") most_from (codes "0")
 
 Among : Rule → List Rule → Type 0
 Among a [] = ⊥
@@ -500,7 +501,7 @@ unfolding Among
 meets_rounds =
     let no = another_in (codes "improve") HasRounds in
     let here : HasAt (codes "improve") HasRounds improve = λ words none e.
-    level_number (codes "rounds") 1000 (codes "100") refl refl improve ((λ f. refl), ((λ f. absurd (true≢false (sym f))), ((λ f. absurd (true≢false (sym f))), ((λ f. absurd (true≢false (sym f))), tt)))) (inl refl) words none in
+    level_number (codes "rounds") most_rounds (codes "100") refl refl improve ((λ f. refl), ((λ f. absurd (true≢false (sym f))), ((λ f. absurd (true≢false (sym f))), ((λ f. absurd (true≢false (sym f))), tt)))) (inl refl) words none in
     words_meet (codes "improve") HasRounds (no 0 refl, (no 1 refl, (no 2 refl, (no 3 refl, (here, (no 5 refl, tt))))))
 
 pub improve_meets_from : (words : List Text) → fault_of program words ≡ [] → Meets (codes "improve") HasFrom (subcommand_of program words)
@@ -508,7 +509,7 @@ unfolding Among
 improve_meets_from =
     let no = another_in (codes "improve") HasFrom in
     let here : HasAt (codes "improve") HasFrom improve = λ words none e.
-    level_number (codes "from") 16 (codes "0") refl refl improve ((λ f. absurd (true≢false (sym f))), ((λ f. refl), ((λ f. absurd (true≢false (sym f))), ((λ f. absurd (true≢false (sym f))), tt)))) (inr (inl refl)) words none in
+    level_number (codes "from") most_from (codes "0") refl refl improve ((λ f. absurd (true≢false (sym f))), ((λ f. refl), ((λ f. absurd (true≢false (sym f))), ((λ f. absurd (true≢false (sym f))), tt)))) (inr (inl refl)) words none in
     words_meet (codes "improve") HasFrom (no 0 refl, (no 1 refl, (no 2 refl, (no 3 refl, (here, (no 5 refl, tt))))))
 
 pub best_meets_from : (words : List Text) → fault_of program words ≡ [] → Meets (codes "best") HasFrom (subcommand_of program words)
@@ -516,7 +517,7 @@ unfolding Among
 best_meets_from =
     let no = another_in (codes "best") HasFrom in
     let here : HasAt (codes "best") HasFrom best = λ words none e.
-    level_number (codes "from") 16 (codes "0") refl refl best ((λ f. absurd (true≢false (sym f))), ((λ f. refl), ((λ f. absurd (true≢false (sym f))), ((λ f. absurd (true≢false (sym f))), tt)))) (inr (inl refl)) words none in
+    level_number (codes "from") most_from (codes "0") refl refl best ((λ f. absurd (true≢false (sym f))), ((λ f. refl), ((λ f. absurd (true≢false (sym f))), ((λ f. absurd (true≢false (sym f))), tt)))) (inr (inl refl)) words none in
     words_meet (codes "best") HasFrom (no 0 refl, (no 1 refl, (no 2 refl, (here, (no 4 refl, (no 5 refl, tt))))))
 
 -- ---- the number

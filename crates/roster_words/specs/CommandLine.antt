@@ -14,6 +14,7 @@ use Rattle.roster_words.specs.declared.request.Command.TheVariants as command
 use Rattle.roster_words.specs.declared.request.CliFault.{CliFault}
 use Rattle.roster_words.specs.declared.request.CliFault.TheVariants as fault
 use Rattle.roster_words.specs.declared.request.Request.{Request}
+use Rattle.roster_words.specs.Limits.{most_from, most_rounds}
 
 -- any number of files
 abbrev pub files_rule : Rule
@@ -31,23 +32,23 @@ nurse_rule = record (new_rule (codes "nurse")) {
   required = true;
 }
 
--- how many rounds a run may make, 0 to 1000; where it isn't given, 100
+-- how many rounds a run may make; where it isn't given, 100
 abbrev pub rounds_rule : Rule
 rounds_rule = record (new_rule (codes "rounds")) {
   long = Some (codes "rounds");
   action = Some action.Set;
   value_names = 1;
-  parser = Some (parser.Signed (pos 0) (pos 1000));
+  parser = Some (parser.Signed (pos 0) (pos most_rounds));
   defaults = codes "100" ∷ [];
 }
 
--- the first week that may change, 0 to 16; where it isn't given, 0
+-- the first week that may change; where it isn't given, 0
 abbrev pub from_rule : Rule
 from_rule = record (new_rule (codes "from")) {
   long = Some (codes "from");
   action = Some action.Set;
   value_names = 1;
-  parser = Some (parser.Signed (pos 0) (pos 16));
+  parser = Some (parser.Signed (pos 0) (pos most_from));
   defaults = codes "0" ∷ [];
 }
 
@@ -101,10 +102,10 @@ pub record HasNumber (name : Text) (most : ℕ) (rows : List Row) : Type 0 where
   pub within : IsSignedIn (pos 0) (pos most) text
 
 abbrev pub HasRounds : List Row → Type 0
-HasRounds rows = HasNumber (codes "rounds") 1000 rows
+HasRounds rows = HasNumber (codes "rounds") most_rounds rows
 
 abbrev pub HasFrom : List Row → Type 0
-HasFrom rows = HasNumber (codes "from") 16 rows
+HasFrom rows = HasNumber (codes "from") most_from rows
 
 -- where this command was met, its matches have the number
 abbrev pub Meets : Text → (List Row → Type 0) → Option (Text × List Row) → Type 0
@@ -129,10 +130,10 @@ HasArguments (command.Best nurse from) rows = (first_of (codes "nurse") rows ≡
 HasArguments (command.Improve rounds from) rows = IsNumberOf (codes "rounds") rounds rows × IsNumberOf (codes "from") from rows
 HasArguments _ rows = Unit {0}
 
--- the rounds of a command that has some are at most 1000, and its first week at most 16
+-- the rounds of a command that has some are within their limit, and its first week within that of weeks
 abbrev pub IsInRange : Command → Type 0
-IsInRange (command.Best nurse from) = from ≤ 16
-IsInRange (command.Improve rounds from) = (rounds ≤ 1000) × (from ≤ 16)
+IsInRange (command.Best nurse from) = from ≤ most_from
+IsInRange (command.Improve rounds from) = (rounds ≤ most_rounds) × (from ≤ most_from)
 IsInRange _ = Unit {0}
 
 -- the command that was met, by its name and its matches, is that of the request, with its arguments and its files

@@ -23,6 +23,12 @@ pub(crate) const ROUNDS: &str = "rounds";
 /// The name by which the first week that may change is asked for.
 pub(crate) const FROM: &str = "from";
 
+/// The most rounds that a run may be asked for.
+const MOST_ROUNDS: i64 = 1000;
+
+/// The greatest first week that may change: as many weeks as the longest case has.
+const MOST_FROM: i64 = 52;
+
 /// The command line of the program.
 pub(crate) fn program<'a>(alloc: Global) -> Result<Command<'a>, AllocError>
     ensures { IfOk result (λ c. app_of c ≡ program) }
@@ -112,7 +118,7 @@ fn nurse_arg<'a>(alloc: Global) -> Arg<'a>
         .help(NURSE_NAME)
 }
 
-/// How many rounds a run may make, 0 to 1000. Where it isn't given, 100.
+/// How many rounds a run may make. Where it isn't given, 100.
 fn rounds_arg<'a>(alloc: Global) -> Arg<'a>
     ensures rule { rule_of result ≡ rounds_rule }
     ensures local { result.global ≡ false }
@@ -121,12 +127,12 @@ fn rounds_arg<'a>(alloc: Global) -> Arg<'a>
         .long("rounds")
         .value_name("N")
         .action(ArgAction::Set)
-        .value_parser(value_parser!(u16).range(0..=1000))
+        .value_parser(value_parser!(u16).range(0..=MOST_ROUNDS))
         .default_value("100")
         .help(ROUND_COUNT)
 }
 
-/// The first week that may change, 0 to 16. Where it isn't given, 0.
+/// The first week that may change. Where it isn't given, 0.
 fn from_arg<'a>(alloc: Global) -> Arg<'a>
     ensures rule { rule_of result ≡ from_rule }
     ensures local { result.global ≡ false }
@@ -135,7 +141,7 @@ fn from_arg<'a>(alloc: Global) -> Arg<'a>
         .long("from")
         .value_name("V")
         .action(ArgAction::Set)
-        .value_parser(value_parser!(u16).range(0..=16))
+        .value_parser(value_parser!(u16).range(0..=MOST_FROM))
         .default_value("0")
         .help(FIRST_WEEK)
 }

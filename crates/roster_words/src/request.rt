@@ -14,9 +14,9 @@ pub enum Command {
     /// Writes how much the search for each nurse takes.
     Sizes,
     /// Writes the solutions with the best row of the nurse of this name put in, also where it isn't cheaper. The weeks before week
-    /// `from`, 0 to 16, stay as they are.
+    /// `from` stay as they are.
     Best { nurse: String, from: u16 },
-    /// Writes the solutions after a run of the improver of at most so many rounds, 0 to 1000. The weeks before week `from`, 0 to 16,
+    /// Writes the solutions after a run of the improver of at most so many rounds. The weeks before week `from`
     /// stay as they are.
     Improve { rounds: u16, from: u16 },
 }

@@ -69,7 +69,7 @@ texts are read from standard input.";
 pub(crate) const NURSE_NAME: &str = "The nurse of this name in the scenario, letter for letter";
 
 pub(crate) const FIRST_WEEK: &str =
-    "The first week that may change, 0 to 16: the weeks before it stay as they stand";
+    "The first week that may change, 0 to 52: the weeks before it stay as they stand";
 
 pub(crate) const BEST: &str = "Put a nurse's best row into the rosters, and write them";
 

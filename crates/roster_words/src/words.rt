@@ -3,6 +3,7 @@
 ghost use Rattle.std.specs.Prelude.{◌≡◌, ◌≢◌, ◌≤◌, [], Some, codes, IfOk, IfErr, OnOk, IsSomeAnd, is_some, true, map, string_bytes};
 ghost use Rattle.clap.specs.Words.{fault_of, first_of, found_of, kind_of, rows_of, subcommand_rows_of};
 ghost use Rattle.roster_words.specs.CommandLine.{HasArguments, HasFrom, HasNurse, HasRounds, HasText, IsAsked, IsAskedIn, IsInRange, IsNameOf, IsNumberOf, Meets, Refuses, TellsKind, commands, files_in, name_of, program};
+ghost use Rattle.roster_words.specs.Limits.{most_from, most_rounds};
 
 use crate::program::{FILES, FROM, NURSE, ROUNDS, program};
 use crate::request::{CliFault, Command, Request};
@@ -16,7 +17,7 @@ use std::convert::AsStr;
 pub fn request_of<S: AsStr>(alloc: Global, words: &[S]) -> Result<Request, CliFault>
     // The command with its arguments, and the files, are those that clap's matches give for the words.
     ensures request { IfOk result (IsAsked (map S.text words.now)) }
-    // A run of the improver may make 0 to 1000 rounds, and the first week that may change is at most 16.
+    // The rounds of a run and the first week that may change are within their limits.
     ensures range { IfOk result (λ r. IsInRange r.command) }
     ensures faultless { OnOk result (fault_of program (map S.text words.now) ≡ []) }
     ensures refusal { IfErr result (Refuses (map S.text words.now)) }
@@ -89,7 +90,7 @@ fn nurse_of(alloc: Global, given: &ArgMatches<'_>) -> Result<String, AllocError>
 fn rounds_of(given: &ArgMatches<'_>) -> u16
     requires { HasRounds (rows_of (found_of given.now)) }
     ensures rounds { IsNumberOf (codes "rounds") result (rows_of (found_of given.now)) }
-    ensures range { result ≤ 1000 }
+    ensures range { result ≤ most_rounds }
 {
     let Some(rounds) = given.get_one::<u16>(ROUNDS) else {
         unreachable!()
@@ -101,7 +102,7 @@ fn rounds_of(given: &ArgMatches<'_>) -> u16
 fn from_of(given: &ArgMatches<'_>) -> u16
     requires { HasFrom (rows_of (found_of given.now)) }
     ensures from { IsNumberOf (codes "from") result (rows_of (found_of given.now)) }
-    ensures range { result ≤ 16 }
+    ensures range { result ≤ most_from }
 {
     let Some(from) = given.get_one::<u16>(FROM) else {
         unreachable!()

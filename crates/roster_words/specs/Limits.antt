@@ -1,0 +1,10 @@
+-- The limits of the command line (our own).
+use Rattle.std.specs.Prelude.{ℕ}
+
+-- the most rounds that a run may be asked for
+abbrev pub most_rounds : ℕ
+most_rounds = 1000
+
+-- the greatest first week that may change: with it all days of the longest case are frozen
+abbrev pub most_from : ℕ
+most_from = 52
