@@ -61,6 +61,9 @@ void operator delete(void*) noexcept {}
 
 namespace {
 
+constexpr int working_points = 30, free_points = 30, shift_points = 15, split_points = 30, assignment_points = 20,
+              weekend_points = 30, lacking_points = 30, request_points = 10;
+
 // ---- the texts
 
 struct Pair {
@@ -93,7 +96,7 @@ struct Case {
     std::vector<Contract> contracts;
     std::vector<Nurse> nurses;
     std::vector<std::vector<Pair>> needs;       // by day; by choice and skill
-    std::vector<std::vector<std::vector<char>>> off;  // by nurse, day, choice: an off request
+    std::vector<std::vector<std::vector<int>>> requests;  // by nurse, day, choice: the points for requests that it doesn't meet
     std::vector<std::vector<Cell>> rows;        // by nurse, day
     int days() const { return 7 * weeks; }
     int need_place(int choice, int skill) const { return (choice - 1) * skills + skill; }
@@ -178,21 +181,29 @@ Case read_case(const std::string& path) {
             nurse.last = shifts.at(last), nurse.shift_run = shift_run, nurse.working = working;
     }
     it.needs.assign(it.days(), std::vector<Pair>(it.shifts * it.skills));
-    it.off.assign(it.nurses.size(), std::vector<std::vector<char>>(it.days(), std::vector<char>(it.shifts + 1, 0)));
+    it.requests.assign(it.nurses.size(), std::vector<std::vector<int>>(it.days(), std::vector<int>(it.shifts + 1, 0)));
     for (int week = 0; week < it.weeks; week++) {
         text.expect("WEEK_DATA"), text.word(), text.expect("REQUIREMENTS");
         while (text.peek() != "SHIFT_OFF_REQUESTS") {
             int shift = shifts.at(text.word()), skill = skills.at(text.word());
             for (int day = 0; day < 7; day++) it.needs[7 * week + day][it.need_place(shift, skill)] = text.pair();
         }
-        text.expect("SHIFT_OFF_REQUESTS");
-        for (int more = text.number(); more > 0; more--) {
-            int nurse = nurses.at(text.word());
-            std::string shift = text.word();
-            auto& requests = it.off[nurse][7 * week + weekday(text.word())];
-            for (int choice = 1; choice <= it.shifts; choice++)
-                if (shift == "Any" || shifts.at(shift) == choice) requests[choice] = 1;
-        }
+        // Each section counts once for a nurse and day, however many of its lines are against a choice.
+        auto read_requests = [&](auto is_against) {
+            std::map<std::pair<int, int>, std::vector<char>> against;
+            for (int more = text.number(); more > 0; more--) {
+                int nurse = nurses.at(text.word());
+                std::string shift = text.word();
+                auto& found = against[{nurse, 7 * week + weekday(text.word())}];
+                found.resize(it.shifts + 1);
+                for (int choice = 0; choice <= it.shifts; choice++)
+                    if (is_against(choice != 0 && (shift == "Any" || shifts.at(shift) == choice))) found[choice] = 1;
+            }
+            for (const auto& [at, found] : against)
+                for (int choice = 0; choice <= it.shifts; choice++) it.requests[at.first][at.second][choice] += request_points * found[choice];
+        };
+        text.expect("SHIFT_OFF_REQUESTS"), read_requests([](bool is_named) { return is_named; });
+        if (text.peek() == "SHIFT_ON_REQUESTS") text.word(), read_requests([](bool is_named) { return !is_named; });
     }
     it.rows.assign(it.nurses.size(), std::vector<Cell>(it.days()));
     for (int week = 0; week < it.weeks; week++) {
@@ -207,9 +218,6 @@ Case read_case(const std::string& path) {
 }
 
 // ---- the rules, from day to day
-
-constexpr int working_points = 30, free_points = 30, shift_points = 15, split_points = 30, assignment_points = 20,
-              weekend_points = 30, lacking_points = 30, request_points = 10;
 
 struct State {
     int last, run, shift_run, assignments, weekends;
@@ -288,7 +296,7 @@ int row_cost(const Case& it, int n) {
         int choice = it.rows[n][day].choice;
         cost += split_cost(rules, day, last, choice);
         cost += go_on(it, rules, last, choice, is_weekend_more(day, last, choice), state);
-        cost += it.off[n][day][choice] ? request_points : 0;
+        cost += it.requests[n][day][choice];
         last = choice;
     }
     return cost + end_cost(rules, state.assignments);
@@ -303,7 +311,7 @@ std::vector<int> prices_of(const Case& it, int n, int day) {
     }
     std::vector<int> prices(it.shifts + 1, -1);
     auto offer = [&](int choice, int skill) {
-        int place = choice == 0 ? -1 : it.need_place(choice, skill), price = it.off[n][day][choice] ? request_points : 0;
+        int place = choice == 0 ? -1 : it.need_place(choice, skill), price = it.requests[n][day][choice];
         for (int p = 0; p < it.shifts * it.skills; p++) {
             int have = cover[p] + (p == place);
             if (have < it.needs[day][p].least) return;
