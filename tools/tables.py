@@ -41,3 +41,10 @@ def tables(text):
 def codes(cell):
     """What stands between backticks, in order."""
     return re.findall(r"`([^`]*)`", cell)
+
+
+def limits(readme):
+    """The greatest numbers of the README's table of limits, by what they are of: 'skills; shifts' is of both."""
+    rows = [row for table in tables(readme) if table.header == ["What", "Limit"] for _, row in table.rows]
+    ranges = [(what, re.fullmatch(r"\d+ to (\d+)(?: each)?", limit)) for what, limit in rows]
+    return {name: int(told[1]) for what, told in ranges if told for name in what.split("; ")}

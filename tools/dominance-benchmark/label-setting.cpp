@@ -1,0 +1,678 @@
+// Label setting with dominance: for each nurse of a bundle the least penalty over the rows that keep the hard rules with the others
+// fixed, by Boost's r_c_shortest_paths and by a loop of its own over the same labels, each with several tests of dominance.
+//
+//     label-setting BUNDLE TIMES
+//
+// A line for each nurse: name, least penalty, and for each way (in the order of `ways`) the least nanoseconds of TIMES searches and
+// the labels that one search makes. Only the search is timed: graph, prices and what dominance looks up are made before.
+#define BOOST_SP_DISABLE_THREADS
+#include <algorithm>
+#include <boost/graph/compressed_sparse_row_graph.hpp>
+#include <boost/graph/r_c_shortest_paths.hpp>
+#include <chrono>
+#include <cstdint>
+#include <cstdlib>
+#include <fstream>
+#include <iostream>
+#include <map>
+#include <sstream>
+#include <stdexcept>
+#include <string>
+#include <vector>
+
+// ---- memory: freed pieces are kept by size, so that a label costs no call of the system's allocator
+
+namespace {
+struct Piece {
+    Piece* next;
+};
+constexpr std::size_t most_kept = 512;
+Piece* kept[most_kept / 16 + 1];
+char *room = nullptr, *room_end = nullptr;
+}  // namespace
+
+void* operator new(std::size_t size) {
+    std::size_t rounded = (size + 15) / 16 * 16;
+    if (rounded > most_kept) return std::malloc(size);
+    Piece*& first = kept[rounded / 16];
+    if (first != nullptr) {
+        void* piece = first;
+        first = first->next;
+        return piece;
+    }
+    if (static_cast<std::size_t>(room_end - room) < rounded) {
+        constexpr std::size_t block = 1 << 20;
+        room = static_cast<char*>(std::malloc(block));
+        room_end = room + block;
+    }
+    char* piece = room;
+    room += rounded;
+    return piece;
+}
+void operator delete(void* piece, std::size_t size) noexcept {
+    std::size_t rounded = (size + 15) / 16 * 16;
+    if (rounded > most_kept) return std::free(piece);
+    auto* freed = static_cast<Piece*>(piece);
+    freed->next = kept[rounded / 16];
+    kept[rounded / 16] = freed;
+}
+// (of a size that isn't told: nothing that the search makes)
+void operator delete(void*) noexcept {}
+
+namespace {
+
+constexpr int working_points = 30, free_points = 30, shift_points = 15, split_points = 30, assignment_points = 20,
+              weekend_points = 30, lacking_points = 30, request_points = 10;
+
+// ---- the texts
+
+struct Pair {
+    int least = 0, greatest = 0;
+    int cap() const { return std::max(least, greatest); }
+};
+
+struct Contract {
+    Pair total, working, free;
+    int weekends = 0;
+    bool is_whole = false;
+};
+
+// A choice is 0, to be off, or 1 + the number of a shift.
+struct Nurse {
+    std::string name;
+    int contract = 0;
+    std::vector<int> skills;
+    int assignments = 0, weekends = 0, last = 0, shift_run = 0, working = 0, free = 0;
+};
+
+struct Cell {
+    int choice = 0, skill = 0;
+};
+
+struct Case {
+    int weeks = 0, skills = 0, shifts = 0;
+    std::vector<Pair> runs;                     // by choice
+    std::vector<std::vector<char>> forbidden;   // by choice before, choice
+    std::vector<Contract> contracts;
+    std::vector<Nurse> nurses;
+    std::vector<std::vector<Pair>> needs;       // by day; by choice and skill
+    std::vector<std::vector<std::vector<int>>> requests;  // by nurse, day, choice: the points for requests that it doesn't meet
+    std::vector<std::vector<Cell>> rows;        // by nurse, day
+    int days() const { return 7 * weeks; }
+    int need_place(int choice, int skill) const { return (choice - 1) * skills + skill; }
+};
+
+class Reader {
+    std::vector<std::string> words;
+    std::size_t at = 0;
+
+  public:
+    explicit Reader(const std::string& path) {
+        std::ifstream file(path);
+        if (!file) throw std::runtime_error("no file " + path);
+        std::stringstream text;
+        text << file.rdbuf();
+        std::string all = text.str();
+        for (char& c : all)
+            if (c == '(' || c == ')' || c == ',' || c == '=') c = ' ';
+        std::stringstream split(all);
+        for (std::string word; split >> word;) words.push_back(word);
+    }
+    std::string word() { return words.at(at++); }
+    const std::string& peek() const { return words.at(at); }
+    int number() { return std::stoi(word()); }
+    Pair pair() {
+        int least = number();
+        return {least, number()};
+    }
+    void expect(const std::string& wanted) {
+        if (word() != wanted) throw std::runtime_error("expected " + wanted);
+    }
+};
+
+using Names = std::map<std::string, int>;
+
+int weekday(const std::string& word) {
+    static const std::string starts[] = {"Mon", "Tue", "Wed", "Thu", "Fri", "Sat", "Sun"};
+    for (int day = 0; day < 7; day++)
+        if (word.compare(0, 3, starts[day]) == 0) return day;
+    throw std::runtime_error("no day: " + word);
+}
+
+Case read_case(const std::string& path) {
+    Reader text(path);
+    Case it;
+    Names skills, shifts, contracts, nurses;
+    text.expect("SCENARIO"), text.word();
+    text.expect("WEEKS"), it.weeks = text.number();
+    text.expect("SKILLS"), it.skills = text.number();
+    for (int n = 0; n < it.skills; n++) skills[text.word()] = n;
+    text.expect("SHIFT_TYPES"), it.shifts = text.number();
+    it.runs.resize(it.shifts + 1);
+    for (int n = 1; n <= it.shifts; n++) shifts[text.word()] = n, it.runs[n] = text.pair();
+    it.forbidden.assign(it.shifts + 1, std::vector<char>(it.shifts + 1, 0));
+    text.expect("FORBIDDEN_SHIFT_TYPES_SUCCESSIONS");
+    while (text.peek() != "CONTRACTS") {
+        int before = shifts.at(text.word());
+        for (int more = text.number(); more > 0; more--) it.forbidden[before][shifts.at(text.word())] = 1;
+    }
+    text.expect("CONTRACTS"), it.contracts.resize(text.number());
+    for (std::size_t n = 0; n < it.contracts.size(); n++) {
+        contracts[text.word()] = n;
+        Contract& rules = it.contracts[n];
+        rules.total = text.pair(), rules.working = text.pair(), rules.free = text.pair();
+        rules.weekends = text.number(), rules.is_whole = text.number() == 1;
+    }
+    text.expect("NURSES"), it.nurses.resize(text.number());
+    for (std::size_t n = 0; n < it.nurses.size(); n++) {
+        Nurse& nurse = it.nurses[n];
+        nurse.name = text.word(), nurses[nurse.name] = n, nurse.contract = contracts.at(text.word());
+        for (int more = text.number(); more > 0; more--) nurse.skills.push_back(skills.at(text.word()));
+    }
+    text.expect("HISTORY"), text.number(), text.word(), text.expect("NURSE_HISTORY");
+    for (std::size_t n = 0; n < it.nurses.size(); n++) {
+        Nurse& nurse = it.nurses[nurses.at(text.word())];
+        nurse.assignments = text.number(), nurse.weekends = text.number();
+        std::string last = text.word();
+        int shift_run = text.number(), working = text.number(), free = text.number();
+        if (last == "None")
+            nurse.free = free;
+        else
+            nurse.last = shifts.at(last), nurse.shift_run = shift_run, nurse.working = working;
+    }
+    it.needs.assign(it.days(), std::vector<Pair>(it.shifts * it.skills));
+    it.requests.assign(it.nurses.size(), std::vector<std::vector<int>>(it.days(), std::vector<int>(it.shifts + 1, 0)));
+    for (int week = 0; week < it.weeks; week++) {
+        text.expect("WEEK_DATA"), text.word(), text.expect("REQUIREMENTS");
+        while (text.peek() != "SHIFT_OFF_REQUESTS") {
+            int shift = shifts.at(text.word()), skill = skills.at(text.word());
+            for (int day = 0; day < 7; day++) it.needs[7 * week + day][it.need_place(shift, skill)] = text.pair();
+        }
+        // Each section counts once for a nurse and day, however many of its lines are against a choice.
+        auto read_requests = [&](auto is_against) {
+            std::map<std::pair<int, int>, std::vector<char>> against;
+            for (int more = text.number(); more > 0; more--) {
+                int nurse = nurses.at(text.word());
+                std::string shift = text.word();
+                auto& found = against[{nurse, 7 * week + weekday(text.word())}];
+                found.resize(it.shifts + 1);
+                for (int choice = 0; choice <= it.shifts; choice++)
+                    if (is_against(choice != 0 && (shift == "Any" || shifts.at(shift) == choice))) found[choice] = 1;
+            }
+            for (const auto& [at, found] : against)
+                for (int choice = 0; choice <= it.shifts; choice++) it.requests[at.first][at.second][choice] += request_points * found[choice];
+        };
+        text.expect("SHIFT_OFF_REQUESTS"), read_requests([](bool is_named) { return is_named; });
+        if (text.peek() == "SHIFT_ON_REQUESTS") text.word(), read_requests([](bool is_named) { return !is_named; });
+    }
+    it.rows.assign(it.nurses.size(), std::vector<Cell>(it.days()));
+    for (int week = 0; week < it.weeks; week++) {
+        text.expect("SOLUTION"), text.number(), text.word(), text.expect("ASSIGNMENTS");
+        for (int more = text.number(); more > 0; more--) {
+            int nurse = nurses.at(text.word()), day = 7 * week + weekday(text.word());
+            int shift = shifts.at(text.word());
+            it.rows[nurse][day] = {shift, skills.at(text.word())};
+        }
+    }
+    return it;
+}
+
+// ---- the rules, from day to day
+
+struct State {
+    int last, run, shift_run, assignments, weekends;
+};
+
+State start_of(const Case& it, const Nurse& nurse) {
+    const Contract& rules = it.contracts[nurse.contract];
+    State state{nurse.last, 0, 0, 0, 0};
+    state.run = nurse.last ? std::min(nurse.working, rules.working.cap()) : std::min(nurse.free, rules.free.cap());
+    state.shift_run = nurse.last ? std::min(nurse.shift_run, it.runs[nurse.last].cap()) : 0;
+    state.assignments = std::min(nurse.assignments, rules.total.cap());
+    state.weekends = std::min(nurse.weekends, rules.weekends);
+    return state;
+}
+
+int start_cost(const Case& it, const Nurse& nurse) {
+    const Contract& rules = it.contracts[nurse.contract];
+    return assignment_points * std::max(0, nurse.assignments - rules.total.greatest) +
+           weekend_points * std::max(0, nurse.weekends - rules.weekends);
+}
+
+bool is_weekend_more(int day, int last, int choice) {
+    return choice != 0 && (day % 7 == 5 || (day % 7 == 6 && last == 0));
+}
+
+int split_cost(const Contract& rules, int day, int last, int choice) {
+    return rules.is_whole && day % 7 == 6 && (last != 0) != (choice != 0) ? split_points : 0;
+}
+
+int missing(const Pair& limits, int run) { return run > 0 ? std::max(0, limits.least - run) : 0; }
+int extra(const Pair& limits, int run) { return run >= limits.greatest ? 1 : 0; }
+
+// What a day costs in runs, in assignments and in weekends above the greatest, without split weekends; the counts go on.
+template <class Counts>
+inline int go_on(const Case& it, const Contract& rules, int last, int choice, bool weekend, Counts& at) {
+    int cost = 0;
+    if (choice != 0) {
+        int run = last != 0 ? at.run : 0;
+        if (last == 0) cost += free_points * missing(rules.free, at.run);
+        cost += working_points * extra(rules.working, run);
+        at.run = std::min(run + 1, rules.working.cap());
+        int shift_run = last == choice ? at.shift_run : 0;
+        if (last != 0 && last != choice) cost += shift_points * missing(it.runs[last], at.shift_run);
+        cost += shift_points * extra(it.runs[choice], shift_run);
+        at.shift_run = std::min(shift_run + 1, it.runs[choice].cap());
+        cost += assignment_points * extra(rules.total, at.assignments);
+        at.assignments = std::min(at.assignments + 1, rules.total.cap());
+        if (weekend) {
+            cost += at.weekends >= rules.weekends ? weekend_points : 0;
+            at.weekends = std::min(at.weekends + 1, rules.weekends);
+        }
+        return cost;
+    }
+    int run = last == 0 ? at.run : 0;
+    if (last != 0) {
+        cost += working_points * missing(rules.working, at.run);
+        cost += shift_points * missing(it.runs[last], at.shift_run);
+    }
+    cost += free_points * extra(rules.free, run);
+    at.run = std::min(run + 1, rules.free.cap());
+    at.shift_run = 0;
+    return cost;
+}
+
+int end_cost(const Contract& rules, int assignments) {
+    return assignment_points * std::max(0, rules.total.least - assignments);
+}
+
+// What a nurse's row costs, without staffing.
+int row_cost(const Case& it, int n) {
+    const Nurse& nurse = it.nurses[n];
+    const Contract& rules = it.contracts[nurse.contract];
+    State state = start_of(it, nurse);
+    int cost = start_cost(it, nurse), last = state.last;
+    for (int day = 0; day < it.days(); day++) {
+        int choice = it.rows[n][day].choice;
+        cost += split_cost(rules, day, last, choice);
+        cost += go_on(it, rules, last, choice, is_weekend_more(day, last, choice), state);
+        cost += it.requests[n][day][choice];
+        last = choice;
+    }
+    return cost + end_cost(rules, state.assignments);
+}
+
+// For each choice of a day what it costs at least, by the cheapest skill; -1 where it isn't offered.
+std::vector<int> prices_of(const Case& it, int n, int day) {
+    std::vector<int> cover(it.shifts * it.skills, 0);
+    for (std::size_t other = 0; other < it.nurses.size(); other++) {
+        const Cell& cell = it.rows[other][day];
+        if (static_cast<int>(other) != n && cell.choice != 0) cover[it.need_place(cell.choice, cell.skill)]++;
+    }
+    std::vector<int> prices(it.shifts + 1, -1);
+    auto offer = [&](int choice, int skill) {
+        int place = choice == 0 ? -1 : it.need_place(choice, skill), price = it.requests[n][day][choice];
+        for (int p = 0; p < it.shifts * it.skills; p++) {
+            int have = cover[p] + (p == place);
+            if (have < it.needs[day][p].least) return;
+            price += lacking_points * std::max(0, it.needs[day][p].greatest - have);
+        }
+        if (prices[choice] < 0 || price < prices[choice]) prices[choice] = price;
+    };
+    offer(0, 0);
+    for (int choice = 1; choice <= it.shifts; choice++)
+        for (int skill : it.nurses[n].skills) offer(choice, skill);
+    return prices;
+}
+
+// ---- labels and their dominance
+
+// Counts with what they cost yet: for the run, the shift's run, the assignments and the weekends, where the run goes on for the fewest
+// days that it can, or as few days or weekends are worked as can be; and where it is the most. Of two labels of a vertex the
+// difference of such a cost is greatest at one of these two ends. So what one label costs later is above what another costs by at most
+// the sum of the greater differences.
+struct Label {
+    std::uint32_t vertex;
+    std::int32_t cost;
+    std::int16_t run, shift_run, assignments, weekends;
+    std::int32_t fewest[4], most[4];
+    bool operator<(const Label& other) const {
+        return vertex != other.vertex ? vertex < other.vertex : cost < other.cost;
+    }
+    bool operator==(const Label& other) const { return vertex == other.vertex && cost == other.cost; }
+};
+
+// For each number of days or weekends that are to come, by count: what it costs yet. By the contract and the shifts alone.
+using Table = std::vector<std::vector<std::int32_t>>;
+
+struct Later {
+    // of runs that end, and of those that are open at the end; by choice, that of days off at 0, and that of work by itself
+    std::vector<Table> ended, open;
+    Table working_ended, working_open, assignments, weekends;
+
+    Later(const Case& it, const Contract& rules) {
+        for (int choice = 0; choice <= it.shifts; choice++) {
+            const Pair& limits = choice == 0 ? rules.free : it.runs[choice];
+            int points = choice == 0 ? free_points : shift_points;
+            ended.push_back(of_runs(it, limits, points, true)), open.push_back(of_runs(it, limits, points, false));
+        }
+        working_ended = of_runs(it, rules.working, working_points, true);
+        working_open = of_runs(it, rules.working, working_points, false);
+        const Pair& total = rules.total;
+        for (int more = 0; more <= it.days(); more++) {
+            assignments.emplace_back();
+            for (int count = 0; count <= total.cap(); count++)
+                assignments.back().push_back(assignment_points * (over(total, count, more) + std::max(0, total.least - count - more)));
+        }
+        for (int more = 0; more <= it.weeks; more++) {
+            weekends.emplace_back();
+            for (int count = 0; count <= rules.weekends; count++)
+                weekends.back().push_back(weekend_points * over({0, rules.weekends}, count, more));
+        }
+    }
+
+    static int over(const Pair& limits, int count, int more) {
+        return std::max(0, count + more - limits.greatest) - std::max(0, count - limits.greatest);
+    }
+
+    static Table of_runs(const Case& it, const Pair& limits, int points, bool ends) {
+        Table table;
+        for (int more = 0; more <= it.days(); more++) {
+            table.emplace_back();
+            for (int run = 0; run <= limits.cap(); run++)
+                table.back().push_back(points * (over(limits, run, more) + (ends ? missing(limits, run + more) : 0)));
+        }
+        return table;
+    }
+
+    // Of the run of days off, or of work where a shift was last; and of the shift's.
+    const std::int32_t* of_run(int last, int more, int days_left) const {
+        if (last == 0) return (more < days_left ? ended : open)[0][more].data();
+        return (more < days_left ? working_ended : working_open)[more].data();
+    }
+    const std::int32_t* of_shift_run(int last, int more, int days_left) const {
+        static const std::int32_t none[1] = {0};
+        return last == 0 ? none : (more < days_left ? ended : open)[last][more].data();
+    }
+};
+
+// How many days more a run goes on, how many days and weekends are worked yet: the fewest and the most.
+struct Span {
+    int fewest = 0, most = 0;
+};
+
+struct Vertex {
+    bool is_alive = false;
+    int last = 0, days_left = 0;
+    Span run, shift_run, work, weekends;
+    // of each count, at the fewest and at the most
+    const std::int32_t *fewest[4], *most[4];
+};
+
+struct Arc {
+    int to, choice, last, fixed;
+    bool weekend, is_end;
+};
+
+struct Search {
+    const Case& it;
+    const Nurse& nurse;
+    const Contract& rules;
+    const Later& later;
+    std::vector<Vertex> vertices;
+    std::vector<std::vector<Arc>> arcs;
+    int start = 0, target = 0;
+
+    Search(const Case& it, int n, const Later& later, bool by_offers)
+        : it(it), nurse(it.nurses[n]), rules(it.contracts[nurse.contract]), later(later) {
+        int width = it.shifts + 1, days = it.days();
+        target = (days + 1) * width, start = nurse.last;
+        vertices.resize(target + 1), arcs.resize(target + 1);
+        vertices[target].is_alive = true;
+        for (int last = 0; last < width; last++) arcs[days * width + last].push_back({target, 0, last, 0, false, true});
+        for (int day = 0; day < days; day++) {
+            std::vector<int> prices = prices_of(it, n, day);
+            for (int last = 0; last < width; last++)
+                for (int choice = 0; choice < width; choice++)
+                    if (prices[choice] >= 0 && !it.forbidden[last][choice])
+                        arcs[day * width + last].push_back({(day + 1) * width + choice, choice, last,
+                                                            prices[choice] + split_cost(rules, day, last, choice),
+                                                            is_weekend_more(day, last, choice), false});
+        }
+        for (int v = target; v >= 0; v--) {
+            vertices[v].last = v == target ? 0 : v % width, vertices[v].days_left = v == target ? 0 : days - v / width;
+            if (v < target) look_ahead(v);
+            if (!by_offers && v < target) {
+                // (whatever is offered)
+                Vertex& here = vertices[v];
+                here.run = here.shift_run = here.work = {0, here.days_left};
+                here.weekends = {0, std::min(it.weeks, here.days_left / 7 + 1)};
+            }
+            find_later(vertices[v]);
+        }
+    }
+
+    // What the days from a vertex on may be, by what is offered on them, where that leads to the end.
+    void look_ahead(int v) {
+        auto& out = arcs[v];
+        out.erase(std::remove_if(out.begin(), out.end(), [&](const Arc& arc) { return !vertices[arc.to].is_alive; }), out.end());
+        Vertex& here = vertices[v];
+        here.is_alive = !out.empty();
+        bool is_first = true;
+        for (const Arc& arc : out) {
+            const Vertex& to = vertices[arc.to];
+            auto join = [&](Span& span, const Span& more) {
+                span.fewest = is_first ? more.fewest : std::min(span.fewest, more.fewest);
+                span.most = is_first ? more.most : std::max(span.most, more.most);
+            };
+            auto add = [](const Span& span, int more) { return Span{span.fewest + more, span.most + more}; };
+            bool runs_on = !arc.is_end && (here.last != 0) == (arc.choice != 0);
+            join(here.run, runs_on ? add(to.run, 1) : Span{});
+            join(here.shift_run, runs_on && here.last == arc.choice ? add(to.shift_run, 1) : Span{});
+            join(here.work, add(to.work, arc.choice != 0));
+            join(here.weekends, add(to.weekends, arc.weekend));
+            is_first = false;
+        }
+    }
+
+    void find_later(Vertex& here) const {
+        for (int end = 0; end < 2; end++) {
+            auto of = [&](const Span& span) { return end == 0 ? span.fewest : span.most; };
+            const std::int32_t** costs = end == 0 ? here.fewest : here.most;
+            costs[0] = later.of_run(here.last, of(here.run), here.days_left);
+            costs[1] = later.of_shift_run(here.last, of(here.shift_run), here.days_left);
+            costs[2] = later.assignments[of(here.work)].data();
+            costs[3] = later.weekends[of(here.weekends)].data();
+        }
+    }
+
+    void set_later(Label& label) const {
+        const Vertex& here = vertices[label.vertex];
+        const int counts[4] = {label.run, label.shift_run, label.assignments, label.weekends};
+        for (int which = 0; which < 4; which++) {
+            label.fewest[which] = here.fewest[which][counts[which]];
+            label.most[which] = here.most[which][counts[which]];
+        }
+    }
+
+    Label first() const {
+        State state = start_of(it, nurse);
+        Label label{};
+        label.vertex = start, label.cost = start_cost(it, nurse);
+        label.run = state.run, label.shift_run = state.shift_run;
+        label.assignments = state.assignments, label.weekends = state.weekends;
+        set_later(label);
+        return label;
+    }
+
+    void extend(Label& label, const Arc& arc) const {
+        label.vertex = arc.to;
+        if (arc.is_end) {
+            // (all labels of the end are alike but for their costs)
+            label.cost += end_cost(rules, label.assignments);
+            std::fill_n(label.fewest, 4, 0), std::fill_n(label.most, 4, 0);
+            return;
+        }
+        State at{arc.last, label.run, label.shift_run, label.assignments, label.weekends};
+        label.cost += arc.fixed + go_on(it, rules, arc.last, arc.choice, arc.weekend, at);
+        label.run = at.run, label.shift_run = at.shift_run, label.assignments = at.assignments, label.weekends = at.weekends;
+        set_later(label);
+    }
+};
+
+// Each count by itself.
+inline bool dominates_apart(const Label& one, const Label& other) {
+    std::int32_t worse = one.cost - other.cost;
+    for (int which = 0; which < 4; which++)
+        worse += std::max(one.fewest[which] - other.fewest[which], one.most[which] - other.most[which]);
+    return worse <= 0;
+}
+
+// The two runs together: a shift's run goes on for no more days than that of work. Where one has worked fewer days and more of this
+// shift, the first counts most where work ends soon, the second where the shift goes on for long.
+inline bool dominates_joined(const Search& search, const Label& one, const Label& other) {
+    std::int32_t rest = one.cost - other.cost, ends[4];
+    for (int which = 0; which < 4; which++)
+        ends[which] = std::max(one.fewest[which] - other.fewest[which], one.most[which] - other.most[which]);
+    rest += ends[2] + ends[3];
+    if (rest + ends[0] + ends[1] <= 0) return true;
+    if (rest > 0 || one.run >= other.run || one.shift_run <= other.shift_run) return false;
+    const Vertex& here = search.vertices[one.vertex];
+    // (a run of more days than the greatest cap differs no more)
+    int longest = std::min(here.shift_run.most, std::max(search.rules.working.cap(), search.it.runs[here.last].cap()) + 1);
+    for (int days = here.shift_run.fewest; days <= longest; days++) {
+        const std::int32_t* run = search.later.of_run(here.last, std::max(days, here.run.fewest), here.days_left);
+        const std::int32_t* shift_run = search.later.of_shift_run(here.last, days, here.days_left);
+        if (rest + run[one.run] - run[other.run] + shift_run[one.shift_run] - shift_run[other.shift_run] > 0) return false;
+    }
+    return true;
+}
+
+// ---- searches
+
+std::uint64_t made = 0;
+
+using Graph = boost::compressed_sparse_row_graph<boost::directedS, boost::no_property, Arc>;
+
+Graph graph_of(const Search& search) {
+    std::vector<std::pair<int, int>> pairs;
+    std::vector<Arc> arcs;
+    for (std::size_t v = 0; v < search.arcs.size(); v++)
+        for (const Arc& arc : search.arcs[v]) pairs.push_back({static_cast<int>(v), arc.to}), arcs.push_back(arc);
+    return Graph(boost::edges_are_sorted, pairs.begin(), pairs.end(), arcs.begin(), search.arcs.size());
+}
+
+struct Extend {
+    const Search& search;
+    template <class Edge>
+    bool operator()(const Graph& graph, Label& label, const Label& before, Edge edge) const {
+        label = before;
+        search.extend(label, graph[edge]);
+        made++;
+        return true;
+    }
+};
+
+template <bool joined>
+struct Dominate {
+    const Search& search;
+    bool operator()(const Label& one, const Label& other) const {
+        return joined ? dominates_joined(search, one, other) : dominates_apart(one, other);
+    }
+};
+
+template <bool joined>
+int by_boost(const Search& search, const Graph& graph) {
+    std::vector<boost::graph_traits<Graph>::edge_descriptor> row;
+    Label best{};
+    best.cost = -1;
+    boost::r_c_shortest_paths(graph, boost::get(boost::vertex_index, graph), boost::get(boost::edge_index, graph), search.start,
+                              search.target, row, best, search.first(), Extend{search}, Dominate<joined>{search},
+                              boost::default_r_c_shortest_paths_allocator(), boost::default_r_c_shortest_paths_visitor());
+    return best.cost;
+}
+
+// A list for each vertex, in the order of the days, of labels that no other of the list dominates, each with the one that it came from.
+struct Listed {
+    Label label;
+    std::uint32_t vertex, place;
+};
+using Lists = std::vector<std::vector<Listed>>;
+
+int by_lists(const Search& search, Lists& lists) {
+    lists.resize(search.vertices.size());
+    for (auto& list : lists) list.clear();
+    lists[search.start].push_back({search.first(), 0, 0});
+    for (std::uint32_t v = 0; v + 1 < lists.size(); v++) {
+        for (const Arc& arc : search.arcs[v]) {
+            auto& there = lists[arc.to];
+            for (std::uint32_t from = 0; from < lists[v].size(); from++) {
+                Listed more{lists[v][from].label, v, from};
+                search.extend(more.label, arc);
+                made++;
+                bool is_dominated = false;
+                for (std::size_t place = 0; place < there.size() && !is_dominated;) {
+                    if (dominates_apart(there[place].label, more.label)) {
+                        is_dominated = true;
+                        // (one that dominates goes to the front, where the next is compared with it earlier)
+                        std::swap(there[place], there[place / 2]);
+                    } else if (dominates_apart(more.label, there[place].label)) {
+                        there[place] = there.back();
+                        there.pop_back();
+                    } else {
+                        place++;
+                    }
+                }
+                if (!is_dominated) there.push_back(more);
+            }
+        }
+    }
+    return lists[search.target].front().label.cost;
+}
+
+const char* const ways = "boost-apart boost-offers boost-joined lists-offers";
+
+template <class Way>
+void measure(int times, int& cost, Way way) {
+    std::uint64_t least = UINT64_MAX, labels = 0;
+    for (int time = 0; time < times; time++) {
+        made = 0;
+        auto begin = std::chrono::steady_clock::now();
+        int found = way();
+        auto spent = std::chrono::steady_clock::now() - begin;
+        least = std::min<std::uint64_t>(least, std::chrono::duration_cast<std::chrono::nanoseconds>(spent).count());
+        labels = made;
+        if (cost >= 0 && found != cost) throw std::runtime_error("two ways found different costs");
+        cost = found;
+    }
+    std::cout << ' ' << least << ' ' << labels;
+}
+
+}  // namespace
+
+int main(int count, char** words) {
+    if (count != 3) {
+        std::cerr << "label-setting BUNDLE TIMES: " << ways << '\n';
+        return 2;
+    }
+    const Case it = read_case(words[1]);
+    const int times = std::stoi(words[2]);
+    std::vector<int> costs;
+    std::vector<Later> later;
+    for (const Contract& rules : it.contracts) later.emplace_back(it, rules);
+    long all = 0;
+    for (std::size_t n = 0; n < it.nurses.size(); n++) costs.push_back(row_cost(it, n)), all += costs.back();
+    Lists lists;
+    for (std::size_t n = 0; n < it.nurses.size(); n++) {
+        const Later& costs_later = later[it.nurses[n].contract];
+        const Search apart(it, n, costs_later, false), search(it, n, costs_later, true);
+        const Graph apart_graph = graph_of(apart), graph = graph_of(search);
+        int cost = by_boost<true>(search, graph);
+        std::cout << it.nurses[n].name << ' ' << all - costs[n] + cost;
+        measure(times, cost, [&] { return by_boost<false>(apart, apart_graph); });
+        measure(times, cost, [&] { return by_boost<false>(search, graph); });
+        measure(times, cost, [&] { return by_boost<true>(search, graph); });
+        measure(times, cost, [&] { return by_lists(search, lists); });
+        std::cout << std::endl;
+    }
+}
