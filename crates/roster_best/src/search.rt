@@ -16,7 +16,7 @@ ghost use Rattle.roster_best.specs.Workspaces.{AreasLead, PointersFrom, SameRoom
 use crate::by_shift::choices_by_shift;
 use crate::workspace::Workspace;
 use roster_case::{Choice, Held};
-use roster_search::{Pointers, SearchDay, areas_behind, label_day, label_end, read_day};
+use roster_search::{OpenDay, Pointers, SearchDay, areas_behind, label_day, label_end, read_day};
 use roster_state::{AREAS, Area, Meter, NOWHERE, Ranges, State, areas_of, start};
 use std::mem;
 
@@ -190,9 +190,15 @@ fn label_before(
     let here = &areas[at.day as usize];
     let offers = choices_by_shift(held, at.nurse, at.day, from);
     let first = at.day as u32 * at.ranges.product();
-    label_day(
-        case, at, here, &offers, later, labels, pointers, first, meter,
-    );
+    let open = OpenDay {
+        case,
+        at: *at,
+        areas: here,
+        offers: &offers,
+        later,
+        first,
+    };
+    label_day(&open, labels, pointers, meter);
 }
 
 /// Reads the best row by the pointers of all days, from the first day to the last.

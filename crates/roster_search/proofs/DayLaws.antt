@@ -8,12 +8,13 @@ use Rattle.roster_rules.specs.Prefix.{Summary}
 use Rattle.roster_state.specs.declared.Area.{Area}
 use Rattle.roster_state.specs.declared.Span.{Span}
 use Rattle.roster_state.specs.Areas.{InArea, InSpan, area_at, nowhere}
-use Rattle.roster_state.specs.Codes.{Sizes, code_of, fits_sizes, groups, product, shift_digit, shift_numbered, sizes_of}
+use Rattle.roster_state.specs.Codes.{Sizes, code_of, fits_sizes, product, shift_digit, shift_numbered, sizes_of}
 use Rattle.roster_state.proofs.AreaLaw.{last_of_digit}
 use Rattle.roster_state.proofs.CodeLemmas.{Fits, all-fit, fits-all, shift_digit-shift_numbered}
 use Rattle.roster_lanes.specs.Lanes.{SameOutside}
 use Rattle.roster_search.specs.declared.day.SearchDay.{SearchDay}
 use Rattle.roster_search.specs.declared.offer.Offer.{Offer}
+use Rattle.roster_search.specs.Counts.{group_of}
 use Rattle.roster_search.specs.Tables.{Around, CellsOf, LabelsOf, PointersOf, Stands, StandsLike, best_on}
 use Rattle.roster_search.proofs.GroupLaws.{weekends_before}
 
@@ -28,9 +29,9 @@ key_of s = group_key (shift_digit s.last) s.run s.shift_run
 abbrev pub group_number : Sizes → (last run shift_run : ℕ) → ℕ
 group_number z last run shift_run = (last * z.run + run) * z.shift_run + shift_run
 
--- the group of a last shift's number and these runs
-abbrev pub group_of : (last run shift_run : ℕ) → Summary
-group_of last run shift_run = record { last = shift_numbered last; run = run; shift_run = shift_run; assignments = 0; weekends = 0 }
+-- how many there are
+abbrev pub groups : Sizes → ℕ
+groups z = z.last * z.run * z.shift_run
 
 pub group_digit : (last run shift_run : ℕ) → shift_digit (group_of last run shift_run).last ≡ last
 group_digit last run shift_run = shift_digit-shift_numbered last

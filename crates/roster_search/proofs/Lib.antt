@@ -9,10 +9,10 @@ pub mod ReadLaws
 pub mod OfferLaws
 pub mod ByShift
 pub mod BestRoom
-pub mod LowerLaws
 pub mod PartLaws
 pub mod HalfLaws
 pub mod StandLaws
 pub mod GroupLaws
 pub mod DayLaws
 pub mod StretchLaws
+pub mod CountLaws

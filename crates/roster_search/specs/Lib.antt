@@ -2,4 +2,5 @@ pub mod Cheapest
 pub mod ByStates
 pub mod Offers
 pub mod Tables
+pub mod Counts
 pub mod Halves

@@ -1,6 +1,6 @@
 -- The tables of a day: at the number of each state its label, what the best row from there on costs, and its pointer, the place
 -- of the offer with which that row begins (our own).
-use Rattle.std.specs.Prelude.{◌≡◌, ◌+◌, ◌*◌, ◌<◌, ◌≤◌, ℕ, true, List, [], ◌∷◌, ◌++◌, length, min, nat_lt, if◌then◌else◌, Some, None, slice_index_or}
+use Rattle.std.specs.Prelude.{◌≡◌, ◌+◌, ◌-◌, ◌*◌, ◌<◌, ◌≤◌, ℕ, All, true, List, [], ◌∷◌, ◌++◌, length, min, Some, None, slice_index_or}
 use Rattle.roster_rules.specs.declared.Choice.{Choice}
 use Rattle.roster_rules.specs.Choices.{shift_of}
 use Rattle.roster_rules.specs.Limits.{most_shifts, most_skills, most_small}
@@ -9,9 +9,11 @@ use Rattle.roster_rules.specs.Prefix.{Summary}
 use Rattle.roster_rules.specs.Rosters.{is_choice_of}
 use Rattle.roster_rules.specs.Weights.{off_request_weight, staffing_weight, wish_weight}
 use Rattle.roster_state.specs.declared.area.Area.{Area}
+use Rattle.roster_state.specs.declared.stretch.Stretch.{Stretch}
 use Rattle.roster_state.specs.Areas.{InArea, area_at}
-use Rattle.roster_state.specs.Codes.{Sizes, code_of, fits_sizes, shift_digit, sizes_of}
+use Rattle.roster_state.specs.Codes.{Sizes, code_of, fits_sizes, product, shift_digit, sizes_of}
 use Rattle.roster_state.specs.Standing.{can_be}
+use Rattle.roster_state.specs.Stretches.{stretch_state}
 use Rattle.roster_state.specs.Step.{end_cost_of, step_of, with_assignments, with_weekends}
 use Rattle.roster_search.specs.declared.day.SearchDay.{SearchDay}
 use Rattle.roster_search.specs.declared.offer.Offer.{Offer}
@@ -122,27 +124,48 @@ pub record StandsLike (c : Meaning) (n : ℕ) (areas : List Area) (group s : Sum
   pub run : s.run ≡ group.run
   pub shift_run : s.shift_run ≡ group.shift_run
 
--- ---- a block: states that differ in their assignments alone
+-- ---- what a day's labels are set by
 
--- for each number of assignments from k to m, what stands at its places in two tables is right
-abbrev pub Cells : (ℕ → ℕ → ℕ → Type 0) → (code first k m : ℕ) → List ℕ → List ℕ → Type 0
-Cells right code first k m labels pointers = (a : ℕ) → k ≤ a → a < m → right a (slice_index_or labels (code + a) 0) (slice_index_or pointers (first + a) 0)
+-- the day is one of the case's, its offers lead from its areas to those behind it, and the labels behind it are right
+pub record IsReady (c : Meaning) (at : SearchDay) (rest : Around) (xs : List Offer) (labels : List ℕ) : Type 0 where
+  pub day : IsDayOf c at
+  pub offers : All (IsOfferOf c) xs
+  pub few : length xs ≤ 16
+  pub leads : All (LeadsOn c at rest.here rest.behind) xs
+  pub later : AreLabels c at.nurse rest.behind rest.best labels
+  pub all : product at.ranges ≤ length labels
+
+-- ---- a stretch of states
+
+-- it is within the ranges, is not longer than there is room for, and each of its states stands
+pub record IsStretchOf (c : Meaning) (at : SearchDay) (here : List Area) (stretch : Stretch) : Type 0 where
+  pub fits : fits_sizes at.ranges stretch.block ≡ true
+  pub without : stretch.block.assignments ≡ 0
+  pub some_rows : 0 < stretch.rows
+  pub some_places : stretch.from < stretch.end
+  pub weekends : stretch.block.weekends + stretch.rows ≤ at.ranges.weekends
+  pub assignments : stretch.end ≤ at.ranges.assignments
+  pub short : stretch.rows * at.ranges.assignments ≤ 1000
+  pub stands : (i b : ℕ) → i < stretch.rows → b < stretch.end - stretch.from → Stands c at.nurse here (stretch_state stretch.block stretch.from i b)
 
 -- the label and the pointer of the state with so many assignments are those of the least of some offers
 abbrev pub LeastFrom : Meaning → SearchDay → BestOnward → Summary → List Offer → ℕ → ℕ → ℕ → Type 0
 LeastFrom c at later s offers a label pointer = AreOfLeast (best_by c at later (with_assignments s a)) offers label pointer
 
--- the same for the places from one on, so many, of so many blocks, each with one worked weekend more: they stand one behind the other,
--- each block so many places behind the one before
-abbrev pub StretchCells : Meaning → SearchDay → BestOnward → Summary → List Offer → (rows from width side code first : ℕ) → List ℕ → List ℕ → Type 0
-StretchCells c at later s offers rows from width side code first labels pointers =
-    (i b : ℕ) → i < rows → b < width → LeastFrom c at later (with_weekends s (s.weekends + i)) offers (from + b) (slice_index_or labels (code + (i * side + b)) 0) (slice_index_or pointers (first + (i * side + b)) 0)
+-- the labels and the pointers of a stretch, in two lists that begin with its first place: its rows stand one after another, each so
+-- many places after the one before
+abbrev pub RunCells : Meaning → SearchDay → BestOnward → Stretch → List Offer → List ℕ → List ℕ → Type 0
+RunCells c at later stretch offers labels pointers =
+    (i b : ℕ) → i < stretch.rows → b < stretch.end - stretch.from → LeastFrom c at later (with_weekends stretch.block (stretch.block.weekends + i)) offers (stretch.from + b) (slice_index_or labels (i * at.ranges.assignments + b) 0) (slice_index_or pointers (i * at.ranges.assignments + b) 0)
 
--- the places from one to another by a number for each: the label is the smaller of the two, and the pointer is set exactly where
--- the number is strictly smaller
-pub record AreLowered (from end : ℕ) (others : ℕ → ℕ) (number : ℕ) (labels_old pointers_old labels pointers : List ℕ) : Type 0 where
-  pub label : (a : ℕ) → from ≤ a → a < end → slice_index_or labels a 0 ≡ min (slice_index_or labels_old a 0) (others a)
-  pub pointer : (a : ℕ) → from ≤ a → a < end → slice_index_or pointers a 0 ≡ (if nat_lt (others a) (slice_index_or labels_old a 0) then number else slice_index_or pointers_old a 0)
+-- the same in two tables, where the place without assignments of its first row stands at a code of one and at a place of the other
+abbrev pub StretchCells : Meaning → SearchDay → BestOnward → Summary → List Offer → (rows from end code first : ℕ) → List ℕ → List ℕ → Type 0
+StretchCells c at later block offers rows from end code first labels pointers =
+    (i a : ℕ) → i < rows → from ≤ a → a < end → LeastFrom c at later (with_weekends block (block.weekends + i)) offers a (slice_index_or labels (code + (i * at.ranges.assignments + a)) 0) (slice_index_or pointers (first + (i * at.ranges.assignments + a)) 0)
+
+-- in so many rows the places before one are the old ones
+abbrev pub PlacesKept : (rows from side first : ℕ) → (old new : List ℕ) → Type 0
+PlacesKept rows from side first old new = (i a : ℕ) → i < rows → a < from → slice_index_or new (first + (i * side + a)) 0 ≡ slice_index_or old (first + (i * side + a)) 0
 
 -- the best row begins with this choice, and goes on from the next state with the best row there
 pub record BeginsWith (later : BestOnward) (row : ℕ × List Offer) (choice : Choice) (next : Summary) : Type 0 where

@@ -1,26 +1,24 @@
 //! The labels and pointers of a day: for each state what the best row from there on costs, and with which offer it begins.
 
-ghost use Rattle.std.specs.Prelude.{◌≡◌, ◌+◌, ◌-◌, ◌*◌, ◌<◌, ◌≤◌, true, ℕ, List, [], All, is_some, length, slice_index_or, take};
+ghost use Rattle.std.specs.Prelude.{◌≡◌, ◌+◌, ◌-◌, ◌*◌, ◌<◌, ◌≤◌, true, ℕ, List, is_some, length, slice_index_or, take};
 ghost use Rattle.roster_rules.specs.DayLaw.{weekends_more};
-ghost use Rattle.roster_rules.specs.Meaning.{contract_of, day_count, nurse_count};
+ghost use Rattle.roster_rules.specs.Meaning.{contract_of, nurse_count};
 ghost use Rattle.roster_rules.specs.Prefix.{Summary};
-ghost use Rattle.roster_rules.specs.Weights.{assignment_weight};
 ghost use Rattle.roster_state.specs.declared.Area.{Area};
 ghost use Rattle.roster_state.specs.Areas.{InSpan, area_at};
-ghost use Rattle.roster_state.specs.Codes.{code_of, fits_sizes, product, shift_digit, shift_numbered, sizes_of};
-ghost use Rattle.roster_state.specs.Room.{most_of_step};
-ghost use Rattle.roster_state.specs.Step.{with_assignments, with_weekends};
-ghost use Rattle.roster_state.specs.Blocks.{place_behind, place_cost};
+ghost use Rattle.roster_state.specs.Codes.{code_of, fits_sizes, product, shift_digit, sizes_of};
+ghost use Rattle.roster_state.specs.Step.{with_assignments};
+ghost use Rattle.roster_state.specs.Stretches.{IsAlike};
 ghost use Rattle.roster_lanes.specs.Lanes.{SameOutside};
-ghost use Rattle.roster_search.specs.Tables.{AreLabels, AreLowered, ArePointers, Around, Cells, IsDayOf, IsOfferOf, LabelsOf, LeadsOn, LeastFrom, PointersOf, Stands, StandsLike, StretchCells, best_at_end, best_on, label_of, most_price, no_row};
+ghost use Rattle.roster_search.specs.Halves.{IsWritten};
+ghost use Rattle.roster_search.specs.Counts.{states_on, states_with};
+ghost use Rattle.roster_search.specs.Tables.{AreLabels, ArePointers, Around, IsReady, IsStretchOf, LabelsOf, PointersOf, PlacesKept, RunCells, Stands, StandsLike, StretchCells, best_at_end, best_on, label_of};
 
-use crate::day::SearchDay;
-use crate::offer::Offer;
+use crate::day::OpenDay;
 use crate::pointers::Pointers;
 use roster_lanes::lower_all;
 use roster_rules::Case;
-use roster_rules::weights::ASSIGNMENT;
-use roster_state::{Area, Block, BlockStep, Meter, Ranges, end_cost, extend_block};
+use roster_state::{Area, Block, Meter, Ranges, Stretch, end_cost, extend_stretch};
 
 /// The label of a state from which no row goes on. Each row costs less.
 pub const NO_ROW: u32 = 1_073_741_824;
@@ -92,533 +90,371 @@ fn label_block_end(case: &Case, nurse: usize, ranges: &Ranges, block: Block, lab
     }
 }
 
-/// The labels and the pointers of the states that stand on a day, by its offers and by the labels of the day behind it. The pointers
-/// stand from the first place on. For each of these states and each offer the meter counts one.
-pub fn label_day(
-    case: &Case,
-    at: &SearchDay,
-    areas: &[Area; 9],
-    offers: &[Offer],
-    later: &[u32],
-    labels: &mut [u32],
-    pointers: &mut Pointers,
-    first: u32,
-    meter: &mut Meter,
-)
+/// The labels and the pointers of the states that stand on a day. For each of these states and each offer the meter counts one.
+pub fn label_day(day: &OpenDay<'_>, labels: &mut [u32], pointers: &mut Pointers, meter: &mut Meter)
     ghost rest: { Around }
-    requires day { IsDayOf case.now at.now }
-    requires here { rest.here ≡ areas.now }
-    requires offers { All (IsOfferOf case.now) offers.now }
-    requires few { length offers.now ≤ 16 }
-    requires leads { All (LeadsOn case.now at.now rest.here rest.behind) offers.now }
-    requires later { AreLabels case.now at.now.nurse rest.behind rest.best later.now }
-    requires all { product at.now.ranges ≤ length later.now }
-    requires labels_room { product at.now.ranges ≤ length labels.old }
-    requires pointers_room { first + product at.now.ranges ≤ length pointers.old }
-    requires room { meter.old + product at.now.ranges * length offers.now ≤ 18446744073709551615 }
-    ensures labels { AreLabels case.now at.now.nurse rest.here (best_on case.now at.now offers.now rest.best) labels.new }
-    ensures pointers { ArePointers case.now at.now rest.here offers.now rest.best first pointers.new }
-    ensures others { SameOutside first (first + product at.now.ranges) pointers.old pointers.new }
+    requires ready { IsReady day.now.case.now day.now.at rest day.now.offers.now day.now.later.now }
+    requires here { rest.here ≡ day.now.areas.now }
+    requires labels_room { product day.now.at.ranges ≤ length labels.old }
+    requires pointers_room { day.now.first + product day.now.at.ranges ≤ length pointers.old }
+    requires room { meter.old + product day.now.at.ranges * length day.now.offers.now ≤ 18446744073709551615 }
+    ensures labels { AreLabels day.now.case.now day.now.at.nurse rest.here (best_on day.now.case.now day.now.at day.now.offers.now rest.best) labels.new }
+    ensures pointers { ArePointers day.now.case.now day.now.at rest.here day.now.offers.now rest.best day.now.first pointers.new }
+    ensures others { SameOutside day.now.first (day.now.first + product day.now.at.ranges) pointers.old pointers.new }
     ensures lengths { (length labels.new ≡ length labels.old) × (length pointers.new ≡ length pointers.old) }
-    ensures some { 0 < length offers.now → (s : Summary) → Stands case.now at.now.nurse rest.here s → meter.old < meter.new }
-    ensures counted { meter.new ≤ meter.old + product at.now.ranges * length offers.now }
+    ensures some { 0 < length day.now.offers.now → (s : Summary) → Stands day.now.case.now day.now.at.nurse rest.here s → meter.old < meter.new }
+    ensures counted { meter.new ≤ meter.old + product day.now.at.ranges * length day.now.offers.now }
+    ensures exactly { meter.new ≡ meter.old + states_on day.now.case.now day.now.at.nurse rest.here * length day.now.offers.now }
 {
-    let mut numbers = [0; MOST_PLACES];
-    let (runs, shift_runs) = (at.ranges.run(), at.ranges.shift_run());
-    for last in 0..at.ranges.last() {
-        let area = areas[last as usize];
+    let ranges = day.at.ranges;
+    let (runs, shift_runs) = (ranges.run(), ranges.shift_run());
+    let mut room = Room {
+        labels: [0; MOST_PLACES],
+        numbers: [0; MOST_PLACES],
+    };
+    for last in 0..ranges.last() {
+        let area = area_of(day.areas, last);
         let (first_run, end_run) = area.run.below(runs);
         for run in first_run..end_run {
             let (first_shift_run, end_shift_run) = area.shift_run.below(shift_runs);
             for shift_run in first_shift_run..end_shift_run {
                 let group = Block::of_runs(last, run as u16, shift_run as u16);
-                label_group(
-                    case,
-                    at,
-                    group,
-                    &area,
-                    offers,
-                    later,
-                    labels,
-                    pointers,
-                    first,
-                    &mut numbers,
-                    meter,
-                );
+                label_group(day, group, labels, pointers, &mut room, meter);
             }
         }
     }
 }
 
-/// The greatest number of places of a block.
+/// The greatest number of places of a block, and of a stretch with what stands between its rows.
 const MOST_PLACES: usize = 1000;
+
+/// Where the labels and the numbers of a stretch are reckoned.
+#[derive(Drop)]
+struct Room {
+    labels: [u32; 1000],
+    numbers: [u8; 1000],
+}
+
+/// The area of a last shift's number, 0 where there is none.
+#[inline(always)]
+fn area_of(areas: &[Area; 9], last: u32) -> Area
+    requires { last < 9 }
+    ensures { result ≡ area_at areas.now last }
+{
+    areas[last as usize]
+}
 
 /// The labels and the pointers of the states that stand on a day, of those that differ in their weekends and assignments alone.
 fn label_group(
-    case: &Case,
-    at: &SearchDay,
+    day: &OpenDay<'_>,
     group: Block,
-    area: &Area,
-    offers: &[Offer],
-    later: &[u32],
     labels: &mut [u32],
     pointers: &mut Pointers,
-    first: u32,
-    numbers: &mut [u8],
+    room: &mut Room,
     meter: &mut Meter,
 )
     ghost rest: { Around }
-    requires day { IsDayOf case.now at.now }
-    requires fits { fits_sizes at.now.ranges group ≡ true }
+    requires ready { IsReady day.now.case.now day.now.at rest day.now.offers.now day.now.later.now }
+    requires here { rest.here ≡ day.now.areas.now }
+    requires fits { fits_sizes day.now.at.ranges group ≡ true }
     requires first { (group.weekends ≡ 0) × (group.assignments ≡ 0) }
-    requires area { area.now ≡ area_at rest.here (shift_digit group.last) }
-    requires runs { (InSpan area.now.run group.run) × (InSpan area.now.shift_run group.shift_run) }
-    requires offers { All (IsOfferOf case.now) offers.now }
-    requires few { length offers.now ≤ 16 }
-    requires leads { All (LeadsOn case.now at.now rest.here rest.behind) offers.now }
-    requires later { AreLabels case.now at.now.nurse rest.behind rest.best later.now }
-    requires all { product at.now.ranges ≤ length later.now }
-    requires labels_room { product at.now.ranges ≤ length labels.old }
-    requires pointers_room { first + product at.now.ranges ≤ length pointers.old }
-    requires numbers_room { 1000 ≤ length numbers.old }
-    requires room { meter.old + at.now.ranges.weekends * (length offers.now * at.now.ranges.assignments) ≤ 18446744073709551615 }
-    ensures labels { LabelsOf (StandsLike case.now at.now.nurse rest.here group) case.now at.now.nurse (best_on case.now at.now offers.now rest.best) labels.new }
-    ensures pointers { PointersOf (StandsLike case.now at.now.nurse rest.here group) case.now at.now offers.now rest.best first pointers.new }
-    ensures labels_others { SameOutside (code_of at.now.ranges group) (code_of at.now.ranges group + at.now.ranges.weekends * at.now.ranges.assignments) labels.old labels.new }
-    ensures pointers_others { SameOutside (first + code_of at.now.ranges group) (first + code_of at.now.ranges group + at.now.ranges.weekends * at.now.ranges.assignments) pointers.old pointers.new }
+    requires runs { (InSpan (area_at rest.here (shift_digit group.last)).run group.run) × (InSpan (area_at rest.here (shift_digit group.last)).shift_run group.shift_run) }
+    requires labels_room { product day.now.at.ranges ≤ length labels.old }
+    requires pointers_room { day.now.first + product day.now.at.ranges ≤ length pointers.old }
+    requires room { meter.old + day.now.at.ranges.weekends * (length day.now.offers.now * day.now.at.ranges.assignments) ≤ 18446744073709551615 }
+    ensures labels { LabelsOf (StandsLike day.now.case.now day.now.at.nurse rest.here group) day.now.case.now day.now.at.nurse (best_on day.now.case.now day.now.at day.now.offers.now rest.best) labels.new }
+    ensures pointers { PointersOf (StandsLike day.now.case.now day.now.at.nurse rest.here group) day.now.case.now day.now.at day.now.offers.now rest.best day.now.first pointers.new }
+    ensures labels_others { SameOutside (code_of day.now.at.ranges group) (code_of day.now.at.ranges group + day.now.at.ranges.weekends * day.now.at.ranges.assignments) labels.old labels.new }
+    ensures pointers_others { SameOutside (day.now.first + code_of day.now.at.ranges group) (day.now.first + code_of day.now.at.ranges group + day.now.at.ranges.weekends * day.now.at.ranges.assignments) pointers.old pointers.new }
     ensures lengths { (length labels.new ≡ length labels.old) × (length pointers.new ≡ length pointers.old) }
-    ensures numbers { length numbers.new ≡ length numbers.old }
-    ensures grown { meter.old ≤ meter.new }
-    ensures some { 0 < length offers.now → (s : Summary) → StandsLike case.now at.now.nurse rest.here group s → meter.old < meter.new }
-    ensures counted { meter.new ≤ meter.old + at.now.ranges.weekends * (length offers.now * at.now.ranges.assignments) }
+    ensures some { 0 < length day.now.offers.now → (s : Summary) → StandsLike day.now.case.now day.now.at.nurse rest.here group s → meter.old < meter.new }
+    ensures exactly { meter.new ≡ meter.old + states_with day.now.case.now day.now.at.nurse rest.here group * length day.now.offers.now }
+    ensures counted { meter.new ≤ meter.old + day.now.at.ranges.weekends * (length day.now.offers.now * day.now.at.ranges.assignments) }
 {
-    let (from, end) = area.assignments.below(at.ranges.assignments());
+    let at = day.at;
+    day.case.keeps_limits();
+    if !group.can_be(day.case, at.nurse) {
+        return;
+    }
+    let side = at.ranges.assignments();
+    let area = area_of(day.areas, group.last_number());
+    let (from, end) = area.assignments.below(side);
+    let (first, last) = area.weekends.below(at.ranges.weekends());
     if end <= from {
         return;
     }
-    if !group.can_be(case, at.nurse) {
-        return;
-    }
-    let (first_weekends, end_weekends) = area.weekends.below(at.ranges.weekends());
-    let rows = end_weekends - first_weekends;
-    let is_short = rows * at.ranges.assignments() <= 1000;
-    if 0 < rows && is_short && group.is_alike(case, at.nurse, at.day, end_weekends, end) {
-        label_stretch(
-            case,
-            at,
-            group.with_weekends(first_weekends as u16),
-            rows,
+    let mut weekends = first;
+    while weekends < last {
+        let block = group.with_weekends(weekends as u16);
+        let left = Stretch {
+            block,
+            rows: last - weekends,
             from,
             end,
-            offers,
-            later,
-            labels,
-            pointers,
-            first,
-            numbers,
-            meter,
-        );
-        return;
-    }
-    for weekends in first_weekends..end_weekends {
-        label_block(
-            case,
-            at,
-            group.with_weekends(weekends as u16),
-            from,
-            end,
-            offers,
-            later,
-            labels,
-            pointers,
-            first,
-            numbers,
-            meter,
-        );
+        };
+        let alike = left.alike_rows(day.case, at.nurse, at.day);
+        let rows = rows_with_room(alike, side);
+        let alike = Stretch { rows, ..left };
+        label_rows(day, &alike, labels, pointers, room, meter);
+        weekends += rows;
     }
 }
 
-/// The labels and the pointers of the places of a block from one to another, and of those of the blocks behind it with more worked
-/// weekends, of so many blocks together, where a day is the same from all of them: they are lowered all at once, with what stands
-/// between them. For each of these states and each offer the meter counts one.
-fn label_stretch(
-    case: &Case,
-    at: &SearchDay,
-    block: Block,
-    rows: u32,
-    from: u32,
-    end: u32,
-    offers: &[Offer],
-    later: &[u32],
+/// So many rows where there is room for them, with what stands between them, else one.
+fn rows_with_room(rows: u32, side: u32) -> u32
+    requires some { 0 < rows }
+    requires few { (rows ≤ 1000) × (side ≤ 1000) }
+    ensures some { 0 < result }
+    ensures within { result ≤ rows }
+    ensures room { result * side ≤ 1000 }
+{
+    if rows * side <= MOST_PLACES as u32 {
+        return rows;
+    }
+    1
+}
+
+/// The labels and the pointers of rows of places, where a day takes the rows alike.
+fn label_rows(
+    day: &OpenDay<'_>,
+    rows: &Stretch,
     labels: &mut [u32],
     pointers: &mut Pointers,
-    first: u32,
+    room: &mut Room,
+    meter: &mut Meter,
+)
+    ghost rest: { Around }
+    requires ready { IsReady day.now.case.now day.now.at rest day.now.offers.now day.now.later.now }
+    requires stretch { IsStretchOf day.now.case.now day.now.at rest.here rows.now }
+    requires alike { 1 < rows.now.rows → rows.now.block.weekends + rows.now.rows + weekends_more day.now.at.day (is_some rows.now.block.last) true ≤ (contract_of day.now.case.now day.now.at.nurse).weekends + 1 }
+    requires labels_room { product day.now.at.ranges ≤ length labels.old }
+    requires pointers_room { day.now.first + product day.now.at.ranges ≤ length pointers.old }
+    requires room { meter.old + length day.now.offers.now * (rows.now.rows * (rows.now.end - rows.now.from)) ≤ 18446744073709551615 }
+    ensures least { StretchCells day.now.case.now day.now.at rest.best rows.now.block day.now.offers.now rows.now.rows rows.now.from rows.now.end (code_of day.now.at.ranges rows.now.block) (day.now.first + code_of day.now.at.ranges rows.now.block) labels.new pointers.new }
+    ensures labels_others { SameOutside (code_of day.now.at.ranges rows.now.block) (code_of day.now.at.ranges rows.now.block + rows.now.rows * day.now.at.ranges.assignments) labels.old labels.new }
+    ensures pointers_others { SameOutside (day.now.first + code_of day.now.at.ranges rows.now.block) (day.now.first + code_of day.now.at.ranges rows.now.block + rows.now.rows * day.now.at.ranges.assignments) pointers.old pointers.new }
+    ensures lengths { (length labels.new ≡ length labels.old) × (length pointers.new ≡ length pointers.old) }
+    ensures counted { meter.new ≡ meter.old + length day.now.offers.now * (rows.now.rows * (rows.now.end - rows.now.from)) }
+{
+    let (case, nurse) = (day.case, day.at.nurse);
+    let end = rows.alike_end(case, nurse);
+    let first = Stretch { end, ..*rows };
+    label_stretch(day, &first, labels, pointers, &mut room.numbers, meter);
+    let mut from = end;
+    while from < rows.end {
+        let left = Stretch { from, ..*rows };
+        let to = left.alike_end(case, nurse);
+        let part = Stretch { end: to, ..left };
+        label_apart(day, &part, labels, pointers, room, meter);
+        from = to;
+    }
+}
+
+/// The labels and the pointers of a stretch from which a day is alike: they are lowered all at once in their places, with what stands
+/// between its rows.
+fn label_stretch(
+    day: &OpenDay<'_>,
+    stretch: &Stretch,
+    labels: &mut [u32],
+    pointers: &mut Pointers,
     numbers: &mut [u8],
     meter: &mut Meter,
 )
     ghost rest: { Around }
-    requires day { IsDayOf case.now at.now }
-    requires fits { fits_sizes at.now.ranges block ≡ true }
-    requires places { (from < end) × (end ≤ (contract_of case.now at.now.nurse).total.greatest) }
-    requires rows { (0 < rows) × (block.weekends + rows ≤ at.now.ranges.weekends) × (rows * at.now.ranges.assignments ≤ 1000) }
-    requires alike { block.weekends + rows + weekends_more at.now.day (is_some block.last) true ≤ (contract_of case.now at.now.nurse).weekends + 1 }
-    requires stands { (i b : ℕ) → i < rows → b < end - from → Stands case.now at.now.nurse rest.here (with_assignments (with_weekends block (block.weekends + i)) (from + b)) }
-    requires offers { All (IsOfferOf case.now) offers.now }
-    requires few { length offers.now ≤ 16 }
-    requires leads { All (LeadsOn case.now at.now rest.here rest.behind) offers.now }
-    requires later { AreLabels case.now at.now.nurse rest.behind rest.best later.now }
-    requires all { product at.now.ranges ≤ length later.now }
-    requires labels_room { product at.now.ranges ≤ length labels.old }
-    requires pointers_room { first + product at.now.ranges ≤ length pointers.old }
+    requires ready { IsReady day.now.case.now day.now.at rest day.now.offers.now day.now.later.now }
+    requires stretch { IsStretchOf day.now.case.now day.now.at rest.here stretch.now }
+    requires alike { IsAlike day.now.case.now day.now.at.nurse day.now.at.day stretch.now.block stretch.now.rows stretch.now.from stretch.now.end }
+    requires labels_room { product day.now.at.ranges ≤ length labels.old }
+    requires pointers_room { day.now.first + product day.now.at.ranges ≤ length pointers.old }
     requires numbers_room { 1000 ≤ length numbers.old }
-    requires room { meter.old + length offers.now * (rows * (end - from)) ≤ 18446744073709551615 }
-    ensures least { StretchCells case.now at.now rest.best block offers.now rows from (end - from) at.now.ranges.assignments (code_of at.now.ranges block + from) (first + code_of at.now.ranges block + from) labels.new pointers.new }
-    ensures labels_others { SameOutside (code_of at.now.ranges block) (code_of at.now.ranges block + rows * at.now.ranges.assignments) labels.old labels.new }
-    ensures pointers_others { SameOutside (first + code_of at.now.ranges block) (first + code_of at.now.ranges block + rows * at.now.ranges.assignments) pointers.old pointers.new }
+    requires room { meter.old + length day.now.offers.now * (stretch.now.rows * (stretch.now.end - stretch.now.from)) ≤ 18446744073709551615 }
+    ensures least { StretchCells day.now.case.now day.now.at rest.best stretch.now.block day.now.offers.now stretch.now.rows stretch.now.from stretch.now.end (code_of day.now.at.ranges stretch.now.block) (day.now.first + code_of day.now.at.ranges stretch.now.block) labels.new pointers.new }
+    ensures labels_others { SameOutside (code_of day.now.at.ranges stretch.now.block) (code_of day.now.at.ranges stretch.now.block + stretch.now.rows * day.now.at.ranges.assignments) labels.old labels.new }
+    ensures pointers_others { SameOutside (day.now.first + code_of day.now.at.ranges stretch.now.block) (day.now.first + code_of day.now.at.ranges stretch.now.block + stretch.now.rows * day.now.at.ranges.assignments) pointers.old pointers.new }
     ensures lengths { (length labels.new ≡ length labels.old) × (length pointers.new ≡ length pointers.old) }
     ensures numbers { length numbers.new ≡ length numbers.old }
-    ensures counted { meter.new ≡ meter.old + length offers.now * (rows * (end - from)) }
+    ensures counted { meter.new ≡ meter.old + length day.now.offers.now * (stretch.now.rows * (stretch.now.end - stretch.now.from)) }
 {
-    let code = block.first(&at.ranges) as usize + from as usize;
-    let count = ((rows - 1) * at.ranges.assignments() + (end - from)) as usize;
+    let ranges = day.at.ranges;
+    let code = stretch.block.first(&ranges) as usize + stretch.from as usize;
+    let between = (stretch.rows - 1) * ranges.assignments();
+    let count = (between + (stretch.end - stretch.from)) as usize;
     let numbers = &mut numbers[..count];
     label_run(
-        case,
-        at,
-        block,
-        rows,
-        from,
-        end,
-        offers,
-        later,
+        day,
+        stretch,
         &mut labels[code..code + count],
         numbers,
         meter,
     );
-    pointers.set_run(first as usize + code, numbers);
+    pointers.set_run(day.first as usize + code, numbers);
+}
+
+/// The same, but what stands between the rows stays as it is: they are lowered apart, and each row is then put in its place.
+fn label_apart(
+    day: &OpenDay<'_>,
+    stretch: &Stretch,
+    labels: &mut [u32],
+    pointers: &mut Pointers,
+    room: &mut Room,
+    meter: &mut Meter,
+)
+    ghost rest: { Around }
+    requires ready { IsReady day.now.case.now day.now.at rest day.now.offers.now day.now.later.now }
+    requires stretch { IsStretchOf day.now.case.now day.now.at rest.here stretch.now }
+    requires alike { IsAlike day.now.case.now day.now.at.nurse day.now.at.day stretch.now.block stretch.now.rows stretch.now.from stretch.now.end }
+    requires labels_room { product day.now.at.ranges ≤ length labels.old }
+    requires pointers_room { day.now.first + product day.now.at.ranges ≤ length pointers.old }
+    requires room { meter.old + length day.now.offers.now * (stretch.now.rows * (stretch.now.end - stretch.now.from)) ≤ 18446744073709551615 }
+    ensures least { StretchCells day.now.case.now day.now.at rest.best stretch.now.block day.now.offers.now stretch.now.rows stretch.now.from stretch.now.end (code_of day.now.at.ranges stretch.now.block) (day.now.first + code_of day.now.at.ranges stretch.now.block) labels.new pointers.new }
+    ensures labels_kept { PlacesKept stretch.now.rows stretch.now.from day.now.at.ranges.assignments (code_of day.now.at.ranges stretch.now.block) labels.old labels.new }
+    ensures pointers_kept { PlacesKept stretch.now.rows stretch.now.from day.now.at.ranges.assignments (day.now.first + code_of day.now.at.ranges stretch.now.block) pointers.old pointers.new }
+    ensures labels_others { SameOutside (code_of day.now.at.ranges stretch.now.block) (code_of day.now.at.ranges stretch.now.block + stretch.now.rows * day.now.at.ranges.assignments) labels.old labels.new }
+    ensures pointers_others { SameOutside (day.now.first + code_of day.now.at.ranges stretch.now.block) (day.now.first + code_of day.now.at.ranges stretch.now.block + stretch.now.rows * day.now.at.ranges.assignments) pointers.old pointers.new }
+    ensures lengths { (length labels.new ≡ length labels.old) × (length pointers.new ≡ length pointers.old) }
+    ensures counted { meter.new ≡ meter.old + length day.now.offers.now * (stretch.now.rows * (stretch.now.end - stretch.now.from)) }
+{
+    let Room {
+        labels: apart,
+        numbers,
+    } = room;
+    label_room(day, stretch, apart, numbers, meter);
+    put_rows(day, stretch, apart, numbers, labels, pointers);
+}
+
+/// The labels and the numbers of a stretch, in lists that are long enough for any.
+fn label_room(
+    day: &OpenDay<'_>,
+    stretch: &Stretch,
+    apart: &mut [u32],
+    numbers: &mut [u8],
+    meter: &mut Meter,
+)
+    ghost rest: { Around }
+    requires ready { IsReady day.now.case.now day.now.at rest day.now.offers.now day.now.later.now }
+    requires stretch { IsStretchOf day.now.case.now day.now.at rest.here stretch.now }
+    requires alike { IsAlike day.now.case.now day.now.at.nurse day.now.at.day stretch.now.block stretch.now.rows stretch.now.from stretch.now.end }
+    requires apart_room { 1000 ≤ length apart.old }
+    requires numbers_room { 1000 ≤ length numbers.old }
+    requires room { meter.old + length day.now.offers.now * (stretch.now.rows * (stretch.now.end - stretch.now.from)) ≤ 18446744073709551615 }
+    ensures least { RunCells day.now.case.now day.now.at rest.best stretch.now day.now.offers.now apart.new numbers.new }
+    ensures small { (a : ℕ) → a < (stretch.now.rows - 1) * day.now.at.ranges.assignments + (stretch.now.end - stretch.now.from) → slice_index_or numbers.new a 0 < 16 }
+    ensures lengths { (length apart.new ≡ length apart.old) × (length numbers.new ≡ length numbers.old) }
+    ensures counted { meter.new ≡ meter.old + length day.now.offers.now * (stretch.now.rows * (stretch.now.end - stretch.now.from)) }
+{
+    let between = (stretch.rows - 1) * day.at.ranges.assignments();
+    let count = (between + (stretch.end - stretch.from)) as usize;
+    label_run(
+        day,
+        stretch,
+        &mut apart[..count],
+        &mut numbers[..count],
+        meter,
+    );
+}
+
+/// Puts the labels and the numbers of a stretch in their places, row by row; what stands between the rows stays.
+fn put_rows(
+    day: &OpenDay<'_>,
+    stretch: &Stretch,
+    apart: &[u32],
+    numbers: &[u8],
+    labels: &mut [u32],
+    pointers: &mut Pointers,
+)
+    ghost rest: { Around }
+    requires stretch { IsStretchOf day.now.case.now day.now.at rest.here stretch.now }
+    requires least { RunCells day.now.case.now day.now.at rest.best stretch.now day.now.offers.now apart.now numbers.now }
+    requires small { (a : ℕ) → a < (stretch.now.rows - 1) * day.now.at.ranges.assignments + (stretch.now.end - stretch.now.from) → slice_index_or numbers.now a 0 < 16 }
+    requires apart_room { 1000 ≤ length apart.now }
+    requires numbers_room { 1000 ≤ length numbers.now }
+    requires labels_room { product day.now.at.ranges ≤ length labels.old }
+    requires pointers_room { day.now.first + product day.now.at.ranges ≤ length pointers.old }
+    ensures least { StretchCells day.now.case.now day.now.at rest.best stretch.now.block day.now.offers.now stretch.now.rows stretch.now.from stretch.now.end (code_of day.now.at.ranges stretch.now.block) (day.now.first + code_of day.now.at.ranges stretch.now.block) labels.new pointers.new }
+    ensures labels_kept { PlacesKept stretch.now.rows stretch.now.from day.now.at.ranges.assignments (code_of day.now.at.ranges stretch.now.block) labels.old labels.new }
+    ensures pointers_kept { PlacesKept stretch.now.rows stretch.now.from day.now.at.ranges.assignments (day.now.first + code_of day.now.at.ranges stretch.now.block) pointers.old pointers.new }
+    ensures labels_others { SameOutside (code_of day.now.at.ranges stretch.now.block) (code_of day.now.at.ranges stretch.now.block + stretch.now.rows * day.now.at.ranges.assignments) labels.old labels.new }
+    ensures pointers_others { SameOutside (day.now.first + code_of day.now.at.ranges stretch.now.block) (day.now.first + code_of day.now.at.ranges stretch.now.block + stretch.now.rows * day.now.at.ranges.assignments) pointers.old pointers.new }
+    ensures lengths { (length labels.new ≡ length labels.old) × (length pointers.new ≡ length pointers.old) }
+{
+    let ranges = day.at.ranges;
+    let side = ranges.assignments() as usize;
+    let width = (stretch.end - stretch.from) as usize;
+    let code = stretch.block.first(&ranges) as usize + stretch.from as usize;
+    for row in 0..stretch.rows as usize {
+        let at = row * side;
+        put_run(labels, code + at, &apart[at..at + width]);
+        pointers.set_run(day.first as usize + code + at, &numbers[at..at + width]);
+    }
+}
+
+/// Puts labels in consecutive places; the others stay.
+fn put_run(labels: &mut [u32], first: usize, run: &[u32])
+    requires { first + length run.now ≤ length labels.old }
+    ensures { IsWritten first run.now labels.old labels.new }
+{
+    labels[first..first + run.len()].copy_from_slice(run);
 }
 
 /// The labels of a stretch, and for each place the number of the offer with which the best row begins, by all offers of the day.
 fn label_run(
-    case: &Case,
-    at: &SearchDay,
-    block: Block,
-    rows: u32,
-    from: u32,
-    end: u32,
-    offers: &[Offer],
-    later: &[u32],
+    day: &OpenDay<'_>,
+    stretch: &Stretch,
     labels: &mut [u32],
     numbers: &mut [u8],
     meter: &mut Meter,
 )
     ghost rest: { Around }
-    requires day { IsDayOf case.now at.now }
-    requires fits { fits_sizes at.now.ranges block ≡ true }
-    requires places { (from < end) × (end ≤ (contract_of case.now at.now.nurse).total.greatest) }
-    requires rows { (0 < rows) × (block.weekends + rows ≤ at.now.ranges.weekends) × (rows * at.now.ranges.assignments ≤ 1000) }
-    requires alike { block.weekends + rows + weekends_more at.now.day (is_some block.last) true ≤ (contract_of case.now at.now.nurse).weekends + 1 }
-    requires stands { (i b : ℕ) → i < rows → b < end - from → Stands case.now at.now.nurse rest.here (with_assignments (with_weekends block (block.weekends + i)) (from + b)) }
-    requires offers { All (IsOfferOf case.now) offers.now }
-    requires few { length offers.now ≤ 16 }
-    requires leads { All (LeadsOn case.now at.now rest.here rest.behind) offers.now }
-    requires later { AreLabels case.now at.now.nurse rest.behind rest.best later.now }
-    requires all { product at.now.ranges ≤ length later.now }
-    requires labels_length { length labels.old ≡ (rows - 1) * at.now.ranges.assignments + (end - from) }
-    requires numbers_length { length numbers.old ≡ (rows - 1) * at.now.ranges.assignments + (end - from) }
-    requires room { meter.old + length offers.now * (rows * (end - from)) ≤ 18446744073709551615 }
-    ensures least { StretchCells case.now at.now rest.best block offers.now rows from (end - from) at.now.ranges.assignments 0 0 labels.new numbers.new }
+    requires ready { IsReady day.now.case.now day.now.at rest day.now.offers.now day.now.later.now }
+    requires stretch { IsStretchOf day.now.case.now day.now.at rest.here stretch.now }
+    requires alike { IsAlike day.now.case.now day.now.at.nurse day.now.at.day stretch.now.block stretch.now.rows stretch.now.from stretch.now.end }
+    requires labels_length { length labels.old ≡ (stretch.now.rows - 1) * day.now.at.ranges.assignments + (stretch.now.end - stretch.now.from) }
+    requires numbers_length { length numbers.old ≡ (stretch.now.rows - 1) * day.now.at.ranges.assignments + (stretch.now.end - stretch.now.from) }
+    requires room { meter.old + length day.now.offers.now * (stretch.now.rows * (stretch.now.end - stretch.now.from)) ≤ 18446744073709551615 }
+    ensures least { RunCells day.now.case.now day.now.at rest.best stretch.now day.now.offers.now labels.new numbers.new }
     ensures small { (a : ℕ) → a < length numbers.new → slice_index_or numbers.new a 0 < 16 }
     ensures lengths { (length labels.new ≡ length labels.old) × (length numbers.new ≡ length numbers.old) }
-    ensures counted { meter.new ≡ meter.old + length offers.now * (rows * (end - from)) }
+    ensures counted { meter.new ≡ meter.old + length day.now.offers.now * (stretch.now.rows * (stretch.now.end - stretch.now.from)) }
 {
     labels.fill(NO_ROW);
     numbers.fill(0);
-    for place in 0..offers.len() {
-        lower_run(
-            case, at, block, rows, from, end, offers, place, later, labels, numbers, meter,
-        );
+    for place in 0..day.offers.len() {
+        lower_run(day, stretch, place, labels, numbers, meter);
     }
 }
 
-/// Lowers the labels of a stretch to those by one offer more, and sets the numbers of those that are lower.
+/// Lowers the labels of a stretch to those by one offer more, and sets the numbers of those that are lower: of equally good offers the
+/// first stays.
 fn lower_run(
-    case: &Case,
-    at: &SearchDay,
-    block: Block,
-    rows: u32,
-    from: u32,
-    end: u32,
-    offers: &[Offer],
+    day: &OpenDay<'_>,
+    stretch: &Stretch,
     place: usize,
-    later: &[u32],
     labels: &mut [u32],
     numbers: &mut [u8],
     meter: &mut Meter,
 )
     ghost rest: { Around }
-    requires day { IsDayOf case.now at.now }
-    requires fits { fits_sizes at.now.ranges block ≡ true }
-    requires places { (from < end) × (end ≤ (contract_of case.now at.now.nurse).total.greatest) }
-    requires rows { (0 < rows) × (block.weekends + rows ≤ at.now.ranges.weekends) × (rows * at.now.ranges.assignments ≤ 1000) }
-    requires alike { block.weekends + rows + weekends_more at.now.day (is_some block.last) true ≤ (contract_of case.now at.now.nurse).weekends + 1 }
-    requires stands { (i b : ℕ) → i < rows → b < end - from → Stands case.now at.now.nurse rest.here (with_assignments (with_weekends block (block.weekends + i)) (from + b)) }
-    requires offers { All (IsOfferOf case.now) offers.now }
-    requires few { length offers.now ≤ 16 }
-    requires leads { All (LeadsOn case.now at.now rest.here rest.behind) offers.now }
-    requires later { AreLabels case.now at.now.nurse rest.behind rest.best later.now }
-    requires all { product at.now.ranges ≤ length later.now }
-    requires place { place < length offers.now }
-    requires labels_length { length labels.old ≡ (rows - 1) * at.now.ranges.assignments + (end - from) }
-    requires numbers_length { length numbers.old ≡ (rows - 1) * at.now.ranges.assignments + (end - from) }
-    requires least { StretchCells case.now at.now rest.best block (take place offers.now) rows from (end - from) at.now.ranges.assignments 0 0 labels.old numbers.old }
+    requires ready { IsReady day.now.case.now day.now.at rest day.now.offers.now day.now.later.now }
+    requires stretch { IsStretchOf day.now.case.now day.now.at rest.here stretch.now }
+    requires alike { IsAlike day.now.case.now day.now.at.nurse day.now.at.day stretch.now.block stretch.now.rows stretch.now.from stretch.now.end }
+    requires place { place < length day.now.offers.now }
+    requires labels_length { length labels.old ≡ (stretch.now.rows - 1) * day.now.at.ranges.assignments + (stretch.now.end - stretch.now.from) }
+    requires numbers_length { length numbers.old ≡ (stretch.now.rows - 1) * day.now.at.ranges.assignments + (stretch.now.end - stretch.now.from) }
+    requires least { RunCells day.now.case.now day.now.at rest.best stretch.now (take place day.now.offers.now) labels.old numbers.old }
     requires small { (a : ℕ) → a < length numbers.old → slice_index_or numbers.old a 0 < 16 }
-    requires room { meter.old + rows * (end - from) ≤ 18446744073709551615 }
-    ensures least { StretchCells case.now at.now rest.best block (take (place + 1) offers.now) rows from (end - from) at.now.ranges.assignments 0 0 labels.new numbers.new }
+    requires room { meter.old + stretch.now.rows * (stretch.now.end - stretch.now.from) ≤ 18446744073709551615 }
+    ensures least { RunCells day.now.case.now day.now.at rest.best stretch.now (take (place + 1) day.now.offers.now) labels.new numbers.new }
     ensures small { (a : ℕ) → a < length numbers.new → slice_index_or numbers.new a 0 < 16 }
     ensures lengths { (length labels.new ≡ length labels.old) × (length numbers.new ≡ length numbers.old) }
-    ensures counted { meter.new ≡ meter.old + rows * (end - from) }
+    ensures counted { meter.new ≡ meter.old + stretch.now.rows * (stretch.now.end - stretch.now.from) }
 {
-    let offer = offers[place];
+    let at = day.at;
+    let offer = day.offers[place];
     let shift = offer.choice.shift();
-    let states = rows * (end - from);
-    if let Some(step) = extend_block(case, at.nurse, at.day, block, shift, states, meter) {
-        let moved = step.moves as usize;
-        let behind = step.next.first(&at.ranges) as usize + from as usize + moved;
-        let others = &later[behind..behind + labels.len()];
-        lower_all(
-            labels,
-            numbers,
-            others,
-            offer.price + step.cost,
-            place as u8,
-        );
+    if let Some(step) = extend_stretch(day.case, at.nurse, at.day, *stretch, shift, meter) {
+        let behind = step.0.code(&at.ranges) as usize;
+        let others = &day.later[behind..behind + labels.len()];
+        let points = offer.price + step.1;
+        lower_all(labels, numbers, others, points, place as u8);
     }
-}
-
-/// The labels and the pointers of the places of a block from one to another, by all offers of the day. The pointers are set in a list
-/// of numbers first, and all of them at once then. For each state and each offer the meter counts one.
-fn label_block(
-    case: &Case,
-    at: &SearchDay,
-    block: Block,
-    from: u32,
-    end: u32,
-    offers: &[Offer],
-    later: &[u32],
-    labels: &mut [u32],
-    pointers: &mut Pointers,
-    first: u32,
-    numbers: &mut [u8],
-    meter: &mut Meter,
-)
-    ghost rest: { Around }
-    requires day { IsDayOf case.now at.now }
-    requires fits { fits_sizes at.now.ranges block ≡ true }
-    requires places { (from < end) × (end ≤ at.now.ranges.assignments) }
-    requires stands { (a : ℕ) → from ≤ a → a < end → Stands case.now at.now.nurse rest.here (with_assignments block a) }
-    requires offers { All (IsOfferOf case.now) offers.now }
-    requires few { length offers.now ≤ 16 }
-    requires leads { All (LeadsOn case.now at.now rest.here rest.behind) offers.now }
-    requires later { AreLabels case.now at.now.nurse rest.behind rest.best later.now }
-    requires all { product at.now.ranges ≤ length later.now }
-    requires labels_room { product at.now.ranges ≤ length labels.old }
-    requires pointers_room { first + product at.now.ranges ≤ length pointers.old }
-    requires numbers_room { 1000 ≤ length numbers.old }
-    requires room { meter.old + length offers.now * (end - from) ≤ 18446744073709551615 }
-    ensures least { Cells (LeastFrom case.now at.now rest.best block offers.now) (code_of at.now.ranges block) (first + code_of at.now.ranges block) from end labels.new pointers.new }
-    ensures labels_others { SameOutside (code_of at.now.ranges block) (code_of at.now.ranges block + at.now.ranges.assignments) labels.old labels.new }
-    ensures pointers_others { SameOutside (first + code_of at.now.ranges block) (first + code_of at.now.ranges block + at.now.ranges.assignments) pointers.old pointers.new }
-    ensures lengths { (length labels.new ≡ length labels.old) × (length pointers.new ≡ length pointers.old) }
-    ensures numbers { length numbers.new ≡ length numbers.old }
-    ensures counted { meter.new ≡ meter.old + length offers.now * (end - from) }
-{
-    let places = block.places(&at.ranges) as usize;
-    let code = block.first(&at.ranges) as usize;
-    let numbers = &mut numbers[..places];
-    label_places(
-        case,
-        at,
-        block,
-        from,
-        end,
-        offers,
-        later,
-        &mut labels[code..code + places],
-        numbers,
-        meter,
-    );
-    let set = &numbers[from as usize..end as usize];
-    pointers.set_run(first as usize + code + from as usize, set);
-}
-
-/// The labels of the places of a block from one to another, and for each place the number of the offer with which the best row begins,
-/// by all offers of the day.
-fn label_places(
-    case: &Case,
-    at: &SearchDay,
-    block: Block,
-    from: u32,
-    end: u32,
-    offers: &[Offer],
-    later: &[u32],
-    labels: &mut [u32],
-    numbers: &mut [u8],
-    meter: &mut Meter,
-)
-    ghost rest: { Around }
-    requires day { IsDayOf case.now at.now }
-    requires fits { fits_sizes at.now.ranges block ≡ true }
-    requires places { (from < end) × (end ≤ at.now.ranges.assignments) }
-    requires stands { (a : ℕ) → from ≤ a → a < end → Stands case.now at.now.nurse rest.here (with_assignments block a) }
-    requires offers { All (IsOfferOf case.now) offers.now }
-    requires few { length offers.now ≤ 16 }
-    requires leads { All (LeadsOn case.now at.now rest.here rest.behind) offers.now }
-    requires later { AreLabels case.now at.now.nurse rest.behind rest.best later.now }
-    requires all { product at.now.ranges ≤ length later.now }
-    requires labels_length { length labels.old ≡ at.now.ranges.assignments }
-    requires numbers_length { length numbers.old ≡ at.now.ranges.assignments }
-    requires room { meter.old + length offers.now * (end - from) ≤ 18446744073709551615 }
-    ensures least { Cells (LeastFrom case.now at.now rest.best block offers.now) 0 0 from end labels.new numbers.new }
-    ensures small { (a : ℕ) → from ≤ a → a < end → slice_index_or numbers.new a 0 < 16 }
-    ensures lengths { (length labels.new ≡ length labels.old) × (length numbers.new ≡ length numbers.old) }
-    ensures counted { meter.new ≡ meter.old + length offers.now * (end - from) }
-{
-    labels[from as usize..end as usize].fill(NO_ROW);
-    numbers[from as usize..end as usize].fill(0);
-    for place in 0..offers.len() {
-        lower_by(
-            case, at, block, from, end, offers, place, later, labels, numbers, meter,
-        );
-    }
-}
-
-/// Lowers the labels of the places of a block from one to another to those by one offer more, and sets the numbers of those that are
-/// lower: of equally good offers the first stays. For each state the meter counts one.
-fn lower_by(
-    case: &Case,
-    at: &SearchDay,
-    block: Block,
-    from: u32,
-    end: u32,
-    offers: &[Offer],
-    place: usize,
-    later: &[u32],
-    labels: &mut [u32],
-    numbers: &mut [u8],
-    meter: &mut Meter,
-)
-    ghost rest: { Around }
-    requires day { IsDayOf case.now at.now }
-    requires fits { fits_sizes at.now.ranges block ≡ true }
-    requires places { (from < end) × (end ≤ at.now.ranges.assignments) }
-    requires stands { (a : ℕ) → from ≤ a → a < end → Stands case.now at.now.nurse rest.here (with_assignments block a) }
-    requires offers { All (IsOfferOf case.now) offers.now }
-    requires few { length offers.now ≤ 16 }
-    requires leads { All (LeadsOn case.now at.now rest.here rest.behind) offers.now }
-    requires place { place < length offers.now }
-    requires later { AreLabels case.now at.now.nurse rest.behind rest.best later.now }
-    requires all { product at.now.ranges ≤ length later.now }
-    requires labels_length { length labels.old ≡ at.now.ranges.assignments }
-    requires numbers_length { length numbers.old ≡ at.now.ranges.assignments }
-    requires least { Cells (LeastFrom case.now at.now rest.best block (take place offers.now)) 0 0 from end labels.old numbers.old }
-    requires small { (a : ℕ) → from ≤ a → a < end → slice_index_or numbers.old a 0 < 16 }
-    requires room { meter.old + (end - from) ≤ 18446744073709551615 }
-    ensures least { Cells (LeastFrom case.now at.now rest.best block (take (place + 1) offers.now)) 0 0 from end labels.new numbers.new }
-    ensures small { (a : ℕ) → from ≤ a → a < end → slice_index_or numbers.new a 0 < 16 }
-    ensures lengths { (length labels.new ≡ length labels.old) × (length numbers.new ≡ length numbers.old) }
-    ensures counted { meter.new ≡ meter.old + (end - from) }
-{
-    let offer = offers[place];
-    let shift = offer.choice.shift();
-    let places = end - from;
-    if let Some(step) = extend_block(case, at.nurse, at.day, block, shift, places, meter) {
-        let first = step.next.first(&at.ranges) as usize;
-        let behind = &later[first..first + labels.len()];
-        lower_places(
-            labels,
-            numbers,
-            from as usize,
-            end as usize,
-            behind,
-            &step,
-            offer.price,
-            place as u8,
-        );
-    }
-}
-
-/// Lowers the labels of the places of a block from one to another by a step at a price, where the labels behind are those of the next
-/// block.
-fn lower_places(
-    labels: &mut [u32],
-    numbers: &mut [u8],
-    from: usize,
-    end: usize,
-    behind: &[u32],
-    step: &BlockStep,
-    price: u32,
-    number: u8,
-)
-    requires places { (from < end) × (end ≤ length labels.old) }
-    requires numbers { length numbers.old ≡ length labels.old }
-    requires behind { length behind.now ≡ length labels.old }
-    requires low { (a : ℕ) → from ≤ a → a < end → slice_index_or behind.now (place_behind (length labels.old) step.now.moves a) 0 ≤ no_row }
-    requires price { price ≤ most_price }
-    requires cost { step.now.cost + assignment_weight ≤ most_of_step }
-    ensures lowered { AreLowered from end (λ a. price + place_cost step.now a + slice_index_or behind.now (place_behind (length labels.old) step.now.moves a) 0) number labels.old numbers.old labels.new numbers.new }
-    ensures lengths { (length labels.new ≡ length labels.old) × (length numbers.new ≡ length numbers.old) }
-{
-    let last = labels.len() - 1;
-    let top = end.min(last);
-    let level = top.min(step.dearer_from as usize);
-    let dearer = from.max(level);
-    let moved = step.moves as usize;
-    let points = price + step.cost;
-    let at_last = points + ASSIGNMENT * (step.dearer_from as usize <= last) as u32;
-    lower_stretch(labels, numbers, from, dearer, behind, moved, points, number);
-    let dearer_points = points + ASSIGNMENT;
-    lower_stretch(
-        labels,
-        numbers,
-        dearer,
-        top,
-        behind,
-        moved,
-        dearer_points,
-        number,
-    );
-    lower_stretch(labels, numbers, top, end, behind, 0, at_last, number);
-}
-
-/// Lowers the labels of the places from one up to another, by the labels behind, so many places further, at some points.
-fn lower_stretch(
-    labels: &mut [u32],
-    numbers: &mut [u8],
-    from: usize,
-    end: usize,
-    behind: &[u32],
-    moved: usize,
-    points: u32,
-    number: u8,
-)
-    requires order { from ≤ end }
-    requires room { end ≤ length labels.old }
-    requires numbers { length numbers.old ≡ length labels.old }
-    requires behind { end + moved ≤ length behind.now }
-    requires low { (i : ℕ) → i < end - from → slice_index_or behind.now (from + moved + i) 0 ≤ no_row }
-    requires points { points + no_row ≤ 4294967295 }
-    ensures lowered { AreLowered from end (λ a. points + slice_index_or behind.now (a + moved) 0) number labels.old numbers.old labels.new numbers.new }
-    ensures labels_others { SameOutside from end labels.old labels.new }
-    ensures numbers_others { SameOutside from end numbers.old numbers.new }
-    ensures lengths { (length labels.new ≡ length labels.old) × (length numbers.new ≡ length numbers.old) }
-{
-    let others = &behind[from + moved..end + moved];
-    lower_all(
-        &mut labels[from..end],
-        &mut numbers[from..end],
-        others,
-        points,
-        number,
-    );
 }

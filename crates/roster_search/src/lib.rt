@@ -15,7 +15,7 @@ mod pointers;
 mod read;
 mod stand;
 
-pub use day::SearchDay;
+pub use day::{OpenDay, SearchDay};
 pub use labels::{NO_ROW, label_day, label_end};
 pub use laws::{
     best_row_is_found_by_states, cheapest_row_is_found_by_states, offers_are_few,

@@ -10,7 +10,7 @@ use Rattle.roster_rules.specs.Sizes.{cap}
 use Rattle.roster_rules.specs.Small.{HasSmallNumbers}
 use Rattle.roster_rules.specs.Weights.{assignment_weight, weekend_weight}
 use Rattle.roster_state.specs.declared.block.BlockStep.{BlockStep}
-use Rattle.roster_state.specs.Blocks.{further_step, place_behind, place_step}
+use Rattle.roster_state.specs.Blocks.{place_behind, place_step}
 use Rattle.roster_state.specs.Codes.{fits_sizes, sizes_of}
 use Rattle.roster_state.specs.Room.{most_of_step}
 use Rattle.roster_state.specs.Step.{cost_apart, free_more, next_of, run_with, shift_run_with, shifts_more, split_more, step_cost, step_of, with_assignments, with_weekends, working_more}
@@ -81,54 +81,3 @@ module _ (c : Meaning) (n day : ℕ) (s : Summary) where
 
     pub block_fits : IfSome shift (λ u. u.0 < shift_count c) → fits_sizes (sizes_of c n) x ≡ true
     block_fits known = subst (λ (y : Summary). fits_sizes (sizes_of c n) y ≡ true) (sym next) (place-fits (sizes_of c n) (next_of c n day s shift) 0 (omega arith) (next_fits c n day s shift known))
-
--- ---- so many worked weekends more
-
-more_at_most : (day : ℕ) (before now : Bool) → weekends_more day before now ≤ weekends_more day before true
-more_at_most day before true = omega arith
-more_at_most day before false = grind arith
-
-weekend_same : (points greatest w more counts : ℕ) → w + more + counts ≤ greatest → (if nat_le greatest w then points * counts else 0) ≡ (if nat_le greatest (w + more) then points * counts else 0)
-weekend_same points greatest w more zero room = nothing (nat_le greatest w) ∙ sym (nothing (nat_le greatest (w + more)))
-  where
-    nothing : (b : Bool) → (if b then points * 0 else 0) ≡ 0
-    nothing true = omega arith
-    nothing false = refl
-weekend_same points greatest w more (suc counts) room =
-    λ i. if (lt-leb greatest w (omega (arith, room)) ∙ sym (lt-leb greatest (w + more) (omega (arith, room)))) i then points * suc counts else 0
-
-module _ (c : Meaning) (n day : ℕ) (s : Summary) (shift : Option Shift) (more : ℕ) (room : s.weekends + more + weekends_more day (is_some s.last) true ≤ (contract_of c n).weekends) where
-  abbrev further : Summary
-  further = with_weekends s (s.weekends + more)
-
-  few_more : s.weekends + more + weekends_more day (is_some s.last) (is_some shift) ≤ (contract_of c n).weekends
-  few_more = omega (arith, room, more_at_most day (is_some s.last) (is_some shift))
-
-  pub cost_further : cost_apart c n day s shift ≡ cost_apart c n day further shift
-  cost_further =
-      ap (λ k. working_more c n s shift + free_more c n s shift + shifts_more c s shift + split_more c n day s shift + k)
-      (weekend_same weekend_weight (contract_of c n).weekends s.weekends more (weekends_more day (is_some s.last) (is_some shift)) few_more)
-
-far : (w k m most : ℕ) → w + k + m ≤ most → min (w + m) most + k ≡ min (w + k + m) most
-far w k m most room = omega (arith, room)
-
-module _ (c : Meaning) (n day : ℕ) (s : Summary) (more : ℕ) (room : s.weekends + more + weekends_more day (is_some s.last) true ≤ (contract_of c n).weekends) where
-  weekends_far : (shift : Option Shift) → min (s.weekends + weekends_more day (is_some s.last) (is_some shift)) (contract_of c n).weekends + more ≡ min (s.weekends + more + weekends_more day (is_some s.last) (is_some shift)) (contract_of c n).weekends
-  weekends_far shift = far s.weekends more (weekends_more day (is_some s.last) (is_some shift)) (contract_of c n).weekends (few_more c n day s shift more room)
-
-  pub next_further : (shift : Option Shift) → with_weekends (with_assignments (next_of c n day s shift) 0) ((next_of c n day s shift).weekends + more) ≡ with_assignments (next_of c n day (further c n day s shift more room) shift) 0
-  unfolding next_of
-  next_further None = λ i. record { last = None; run = run_with c n s None; shift_run = 0; assignments = 0; weekends = weekends_far None i }
-  next_further (Some t) = λ i. record { last = Some t; run = run_with c n s (Some t); shift_run = shift_run_with c s (Some t); assignments = 0; weekends = weekends_far (Some t) i }
-
--- ---- the places of a block with so many worked weekends more
-
-module _ (c : Meaning) (n day : ℕ) (s : Summary) (shift : Option Shift) (more : ℕ) (room : s.weekends + more + weekends_more day (is_some s.last) true ≤ (contract_of c n).weekends) where
-  module _ (x : Summary) (m : Bool) (k d : ℕ) (next : x ≡ with_assignments (next_of c n day s shift) 0) (moves : m ≡ is_some shift) (cost : k ≡ cost_apart c n day s shift) (from : d ≡ dearer c n day s shift) where
-    abbrev taken : BlockStep
-    taken = record { next = x; moves = m; cost = k; dearer_from = d }
-
-    pub further_places : forbids c.successions s.last shift ≡ false → (a : ℕ) → a < cap (contract_of c n).total + 1 → option_map (further_step (cap (contract_of c n).total + 1) more a) (Some taken) ≡ step_of c n day (with_assignments (with_weekends s (s.weekends + more)) a) shift
-    further_places allowed a inside =
-        places_step c n day (with_weekends s (s.weekends + more)) shift (with_weekends x (x.weekends + more)) m k d
-        (ap (λ (y : Summary). with_weekends y (y.weekends + more)) next ∙ next_further c n day s more room shift) moves (cost ∙ cost_further c n day s shift more room) from allowed a inside

@@ -7,7 +7,7 @@ use Rattle.roster_rules.specs.Meaning.{Meaning, shift_at}
 use Rattle.roster_rules.specs.Prefix.{Summary}
 use Rattle.roster_rules.specs.Limits.{most_states}
 use Rattle.roster_rules.specs.Sizes.{state_count}
-use Rattle.roster_state.specs.Codes.{KeepLimits, Sizes, blocks, code_of, fits_sizes, groups, product, shift_digit, shift_numbered, sizes_of, state_at, state_numbered}
+use Rattle.roster_state.specs.Codes.{KeepLimits, Sizes, blocks, code_of, fits_sizes, product, shift_digit, shift_numbered, sizes_of, state_at, state_numbered}
 use Rattle.roster_state.specs.Step.{with_assignments}
 
 -- ---- sizes
@@ -291,66 +291,6 @@ module _ (z now : Sizes) (block : ℕ) (sizes : z ≡ now) (keep : KeepLimits z)
       block-code =
           subst (λ y. code_of now (of_block a) ≡ block * y.assignments + a) sizes
           (subst (λ s. code_of now s ≡ block * z.assignments + a) read-is_block (read-back z now (block * z.assignments + a) last sizes read_last))
-
--- ---- the blocks of a group, one for each number of worked weekends
-
-module _ (z now : Sizes) (group : ℕ) (sizes : z ≡ now) (keep : KeepLimits z) (below : group < groups now) where
-  in-group : (w : ℕ) → w < z.weekends → group * z.weekends + w < blocks now
-  in-group w inside =
-      let few : group < groups z = subst (λ n. group < n) (ap groups (sym sizes)) below in
-      subst (λ n. group * z.weekends + w < n) (ap blocks sizes) (digit-below group z.weekends w (groups z) few inside)
-
-  pub group-small : group / z.shift_run / z.run ≤ 256
-  group-small =
-      subst (λ q. q / z.shift_run / z.run ≤ 256) (div-mul-add group z.weekends 0 keep.weekends.some)
-      (first-small z now (group * z.weekends + 0) sizes keep (in-group 0 keep.weekends.some))
-
-  module _ (last : Option Shift) (last_is : last ≡ shift_numbered (group / z.shift_run / z.run)) (w : ℕ) (within : w < now.weekends) where
-    abbrev block : ℕ
-    block = group * z.weekends + w
-
-    inside_w : w < z.weekends
-    inside_w = subst (λ y. w < y.weekends) (sym sizes) within
-
-    quotient : block / z.weekends ≡ group
-    quotient = div-mul-add group z.weekends w inside_w
-
-    rest : block % z.weekends ≡ w
-    rest = mod-mul-add group z.weekends w inside_w
-
-    block_last : last ≡ shift_numbered (block / z.weekends / z.shift_run / z.run)
-    block_last = last_is ∙ ap (λ q. shift_numbered (q / z.shift_run / z.run)) (sym quotient)
-
-    abbrev of_group : ℕ → Summary
-    of_group a = record {
-      last = last;
-      run = group / z.shift_run % z.run;
-      shift_run = group % z.shift_run;
-      assignments = a;
-      weekends = w;
-    }
-
-    is_group : (a : ℕ) → of_block z now block sizes keep (in-group w inside_w) last block_last a ≡ of_group a
-    is_group a = λ i. record {
-      last = last;
-      run = quotient i / z.shift_run % z.run;
-      shift_run = quotient i % z.shift_run;
-      assignments = a;
-      weekends = rest i;
-    }
-
-    pub group-fits : (a : ℕ) → a < now.assignments → fits_sizes now (of_group a) ≡ true
-    group-fits a few = subst (λ s. fits_sizes now s ≡ true) (is_group a) (block-fits z now block sizes keep (in-group w inside_w) last block_last a few)
-
-    pub group-state : (a : ℕ) → a < now.assignments → state_at now ((group * now.weekends + w) * now.assignments + a) ≡ Some (of_group a)
-    group-state a few =
-        subst (λ y. state_at now ((group * y.weekends + w) * now.assignments + a) ≡ Some (of_group a)) sizes
-        (block-state z now block sizes keep (in-group w inside_w) last block_last a few ∙ ap Some (is_group a))
-
-    pub group-code : (a : ℕ) → a < now.assignments → code_of now (of_group a) ≡ (group * now.weekends + w) * now.assignments + a
-    group-code a few =
-        subst (λ y. code_of now (of_group a) ≡ (group * y.weekends + w) * now.assignments + a) sizes
-        (subst (λ s. code_of now s ≡ block * now.assignments + a) (is_group a) (block-code z now block sizes keep (in-group w inside_w) last block_last a few))
 
 -- ---- the places of a block
 

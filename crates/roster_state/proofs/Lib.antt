@@ -10,3 +10,4 @@ pub mod StepBounds
 pub mod CodeLemmas
 pub mod TriedDays
 pub mod Standing
+pub mod StretchLaw

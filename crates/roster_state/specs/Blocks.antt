@@ -4,7 +4,7 @@ use Rattle.std.specs.Prelude.{ℕ, ◌+◌, ◌-◌, Bool, min, nat_le, if◌the
 use Rattle.roster_rules.specs.Prefix.{Summary}
 use Rattle.roster_rules.specs.Weights.{assignment_weight}
 use Rattle.roster_state.specs.declared.block.BlockStep.{BlockStep}
-use Rattle.roster_state.specs.Step.{with_assignments, with_weekends}
+use Rattle.roster_state.specs.Step.{with_assignments}
 
 -- to which place of so many a place goes: to the next one, where the places move and this isn't the last
 abbrev pub place_behind : ℕ → Bool → ℕ → ℕ
@@ -17,7 +17,3 @@ place_cost step a = step.cost + (if nat_le step.dearer_from a then assignment_we
 -- the summary behind the day and its cost, from a place of so many
 abbrev pub place_step : ℕ → ℕ → BlockStep → Summary × ℕ
 place_step places a step = (with_assignments step.next (place_behind places step.moves a), place_cost step a)
-
--- the same from a place of the block with so many worked weekends more
-abbrev pub further_step : ℕ → (more a : ℕ) → BlockStep → Summary × ℕ
-further_step places more a step = (with_assignments (with_weekends step.next (step.next.weekends + more)) (place_behind places step.moves a), place_cost step a)

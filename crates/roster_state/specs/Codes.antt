@@ -33,10 +33,6 @@ product z = z.last * z.run * z.shift_run * z.assignments * z.weekends
 abbrev pub blocks : Sizes → ℕ
 blocks z = z.last * z.run * z.shift_run * z.weekends
 
--- how many times as many as there are values of the worked weekends and the assignments
-abbrev pub groups : Sizes → ℕ
-groups z = z.last * z.run * z.shift_run
-
 -- the last shift as a number: 0 where there is none
 abbrev pub shift_digit : Option Shift → ℕ
 shift_digit None = 0

@@ -4,3 +4,4 @@ pub mod Blocks
 pub mod Codes
 pub mod Room
 pub mod Standing
+pub mod Stretches

@@ -42,6 +42,8 @@ impl Span {
         ensures order { (result.0 ≤ result.1) × (result.1 ≤ size) }
         ensures each { (x : ℕ) → InSpan self x → x < size → (result.0 ≤ x) × (x < result.1) }
         ensures only { (x : ℕ) → result.0 ≤ x → x < result.1 → InSpan self x }
+        ensures end { result.1 ≡ min (self.greatest + 1) size }
+        ensures first { result.0 ≡ min self.least result.1 }
     {
         let end = min(self.greatest as u32 + 1, size);
         (min(self.least as u32, end), end)

@@ -1,20 +1,19 @@
 //! The states that differ in their assignments alone, and one day more from all of them at once.
 
 ghost use Rattle.std.specs.Prelude.{◌≡◌, ◌↔◌, ◌+◌, ◌*◌, ◌<◌, ◌≤◌, ◌&&◌, ◌||◌, ℕ, true, nat_le, IfSome, IsNone, Some, if◌then◌else◌, is_some, option_map};
-ghost use Rattle.roster_rules.specs.Meaning.{contract_of, day_count, forbids, nurse_count, shift_count};
-ghost use Rattle.roster_rules.specs.DayLaw.{weekends_more};
+ghost use Rattle.roster_rules.specs.Meaning.{day_count, forbids, nurse_count, shift_count};
 ghost use Rattle.roster_rules.specs.Sizes.{cap};
 ghost use Rattle.roster_rules.specs.Weights.{assignment_weight};
-ghost use Rattle.roster_state.specs.Blocks.{further_step, place_step};
-ghost use Rattle.roster_state.specs.Codes.{blocks, code_of, fits_sizes, groups, product, shift_numbered, sizes_of, state_at};
+ghost use Rattle.roster_state.specs.Blocks.{place_step};
+ghost use Rattle.roster_state.specs.Codes.{blocks, code_of, fits_sizes, product, shift_digit, shift_numbered, sizes_of, state_at};
 ghost use Rattle.roster_state.specs.Room.{most_of_step};
 ghost use Rattle.roster_state.specs.Standing.{can_be, excess};
 ghost use Rattle.roster_state.specs.Step.{step_of, with_assignments, with_weekends};
 
 use crate::meter::Meter;
 use crate::ranges::Ranges;
-use crate::state::{State, shift_numbered};
-use crate::step::{cost_apart, next_of, weekends_more};
+use crate::state::{State, shift_digit, shift_numbered};
+use crate::step::{cost_apart, next_of};
 use roster_rules::weights::ASSIGNMENT;
 use roster_rules::{Border, Case, Limits, Past, Shift};
 use std::cmp::min;
@@ -24,7 +23,7 @@ use std::marker::Model;
 #[derive(Clone, Copy, Debug, PartialEq, Eq)]
 pub struct Block {
     /// Place 0.
-    state: State,
+    pub(crate) state: State,
 }
 
 impl Model for Block {
@@ -75,27 +74,6 @@ impl Block {
         }
     }
 
-    /// The block without worked weekends of a group: of the blocks that differ in their worked weekends alone. Those of a group stand
-    /// beside one another, each with one more.
-    #[inline(always)]
-    pub fn of_group(ranges: &Ranges, group: u32) -> Block
-        requires { group < groups ranges.now }
-        ensures states { (w a : ℕ) → w < ranges.now.weekends → a < ranges.now.assignments → state_at ranges.now ((group * ranges.now.weekends + w) * ranges.now.assignments + a) ≡ Some (with_assignments (with_weekends result w) a) }
-        ensures fits { (w : ℕ) → w < ranges.now.weekends → fits_sizes ranges.now (with_weekends result w) ≡ true }
-        ensures first { (w : ℕ) → w < ranges.now.weekends → code_of ranges.now (with_weekends result w) ≡ (group * ranges.now.weekends + w) * ranges.now.assignments }
-    {
-        let run = group / ranges.shift_run;
-        Block {
-            state: State {
-                last: shift_numbered(run / ranges.run),
-                run: (run % ranges.run) as u16,
-                shift_run: (group % ranges.shift_run) as u16,
-                assignments: 0,
-                weekends: 0,
-            },
-        }
-    }
-
     /// The block with a last shift by its number, 0 where there is none, and these runs, without worked weekends.
     #[inline(always)]
     pub fn of_runs(last: u32, run: u16, shift_run: u16) -> Block
@@ -111,6 +89,14 @@ impl Block {
                 weekends: 0,
             },
         }
+    }
+
+    /// The last shift as a number, 0 where there is none.
+    #[inline(always)]
+    pub fn last_number(&self) -> u32
+        ensures number { result ≡ shift_digit self.now.last }
+    {
+        shift_digit(self.state.last)
     }
 
     /// The block with so many worked weekends.
@@ -162,19 +148,6 @@ impl Block {
                 excess(case.past(nurse)),
             ),
         }
-    }
-
-    /// Whether a day is the same, and costs the same, from all places before an end of the blocks that differ in their worked weekends,
-    /// of so many: no assignment is above the greatest total, and no worked weekend above the greatest number.
-    #[inline(always)]
-    pub fn is_alike(&self, case: &Case, nurse: usize, day: u16, weekends: u32, end: u32) -> bool
-        ensures places { result ≡ true → end ≤ (contract_of case.now nurse).total.greatest }
-        ensures weekends { result ≡ true → weekends + weekends_more day (is_some self.now.last) true ≤ (contract_of case.now nurse).weekends + 1 }
-    {
-        let rules = case.contract_rules(nurse);
-        let begins = weekends_more(day, self.state.last, Some(Shift(0)));
-        let most = rules.weekends as u32 + 1;
-        end <= rules.total.greatest as u32 && weekends <= most && begins <= most - weekends
     }
 
     /// How many places a block has: the greater of the least and the greatest total, and one more.
@@ -273,7 +246,7 @@ impl BlockStep {
 }
 
 /// One day more from all states of a block, on which the nurse works this shift or is off. None exactly where the last shift forbids
-/// the next. Either way the meter counts one for each of so many places.
+/// the next. Either way the meter counts one for each place.
 #[inline(always)]
 pub fn extend_block(
     case: &Case,
@@ -281,29 +254,23 @@ pub fn extend_block(
     day: u16,
     block: Block,
     shift: Option<Shift>,
-    places: u32,
     meter: &mut Meter,
 ) -> Option<BlockStep>
     requires nurse { nurse < nurse_count case.now }
     requires day { day < day_count case.now }
     requires shift { IfSome shift (λ s. s.0 < shift_count case.now) }
     requires fits { fits_sizes (sizes_of case.now nurse) block ≡ true }
-    requires room { meter.old + places ≤ 18446744073709551615 }
-    ensures counted { meter.new ≡ meter.old + places }
+    requires room { meter.old + (sizes_of case.now nurse).assignments ≤ 18446744073709551615 }
+    ensures counted { meter.new ≡ meter.old + (sizes_of case.now nurse).assignments }
     ensures forbidden { IsNone result ↔ forbids case.now.successions block.last shift ≡ true }
 
     // Each place goes where its state goes, at the same cost.
     ensures steps { (a : ℕ) → a < (sizes_of case.now nurse).assignments → option_map (place_step (sizes_of case.now nurse).assignments a) result ≡ step_of case.now nurse day (with_assignments block a) shift }
     ensures next_fits { IfSome result (λ step. fits_sizes (sizes_of case.now nurse) step.next ≡ true) }
-    ensures next_can_be { can_be case.now nurse block ≡ true → IfSome result (λ step. can_be case.now nurse step.next ≡ true) }
     ensures dearer { IfSome result (λ step. step.dearer_from ≤ (sizes_of case.now nurse).assignments) }
     ensures within { IfSome result (λ step. step.cost + assignment_weight ≤ most_of_step) }
-    ensures level { IfSome result (λ step. (contract_of case.now nurse).total.greatest ≤ step.dearer_from) }
-
-    // With so many worked weekends more it is the same, where none of them is above the greatest number.
-    ensures rows { (more a : ℕ) → block.weekends + more + weekends_more day (is_some block.last) true ≤ (contract_of case.now nurse).weekends → a < (sizes_of case.now nurse).assignments → option_map (further_step (sizes_of case.now nurse).assignments more a) result ≡ step_of case.now nurse day (with_assignments (with_weekends block (block.weekends + more)) a) shift }
 {
-    meter.add(places as u64);
+    meter.add(case.contract_rules(nurse).total.cap() as u64 + 1);
     block_step(case, nurse, day, block, shift)
 }
 
@@ -321,13 +288,8 @@ pub(crate) fn block_step(
     ensures forbidden { IsNone result ↔ forbids case.now.successions block.last shift ≡ true }
     ensures steps { (a : ℕ) → a < (sizes_of case.now nurse).assignments → option_map (place_step (sizes_of case.now nurse).assignments a) result ≡ step_of case.now nurse day (with_assignments block a) shift }
     ensures next_fits { IfSome result (λ step. fits_sizes (sizes_of case.now nurse) step.next ≡ true) }
-    ensures next_can_be { can_be case.now nurse block ≡ true → IfSome result (λ step. can_be case.now nurse step.next ≡ true) }
     ensures dearer { IfSome result (λ step. step.dearer_from ≤ (sizes_of case.now nurse).assignments) }
     ensures within { IfSome result (λ step. step.cost + assignment_weight ≤ most_of_step) }
-    ensures level { IfSome result (λ step. (contract_of case.now nurse).total.greatest ≤ step.dearer_from) }
-
-    // With so many worked weekends more it is the same, where none of them is above the greatest number.
-    ensures rows { (more a : ℕ) → block.weekends + more + weekends_more day (is_some block.last) true ≤ (contract_of case.now nurse).weekends → a < (sizes_of case.now nurse).assignments → option_map (further_step (sizes_of case.now nurse).assignments more a) result ≡ step_of case.now nurse day (with_assignments (with_weekends block (block.weekends + more)) a) shift }
 {
     if case.forbids_next(block.state.last, shift) {
         return None;

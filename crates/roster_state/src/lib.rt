@@ -8,6 +8,7 @@ mod ranges;
 mod row;
 mod state;
 mod step;
+mod stretch;
 
 pub use area::{AREAS, Area, NOWHERE, Span, areas_of, widen};
 pub use block::{Block, BlockStep, extend_block};
@@ -16,3 +17,4 @@ pub use ranges::Ranges;
 pub use row::row_cost;
 pub use state::State;
 pub use step::{after, end_cost, extend, start};
+pub use stretch::{Stretch, extend_stretch};

@@ -4,7 +4,7 @@ ghost use Rattle.std.specs.Prelude.{◌≡◌, ◌*◌, ◌<◌, ◌≤◌};
 ghost use Rattle.roster_rules.specs.Limits.{most_states};
 ghost use Rattle.roster_rules.specs.Meaning.{nurse_count};
 ghost use Rattle.roster_rules.specs.Sizes.{state_count};
-ghost use Rattle.roster_state.specs.Codes.{blocks, groups, product, sizes_of};
+ghost use Rattle.roster_state.specs.Codes.{blocks, product, sizes_of};
 
 use roster_rules::{Case, MAX_STATES};
 use std::cmp::max;
@@ -94,23 +94,13 @@ impl Ranges {
         self.assignments
     }
 
-    /// How many blocks differ in their worked weekends alone: a group of blocks beside one another.
+    /// How many values the worked weekends have.
     pub fn weekends(&self) -> u32
         ensures weekends { result ≡ self.now.weekends }
         ensures within { result ≤ 1000 }
         ensures some { 0 < result }
     {
         self.weekends
-    }
-
-    /// How many groups of such blocks there are.
-    pub fn groups(&self) -> u32
-        ensures groups { result ≡ groups self.now }
-        ensures some { 0 < result }
-        ensures all { result * self.now.weekends * self.now.assignments ≡ product self.now }
-        ensures within { product self.now ≤ most_states }
-    {
-        self.last * self.run * self.shift_run
     }
 
     /// How many blocks of such states there are.

@@ -66,6 +66,24 @@ pub fn extend(
     ensures within { IfSome result (λ step. step.1 ≤ most_of_step) }
 {
     meter.add_one();
+    step(case, nurse, day, state, shift)
+}
+
+/// What `extend` answers. It counts nothing.
+#[inline(always)]
+pub(crate) fn step(
+    case: &Case,
+    nurse: usize,
+    day: u16,
+    state: State,
+    shift: Option<Shift>,
+) -> Option<(State, u32)>
+    requires shift { IfSome shift (λ s. s.0 < shift_count case.now) }
+    requires fits { fits_sizes (sizes_of case.now nurse) state ≡ true }
+    ensures step { result ≡ step_of case.now nurse day state shift }
+    ensures next_fits { IfSome result (λ step. fits_sizes (sizes_of case.now nurse) step.0 ≡ true) }
+    ensures within { IfSome result (λ step. step.1 ≤ most_of_step) }
+{
     let step = block_step(case, nurse, day, Block::of(state), shift)?;
     let places = case.contract_rules(nurse).total.cap() as u32 + 1;
     let place = state.assignments as u32;
@@ -88,7 +106,6 @@ pub fn after(
     ensures state { result ≡ (if forbids case.now.successions state.last shift then None else Some (next_of case.now nurse day state shift)) }
     ensures summary { IfSome result (λ next. (days : Days) → length days ≡ day → state ≡ summary_of case.now nurse days → next ≡ summary_of case.now nurse (days ++ shift ∷ [])) }
     ensures next_fits { IfSome result (λ next. fits_sizes (sizes_of case.now nurse) next ≡ true) }
-    ensures next_can_be { can_be case.now nurse state ≡ true → IfSome result (λ next. can_be case.now nurse next ≡ true) }
 {
     if case.forbids_next(state.last, shift) {
         return None;

@@ -126,7 +126,7 @@ fn agrees(
         return false;
     }
     let before = meter.count();
-    match extend_block(case, nurse, day, *block, shift, places as u32, meter) {
+    match extend_block(case, nurse, day, *block, shift, meter) {
         Some(step) => {
             meter.count() - before == places
                 && places_agree(case, nurse, day, block, shift, &step, meter)

@@ -5,7 +5,7 @@ use Rattle.std.specs.List.{All}
 use Rattle.roster_instance.specs.Meaning.{day_count}
 use Rattle.roster_instance.specs.Sizes.{choice_count}
 use Rattle.roster_state.specs.Codes.{product}
-use Rattle.roster_search.specs.Tables.{AreLabels, IsDayOf, LeadsOn, Stands}
+use Rattle.roster_search.specs.Tables.{AreLabels, IsDayOf, IsReady, LeadsOn, Stands}
 use Rattle.roster_best.proofs.SearchLaws.{areas_read, offers_taken, shift_offers_few}
 use Rattle.roster_best.proofs.search.label_before.Goals as goal
 
@@ -24,25 +24,16 @@ label_day-requires g c =
     let length_is = ap length offers in
     let here = r.1.1.0 ∙ sym (areas_read c.args.areas.now at.day _ (omega (arith, r.0.day, r.1.1.1.0))) in
     let pointers_room : at.day * c.product.result + size ≤ length c.args.pointers.now = omega (arith, r.1.1.1.1.1.1.1.1.1.0, c.product.ensures.product, ap (λ n. at.day * n) c.product.ensures.product, mul-le (at.day + 1) size (day_count k) size (omega (arith, r.0.day)) (omega arith)) in
-    let room : c.args.meter.now + size * length c.deref.result.now ≤ 18446744073709551615 = omega (arith, r.1.1.1.1.1.1.1.1.1.1, length_is, mul-le size (length c.deref.result.now) size (choice_count k at.nurse) (omega arith) (omega (arith, few, length_is))) in (
-      subst (λ m. IsDayOf m at) same r.0,
-      (
-        here,
-        (
-          offers_taken k c.case-case.result.now same limits.small limits.shifts limits.skills c.args.from rows at.nurse at.day c.deref.result.now offers,
-          (
-            omega (arith, ap length c.deref.ensures.0, c.choices_by_shift-offers.ensures.few),
-            (
-              transport (λ i. All (LeadsOn (same i) at g.rest.here g.rest.behind) (back i)) r.1.1.1.1.0,
-              (
-                subst (λ m. AreLabels m at.nurse g.rest.behind g.rest.best c.args.later.now) same r.1.1.1.1.1.1.0,
-                (r.1.1.1.1.1.1.1.0, (r.1.1.1.1.1.1.1.1.0, (pointers_room, room))),
-              ),
-            ),
-          ),
-        ),
-      ),
-    )
+    let room : c.args.meter.now + size * length c.deref.result.now ≤ 18446744073709551615 = omega (arith, r.1.1.1.1.1.1.1.1.1.1, length_is, mul-le size (length c.deref.result.now) size (choice_count k at.nurse) (omega arith) (omega (arith, few, length_is))) in
+    let ready : IsReady c.case-case.result.now at g.rest c.deref.result.now c.args.later.now = record {
+      day = subst (λ m. IsDayOf m at) same r.0;
+      offers = offers_taken k c.case-case.result.now same limits.small limits.shifts limits.skills c.args.from rows at.nurse at.day c.deref.result.now offers;
+      few = omega (arith, ap length c.deref.ensures.0, c.choices_by_shift-offers.ensures.few);
+      leads = transport (λ i. All (LeadsOn (same i) at g.rest.here g.rest.behind) (back i)) r.1.1.1.1.0;
+      later = subst (λ m. AreLabels m at.nurse g.rest.behind g.rest.best c.args.later.now) same r.1.1.1.1.1.1.0;
+      all = r.1.1.1.1.1.1.1.0;
+    } in
+    (ready, (here, (r.1.1.1.1.1.1.1.1.0, (pointers_room, room))))
 
 pub returns-clause-some : goal.returns-clause-some
 returns-clause-some g c =

@@ -2,8 +2,9 @@ use Rattle.std.proofs.Common.{◌≡◌, ◌∙◌, ◌+◌, ◌<◌, ◌≤◌,
 use Rattle.roster_rules.specs.Prefix.{Summary}
 use Rattle.roster_state.specs.Areas.{area_at}
 use Rattle.roster_state.specs.Codes.{Sizes, code_of, fits_sizes, product, shift_digit, sizes_of}
+use Rattle.roster_search.specs.Counts.{group_of}
 use Rattle.roster_search.specs.Tables.{LabelsOf, StandsLike, best_at_end, label_of}
-use Rattle.roster_search.proofs.DayLaws.{FewRuns, area_is, before_all, before_first_run, before_first_shift_run, behind_last_run, behind_last_shift_run, cells_grouped, cells_skipped, few_of, group_digit, group_fits, group_key, group_of}
+use Rattle.roster_search.proofs.DayLaws.{FewRuns, area_is, before_all, before_first_run, before_first_shift_run, behind_last_run, behind_last_shift_run, cells_grouped, cells_skipped, few_of, group_digit, group_fits, group_key}
 use Rattle.roster_search.proofs.labels.label_end.Goals as goal
 
 pub loop-run-init : goal.loop-run-init

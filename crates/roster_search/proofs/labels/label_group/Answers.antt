@@ -1,385 +1,424 @@
-use Rattle.std.proofs.Common.{◌≡◌, ◌∙◌, ◌+◌, ◌-◌, ◌*◌, ◌<◌, ◌≤◌, ℕ, ap, arith, false, is_some, length, refl, slice_index_or, subst, sym, true}
+use Rattle.std.proofs.Common.{◌≡◌, ◌∙◌, ◌+◌, ◌-◌, ◌*◌, ◌<◌, ◌≤◌, ℕ, ap, arith, false, is_some, List, length, min, mul_comm, refl, slice_index_or, subst, sym, true}
 use Rattle.std.proofs.lemmas.Nat.{mul-le}
 use Rattle.roster_rules.specs.DayLaw.{weekends_more}
 use Rattle.roster_rules.specs.Meaning.{contract_of}
 use Rattle.roster_rules.specs.Prefix.{Summary}
-use Rattle.roster_state.specs.Codes.{Sizes, code_of, fits_sizes, product, sizes_of}
+use Rattle.roster_state.specs.declared.Area.{Area}
+use Rattle.roster_state.specs.declared.Stretch.{Stretch}
+use Rattle.roster_state.specs.Areas.{InSpan, area_at}
+use Rattle.roster_state.specs.Codes.{Sizes, code_of, fits_sizes, product, shift_digit, sizes_of}
 use Rattle.roster_state.specs.Standing.{can_be}
-use Rattle.roster_state.specs.Step.{with_assignments, with_weekends}
-use Rattle.roster_search.specs.Tables.{Cells, LeastFrom, PointsWhereBest, Stands, StandsLike, best_by, best_on, label_of}
+use Rattle.roster_state.specs.Step.{with_weekends}
+use Rattle.roster_state.specs.Stretches.{stretch_state}
+use Rattle.roster_state.proofs.CodeLemmas.{fits-all}
+use Rattle.roster_search.specs.Tables.{IsStretchOf, PointsWhereBest, Stands, StandsLike, StretchCells, best_by, best_on, label_of}
 use Rattle.roster_search.proofs.BlockLaws.{product_some}
-use Rattle.roster_search.proofs.CellLaws.{outside_then, outside_wider, room_for_some, some_more_counted}
-use Rattle.roster_search.proofs.GroupLaws.{code_block, like_can_be, like_place, like_weekends, place_stands, weekends_fit, cells_of_weekends, weekends_within}
-use Rattle.roster_search.proofs.StretchLaws.{like_code, like_state, rows_up_to, stretch_counted}
+use Rattle.roster_search.proofs.CellLaws.{outside_then, outside_wider}
+use Rattle.roster_search.specs.Counts.{numbers_in, states_with}
+use Rattle.roster_search.proofs.CountLaws.{none_with, numbers_are, some_with}
+use Rattle.roster_search.proofs.GroupLaws.{as_place, code_block, code_place, like_area, like_can_be, like_place, like_weekends, place_stands, weekends_fit}
+use Rattle.roster_search.proofs.StretchLaws.{group_more, rows_counted, stretch_counted}
 use Rattle.roster_search.proofs.labels.label_group.Goals as goal
+
+pub area_of-area-requires : goal.area_of-area-requires
+area_of-area-requires g c =
+    let r = c.requires in
+    let day = c.args.day.now in
+    omega (arith, c.last_number.ensures, (fits-all day.at.ranges c.args.group r.1.1.0).last, ap (λ (z : Sizes). z.last) r.0.day.ranges, c.keeps_limits.ensures.shifts)
 
 -- ---- where no state of the group stands
 
-pub returns-then-end-from-clause-labels : goal.returns-then-end-from-clause-labels
-returns-then-end-from-clause-labels g c s like =
-    let k = c.args.case.now in
-    let n = c.args.at.now.nurse in
-    let r = c.requires in
-    let size : c.assignments.result ≡ (sizes_of k n).assignments = c.assignments.ensures.assignments ∙ ap (λ (z : Sizes). z.assignments) r.0.ranges in
-    let inside = like_place k n g.rest.here c.args.group s like c.args.area.now r.1.1.1.0 c.below-from.result.0 c.below-from.result.1 (λ x within fits. c.below-from.ensures.each x within (omega (arith, fits, size))) in
-    absurd (omega (arith, inside.0, inside.1, c.if-end-from.true))
-
-pub returns-then-end-from-clause-pointers : goal.returns-then-end-from-clause-pointers
-returns-then-end-from-clause-pointers g c s like =
-    let k = c.args.case.now in
-    let n = c.args.at.now.nurse in
-    let r = c.requires in
-    let size : c.assignments.result ≡ (sizes_of k n).assignments = c.assignments.ensures.assignments ∙ ap (λ (z : Sizes). z.assignments) r.0.ranges in
-    let inside = like_place k n g.rest.here c.args.group s like c.args.area.now r.1.1.1.0 c.below-from.result.0 c.below-from.result.1 (λ x within fits. c.below-from.ensures.each x within (omega (arith, fits, size))) in
-    absurd (omega (arith, inside.0, inside.1, c.if-end-from.true))
-
-pub returns-then-end-from-clause-some : goal.returns-then-end-from-clause-some
-returns-then-end-from-clause-some g c offered s like =
-    let k = c.args.case.now in
-    let n = c.args.at.now.nurse in
-    let r = c.requires in
-    let size : c.assignments.result ≡ (sizes_of k n).assignments = c.assignments.ensures.assignments ∙ ap (λ (z : Sizes). z.assignments) r.0.ranges in
-    let inside = like_place k n g.rest.here c.args.group s like c.args.area.now r.1.1.1.0 c.below-from.result.0 c.below-from.result.1 (λ x within fits. c.below-from.ensures.each x within (omega (arith, fits, size))) in
-    absurd (omega (arith, inside.0, inside.1, c.if-end-from.true))
-
 pub returns-then-not-can_be-clause-labels : goal.returns-then-not-can_be-clause-labels
 returns-then-not-can_be-clause-labels g c s like =
-    let clash : true ≡ false = sym (like_can_be c.args.case.now c.args.at.now.nurse g.rest.here c.args.group s like) ∙ sym c.can_be.ensures ∙ c.if-not-can_be.true in
+    let clash : true ≡ false = sym (like_can_be c.args.day.now.case.now c.args.day.now.at.nurse g.rest.here c.args.group s like) ∙ sym c.can_be.ensures ∙ c.if-not-can_be.true in
     absurd cc
 
 pub returns-then-not-can_be-clause-pointers : goal.returns-then-not-can_be-clause-pointers
 returns-then-not-can_be-clause-pointers g c s like =
-    let clash : true ≡ false = sym (like_can_be c.args.case.now c.args.at.now.nurse g.rest.here c.args.group s like) ∙ sym c.can_be.ensures ∙ c.if-not-can_be.true in
+    let clash : true ≡ false = sym (like_can_be c.args.day.now.case.now c.args.day.now.at.nurse g.rest.here c.args.group s like) ∙ sym c.can_be.ensures ∙ c.if-not-can_be.true in
     absurd cc
 
 pub returns-then-not-can_be-clause-some : goal.returns-then-not-can_be-clause-some
 returns-then-not-can_be-clause-some g c offered s like =
-    let clash : true ≡ false = sym (like_can_be c.args.case.now c.args.at.now.nurse g.rest.here c.args.group s like) ∙ sym c.can_be.ensures ∙ c.if-not-can_be.true in
+    let clash : true ≡ false = sym (like_can_be c.args.day.now.case.now c.args.day.now.at.nurse g.rest.here c.args.group s like) ∙ sym c.can_be.ensures ∙ c.if-not-can_be.true in
     absurd cc
 
--- ---- the blocks of the group
+pub returns-then-not-can_be-clause-exactly : goal.returns-then-not-can_be-clause-exactly
+returns-then-not-can_be-clause-exactly g c =
+    let none = none_with c.args.day.now.case.now c.args.day.now.at.nurse g.rest.here c.args.group (sym c.can_be.ensures ∙ c.if-not-can_be.true) in
+    let same : c.args.meter.now ≡ c.args.meter.now + 0 * length c.args.day.now.offers.now = omega arith in
+    same ∙ ap (λ k. c.args.meter.now + k * length c.args.day.now.offers.now) (sym none)
+
+pub returns-then-end-from-clause-labels : goal.returns-then-end-from-clause-labels
+returns-then-end-from-clause-labels g c s like =
+    let r = c.requires in
+    let day = c.args.day.now in
+    let k = day.case.now in
+    let at = day.at in
+    let n = at.nurse in
+    let z = at.ranges in
+    let group = c.args.group in
+    let from = c.below-from.result.0 in
+    let end = c.below-from.result.1 in
+    let is : c.area_of-area.result ≡ area_at g.rest.here (shift_digit group.last) = c.area_of-area.ensures ∙ ap (λ (x : List Area). area_at x c.last_number.result) (sym r.1.0) ∙ ap (area_at g.rest.here) c.last_number.ensures.number in
+    let size : c.assignments-side.result ≡ (sizes_of k n).assignments = c.assignments-side.ensures.assignments ∙ ap (λ (y : Sizes). y.assignments) r.0.day.ranges in
+    let inside = like_place k n g.rest.here group s like c.area_of-area.result is from end (λ x within fits. c.below-from.ensures.each x within (omega (arith, fits, size))) in
+    absurd (omega (arith, inside.0, inside.1, c.if-end-from.true))
+
+pub returns-then-end-from-clause-pointers : goal.returns-then-end-from-clause-pointers
+returns-then-end-from-clause-pointers g c s like =
+    let r = c.requires in
+    let day = c.args.day.now in
+    let k = day.case.now in
+    let at = day.at in
+    let n = at.nurse in
+    let z = at.ranges in
+    let group = c.args.group in
+    let from = c.below-from.result.0 in
+    let end = c.below-from.result.1 in
+    let is : c.area_of-area.result ≡ area_at g.rest.here (shift_digit group.last) = c.area_of-area.ensures ∙ ap (λ (x : List Area). area_at x c.last_number.result) (sym r.1.0) ∙ ap (area_at g.rest.here) c.last_number.ensures.number in
+    let size : c.assignments-side.result ≡ (sizes_of k n).assignments = c.assignments-side.ensures.assignments ∙ ap (λ (y : Sizes). y.assignments) r.0.day.ranges in
+    let inside = like_place k n g.rest.here group s like c.area_of-area.result is from end (λ x within fits. c.below-from.ensures.each x within (omega (arith, fits, size))) in
+    absurd (omega (arith, inside.0, inside.1, c.if-end-from.true))
+
+pub returns-then-end-from-clause-some : goal.returns-then-end-from-clause-some
+returns-then-end-from-clause-some g c offered s like =
+    let r = c.requires in
+    let day = c.args.day.now in
+    let k = day.case.now in
+    let at = day.at in
+    let n = at.nurse in
+    let z = at.ranges in
+    let group = c.args.group in
+    let from = c.below-from.result.0 in
+    let end = c.below-from.result.1 in
+    let is : c.area_of-area.result ≡ area_at g.rest.here (shift_digit group.last) = c.area_of-area.ensures ∙ ap (λ (x : List Area). area_at x c.last_number.result) (sym r.1.0) ∙ ap (area_at g.rest.here) c.last_number.ensures.number in
+    let size : c.assignments-side.result ≡ (sizes_of k n).assignments = c.assignments-side.ensures.assignments ∙ ap (λ (y : Sizes). y.assignments) r.0.day.ranges in
+    let inside = like_place k n g.rest.here group s like c.area_of-area.result is from end (λ x within fits. c.below-from.ensures.each x within (omega (arith, fits, size))) in
+    absurd (omega (arith, inside.0, inside.1, c.if-end-from.true))
+
+pub returns-then-end-from-clause-exactly : goal.returns-then-end-from-clause-exactly
+returns-then-end-from-clause-exactly g c =
+    let r = c.requires in
+    let day = c.args.day.now in
+    let k = day.case.now in
+    let at = day.at in
+    let n = at.nurse in
+    let z = at.ranges in
+    let group = c.args.group in
+    let from = c.below-from.result.0 in
+    let end = c.below-from.result.1 in
+    let is : c.area_of-area.result ≡ area_at g.rest.here (shift_digit group.last) = c.area_of-area.ensures ∙ ap (λ (x : List Area). area_at x c.last_number.result) (sym r.1.0) ∙ ap (area_at g.rest.here) c.last_number.ensures.number in
+    let size : c.assignments-side.result ≡ (sizes_of k n).assignments = c.assignments-side.ensures.assignments ∙ ap (λ (y : Sizes). y.assignments) r.0.day.ranges in
+    let places_are : end - from ≡ numbers_in (area_at g.rest.here (shift_digit group.last)).assignments (sizes_of k n).assignments =
+    numbers_are c.area_of-area.result.assignments c.assignments-side.result from end c.below-from.ensures.end c.below-from.ensures.first ∙ (λ i. numbers_in (is i).assignments (size i)) in
+    let zero : numbers_in (area_at g.rest.here (shift_digit group.last)).assignments (sizes_of k n).assignments ≡ 0 = omega (arith, places_are, c.if-end-from.true) in
+    let none : states_with k n g.rest.here group ≡ 0 =
+    some_with k n g.rest.here group (sym c.can_be.ensures ∙ c.if-not-can_be.false) ∙ ap (λ j. numbers_in (area_at g.rest.here (shift_digit group.last)).weekends (sizes_of k n).weekends * j) zero ∙ omega arith in
+    let same : c.args.meter.now ≡ c.args.meter.now + 0 * length day.offers.now = omega arith in
+    same ∙ ap (λ j. c.args.meter.now + j * length day.offers.now) (sym none)
+
+-- ---- the rows
+
+pub label_rows-requires : goal.label_rows-requires
+label_rows-requires g c =
+    let r = c.requires in
+    let day = c.args.day.now in
+    let k = day.case.now in
+    let at = day.at in
+    let n = at.nurse in
+    let z = at.ranges in
+    let group = c.args.group in
+    let from = c.below-from.result.0 in
+    let end = c.below-from.result.1 in
+    let is : c.area_of-area.result ≡ area_at g.rest.here (shift_digit group.last) = c.area_of-area.ensures ∙ ap (λ (x : List Area). area_at x c.last_number.result) (sym r.1.0) ∙ ap (area_at g.rest.here) c.last_number.ensures.number in
+    let size : c.assignments-side.result ≡ (sizes_of k n).assignments = c.assignments-side.ensures.assignments ∙ ap (λ (y : Sizes). y.assignments) r.0.day.ranges in
+    let high : c.weekends.result ≡ (sizes_of k n).weekends = c.weekends.ensures.weekends ∙ ap (λ (y : Sizes). y.weekends) r.0.day.ranges in
+    let first = c.below-first.result.0 in
+    let last = c.below-first.result.1 in
+    let least = (area_at g.rest.here (shift_digit group.last)).weekends.least in
+    let first_is : first ≡ min least last = c.below-first.ensures.first ∙ ap (λ (x : Area). min x.weekends.least last) is in
+    let places : end ≤ z.assignments = omega (arith, c.below-from.ensures.order, c.assignments-side.ensures.assignments) in
+    let up_to : last ≤ z.weekends = omega (arith, c.below-first.ensures.order, c.weekends.ensures.weekends) in
+    let long = length day.offers.now in
+    let old = c.loop-weekends.invariant in
+    let w = c.loop-weekends.weekends in
+    let rows = c.rows_with_room-rows.result in
+    let e_rows = c.rows_with_room-rows.ensures in
+    let block = c.with_weekends-block.result in
+    let is_block : with_weekends group w ≡ block = sym c.with_weekends-block.ensures in
+    let test = c.loop-weekends-test.true in
+    let low : least ≤ w = omega (arith, old.begun, test) in
+    let few : w + rows ≤ last = omega (arith, e_rows.within, c.alike_rows-alike.ensures.within, test) in
+    let sum = rows_counted long least w rows (end - from) low in
+    let may_be : can_be k n group ≡ true = sym c.can_be.ensures ∙ c.if-not-can_be.false in
+    let fits = subst (λ y. fits_sizes y group ≡ true) r.0.day.ranges r.1.1.0 in
+    let block_w : block.weekends ≡ w = ap (λ (b : Summary). b.weekends) (sym is_block) in
+    let in_run = subst (λ (x : Area). InSpan x.run group.run) (sym is) r.1.1.1.1.0.0 in
+    let in_shift_run = subst (λ (x : Area). InSpan x.shift_run group.shift_run) (sym is) r.1.1.1.1.0.1 in
+    let stands : (i b : ℕ) → i < rows → b < end - from → Stands k n g.rest.here (stretch_state block from i b) =
+    λ i b in_rows in_width. subst (λ (x : Summary). Stands k n g.rest.here (stretch_state x from i b)) is_block
+    (place_stands k n g.rest.here group c.area_of-area.result is fits may_be in_run in_shift_run (w + i) (from + b) (omega (arith, in_rows, few, up_to, ap (λ (y : Sizes). y.weekends) r.0.day.ranges))
+    (omega (arith, in_width, places, ap (λ (y : Sizes). y.assignments) r.0.day.ranges)) (c.below-first.ensures.only (w + i) (omega (arith, old.begun, first_is)) (omega (arith, in_rows, few))) (c.below-from.ensures.only (from + b) (omega arith) (omega (arith, in_width)))) in
+    let good : IsStretchOf k at g.rest.here (record { block = block; rows = rows; from = from; end = end }) = record {
+      fits = subst (λ (b : Summary). fits_sizes z b ≡ true) is_block (weekends_fit z group w r.1.1.0 (omega (arith, test, up_to)));
+      without = ap (λ (b : Summary). b.assignments) (sym is_block) ∙ r.1.1.1.0.1;
+      some_rows = e_rows.some;
+      some_places = c.if-end-from.false;
+      weekends = omega (arith, block_w, few, up_to);
+      assignments = places;
+      short = omega (arith, e_rows.room, ap (λ j. rows * j) c.assignments-side.ensures.assignments);
+      stands = stands;
+    } in
+    let alike : 1 < rows → block.weekends + rows + weekends_more at.day (is_some block.last) true ≤ (contract_of k n).weekends + 1 =
+    λ more. omega (arith, c.alike_rows-alike.ensures.alike (omega (arith, more, e_rows.within)), e_rows.within) in
+    let labels_room : product z ≤ length c.loop-weekends.labels = omega (arith, old.labels_length, r.1.1.1.1.1.0) in
+    let pointers_room : day.first + product z ≤ length c.loop-weekends.pointers = omega (arith, old.pointers_length, r.1.1.1.1.1.1.0) in
+    let most = stretch_counted long (w + rows - least) (end - from) z.weekends z.assignments (omega (arith, few, up_to)) (omega (arith, places)) in
+    let room : c.loop-weekends.meter + long * (rows * (end - from)) ≤ 18446744073709551615 = omega (arith, old.counted, sum, most, r.1.1.1.1.1.1.1) in
+    (r.0, (good, (alike, (labels_room, (pointers_room, room)))))
 
 pub loop-weekends-init : goal.loop-weekends-init
 loop-weekends-init g c =
-    let k = c.args.case.now in
-    let n = c.args.at.now.nurse in
     let r = c.requires in
-    let size : c.weekends.result ≡ (sizes_of k n).weekends = c.weekends.ensures.weekends ∙ ap (λ (z : Sizes). z.weekends) r.0.ranges in
-    let inside : (s : Summary) → StandsLike k n g.rest.here c.args.group s → c.below-first_weekends.result.0 ≤ s.weekends =
-    λ s like. (like_weekends k n g.rest.here c.args.group s like c.args.area.now r.1.1.1.0 c.below-first_weekends.result.0 c.below-first_weekends.result.1 (λ x within fits. c.below-first_weekends.ensures.each x within (omega (arith, fits, size)))).0 in
+    let day = c.args.day.now in
+    let k = day.case.now in
+    let at = day.at in
+    let n = at.nurse in
+    let z = at.ranges in
+    let group = c.args.group in
+    let from = c.below-from.result.0 in
+    let end = c.below-from.result.1 in
+    let is : c.area_of-area.result ≡ area_at g.rest.here (shift_digit group.last) = c.area_of-area.ensures ∙ ap (λ (x : List Area). area_at x c.last_number.result) (sym r.1.0) ∙ ap (area_at g.rest.here) c.last_number.ensures.number in
+    let size : c.assignments-side.result ≡ (sizes_of k n).assignments = c.assignments-side.ensures.assignments ∙ ap (λ (y : Sizes). y.assignments) r.0.day.ranges in
+    let high : c.weekends.result ≡ (sizes_of k n).weekends = c.weekends.ensures.weekends ∙ ap (λ (y : Sizes). y.weekends) r.0.day.ranges in
+    let first = c.below-first.result.0 in
+    let last = c.below-first.result.1 in
+    let least = (area_at g.rest.here (shift_digit group.last)).weekends.least in
+    let first_is : first ≡ min least last = c.below-first.ensures.first ∙ ap (λ (x : Area). min x.weekends.least last) is in
+    let places : end ≤ z.assignments = omega (arith, c.below-from.ensures.order, c.assignments-side.ensures.assignments) in
+    let up_to : last ≤ z.weekends = omega (arith, c.below-first.ensures.order, c.weekends.ensures.weekends) in
+    let long = length day.offers.now in
+    let none : first - least ≡ 0 = omega (arith, first_is) in
     record {
-      labels = λ s which. absurd (omega (arith, inside s which.0, which.1));
-      pointers = λ s which. absurd (omega (arith, inside s which.0, which.1));
+      begun = omega (arith, first_is);
+      inside = c.below-first.ensures.order.0;
+      least = λ w a low high from_a to_a. absurd (omega (arith, low, high, first_is));
       labels_others = record { before = λ i below. refl; behind = λ i from. refl };
       pointers_others = record { before = λ i below. refl; behind = λ i from. refl };
       labels_length = refl;
       pointers_length = refl;
-      numbers_length = refl;
-      some = λ offered s like low. absurd (omega (arith, inside s like, low));
-      grown = omega arith;
-      counted = omega arith;
+      counted = (let same : c.args.meter.now ≡ c.args.meter.now + long * (0 * (end - from)) = omega arith in same ∙ ap (λ j. c.args.meter.now + long * (j * (end - from))) (sym none));
     }
-
-pub label_block-requires : goal.label_block-requires
-label_block-requires g c =
-    let k = c.args.case.now in
-    let at = c.args.at.now in
-    let n = at.nurse in
-    let r = c.requires in
-    let z = at.ranges in
-    let group = c.args.group in
-    let old = c.loop-weekends.invariant in
-    let w = c.loop-weekends.weekends in
-    let from = c.below-from.result.0 in
-    let end = c.below-from.result.1 in
-    let long = length c.args.offers.now in
-    let is : with_weekends group w ≡ c.with_weekends-in-loop-weekends.result = sym c.with_weekends-in-loop-weekends.ensures in
-    let inside : w < z.weekends = omega (arith, c.loop-weekends-test.true, c.below-first_weekends.ensures.order, c.weekends.ensures.weekends) in
-    let w_fits : w < (sizes_of k n).weekends = omega (arith, inside, ap (λ (y : Sizes). y.weekends) r.0.ranges) in
-    let places : end ≤ z.assignments = omega (arith, c.below-from.ensures.order, c.assignments.ensures.assignments) in
-    let kept : can_be k n group ≡ true = sym c.can_be.ensures ∙ c.if-not-can_be.false in
-    let fits = subst (λ y. fits_sizes y group ≡ true) r.0.ranges r.1.0 in
-    let w_in = c.below-first_weekends.ensures.only w c.loop-weekends.auto.weekends c.loop-weekends-test.true in
-    let stands : (a : ℕ) → from ≤ a → a < end → Stands k n g.rest.here (with_assignments c.with_weekends-in-loop-weekends.result a) =
-    λ a low below. subst (λ (b : Summary). Stands k n g.rest.here (with_assignments b a)) is
-    (place_stands k n g.rest.here group c.args.area.now r.1.1.1.0 fits kept r.1.1.1.1.0.0 r.1.1.1.1.0.1 w a w_fits (omega (arith, below, places, ap (λ (y : Sizes). y.assignments) r.0.ranges)) w_in (c.below-from.ensures.only a low below)) in
-    let block_fits : fits_sizes z c.with_weekends-in-loop-weekends.result ≡ true = subst (λ (b : Summary). fits_sizes z b ≡ true) is (weekends_fit z group w r.1.0 inside) in
-    let labels_room : product z ≤ length c.loop-weekends.labels = omega (arith, old.labels_length, r.1.1.1.1.1.1.1.1.1.1.0) in
-    let pointers_room : c.args.first + product z ≤ length c.loop-weekends.pointers = omega (arith, old.pointers_length, r.1.1.1.1.1.1.1.1.1.1.1.0) in
-    let numbers_room : 1000 ≤ length c.loop-weekends.numbers = omega (arith, old.numbers_length, r.1.1.1.1.1.1.1.1.1.1.1.1.0) in
-    let all = room_for_some w z.weekends (long * z.assignments) c.args.meter.now c.loop-weekends.meter 18446744073709551615 inside old.counted r.1.1.1.1.1.1.1.1.1.1.1.1.1 in
-    let fewer : long * (end - from) ≤ long * z.assignments = mul-le long (end - from) long z.assignments (omega arith) (omega (arith, places)) in
-    let room : c.loop-weekends.meter + long * (end - from) ≤ 18446744073709551615 = omega (arith, all, fewer) in
-    (r.0, (block_fits, ((c.if-end-from.false, places), (stands, (r.1.1.1.1.1.0, (r.1.1.1.1.1.1.0, (r.1.1.1.1.1.1.1.0, (r.1.1.1.1.1.1.1.1.0, (r.1.1.1.1.1.1.1.1.1.0, (labels_room, (pointers_room, (numbers_room, room))))))))))))
 
 pub loop-weekends-preserved : goal.loop-weekends-preserved
 loop-weekends-preserved g c =
-    let k = c.args.case.now in
-    let at = c.args.at.now in
-    let n = at.nurse in
     let r = c.requires in
+    let day = c.args.day.now in
+    let k = day.case.now in
+    let at = day.at in
+    let n = at.nurse in
     let z = at.ranges in
     let group = c.args.group in
-    let offers = c.args.offers.now in
-    let first = c.args.first in
-    let old = c.loop-weekends.invariant in
-    let e = c.label_block.ensures in
-    let w = c.loop-weekends.weekends in
     let from = c.below-from.result.0 in
     let end = c.below-from.result.1 in
-    let block = c.with_weekends-in-loop-weekends.result in
-    let code = code_of z group + w * z.assignments in
-    let is : with_weekends group w ≡ block = sym c.with_weekends-in-loop-weekends.ensures in
-    let code_is : code_of z block ≡ code = ap (code_of z) (sym is) ∙ code_block z group r.1.1.0.0 r.1.1.0.1 w in
-    let inside : w < z.weekends = omega (arith, c.loop-weekends-test.true, c.below-first_weekends.ensures.order, c.weekends.ensures.weekends) in
-    let within = weekends_within w z.weekends z.assignments inside in
-    let places : end ≤ z.assignments = omega (arith, c.below-from.ensures.order, c.assignments.ensures.assignments) in
-    let size : c.assignments.result ≡ (sizes_of k n).assignments = c.assignments.ensures.assignments ∙ ap (λ (y : Sizes). y.assignments) r.0.ranges in
-    let in_places : (s : Summary) → StandsLike k n g.rest.here group s → (from ≤ s.assignments) × (s.assignments < end) =
-    λ s like. like_place k n g.rest.here group s like c.args.area.now r.1.1.1.0 from end (λ x in_span fits. c.below-from.ensures.each x in_span (omega (arith, fits, size))) in
-    let least : Cells (LeastFrom k at g.rest.best (with_weekends group w) offers) code (first + code) from end c.label_block.new.labels c.label_block.new.pointers =
-    subst (λ j. Cells (LeastFrom k at g.rest.best (with_weekends group w) offers) j (first + j) from end c.label_block.new.labels c.label_block.new.pointers) code_is
-    (subst (λ (b : Summary). Cells (LeastFrom k at g.rest.best b offers) (code_of z block) (first + code_of z block) from end c.label_block.new.labels c.label_block.new.pointers) (sym is) e.least) in
-    let at_place : (a : ℕ) → first + code + a ≡ first + (code + a) = λ a. omega arith in
-    let fewer : length offers * (end - from) ≤ length offers * z.assignments = mul-le (length offers) (end - from) (length offers) z.assignments (omega arith) (omega (arith, places)) in
+    let is : c.area_of-area.result ≡ area_at g.rest.here (shift_digit group.last) = c.area_of-area.ensures ∙ ap (λ (x : List Area). area_at x c.last_number.result) (sym r.1.0) ∙ ap (area_at g.rest.here) c.last_number.ensures.number in
+    let size : c.assignments-side.result ≡ (sizes_of k n).assignments = c.assignments-side.ensures.assignments ∙ ap (λ (y : Sizes). y.assignments) r.0.day.ranges in
+    let high : c.weekends.result ≡ (sizes_of k n).weekends = c.weekends.ensures.weekends ∙ ap (λ (y : Sizes). y.weekends) r.0.day.ranges in
+    let first = c.below-first.result.0 in
+    let last = c.below-first.result.1 in
+    let least = (area_at g.rest.here (shift_digit group.last)).weekends.least in
+    let first_is : first ≡ min least last = c.below-first.ensures.first ∙ ap (λ (x : Area). min x.weekends.least last) is in
+    let places : end ≤ z.assignments = omega (arith, c.below-from.ensures.order, c.assignments-side.ensures.assignments) in
+    let up_to : last ≤ z.weekends = omega (arith, c.below-first.ensures.order, c.weekends.ensures.weekends) in
+    let long = length day.offers.now in
+    let old = c.loop-weekends.invariant in
+    let w = c.loop-weekends.weekends in
+    let rows = c.rows_with_room-rows.result in
+    let e_rows = c.rows_with_room-rows.ensures in
+    let block = c.with_weekends-block.result in
+    let is_block : with_weekends group w ≡ block = sym c.with_weekends-block.ensures in
+    let test = c.loop-weekends-test.true in
+    let low : least ≤ w = omega (arith, old.begun, test) in
+    let few : w + rows ≤ last = omega (arith, e_rows.within, c.alike_rows-alike.ensures.within, test) in
+    let sum = rows_counted long least w rows (end - from) low in
+    let e = c.label_rows.ensures in
+    let labels = c.label_rows.new.labels in
+    let pointers = c.label_rows.new.pointers in
+    let code = code_of z group in
+    let at_block : code_of z (with_weekends group w) ≡ code + w * z.assignments = code_block z group r.1.1.1.0.0 r.1.1.1.0.1 w in
+    let code_is : code_of z block ≡ code + w * z.assignments = ap (code_of z) (sym is_block) ∙ at_block in
+    let at_first : day.first + (code + w * z.assignments) ≡ day.first + code + w * z.assignments = omega arith in
+    let cells : StretchCells k at g.rest.best (with_weekends group w) day.offers.now rows from end (code + w * z.assignments) (day.first + code + w * z.assignments) labels pointers =
+    subst (λ j. StretchCells k at g.rest.best (with_weekends group w) day.offers.now rows from end (code + w * z.assignments) j labels pointers) at_first
+    (subst (λ j. StretchCells k at g.rest.best (with_weekends group w) day.offers.now rows from end j (day.first + j) labels pointers) at_block
+    (subst (λ (b : Summary). StretchCells k at g.rest.best b day.offers.now rows from end (code_of z b) (day.first + code_of z b) labels pointers) (sym is_block) e.least)) in
+    let within : (w + rows) * z.assignments ≤ z.weekends * z.assignments = mul-le (w + rows) z.assignments z.weekends z.assignments (omega (arith, few, up_to)) (omega arith) in
     record {
-      labels = cells_of_weekends k n g.rest.here group z r.0.ranges r.1.1.0.0 r.1.1.0.1 (λ s label. label ≡ label_of (best_on k at offers g.rest.best s)) (λ j. j) c.loop-weekends.labels c.label_block.new.labels w from end
-          (λ j low. e.labels_others.before j (omega (arith, low, code_is))) (λ a low below. (least a low below).least) in_places old.labels;
-      pointers = cells_of_weekends k n g.rest.here group z r.0.ranges r.1.1.0.0 r.1.1.0.1 (λ s. PointsWhereBest (best_by k at g.rest.best s) offers (best_on k at offers g.rest.best s)) (λ j. first + j) c.loop-weekends.pointers c.label_block.new.pointers w from end
-          (λ j low. e.pointers_others.before (first + j) (omega (arith, low, code_is)))
-          (λ a low below. subst (λ j. PointsWhereBest (best_by k at g.rest.best (with_assignments (with_weekends group w) a)) offers (best_on k at offers g.rest.best (with_assignments (with_weekends group w) a)) (slice_index_or c.label_block.new.pointers j 0)) (at_place a) (least a low below).points) in_places old.pointers;
-      labels_others = outside_then _ _ _ _ _ old.labels_others (outside_wider _ _ _ _ c.loop-weekends.labels c.label_block.new.labels (omega (arith, code_is)) (omega (arith, code_is, within)) e.labels_others);
-      pointers_others = outside_then _ _ _ _ _ old.pointers_others (outside_wider _ _ _ _ c.loop-weekends.pointers c.label_block.new.pointers (omega (arith, code_is)) (omega (arith, code_is, within)) e.pointers_others);
+      begun = omega (arith, old.begun);
+      inside = few;
+      least = group_more k at g.rest.best group day.offers.now from end places least w rows code (day.first + code) c.loop-weekends.labels c.loop-weekends.pointers labels pointers old.least
+          (λ j below. e.labels_others.before j (omega (arith, below, code_is))) (λ j below. e.pointers_others.before j (omega (arith, below, code_is))) cells;
+      labels_others = outside_then _ _ _ _ _ old.labels_others (outside_wider _ _ _ _ c.loop-weekends.labels labels (omega (arith, code_is)) (omega (arith, code_is, within)) e.labels_others);
+      pointers_others = outside_then _ _ _ _ _ old.pointers_others (outside_wider _ _ _ _ c.loop-weekends.pointers pointers (omega (arith, code_is)) (omega (arith, code_is, within)) e.pointers_others);
       labels_length = e.lengths.0 ∙ old.labels_length;
       pointers_length = e.lengths.1 ∙ old.pointers_length;
-      numbers_length = e.numbers ∙ old.numbers_length;
-      some = λ offered s like low. omega (arith, old.grown, e.counted, product_some (length offers) (end - from) offered (omega (arith, c.if-end-from.false)));
-      grown = omega (arith, old.grown, e.counted);
-      counted = some_more_counted w (length offers * z.assignments) c.args.meter.now c.loop-weekends.meter _ old.counted (omega (arith, e.counted, fewer));
+      counted = omega (arith, old.counted, e.counted, sum);
     }
 
--- ---- behind the last of them
+-- ---- after the last row
 
 pub returns-clause-labels : goal.returns-clause-labels
 returns-clause-labels g c s like =
-    let k = c.args.case.now in
-    let n = c.args.at.now.nurse in
     let r = c.requires in
-    let size : c.weekends.result ≡ (sizes_of k n).weekends = c.weekends.ensures.weekends ∙ ap (λ (z : Sizes). z.weekends) r.0.ranges in
-    let inside = like_weekends k n g.rest.here c.args.group s like c.args.area.now r.1.1.1.0 c.below-first_weekends.result.0 c.below-first_weekends.result.1 (λ x within fits. c.below-first_weekends.ensures.each x within (omega (arith, fits, size))) in
-    c.loop-weekends.invariant.labels s (like, omega (arith, inside.1, c.loop-weekends-test.false))
+    let day = c.args.day.now in
+    let k = day.case.now in
+    let at = day.at in
+    let n = at.nurse in
+    let z = at.ranges in
+    let group = c.args.group in
+    let from = c.below-from.result.0 in
+    let end = c.below-from.result.1 in
+    let is : c.area_of-area.result ≡ area_at g.rest.here (shift_digit group.last) = c.area_of-area.ensures ∙ ap (λ (x : List Area). area_at x c.last_number.result) (sym r.1.0) ∙ ap (area_at g.rest.here) c.last_number.ensures.number in
+    let size : c.assignments-side.result ≡ (sizes_of k n).assignments = c.assignments-side.ensures.assignments ∙ ap (λ (y : Sizes). y.assignments) r.0.day.ranges in
+    let high : c.weekends.result ≡ (sizes_of k n).weekends = c.weekends.ensures.weekends ∙ ap (λ (y : Sizes). y.weekends) r.0.day.ranges in
+    let first = c.below-first.result.0 in
+    let last = c.below-first.result.1 in
+    let least = (area_at g.rest.here (shift_digit group.last)).weekends.least in
+    let first_is : first ≡ min least last = c.below-first.ensures.first ∙ ap (λ (x : Area). min x.weekends.least last) is in
+    let places : end ≤ z.assignments = omega (arith, c.below-from.ensures.order, c.assignments-side.ensures.assignments) in
+    let up_to : last ≤ z.weekends = omega (arith, c.below-first.ensures.order, c.weekends.ensures.weekends) in
+    let long = length day.offers.now in
+    let old = c.loop-weekends.invariant in
+    let w = c.loop-weekends.weekends in
+    let at_end : w ≡ last = omega (arith, old.inside, c.loop-weekends-test.false) in
+    let in_a = like_place k n g.rest.here group s like c.area_of-area.result is from end (λ x in_span fits. c.below-from.ensures.each x in_span (omega (arith, fits, size))) in
+    let in_w = like_weekends k n g.rest.here group s like c.area_of-area.result is first last (λ x in_span fits. c.below-first.ensures.each x in_span (omega (arith, fits, high))) in
+    let low : least ≤ s.weekends = omega (arith, in_w.0, in_w.1, first_is) in
+    let state = as_place k n g.rest.here group s like s.weekends refl in
+    let there : code_of (sizes_of k n) s ≡ code_of z group + (s.weekends * z.assignments + s.assignments) =
+    ap (λ y. code_of y s) (sym r.0.day.ranges) ∙ ap (code_of z) (sym state) ∙ code_place z group r.1.1.1.0.0 r.1.1.1.0.1 s.weekends s.assignments ∙ omega arith in
+    let cell = old.least s.weekends s.assignments low (omega (arith, in_w.1, at_end)) in_a.0 in_a.1 in
+    subst (λ j. slice_index_or c.loop-weekends.labels j 0 ≡ label_of (best_on k at day.offers.now g.rest.best s)) (sym there)
+    (subst (λ (t : Summary). slice_index_or c.loop-weekends.labels (code_of z group + (s.weekends * z.assignments + s.assignments)) 0 ≡ label_of (best_on k at day.offers.now g.rest.best t)) state cell.least)
 
 pub returns-clause-pointers : goal.returns-clause-pointers
 returns-clause-pointers g c s like =
-    let k = c.args.case.now in
-    let n = c.args.at.now.nurse in
     let r = c.requires in
-    let size : c.weekends.result ≡ (sizes_of k n).weekends = c.weekends.ensures.weekends ∙ ap (λ (z : Sizes). z.weekends) r.0.ranges in
-    let inside = like_weekends k n g.rest.here c.args.group s like c.args.area.now r.1.1.1.0 c.below-first_weekends.result.0 c.below-first_weekends.result.1 (λ x within fits. c.below-first_weekends.ensures.each x within (omega (arith, fits, size))) in
-    c.loop-weekends.invariant.pointers s (like, omega (arith, inside.1, c.loop-weekends-test.false))
+    let day = c.args.day.now in
+    let k = day.case.now in
+    let at = day.at in
+    let n = at.nurse in
+    let z = at.ranges in
+    let group = c.args.group in
+    let from = c.below-from.result.0 in
+    let end = c.below-from.result.1 in
+    let is : c.area_of-area.result ≡ area_at g.rest.here (shift_digit group.last) = c.area_of-area.ensures ∙ ap (λ (x : List Area). area_at x c.last_number.result) (sym r.1.0) ∙ ap (area_at g.rest.here) c.last_number.ensures.number in
+    let size : c.assignments-side.result ≡ (sizes_of k n).assignments = c.assignments-side.ensures.assignments ∙ ap (λ (y : Sizes). y.assignments) r.0.day.ranges in
+    let high : c.weekends.result ≡ (sizes_of k n).weekends = c.weekends.ensures.weekends ∙ ap (λ (y : Sizes). y.weekends) r.0.day.ranges in
+    let first = c.below-first.result.0 in
+    let last = c.below-first.result.1 in
+    let least = (area_at g.rest.here (shift_digit group.last)).weekends.least in
+    let first_is : first ≡ min least last = c.below-first.ensures.first ∙ ap (λ (x : Area). min x.weekends.least last) is in
+    let places : end ≤ z.assignments = omega (arith, c.below-from.ensures.order, c.assignments-side.ensures.assignments) in
+    let up_to : last ≤ z.weekends = omega (arith, c.below-first.ensures.order, c.weekends.ensures.weekends) in
+    let long = length day.offers.now in
+    let old = c.loop-weekends.invariant in
+    let w = c.loop-weekends.weekends in
+    let at_end : w ≡ last = omega (arith, old.inside, c.loop-weekends-test.false) in
+    let in_a = like_place k n g.rest.here group s like c.area_of-area.result is from end (λ x in_span fits. c.below-from.ensures.each x in_span (omega (arith, fits, size))) in
+    let in_w = like_weekends k n g.rest.here group s like c.area_of-area.result is first last (λ x in_span fits. c.below-first.ensures.each x in_span (omega (arith, fits, high))) in
+    let low : least ≤ s.weekends = omega (arith, in_w.0, in_w.1, first_is) in
+    let state = as_place k n g.rest.here group s like s.weekends refl in
+    let there : code_of (sizes_of k n) s ≡ code_of z group + (s.weekends * z.assignments + s.assignments) =
+    ap (λ y. code_of y s) (sym r.0.day.ranges) ∙ ap (code_of z) (sym state) ∙ code_place z group r.1.1.1.0.0 r.1.1.1.0.1 s.weekends s.assignments ∙ omega arith in
+    let cell = old.least s.weekends s.assignments low (omega (arith, in_w.1, at_end)) in_a.0 in_a.1 in
+    let at_pointer : day.first + code_of z group + (s.weekends * z.assignments + s.assignments) ≡ day.first + code_of (sizes_of k n) s = omega (arith, there) in
+    subst (λ j. PointsWhereBest (best_by k at g.rest.best s) day.offers.now (best_on k at day.offers.now g.rest.best s) (slice_index_or c.loop-weekends.pointers j 0)) at_pointer
+    (subst (λ (t : Summary). PointsWhereBest (best_by k at g.rest.best t) day.offers.now (best_on k at day.offers.now g.rest.best t) (slice_index_or c.loop-weekends.pointers (day.first + code_of z group + (s.weekends * z.assignments + s.assignments)) 0)) state cell.points)
 
 pub returns-clause-some : goal.returns-clause-some
 returns-clause-some g c offered s like =
-    let k = c.args.case.now in
-    let n = c.args.at.now.nurse in
     let r = c.requires in
-    let size : c.weekends.result ≡ (sizes_of k n).weekends = c.weekends.ensures.weekends ∙ ap (λ (z : Sizes). z.weekends) r.0.ranges in
-    let inside = like_weekends k n g.rest.here c.args.group s like c.args.area.now r.1.1.1.0 c.below-first_weekends.result.0 c.below-first_weekends.result.1 (λ x within fits. c.below-first_weekends.ensures.each x within (omega (arith, fits, size))) in
-    c.loop-weekends.invariant.some offered s like (omega (arith, inside.1, c.loop-weekends-test.false))
+    let day = c.args.day.now in
+    let k = day.case.now in
+    let at = day.at in
+    let n = at.nurse in
+    let z = at.ranges in
+    let group = c.args.group in
+    let from = c.below-from.result.0 in
+    let end = c.below-from.result.1 in
+    let is : c.area_of-area.result ≡ area_at g.rest.here (shift_digit group.last) = c.area_of-area.ensures ∙ ap (λ (x : List Area). area_at x c.last_number.result) (sym r.1.0) ∙ ap (area_at g.rest.here) c.last_number.ensures.number in
+    let size : c.assignments-side.result ≡ (sizes_of k n).assignments = c.assignments-side.ensures.assignments ∙ ap (λ (y : Sizes). y.assignments) r.0.day.ranges in
+    let high : c.weekends.result ≡ (sizes_of k n).weekends = c.weekends.ensures.weekends ∙ ap (λ (y : Sizes). y.weekends) r.0.day.ranges in
+    let first = c.below-first.result.0 in
+    let last = c.below-first.result.1 in
+    let least = (area_at g.rest.here (shift_digit group.last)).weekends.least in
+    let first_is : first ≡ min least last = c.below-first.ensures.first ∙ ap (λ (x : Area). min x.weekends.least last) is in
+    let places : end ≤ z.assignments = omega (arith, c.below-from.ensures.order, c.assignments-side.ensures.assignments) in
+    let up_to : last ≤ z.weekends = omega (arith, c.below-first.ensures.order, c.weekends.ensures.weekends) in
+    let long = length day.offers.now in
+    let old = c.loop-weekends.invariant in
+    let w = c.loop-weekends.weekends in
+    let at_end : w ≡ last = omega (arith, old.inside, c.loop-weekends-test.false) in
+    let in_w = like_weekends k n g.rest.here group s like c.area_of-area.result is first last (λ x in_span fits. c.below-first.ensures.each x in_span (omega (arith, fits, high))) in
+    let some : 0 < long * ((w - least) * (end - from)) = product_some long ((w - least) * (end - from)) offered (product_some (w - least) (end - from) (omega (arith, in_w.0, in_w.1, first_is, at_end)) (omega (arith, c.if-end-from.false))) in
+    omega (arith, old.counted, some)
+
+pub returns-clause-exactly : goal.returns-clause-exactly
+returns-clause-exactly g c =
+    let r = c.requires in
+    let day = c.args.day.now in
+    let k = day.case.now in
+    let at = day.at in
+    let n = at.nurse in
+    let z = at.ranges in
+    let group = c.args.group in
+    let from = c.below-from.result.0 in
+    let end = c.below-from.result.1 in
+    let is : c.area_of-area.result ≡ area_at g.rest.here (shift_digit group.last) = c.area_of-area.ensures ∙ ap (λ (x : List Area). area_at x c.last_number.result) (sym r.1.0) ∙ ap (area_at g.rest.here) c.last_number.ensures.number in
+    let size : c.assignments-side.result ≡ (sizes_of k n).assignments = c.assignments-side.ensures.assignments ∙ ap (λ (y : Sizes). y.assignments) r.0.day.ranges in
+    let high : c.weekends.result ≡ (sizes_of k n).weekends = c.weekends.ensures.weekends ∙ ap (λ (y : Sizes). y.weekends) r.0.day.ranges in
+    let first = c.below-first.result.0 in
+    let last = c.below-first.result.1 in
+    let least = (area_at g.rest.here (shift_digit group.last)).weekends.least in
+    let first_is : first ≡ min least last = c.below-first.ensures.first ∙ ap (λ (x : Area). min x.weekends.least last) is in
+    let places : end ≤ z.assignments = omega (arith, c.below-from.ensures.order, c.assignments-side.ensures.assignments) in
+    let up_to : last ≤ z.weekends = omega (arith, c.below-first.ensures.order, c.weekends.ensures.weekends) in
+    let long = length day.offers.now in
+    let old = c.loop-weekends.invariant in
+    let w = c.loop-weekends.weekends in
+    let at_end : w ≡ last = omega (arith, old.inside, c.loop-weekends-test.false) in
+    let area = area_at g.rest.here (shift_digit group.last) in
+    let places_are : end - from ≡ numbers_in area.assignments (sizes_of k n).assignments =
+    numbers_are c.area_of-area.result.assignments c.assignments-side.result from end c.below-from.ensures.end c.below-from.ensures.first ∙ (λ i. numbers_in (is i).assignments (size i)) in
+    let last_is : last ≡ min (area.weekends.greatest + 1) (sizes_of k n).weekends = c.below-first.ensures.end ∙ (λ i. min ((is i).weekends.greatest + 1) (high i)) in
+    let rows_are : w - least ≡ numbers_in area.weekends (sizes_of k n).weekends = ap (λ j. j - least) (at_end ∙ last_is) in
+    let states : (w - least) * (end - from) ≡ states_with k n g.rest.here group = (λ i. rows_are i * places_are i) ∙ sym (some_with k n g.rest.here group (sym c.can_be.ensures ∙ c.if-not-can_be.false)) in
+    old.counted ∙ ap (λ j. c.args.meter.now + j) (mul_comm long ((w - least) * (end - from))) ∙ ap (λ j. c.args.meter.now + j * long) states
 
 pub returns-clause-counted : goal.returns-clause-counted
 returns-clause-counted g c =
-    let z = c.args.at.now.ranges in
-    let one = length c.args.offers.now * z.assignments in
+    let r = c.requires in
+    let day = c.args.day.now in
+    let k = day.case.now in
+    let at = day.at in
+    let n = at.nurse in
+    let z = at.ranges in
+    let group = c.args.group in
+    let from = c.below-from.result.0 in
+    let end = c.below-from.result.1 in
+    let is : c.area_of-area.result ≡ area_at g.rest.here (shift_digit group.last) = c.area_of-area.ensures ∙ ap (λ (x : List Area). area_at x c.last_number.result) (sym r.1.0) ∙ ap (area_at g.rest.here) c.last_number.ensures.number in
+    let size : c.assignments-side.result ≡ (sizes_of k n).assignments = c.assignments-side.ensures.assignments ∙ ap (λ (y : Sizes). y.assignments) r.0.day.ranges in
+    let high : c.weekends.result ≡ (sizes_of k n).weekends = c.weekends.ensures.weekends ∙ ap (λ (y : Sizes). y.weekends) r.0.day.ranges in
+    let first = c.below-first.result.0 in
+    let last = c.below-first.result.1 in
+    let least = (area_at g.rest.here (shift_digit group.last)).weekends.least in
+    let first_is : first ≡ min least last = c.below-first.ensures.first ∙ ap (λ (x : Area). min x.weekends.least last) is in
+    let places : end ≤ z.assignments = omega (arith, c.below-from.ensures.order, c.assignments-side.ensures.assignments) in
+    let up_to : last ≤ z.weekends = omega (arith, c.below-first.ensures.order, c.weekends.ensures.weekends) in
+    let long = length day.offers.now in
+    let old = c.loop-weekends.invariant in
     let w = c.loop-weekends.weekends in
-    let up_to : w ≤ z.weekends = omega (arith, c.loop-weekends.auto.weekends-end, c.below-first_weekends.ensures.order, c.weekends.ensures.weekends) in
-    omega (arith, c.loop-weekends.invariant.counted, mul-le w one z.weekends one up_to (omega arith))
-
--- ---- all of them at once
-
-pub label_stretch-requires : goal.label_stretch-requires
-label_stretch-requires g c =
-    let k = c.args.case.now in
-    let at = c.args.at.now in
-    let n = at.nurse in
-    let r = c.requires in
-    let z = at.ranges in
-    let group = c.args.group in
-    let block = c.with_weekends.result in
-    let from = c.below-from.result.0 in
-    let end = c.below-from.result.1 in
-    let first_w = c.below-first_weekends.result.0 in
-    let end_w = c.below-first_weekends.result.1 in
-    let rows = end_w - first_w in
-    let long = length c.args.offers.now in
-    let is : with_weekends group first_w ≡ block = sym c.with_weekends.ensures in
-    let up_to : end_w ≤ z.weekends = omega (arith, c.below-first_weekends.ensures.order, c.weekends.ensures.weekends) in
-    let places : end ≤ z.assignments = omega (arith, c.below-from.ensures.order, c.assignments.ensures.assignments) in
-    let fewer : long * (rows * (end - from)) ≤ z.weekends * (long * z.assignments) = stretch_counted long rows (end - from) z.weekends z.assignments (omega (arith, up_to)) (omega (arith, places)) in
-    let kept : can_be k n group ≡ true = sym c.can_be.ensures ∙ c.if-not-can_be.false in
-    let fits = subst (λ y. fits_sizes y group ≡ true) r.0.ranges r.1.0 in
-    let block_w : block.weekends ≡ first_w = ap (λ (b : Summary). b.weekends) (sym is) in
-    let inside : first_w < z.weekends = omega (arith, c.if-rows-gt0.true, up_to) in
-    let block_fits : fits_sizes z block ≡ true = subst (λ (b : Summary). fits_sizes z b ≡ true) is (weekends_fit z group first_w r.1.0 inside) in
-    let few_rows : block.weekends + rows ≤ z.weekends = omega (arith, block_w, up_to, c.below-first_weekends.ensures.order) in
-    let short : rows * z.assignments ≤ 1000 = omega (arith, c.if-is_short.true, ap (λ x. rows * x) c.assignments-2.ensures.assignments) in
-    let alike : block.weekends + rows + weekends_more at.day (is_some block.last) true ≤ (contract_of k n).weekends + 1 =
-    subst (λ (b : Summary). b.weekends + rows + weekends_more at.day (is_some b.last) true ≤ (contract_of k n).weekends + 1) is (omega (arith, c.is_alike.ensures.weekends c.if-is_alike.true, c.below-first_weekends.ensures.order)) in
-    let stands : (i b : ℕ) → i < rows → b < end - from → Stands k n g.rest.here (with_assignments (with_weekends block (block.weekends + i)) (from + b)) =
-    λ i b in_rows in_width. subst (λ (x : Summary). Stands k n g.rest.here (with_assignments (with_weekends x (x.weekends + i)) (from + b))) is
-    (place_stands k n g.rest.here group c.args.area.now r.1.1.1.0 fits kept r.1.1.1.1.0.0 r.1.1.1.1.0.1 (first_w + i) (from + b) (omega (arith, in_rows, up_to, ap (λ (y : Sizes). y.weekends) r.0.ranges))
-    (omega (arith, in_width, places, ap (λ (y : Sizes). y.assignments) r.0.ranges)) (c.below-first_weekends.ensures.only (first_w + i) (omega arith) (omega (arith, in_rows))) (c.below-from.ensures.only (from + b) (omega arith) (omega (arith, in_width)))) in
-    let room : c.args.meter.now + long * (rows * (end - from)) ≤ 18446744073709551615 = omega (arith, fewer, r.1.1.1.1.1.1.1.1.1.1.1.1.1) in
-    (r.0, (block_fits, ((c.if-end-from.false, c.is_alike.ensures.places c.if-is_alike.true), ((c.if-rows-gt0.true, few_rows, short), (alike, (stands, (r.1.1.1.1.1.0, (r.1.1.1.1.1.1.0, (r.1.1.1.1.1.1.1.0, (r.1.1.1.1.1.1.1.1.0, (r.1.1.1.1.1.1.1.1.1.0, (r.1.1.1.1.1.1.1.1.1.1.0, (r.1.1.1.1.1.1.1.1.1.1.1.0, (r.1.1.1.1.1.1.1.1.1.1.1.1.0, room))))))))))))))
-
-pub returns-then-is_alike-clause-labels : goal.returns-then-is_alike-clause-labels
-returns-then-is_alike-clause-labels g c s like =
-    let k = c.args.case.now in
-    let at = c.args.at.now in
-    let n = at.nurse in
-    let r = c.requires in
-    let z = at.ranges in
-    let group = c.args.group in
-    let block = c.with_weekends.result in
-    let from = c.below-from.result.0 in
-    let end = c.below-from.result.1 in
-    let first_w = c.below-first_weekends.result.0 in
-    let end_w = c.below-first_weekends.result.1 in
-    let rows = end_w - first_w in
-    let long = length c.args.offers.now in
-    let is : with_weekends group first_w ≡ block = sym c.with_weekends.ensures in
-    let up_to : end_w ≤ z.weekends = omega (arith, c.below-first_weekends.ensures.order, c.weekends.ensures.weekends) in
-    let places : end ≤ z.assignments = omega (arith, c.below-from.ensures.order, c.assignments.ensures.assignments) in
-    let fewer : long * (rows * (end - from)) ≤ z.weekends * (long * z.assignments) = stretch_counted long rows (end - from) z.weekends z.assignments (omega (arith, up_to)) (omega (arith, places)) in
-    let size : c.assignments.result ≡ (sizes_of k n).assignments = c.assignments.ensures.assignments ∙ ap (λ (y : Sizes). y.assignments) r.0.ranges in
-    let high : c.weekends.result ≡ (sizes_of k n).weekends = c.weekends.ensures.weekends ∙ ap (λ (y : Sizes). y.weekends) r.0.ranges in
-    let in_a = like_place k n g.rest.here group s like c.args.area.now r.1.1.1.0 from end (λ x in_span fits. c.below-from.ensures.each x in_span (omega (arith, fits, size))) in
-    let in_w = like_weekends k n g.rest.here group s like c.args.area.now r.1.1.1.0 first_w end_w (λ x in_span fits. c.below-first_weekends.ensures.each x in_span (omega (arith, fits, high))) in
-    let state = like_state k n g.rest.here group s like z r.0.ranges r.1.1.0.1 first_w from in_w.0 in_a.0 block is in
-    let code = like_code k n g.rest.here group s like z r.0.ranges r.1.1.0.1 first_w from in_w.0 in_a.0 block is in
-    let i = s.weekends - first_w in
-    let b = s.assignments - from in
-    let cell = c.label_stretch.ensures.least i b (omega (arith, in_w.0, in_w.1)) (omega (arith, in_a.0, in_a.1)) in
-    subst (λ j. slice_index_or c.label_stretch.new.labels j 0 ≡ label_of (best_on k at c.args.offers.now g.rest.best s)) (sym code)
-    (subst (λ (t : Summary). slice_index_or c.label_stretch.new.labels (code_of z block + from + (i * z.assignments + b)) 0 ≡ label_of (best_on k at c.args.offers.now g.rest.best t)) state cell.least)
-
-pub returns-then-is_alike-clause-pointers : goal.returns-then-is_alike-clause-pointers
-returns-then-is_alike-clause-pointers g c s like =
-    let k = c.args.case.now in
-    let at = c.args.at.now in
-    let n = at.nurse in
-    let r = c.requires in
-    let z = at.ranges in
-    let group = c.args.group in
-    let block = c.with_weekends.result in
-    let from = c.below-from.result.0 in
-    let end = c.below-from.result.1 in
-    let first_w = c.below-first_weekends.result.0 in
-    let end_w = c.below-first_weekends.result.1 in
-    let rows = end_w - first_w in
-    let long = length c.args.offers.now in
-    let is : with_weekends group first_w ≡ block = sym c.with_weekends.ensures in
-    let up_to : end_w ≤ z.weekends = omega (arith, c.below-first_weekends.ensures.order, c.weekends.ensures.weekends) in
-    let places : end ≤ z.assignments = omega (arith, c.below-from.ensures.order, c.assignments.ensures.assignments) in
-    let fewer : long * (rows * (end - from)) ≤ z.weekends * (long * z.assignments) = stretch_counted long rows (end - from) z.weekends z.assignments (omega (arith, up_to)) (omega (arith, places)) in
-    let size : c.assignments.result ≡ (sizes_of k n).assignments = c.assignments.ensures.assignments ∙ ap (λ (y : Sizes). y.assignments) r.0.ranges in
-    let high : c.weekends.result ≡ (sizes_of k n).weekends = c.weekends.ensures.weekends ∙ ap (λ (y : Sizes). y.weekends) r.0.ranges in
-    let in_a = like_place k n g.rest.here group s like c.args.area.now r.1.1.1.0 from end (λ x in_span fits. c.below-from.ensures.each x in_span (omega (arith, fits, size))) in
-    let in_w = like_weekends k n g.rest.here group s like c.args.area.now r.1.1.1.0 first_w end_w (λ x in_span fits. c.below-first_weekends.ensures.each x in_span (omega (arith, fits, high))) in
-    let state = like_state k n g.rest.here group s like z r.0.ranges r.1.1.0.1 first_w from in_w.0 in_a.0 block is in
-    let code = like_code k n g.rest.here group s like z r.0.ranges r.1.1.0.1 first_w from in_w.0 in_a.0 block is in
-    let i = s.weekends - first_w in
-    let b = s.assignments - from in
-    let cell = c.label_stretch.ensures.least i b (omega (arith, in_w.0, in_w.1)) (omega (arith, in_a.0, in_a.1)) in
-    let there : c.args.first + code_of z block + from + (i * z.assignments + b) ≡ c.args.first + code_of (sizes_of k n) s = omega (arith, code) in
-    subst (λ j. PointsWhereBest (best_by k at g.rest.best s) c.args.offers.now (best_on k at c.args.offers.now g.rest.best s) (slice_index_or c.label_stretch.new.pointers j 0)) there
-    (subst (λ (t : Summary). PointsWhereBest (best_by k at g.rest.best t) c.args.offers.now (best_on k at c.args.offers.now g.rest.best t) (slice_index_or c.label_stretch.new.pointers (c.args.first + code_of z block + from + (i * z.assignments + b)) 0)) state cell.points)
-
-pub returns-then-is_alike-clause-labels_others : goal.returns-then-is_alike-clause-labels_others
-returns-then-is_alike-clause-labels_others g c =
-    let k = c.args.case.now in
-    let at = c.args.at.now in
-    let n = at.nurse in
-    let r = c.requires in
-    let z = at.ranges in
-    let group = c.args.group in
-    let block = c.with_weekends.result in
-    let from = c.below-from.result.0 in
-    let end = c.below-from.result.1 in
-    let first_w = c.below-first_weekends.result.0 in
-    let end_w = c.below-first_weekends.result.1 in
-    let rows = end_w - first_w in
-    let long = length c.args.offers.now in
-    let is : with_weekends group first_w ≡ block = sym c.with_weekends.ensures in
-    let up_to : end_w ≤ z.weekends = omega (arith, c.below-first_weekends.ensures.order, c.weekends.ensures.weekends) in
-    let places : end ≤ z.assignments = omega (arith, c.below-from.ensures.order, c.assignments.ensures.assignments) in
-    let fewer : long * (rows * (end - from)) ≤ z.weekends * (long * z.assignments) = stretch_counted long rows (end - from) z.weekends z.assignments (omega (arith, up_to)) (omega (arith, places)) in
-    let code_is : code_of z block ≡ code_of z group + first_w * z.assignments = ap (code_of z) (sym is) ∙ code_block z group r.1.1.0.0 r.1.1.0.1 first_w in
-    let whole : first_w * z.assignments + rows * z.assignments ≤ z.weekends * z.assignments = rows_up_to first_w end_w z.weekends z.assignments c.below-first_weekends.ensures.order.0 up_to in
-    outside_wider _ _ _ _ c.args.labels.now c.label_stretch.new.labels (omega (arith, code_is)) (omega (arith, code_is, whole)) c.label_stretch.ensures.labels_others
-
-pub returns-then-is_alike-clause-pointers_others : goal.returns-then-is_alike-clause-pointers_others
-returns-then-is_alike-clause-pointers_others g c =
-    let k = c.args.case.now in
-    let at = c.args.at.now in
-    let n = at.nurse in
-    let r = c.requires in
-    let z = at.ranges in
-    let group = c.args.group in
-    let block = c.with_weekends.result in
-    let from = c.below-from.result.0 in
-    let end = c.below-from.result.1 in
-    let first_w = c.below-first_weekends.result.0 in
-    let end_w = c.below-first_weekends.result.1 in
-    let rows = end_w - first_w in
-    let long = length c.args.offers.now in
-    let is : with_weekends group first_w ≡ block = sym c.with_weekends.ensures in
-    let up_to : end_w ≤ z.weekends = omega (arith, c.below-first_weekends.ensures.order, c.weekends.ensures.weekends) in
-    let places : end ≤ z.assignments = omega (arith, c.below-from.ensures.order, c.assignments.ensures.assignments) in
-    let fewer : long * (rows * (end - from)) ≤ z.weekends * (long * z.assignments) = stretch_counted long rows (end - from) z.weekends z.assignments (omega (arith, up_to)) (omega (arith, places)) in
-    let code_is : code_of z block ≡ code_of z group + first_w * z.assignments = ap (code_of z) (sym is) ∙ code_block z group r.1.1.0.0 r.1.1.0.1 first_w in
-    let whole : first_w * z.assignments + rows * z.assignments ≤ z.weekends * z.assignments = rows_up_to first_w end_w z.weekends z.assignments c.below-first_weekends.ensures.order.0 up_to in
-    outside_wider _ _ _ _ c.args.pointers.now c.label_stretch.new.pointers (omega (arith, code_is)) (omega (arith, code_is, whole)) c.label_stretch.ensures.pointers_others
-
-pub returns-then-is_alike-clause-some : goal.returns-then-is_alike-clause-some
-returns-then-is_alike-clause-some g c offered s like =
-    let k = c.args.case.now in
-    let at = c.args.at.now in
-    let n = at.nurse in
-    let r = c.requires in
-    let z = at.ranges in
-    let group = c.args.group in
-    let block = c.with_weekends.result in
-    let from = c.below-from.result.0 in
-    let end = c.below-from.result.1 in
-    let first_w = c.below-first_weekends.result.0 in
-    let end_w = c.below-first_weekends.result.1 in
-    let rows = end_w - first_w in
-    let long = length c.args.offers.now in
-    let is : with_weekends group first_w ≡ block = sym c.with_weekends.ensures in
-    let up_to : end_w ≤ z.weekends = omega (arith, c.below-first_weekends.ensures.order, c.weekends.ensures.weekends) in
-    let places : end ≤ z.assignments = omega (arith, c.below-from.ensures.order, c.assignments.ensures.assignments) in
-    let fewer : long * (rows * (end - from)) ≤ z.weekends * (long * z.assignments) = stretch_counted long rows (end - from) z.weekends z.assignments (omega (arith, up_to)) (omega (arith, places)) in
-    let some : 0 < long * (rows * (end - from)) = product_some long (rows * (end - from)) offered (product_some rows (end - from) c.if-rows-gt0.true (omega (arith, c.if-end-from.false))) in
-    omega (arith, c.label_stretch.ensures.counted, some)
-
-pub returns-then-is_alike-clause-counted : goal.returns-then-is_alike-clause-counted
-returns-then-is_alike-clause-counted g c =
-    let k = c.args.case.now in
-    let at = c.args.at.now in
-    let n = at.nurse in
-    let r = c.requires in
-    let z = at.ranges in
-    let group = c.args.group in
-    let block = c.with_weekends.result in
-    let from = c.below-from.result.0 in
-    let end = c.below-from.result.1 in
-    let first_w = c.below-first_weekends.result.0 in
-    let end_w = c.below-first_weekends.result.1 in
-    let rows = end_w - first_w in
-    let long = length c.args.offers.now in
-    let is : with_weekends group first_w ≡ block = sym c.with_weekends.ensures in
-    let up_to : end_w ≤ z.weekends = omega (arith, c.below-first_weekends.ensures.order, c.weekends.ensures.weekends) in
-    let places : end ≤ z.assignments = omega (arith, c.below-from.ensures.order, c.assignments.ensures.assignments) in
-    let fewer : long * (rows * (end - from)) ≤ z.weekends * (long * z.assignments) = stretch_counted long rows (end - from) z.weekends z.assignments (omega (arith, up_to)) (omega (arith, places)) in
-    omega (arith, c.label_stretch.ensures.counted, fewer)
+    let at_end : w ≡ last = omega (arith, old.inside, c.loop-weekends-test.false) in
+    omega (arith, old.counted, stretch_counted long (w - least) (end - from) z.weekends z.assignments (omega (arith, at_end, up_to)) (omega (arith, places)))

@@ -8,7 +8,7 @@ use Rattle.roster_rules.specs.Sizes.{cap}
 use Rattle.roster_state.specs.declared.block.Block.TheInside.{Inside}
 use Rattle.roster_state.specs.Standing.{can_be}
 use Rattle.roster_state.specs.Step.{next_of, step_of, with_assignments, with_weekends}
-use Rattle.roster_state.proofs.BlockLaw.{block_fits, dearer, further_places, places_step}
+use Rattle.roster_state.proofs.BlockLaw.{block_fits, dearer, places_step}
 use Rattle.roster_state.proofs.Standing.{next_can_be}
 use Rattle.roster_state.proofs.block.block_step.Goals as goal
 
@@ -29,26 +29,3 @@ returns-clause-steps c a inside =
 pub returns-clause-next_fits : goal.returns-clause-next_fits
 returns-clause-next_fits c =
     block_fits c.args.case.now c.args.nurse c.args.day c.block.inside.state c.args.shift _ _ _ _ (next c) c.is_some.ensures c.cost_apart.ensures.cost (from c) c.requires.shift
-
-pub returns-clause-next_can_be : goal.returns-clause-next_can_be
-returns-clause-next_can_be c now =
-    let k = c.args.case.now in
-    let n = c.args.nurse in
-    subst (λ (s : Summary). can_be k n s ≡ true) (sym (next c)) (next_can_be k n c.args.day c.block.inside.state c.args.shift (subst (λ (s : Summary). can_be k n s ≡ true) (sym c.block.view_is) now))
-
-pub returns-clause-level : goal.returns-clause-level
-returns-clause-level c = level c.args.shift (from c)
-  where
-    level : (shift : Option Shift) → c.dearer_from.result ≡ dearer c.args.case.now c.args.nurse c.args.day c.args.block shift → (contract_of c.args.case.now c.args.nurse).total.greatest ≤ c.dearer_from.result
-    level None is = omega (arith, is)
-    level (Some t) is = omega (arith, is)
-
-pub returns-clause-rows : goal.returns-clause-rows
-returns-clause-rows c more a room inside =
-    let k = c.args.case.now in
-    let n = c.args.nurse in
-    let day = c.args.day in
-    let s = c.block.inside.state in
-    let here = subst (λ (b : Summary). b.weekends + more + weekends_more day (is_some b.last) true ≤ (contract_of k n).weekends) (sym c.block.view_is) room in
-    further_places k n day s c.args.shift more here _ _ _ _ (next c) c.is_some.ensures c.cost_apart.ensures.cost (from c) (allowed c) a inside
-    ∙ ap (λ (b : Summary). step_of k n day (with_assignments (with_weekends b (b.weekends + more)) a) c.args.shift) c.block.view_is

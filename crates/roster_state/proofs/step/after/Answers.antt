@@ -13,7 +13,3 @@ returns-clause-summary c days long is = step_leads c.args.case.now c.args.nurse 
 pub returns-clause-next_fits : goal.returns-clause-next_fits
 returns-clause-next_fits c =
     subst (λ (s : Summary). fits_sizes (sizes_of c.args.case.now c.args.nurse) s ≡ true) (sym c.next_of.ensures) (next_fits c.args.case.now c.args.nurse c.args.day c.args.state c.args.shift c.requires.shift)
-
-pub returns-clause-next_can_be : goal.returns-clause-next_can_be
-returns-clause-next_can_be c now =
-    subst (λ (s : Summary). can_be c.args.case.now c.args.nurse s ≡ true) (sym c.next_of.ensures) (next_can_be c.args.case.now c.args.nurse c.args.day c.args.state c.args.shift now)

@@ -8,11 +8,11 @@ use Rattle.roster_state.proofs.BlockLaw.{where_some}
 use Rattle.roster_state.proofs.SumLaw.{step_leads, step_owes}
 use Rattle.roster_state.proofs.step.extend.Goals as goal
 
-abbrev step : (c : goal.After-place_cost) → Option (Summary × ℕ)
-step c = Some (c.state-2.result, c.place_cost.result)
+abbrev step : (c : goal.After-step) → Option (Summary × ℕ)
+step c = c.step.result
 
-is : (c : goal.After-place_cost) → step c ≡ step_of c.args.case.now c.args.nurse c.args.day c.args.state c.args.shift
-is c = first_of (search rules, grind (arith, common_steps))
+is : (c : goal.After-step) → step c ≡ step_of c.args.case.now c.args.nurse c.args.day c.args.state c.args.shift
+is c = c.step.ensures.step
 
 pub returns-clause-summary : goal.returns-clause-summary
 returns-clause-summary c =

@@ -1,0 +1,23 @@
+-- One day more from all states of a stretch: rows of places, each row with one worked weekend more, each place with one assignment
+-- more (our own).
+use Rattle.std.specs.Prelude.{ℕ, ◌+◌, ◌<◌, ◌≤◌, true, is_some}
+use Rattle.roster_rules.specs.DayLaw.{weekends_more}
+use Rattle.roster_rules.specs.Meaning.{Meaning, contract_of}
+use Rattle.roster_rules.specs.Prefix.{Summary}
+use Rattle.roster_rules.specs.Sizes.{cap}
+use Rattle.roster_state.specs.Step.{with_assignments, with_weekends}
+
+-- the state at a row and a place behind the first one, where the places begin at so many assignments
+abbrev pub stretch_state : Summary → (from i b : ℕ) → Summary
+stretch_state block from i b = with_assignments (with_weekends block (block.weekends + i)) (from + b)
+
+-- a state so many worked weekends and assignments further, at the same cost
+abbrev pub moved_on : (i b : ℕ) → Summary × ℕ → Summary × ℕ
+moved_on i b t = (with_assignments (with_weekends t.0 (t.0.weekends + i)) (t.0.assignments + b), t.1)
+
+-- a day is alike from all states of a stretch: a further row has no worked weekend above the greatest number, a further place is below
+-- the cap, and where an assignment from the first place isn't above the greatest total, none is
+pub record IsAlike (c : Meaning) (n day : ℕ) (block : Summary) (rows from end : ℕ) : Type 0 where
+  pub weekends : 1 < rows → block.weekends + rows + weekends_more day (is_some block.last) true ≤ (contract_of c n).weekends + 1
+  pub assignments : from + 1 < end → end ≤ cap (contract_of c n).total
+  pub level : from < (contract_of c n).total.greatest → end ≤ (contract_of c n).total.greatest
