@@ -1,22 +1,25 @@
-"""Changes of the instance mini, in the words in which the README's table of fault lines tells them.
+"""Changes of the instance mini, in the words in which the table of fault lines tells them.
 
 The numbers are those of mini's own lines, also after other changes. A change is one of
 
     line 17 is `TEXT`
     line 34 begins with `TEXT`              as many words as TEXT has are put in their place
     line 34 stands twice
-    behind it stand `TEXT` and `TEXT`       whole lines, behind the line last spoken of
-    a line `TEXT` behind the last
+    after it stand `TEXT` and `TEXT`        whole lines, after the line last spoken of
+    a line `TEXT` after the last
     the first 36 lines alone
-    lines 30 to 37 stand 16 times           one copy of all of them behind the other
-    the text ends behind `TEXT` of line 34
+    lines 30 to 37 stand 16 times           one copy of all of them after the other
+    the text ends after `TEXT` of line 34
     each line ends with CR LF
     the scenario's name has 70,000 letters
     16,777,217 blanks                       in place of mini
+
+Many stored changes say 'behind' for 'after'.
 """
 import re
 
 TEXT = r"`([^`]*)`"
+AFTER = "(?:after|behind)"
 
 
 class NotUnderstood(Exception):
@@ -91,11 +94,11 @@ CHANGES = [
     (rf"line (\d+) is {TEXT}", Mini.replace),
     (rf"line (\d+) begins with {TEXT}", Mini.begin),
     (r"line (\d+) stands twice", Mini.twice),
-    (rf"behind it stands? ({TEXT}(?: and {TEXT})*)", Mini.behind),
-    (rf"a line {TEXT} behind the last", Mini.append),
+    (rf"{AFTER} it stands? ({TEXT}(?: and {TEXT})*)", Mini.behind),
+    (rf"a line {TEXT} {AFTER} the last", Mini.append),
     (r"the first (\d+) lines alone", Mini.alone),
     (r"lines (\d+) to (\d+) stand (\d+) times", Mini.copies),
-    (rf"the text ends behind {TEXT} of line (\d+)", Mini.cut),
+    (rf"the text ends {AFTER} {TEXT} of line (\d+)", Mini.cut),
     (r"each line ends with CR LF", Mini.by_cr_lf),
     (r"the scenario's name has ([\d,]+) letters", Mini.name_at_length),
     (r"([\d,]+) blanks", Mini.only_blanks),
@@ -124,6 +127,6 @@ def parts(sentence):
     quoted = re.findall(r"`[^`]*`", sentence)
     masked = re.sub(r"`[^`]*`", "`", sentence)
     found = []
-    for part in re.split(r", and |, (?=line|behind|the |a |each |\d)", masked):
+    for part in re.split(rf", and |, (?=line|{AFTER}|the |a |each |\d)", masked):
         found.append(re.sub("`", lambda _: quoted.pop(0), part))
     return found
