@@ -77,9 +77,11 @@ Tells contents old new f = Logs contents old new (fault_line f)
 
 -- ---- how a run ends: it is done, or it stops for a fault
 
+-- no fault where the run is done, else the fault for which it stops
 abbrev pub Outcome : Type 0
 Outcome = Option Fault
 
+-- the outcome of a call's answer
 abbrev pub outcome_of : {X : Type 0} → Result X Fault → Outcome
 outcome_of (Ok x) = None
 outcome_of (Err f) = Some f
@@ -179,6 +181,7 @@ abbrev pub improve_report : (rounds from : ℕ) → Meaning → Rows → Report
 improve_report rounds from c r =
     record (plain (weeks_text c (improved c rounds from r))) { is_held = true; broken = hard_faults c r; log = Some (run_log c rounds from r) }
 
+-- what each command asks of a case and its roster, and writes for them
 abbrev pub report_of : Command → Meaning → Rows → Report
 report_of command.Show c r = plain (weeks_text c r)
 report_of command.Cost c r = cost_report c r

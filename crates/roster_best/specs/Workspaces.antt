@@ -31,6 +31,7 @@ pub record SameRoom (old new : Space) : Type 0 where
 
 -- ---- the days of a search
 
+-- a day of the search for a nurse, with the nurse's ranges
 abbrev pub search_day : Meaning → ℕ → ℕ → SearchDay
 search_day c n day = record { nurse = n; day = day; ranges = sizes_of c n }
 

@@ -127,7 +127,7 @@ fn request_cost(case: &Case, nurse: usize, day: u16, shift: Option<Shift>) -> u3
     off_request_cost(case, nurse, day, shift) + wish_cost(case, nurse, day, shift)
 }
 
-/// The points for an off request against the shift of a day, if one is worked.
+/// S4. The points for an off request against the shift of a day, if one is worked.
 fn off_request_cost(case: &Case, nurse: usize, day: u16, shift: Option<Shift>) -> u32
     requires { nurse < nurse_count case.now }
     ensures cost { result ≡ off_request_cost_on case.now nurse day shift }
@@ -139,7 +139,7 @@ fn off_request_cost(case: &Case, nurse: usize, day: u16, shift: Option<Shift>) -
     }
 }
 
-/// The points for a wish to work that isn't met, also by a day off.
+/// S8. The points for a wish to work that isn't met, also by a day off.
 fn wish_cost(case: &Case, nurse: usize, day: u16, shift: Option<Shift>) -> u32
     requires { nurse < nurse_count case.now }
     ensures cost { result ≡ wish_cost_on case.now nurse day shift }
@@ -150,7 +150,7 @@ fn wish_cost(case: &Case, nurse: usize, day: u16, shift: Option<Shift>) -> u32
 
 // ---- what a day lacks
 
-/// What a day lacks without the nurse.
+/// S1. What a day lacks without the nurse.
 #[tactic(auto, using(roster_rules::proofs::CountLemmas::sum_more))]
 fn lacking_without(held: &Held, nurse: usize, day: u16) -> Lacking
     requires nurse { nurse < nurse_count held.now.case }

@@ -67,6 +67,7 @@ pub record Seen : Type 0 where
 abbrev pub seen : List ℕ → Token → Seen
 seen source t = record { token = t; text = text_of source t }
 
+-- tokens with their texts in a source
 abbrev pub all_seen : List ℕ → List Token → List Seen
 all_seen source ts = map (seen source) ts
 

@@ -3,6 +3,7 @@ use Rattle.std.specs.Prelude.{◌≡◌, ◌+◌, ◌*◌, ◌<◌, ℕ, List, s
 use Rattle.roster_instance.specs.declared.Choice.{Choice}
 use Rattle.roster_instance.specs.declared.Choice.TheVariants.{Off, Work}
 
+-- the number at a shift and skill: place 8 s + k
 abbrev pub number_at : List ℕ → ℕ → ℕ → ℕ
 number_at table s k = slice_index_or table (8 * s + k) 0
 

@@ -20,7 +20,7 @@ pub(crate) enum Kind {
     Of(Shift),
 }
 
-/// The points for each missing or extra day of a run of working days.
+/// S2. The points for each missing or extra day of a run of working days.
 pub(crate) fn working_run_cost(case: &Case, nurse: usize, row: &[Choice]) -> u64
     requires { length row.now ≤ most_days }
     ensures cost { result ≡ working_run_cost case.now nurse (days_of row.now) }
@@ -31,7 +31,7 @@ pub(crate) fn working_run_cost(case: &Case, nurse: usize, row: &[Choice]) -> u64
     WORKING_RUN as u64 * run_violations(limits, before, row, Kind::Working)
 }
 
-/// The points for each missing or extra day of a run of days off.
+/// S3. The points for each missing or extra day of a run of days off.
 pub(crate) fn free_run_cost(case: &Case, nurse: usize, row: &[Choice]) -> u64
     requires { length row.now ≤ most_days }
     ensures cost { result ≡ free_run_cost case.now nurse (days_of row.now) }
@@ -42,7 +42,7 @@ pub(crate) fn free_run_cost(case: &Case, nurse: usize, row: &[Choice]) -> u64
     FREE_RUN as u64 * run_violations(limits, before, row, Kind::Free)
 }
 
-/// The same of the runs of all shifts.
+/// S2. The same of the runs of all shifts.
 #[tactic(auto, using(roster_rules::proofs::CountLemmas::sum_more))]
 pub(crate) fn shift_run_cost(case: &Case, nurse: usize, row: &[Choice]) -> u64
     requires { length row.now ≤ most_days }

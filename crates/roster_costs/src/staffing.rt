@@ -10,7 +10,7 @@ ghost use Rattle.roster_instance.specs.Rosters.{fits_case};
 use roster_instance::{Case, Choice, Roster, Shift, Skill, choice_on};
 use roster_rules::weights::STAFFING;
 
-/// The points for each nurse missing to the optimum of a day, shift and skill.
+/// S1. The points for each nurse missing to the optimum of a day, shift and skill.
 #[tactic(auto, using(roster_rules::proofs::CountLemmas::sum_more))]
 pub fn staffing_cost(case: &Case, roster: &Roster) -> u64
     requires { fits_case case.now roster.now ≡ true }

@@ -11,7 +11,7 @@ use roster_instance::{Case, Choice, Shift};
 use roster_rules::meets_wishes;
 use roster_rules::weights::{ASSIGNMENT, OFF_REQUEST, SPLIT, WEEKEND, WISH};
 
-/// The points for each day with a shift that an off request names.
+/// S4. The points for each day with a shift that an off request names.
 pub(crate) fn off_request_cost(case: &Case, nurse: usize, row: &[Choice]) -> u64
     requires nurse { nurse < nurse_count case.now }
     requires days { length row.now ≤ most_days }
@@ -37,7 +37,7 @@ fn breaks_off_request(case: &Case, nurse: usize, day: u16, shift: Option<Shift>)
     }
 }
 
-/// The points for each day with a wish to work that isn't met.
+/// S8. The points for each day with a wish to work that isn't met.
 pub(crate) fn wish_cost(case: &Case, nurse: usize, row: &[Choice]) -> u64
     requires nurse { nurse < nurse_count case.now }
     requires days { length row.now ≤ most_days }
@@ -53,7 +53,7 @@ pub(crate) fn wish_cost(case: &Case, nurse: usize, row: &[Choice]) -> u64
     cost
 }
 
-/// The points for each weekend of which exactly one day is worked, where the contract wants whole weekends.
+/// S5. The points for each weekend of which exactly one day is worked, where the contract wants whole weekends.
 pub(crate) fn split_cost(case: &Case, nurse: usize, row: &[Choice], weeks: u16) -> u64
     requires days { length row.now ≡ 7 * weeks }
     requires weeks { weeks ≤ most_weeks }
@@ -66,7 +66,7 @@ pub(crate) fn split_cost(case: &Case, nurse: usize, row: &[Choice], weeks: u16) 
     SPLIT as u64 * split_weekends(row, weeks)
 }
 
-/// The points for each assignment below the least or above the greatest total, the history's counted in.
+/// S6. The points for each assignment below the least or above the greatest total, the history's counted in.
 pub(crate) fn totals_cost(case: &Case, nurse: usize, row: &[Choice]) -> u64
     requires { length row.now ≤ most_days }
     ensures cost { result ≡ totals_cost case.now nurse (days_of row.now) }
@@ -79,7 +79,7 @@ pub(crate) fn totals_cost(case: &Case, nurse: usize, row: &[Choice]) -> u64
     ASSIGNMENT as u64 * missing + ASSIGNMENT as u64 * extra
 }
 
-/// The points for each worked weekend above the greatest number, the history's counted in.
+/// S7. The points for each worked weekend above the greatest number, the history's counted in.
 pub(crate) fn weekends_cost(case: &Case, nurse: usize, row: &[Choice], weeks: u16) -> u64
     requires days { length row.now ≡ 7 * weeks }
     requires weeks { weeks ≤ most_weeks }

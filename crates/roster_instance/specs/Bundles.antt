@@ -63,6 +63,7 @@ numbers_among source names ts = map (λ n. list_any (has_number source names n) 
 abbrev pub successions_meant : List ℕ → Names → List Succession → List (Option (List Bool))
 successions_meant source shifts ls = table_of (λ (l : Succession). found source shifts l.shift) (λ (l : Succession). numbers_among source shifts l.forbidden) (length shifts) ls
 
+-- a contract's numbers; whole weekends are wanted where its flag is 1
 abbrev pub contract_meant : Contract → ContractRules
 contract_meant c = record {
   total = limits_of c.total;
@@ -72,6 +73,7 @@ contract_meant c = record {
   whole_weekends = c.complete_weekends == 1;
 }
 
+-- the number of the contract, and the skills in the order of the line
 abbrev pub nurse_meant : List ℕ → Names → Names → Nurse → NurseFacts
 nurse_meant source contracts skills n = record { contract = name_number source contracts n.contract; skills = map (skill_named source skills) n.skills }
 
@@ -84,6 +86,7 @@ border_meant source shifts h =
     then Free h.free_run
     else Working (shift_named source shifts h.last_shift) h.shift_run h.working_run
 
+-- what a history line says of a nurse
 abbrev pub line_meant : List ℕ → Names → NurseHistory → Past
 line_meant source shifts h = record { border = border_meant source shifts h; assignments = h.assignments; weekends = h.weekends }
 
@@ -97,6 +100,7 @@ past_meant source nurses shifts hs = table_of (λ (h : NurseHistory). found sour
 abbrev pub place_of_need : List ℕ → Names → Names → Requirement → Option ℕ
 place_of_need source shifts skills q = option_and_then (λ s. option_map (λ k. 8 * s + k) (found source skills q.skill)) (found source shifts q.shift)
 
+-- for each shift and skill the pairs of the first line that has them
 abbrev pub needs_meant : List ℕ → Names → Names → List Requirement → List (Option (List Limits))
 needs_meant source shifts skills qs = table_of (place_of_need source shifts skills) (λ (q : Requirement). limits_of_week q.days) 64 qs
 
@@ -126,6 +130,7 @@ abbrev pub lines_of : {T : Type 0} → Option (Listed T) → List T
 lines_of None = []
 lines_of (Some section) = section.items
 
+-- a week: its needs and its requests
 abbrev pub week_meant : List ℕ → Names → Names → Names → WeekData → WeekFacts
 week_meant source shifts skills nurses w = record {
   needs = needs_meant source shifts skills w.requirements;
@@ -135,6 +140,7 @@ week_meant source shifts skills nurses w = record {
 
 -- ---- the case
 
+-- the case that a bundle means; it is of use where nothing in the bundle is refused
 unfoldable pub meaning_of : List ℕ → Bundle → Meaning
 meaning_of source b = record {
   name = text_of source b.scenario.name;
@@ -156,6 +162,7 @@ meaning_of source b = record {
 abbrev pub place_of_line : List ℕ → Names → Assignment → Option ℕ
 place_of_line source nurses a = option_map (λ n. 7 * n + weekday a.day) (found source nurses a.nurse)
 
+-- the shift and the skill of a line, by the names of the case
 abbrev pub work_meant : List ℕ → Names → Names → Assignment → Choice
 work_meant source shifts skills a = Work (shift_named source shifts a.shift) (skill_named source skills a.skill)
 
@@ -167,8 +174,10 @@ solution_meant source nurses shifts skills s = table_of (place_of_line source nu
 abbrev pub choice_meant : List (List (Option Choice)) → ℕ → ℕ → Choice
 choice_meant weeks n d = unwrap_or (slice_index_or (slice_index_or weeks (d / 7) []) (7 * n + d % 7) None) Off
 
+-- a nurse's choice on each day
 abbrev pub row_meant : List (List (Option Choice)) → ℕ → Row
 row_meant weeks n = map (choice_meant weeks n) (range_with_len 0 (7 * length weeks))
 
+-- the roster that a bundle says, by the names of a case, which needn't be its own
 unfoldable pub rows_of : List ℕ → Meaning → Bundle → Rows
 rows_of source c b = map (row_meant (map (solution_meant source c.nurse_names c.shift_names c.skill_names) b.solutions)) (range_with_len 0 (nurse_count c))

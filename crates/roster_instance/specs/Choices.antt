@@ -17,6 +17,7 @@ unfoldable pub all_rows : {A : Type 0} → List A → ℕ → List (List A)
 all_rows items zero = [] ∷ []
 all_rows items (suc m) = flat_map (λ first. map (λ rest. first ∷ rest) (all_rows items m)) items
 
+-- the shift of a choice, if one is worked
 abbrev pub shift_of : Choice → Option Shift
 shift_of Off = None
 shift_of (Work s k) = Some s
@@ -25,6 +26,7 @@ shift_of (Work s k) = Some s
 abbrev pub days_of : List Choice → Days
 days_of row = map shift_of row
 
+-- both off, or the same shift with the same skill
 abbrev pub same_choice : Choice → Choice → Bool
 same_choice Off Off = true
 same_choice Off (Work s k) = false

@@ -5,6 +5,7 @@ use Rattle.std.specs.Prelude.{ℕ, ◌+◌, ◌*◌, ◌/◌, Bool, true, false,
 use Rattle.roster_instance.specs.declared.choice.Shift.{Shift}
 use Rattle.roster_instance.specs.Counting.{count_below}
 
+-- for each day the shift that a nurse works, or none; the first days of such a list are one again
 abbrev pub Days : Type 0
 Days = List (Option Shift)
 
@@ -39,6 +40,7 @@ saturday v = 7 * v + 5
 abbrev pub weekends_begun : Days → ℕ
 weekends_begun days = (length days + 1) / 7
 
+-- how many weekends have their Sunday in the days
 abbrev pub weekends_ended : Days → ℕ
 weekends_ended days = length days / 7
 

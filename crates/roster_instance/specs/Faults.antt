@@ -15,9 +15,11 @@ abbrev pub each_after : {A F : Type 0} → (List A → A → List F) → List A 
 each_after faults earlier [] = []
 each_after faults earlier (x ∷ xs) = faults earlier x ++ each_after faults (earlier ++ x ∷ []) xs
 
+-- the faults of each item, which is looked at together with the items before it
 abbrev pub each : {A F : Type 0} → (List A → A → List F) → List A → List F
 each faults xs = each_after faults [] xs
 
+-- the fault that counts, if there is one
 abbrev pub first_fault : {F : Type 0} → List F → Option F
 first_fault [] = None
 first_fault (f ∷ fs) = Some f

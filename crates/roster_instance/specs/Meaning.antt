@@ -43,6 +43,7 @@ pub record Meaning : Type 0 where
 abbrev pub week_count : Meaning → ℕ
 week_count c = length c.weeks
 
+-- days are numbered from 0, through all weeks; day 0 is a Monday
 abbrev pub day_count : Meaning → ℕ
 day_count c = 7 * week_count c
 
@@ -63,6 +64,7 @@ shift_at s = record { 0 = s }
 abbrev pub skill_at : ℕ → Skill
 skill_at k = record { 0 = k }
 
+-- what stands for a thing that no line says: limits of (0,0), and below a contract of zeros, a nurse without skills, no past, an empty week
 abbrev pub no_limits : Limits
 no_limits = record { least = 0; greatest = 0 }
 
@@ -85,6 +87,7 @@ no_week = record { needs = []; off_requests = []; wishes = [] }
 abbrev pub run_of_shift : Meaning → ℕ → Limits
 run_of_shift c s = slice_index_or c.runs s no_limits
 
+-- the contract and the skills of a nurse
 abbrev pub nurse_at : Meaning → ℕ → NurseFacts
 nurse_at c n = slice_index_or c.nurses n nobody
 
@@ -100,6 +103,7 @@ contract_of c n = slice_index_or c.contracts (nurse_at c n).contract no_contract
 abbrev pub past_of : Meaning → ℕ → Past
 past_of c n = unwrap_or (slice_index_or c.past n None) no_past
 
+-- the week of a day
 abbrev pub week_of : Meaning → ℕ → WeekFacts
 week_of c d = slice_index_or c.weeks (d / 7) no_week
 
@@ -107,9 +111,11 @@ week_of c d = slice_index_or c.weeks (d / 7) no_week
 abbrev pub need : Meaning → ℕ → ℕ → ℕ → Limits
 need c d s k = option_map_or (λ week. slice_index_or week (d % 7) no_limits) (slice_index_or (week_of c d).needs (8 * s + k) None) no_limits
 
+-- how many nurses a day needs of a shift with a skill
 abbrev pub minimum : Meaning → ℕ → ℕ → ℕ → ℕ
 minimum c d s k = (need c d s k).least
 
+-- how many are best
 abbrev pub optimum : Meaning → ℕ → ℕ → ℕ → ℕ
 optimum c d s k = (need c d s k).greatest
 
@@ -134,6 +140,7 @@ has_wish_for_any c n d = (wishes_of c n d).any
 
 -- ---- the history (profile: of a line whose last shift is `None` only the days off count, else only the two other runs)
 
+-- the shift of the day before the first Monday, if it was worked
 abbrev pub last_shift : Border → Option Shift
 last_shift (Free n) = None
 last_shift (Working s own all) = Some s

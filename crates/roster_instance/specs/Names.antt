@@ -17,6 +17,7 @@ reads source text t = bytes_eq (text_of source t) text
 
 -- ---- the names of the scenario
 
+-- the names of tokens, in their order; the number of a name is its place, from 0
 abbrev pub names_of : List ℕ → List Token → List (List ℕ)
 names_of source tokens = map (text_of source) tokens
 
@@ -34,6 +35,7 @@ nurse_names source b = names_of source (map (λ (n : Nurse). n.name) b.scenario.
 
 -- ---- their numbers
 
+-- the number of the first of the names that is this text
 abbrev pub find_name : List (List ℕ) → List ℕ → Option ℕ
 find_name names text = position (bytes_eq text) names
 
@@ -41,6 +43,7 @@ find_name names text = position (bytes_eq text) names
 abbrev pub found : List ℕ → List (List ℕ) → Token → Option ℕ
 found source names t = find_name names (text_of source t)
 
+-- a token's name has a number
 abbrev pub is_known : List ℕ → List (List ℕ) → Token → Bool
 is_known source names t = is_some (found source names t)
 

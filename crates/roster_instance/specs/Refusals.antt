@@ -90,6 +90,7 @@ unknown_fault source names t = fault_if (not (is_known source names t)) (Unknown
 abbrev pub unknown_unless : List ℕ → List ℕ → Names → Token → List CaseFault
 unknown_unless source word names t = fault_if (not (reads source word t || is_known source names t)) (Unknown t.line)
 
+-- a shift has a name that means something else in requests or in the history
 abbrev pub reserved_fault : List ℕ → Token → List CaseFault
 reserved_fault source t = fault_if (reads source (codes "Any") t || reads source (codes "None") t) (Reserved t.line)
 
@@ -134,6 +135,7 @@ faults_of_staff source b =
     listed_faults most_contracts (contract_faults source) b.scenario.contracts
     ++ listed_faults most_nurses (nurse_faults source (contract_names source b) (skill_names source b)) b.scenario.nurses
 
+-- all refusals of the scenario, in the order of its text
 abbrev pub scenario_faults : List ℕ → Bundle → List CaseFault
 scenario_faults source b =
     limit_fault most_weeks b.scenario.weeks.token b.scenario.weeks.value
@@ -149,6 +151,7 @@ history_line_faults source nurses shifts earlier h =
     ++ fault_if (list_any (λ (e : NurseHistory). same_name source h.nurse e.nurse) earlier) (HistoryNurses h.nurse.line)
     ++ unknown_unless source (codes "None") shifts h.last_shift
 
+-- all refusals of the history, in the order of its text
 abbrev pub history_faults : Known → History → List CaseFault
 history_faults known h =
     fault_if (nat_lt 0 h.week.value) (HistoryWeek h.week.token.line)
@@ -166,6 +169,7 @@ requirement_faults source shifts skills earlier q =
 abbrev pub request_faults : List ℕ → Names → Names → Request → List CaseFault
 request_faults source nurses shifts q = unknown_fault source nurses q.nurse ++ unknown_unless source (codes "Any") shifts q.shift
 
+-- all refusals of a week's data, in the order of their text
 abbrev pub week_faults : Known → WeekData → List CaseFault
 week_faults known w =
     instance_fault known.source known.name w.scenario
@@ -175,6 +179,7 @@ week_faults known w =
 
 -- ---- the states: for the first nurse whose search would need too many
 
+-- the search for a nurse would be too large
 abbrev pub state_fault : Meaning → ℕ × Nurse → List CaseFault
 state_fault c n = fault_if (nat_lt most_states (state_count c n.0)) (TooManyStates n.0 n.1.name)
 
@@ -197,6 +202,7 @@ assignment_faults source nurses shifts skills i earlier a =
     ++ fault_if (list_any (λ (e : Assignment). same_name source a.nurse e.nurse && (weekday a.day == weekday e.day)) earlier)
     (H1 (name_number source nurses a.nurse) (7 * i + weekday a.day))
 
+-- all refusals of a solution, in the order of its text
 abbrev pub solution_faults : Known → ℕ × Solution → List CaseFault
 solution_faults known s =
     instance_fault known.source known.name s.1.scenario

@@ -12,9 +12,11 @@ extension_count c n = state_count c n * day_count c * choice_count c n
 abbrev pub greatest_over_nurses : Meaning → (Meaning → ℕ → ℕ) → ℕ
 greatest_over_nurses c size = greatest_of (map (size c) (range_with_len 0 (nurse_count c)))
 
+-- K of a case
 unfoldable pub greatest_state_count : Meaning → ℕ
 greatest_state_count c = greatest_over_nurses c state_count
 
+-- the greatest number of extensions that a search of the case may take
 unfoldable pub greatest_extension_count : Meaning → ℕ
 greatest_extension_count c = greatest_over_nurses c extension_count
 

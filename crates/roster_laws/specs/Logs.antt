@@ -15,14 +15,17 @@ abbrev pub is_round : Event → Bool
 is_round (round_done k) = true
 is_round _ = false
 
+-- how many entries of a log are of a changed row
 abbrev pub changes_in : List Entry → ℕ
 changes_in entries = count_by (λ e. is_change e.event) entries
 
+-- how many are of a round that is done
 abbrev pub rounds_in : List Entry → ℕ
 rounds_in entries = count_by (λ e. is_round e.event) entries
 
 -- ---- what is told of a run: whether it is settled, its rounds and changes, and the penalty at its end
 
+-- how a run ended, how many rounds and changes its log has, and the penalty of its last roster
 pub record Outcome : Type 0 where
   pub is_settled : Bool
   pub rounds : ℕ
@@ -50,6 +53,7 @@ pub record EndsWith (entries : List Entry) (last : Entry) : Type 0 where
 
 -- ---- from an entry to a later one the penalty doesn't rise, and to a change it falls
 
+-- from an entry to a later one the penalty doesn't rise, and to a change it falls by 5 at least
 pub record Descends (c : Meaning) (e later : Entry) : Type 0 where
   pub never_rises : penalty c later.roster ≤ penalty c e.roster
   pub falls : is_change later.event ≡ true → penalty c later.roster + 5 ≤ penalty c e.roster

@@ -15,6 +15,7 @@ with_choice have choice s k = have s k + one_if (same_choice choice (Work (shift
 abbrev pub staffing_cost_by : Meaning → ℕ → (ℕ → ℕ → ℕ) → ℕ
 staffing_cost_by c d have = sum_below (shift_count c) (λ s. sum_below (skill_count c) (λ k. staffing_weight * (optimum c d s k - have s k)))
 
+-- no minimum of the day is missed
 abbrev pub meets : Meaning → ℕ → (ℕ → ℕ → ℕ) → Bool
 meets c d have = all_below (shift_count c) (λ s. all_below (skill_count c) (λ k. not (nat_lt (have s k) (minimum c d s k))))
 

@@ -45,6 +45,7 @@ abbrev pub cheaper_of : {A : Type 0} → (A → ℕ) → A → Option A → A
 cheaper_of cost x None = x
 cheaper_of cost x (Some y) = if nat_lt (cost y) (cost x) then y else x
 
+-- the first member that is no dearer than any other, if there is one
 abbrev pub first_least : {A : Type 0} → (A → ℕ) → List A → Option A
 first_least cost [] = None
 first_least cost (x ∷ xs) = Some (cheaper_of cost x (first_least cost xs))
@@ -53,5 +54,6 @@ first_least cost (x ∷ xs) = Some (cheaper_of cost x (first_least cost xs))
 abbrev pub IsBestRow : Meaning → ℕ → Rows → ℕ → Row → Type 0
 IsBestRow c from r n row = IsFirstLeast (penalty_with c r n) (allowed_rows c from r n) row
 
+-- the same as a function
 abbrev pub best_row : Meaning → ℕ → Rows → ℕ → Option Row
 best_row c from r n = first_least (penalty_with c r n) (allowed_rows c from r n)

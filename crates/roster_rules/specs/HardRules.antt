@@ -29,12 +29,14 @@ is_able skills (Work s k) = list_any (λ own. own.0 == k.0) skills
 abbrev pub breaks_succession : Meaning → ℕ → Days → ℕ → Bool
 breaks_succession c n days d = forbids c.successions (shift_before (last_shift (past_of c n).border) days d) (shift_on days d)
 
+-- none of m days has a shift that that of the day before, or the history's last, forbids
 abbrev pub keeps_successions : Meaning → ℕ → Days → ℕ → Bool
 keeps_successions c n days m = all_below m (λ d. not (breaks_succession c n days d))
 
 abbrev pub is_able_on : Meaning → ℕ → Row → ℕ → Bool
 is_able_on c n row d = is_able (nurse_at c n).skills (choice_on row d)
 
+-- on each of m days the nurse has the skill
 abbrev pub keeps_skills : Meaning → ℕ → Row → ℕ → Bool
 keeps_skills c n row m = all_below m (is_able_on c n row)
 
@@ -44,18 +46,21 @@ abbrev pub staffing_fault : Meaning → Rows → ℕ → ℕ → ℕ → List Ha
 staffing_fault c r d s k =
     fault_if (nat_lt (cover r d s k) (minimum c d s k)) (H2 d (shift_at s) (skill_at k) (cover r d s k) (minimum c d s k))
 
+-- H2, by day, shift and skill
 abbrev pub staffing_faults : Meaning → Rows → List HardFault
 staffing_faults c r = below (day_count c) (λ d. below (shift_count c) (λ s. below (skill_count c) (λ k. staffing_fault c r d s k)))
 
 abbrev pub succession_fault : Meaning → Rows → ℕ → ℕ → List HardFault
 succession_fault c r n d = fault_if (breaks_succession c n (days_of_nurse r n) d) (H3 n d)
 
+-- H3, by nurse and day
 abbrev pub succession_faults : Meaning → Rows → List HardFault
 succession_faults c r = below (nurse_count c) (λ n. below (day_count c) (λ d. succession_fault c r n d))
 
 abbrev pub skill_fault : Meaning → Rows → ℕ → ℕ → List HardFault
 skill_fault c r n d = fault_if (not (is_able_on c n (row_of r n) d)) (H4 n d)
 
+-- H4, by nurse and day
 abbrev pub skill_faults : Meaning → Rows → List HardFault
 skill_faults c r = below (nurse_count c) (λ n. below (day_count c) (λ d. skill_fault c r n d))
 
@@ -63,6 +68,7 @@ skill_faults c r = below (nurse_count c) (λ n. below (day_count c) (λ d. skill
 unfoldable pub hard_faults : Meaning → Rows → List HardFault
 hard_faults c r = staffing_faults c r ++ succession_faults c r ++ skill_faults c r
 
+-- as a test
 abbrev pub keeps_hard : Meaning → Rows → Bool
 keeps_hard c r = is_none_of (hard_faults c r)
 

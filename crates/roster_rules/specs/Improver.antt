@@ -32,20 +32,24 @@ abbrev pub step_with : Meaning → Rows → ℕ → Option Row → Rows
 step_with c r n None = r
 step_with c r n (Some row) = if_cheaper c r (with_row r n row)
 
+-- one nurse's step
 unfoldable pub step : Meaning → BestRows → Rows → ℕ → Rows
 step c best r n = step_with c r n (best r n)
 
 -- ---- a round is one step for each nurse in order
 
+-- a step for each nurse, in their order
 unfoldable pub round : Meaning → BestRows → Rows → Rows
 round c best r = fold (step c best) r (range_with_len 0 (nurse_count c))
 
 -- ---- a run makes rounds until one changes nothing (settled), or as many as it may (stopped)
 
+-- where a run comes to, and whether its last round changed nothing
 pub record Run : Type 0 where
   pub roster : Rows
   pub is_settled : Bool
 
+-- a run that may make so many rounds
 unfoldable pub run : Meaning → BestRows → ℕ → Rows → Run
 run c best zero r = record { roster = r; is_settled = false }
 run c best (suc rounds) r =
@@ -54,6 +58,7 @@ run c best (suc rounds) r =
 
 -- ---- its log
 
+-- what an entry of the log tells
 pub data Event : Type 0 where
   started : Event
   -- in this round the row of this nurse was replaced
@@ -89,6 +94,7 @@ entries_from c best k (suc rounds) r =
     let next = round c best r in
     round_log c best k r ++ (if same_rows next r then entry settled r ∷ [] else entries_from c best (k + 1) rounds next)
 
+-- the log of a run: the start, what each round changed and its end, and how the run ended
 unfoldable pub log_of : Meaning → BestRows → ℕ → Rows → List Entry
 log_of c best rounds r = entry started r ∷ entries_from c best 1 rounds r
 

@@ -20,24 +20,28 @@ staffing_cost_of_place c r d s k = staffing_weight * (optimum c d s k - cover r 
 abbrev pub staffing_cost_of_day : Meaning → Rows → ℕ → ℕ
 staffing_cost_of_day c r d = sum_below (shift_count c) (λ s. sum_below (skill_count c) (staffing_cost_of_place c r d s))
 
+-- S1: all days together
 abbrev pub staffing_cost : Meaning → Rows → ℕ
 staffing_cost c r = sum_below (day_count c) (staffing_cost_of_day c r)
 
 -- ---- runs: how many days of a kind stand right before day 0
 
+-- the days off before the first Monday, where the history ends with some
 abbrev pub free_before : Border → ℕ
 free_before (Free n) = n
 free_before (Working s own all) = 0
 
+-- the working days before it
 abbrev pub worked_before : Border → ℕ
 worked_before (Free n) = 0
 worked_before (Working s own all) = all
 
+-- the days with this shift before it, where it is the history's last
 abbrev pub shift_run_before : ℕ → Border → ℕ
 shift_run_before s (Free n) = 0
 shift_run_before s (Working t own all) = if t.0 == s then own else 0
 
--- points for each missing or extra day of a run of working days
+-- S2: points for each missing or extra day of a run of working days
 abbrev pub working_run_cost : Meaning → ℕ → Days → ℕ
 working_run_cost c n days = working_run_weight * run_violations (contract_of c n).working (worked_before (past_of c n).border) (works days) (length days)
 
@@ -45,10 +49,11 @@ working_run_cost c n days = working_run_weight * run_violations (contract_of c n
 abbrev pub run_cost_of_shift : Meaning → ℕ → Days → ℕ → ℕ
 run_cost_of_shift c n days s = shift_run_weight * run_violations (run_of_shift c s) (shift_run_before s (past_of c n).border) (has_shift s days) (length days)
 
+-- S2: the same for all shifts
 abbrev pub shift_run_cost : Meaning → ℕ → Days → ℕ
 shift_run_cost c n days = sum_below (shift_count c) (run_cost_of_shift c n days)
 
--- points for each missing or extra day of a run of days off
+-- S3: points for each missing or extra day of a run of days off
 abbrev pub free_run_cost : Meaning → ℕ → Days → ℕ
 free_run_cost c n days = free_run_weight * run_violations (contract_of c n).free (free_before (past_of c n).border) (is_off days) (length days)
 
@@ -63,6 +68,7 @@ breaks_off_request c n d (Some s) = has_off_request c n d s.0
 abbrev pub off_request_cost_on : Meaning → ℕ → ℕ → Option Shift → ℕ
 off_request_cost_on c n d shift = if breaks_off_request c n d shift then off_request_weight else 0
 
+-- S4: all days of a nurse together
 abbrev pub off_request_cost : Meaning → ℕ → Days → ℕ
 off_request_cost c n days = sum_below (length days) (λ d. off_request_cost_on c n d (shift_on days d))
 
@@ -75,12 +81,13 @@ meets_wishes c n d shift = (not (has_wish_for_any c n d) || is_some shift) && al
 abbrev pub wish_cost_on : Meaning → ℕ → ℕ → Option Shift → ℕ
 wish_cost_on c n d shift = if meets_wishes c n d shift then 0 else wish_weight
 
+-- S8: all days of a nurse together
 abbrev pub wish_cost : Meaning → ℕ → Days → ℕ
 wish_cost c n days = sum_below (length days) (λ d. wish_cost_on c n d (shift_on days d))
 
 -- ---- weekends and totals
 
--- points for each weekend of which exactly one day is worked, where the contract wants whole weekends
+-- S5: points for each weekend of which exactly one day is worked, where the contract wants whole weekends
 abbrev pub split_cost : Meaning → ℕ → Days → ℕ
 split_cost c n days = if (contract_of c n).whole_weekends then split_weight * split_weekends days else 0
 
@@ -88,6 +95,7 @@ split_cost c n days = if (contract_of c n).whole_weekends then split_weight * sp
 abbrev pub total_of : Meaning → ℕ → Days → ℕ
 total_of c n days = (past_of c n).assignments + days_worked days
 
+-- the worked weekends, with the history's
 abbrev pub weekends_of : Meaning → ℕ → Days → ℕ
 weekends_of c n days = (past_of c n).weekends + worked_weekends days
 
@@ -98,10 +106,11 @@ missing_cost c n total = assignment_weight * ((contract_of c n).total.least - to
 abbrev pub extra_cost : Meaning → ℕ → ℕ → ℕ
 extra_cost c n total = assignment_weight * (total - (contract_of c n).total.greatest)
 
+-- S6: both together
 abbrev pub totals_cost : Meaning → ℕ → Days → ℕ
 totals_cost c n days = missing_cost c n (total_of c n days) + extra_cost c n (total_of c n days)
 
--- points for each worked weekend above the greatest number
+-- S7: points for each worked weekend above the greatest number
 abbrev pub weekends_cost : Meaning → ℕ → Days → ℕ
 weekends_cost c n days = weekend_weight * (weekends_of c n days - (contract_of c n).weekends)
 
@@ -139,6 +148,7 @@ costs_of c r = record {
   s8 = over_nurses c r (wish_cost c);
 }
 
+-- the sum of all rules
 abbrev pub total_cost : Costs → ℕ
 total_cost k = k.s1 + k.s2 + k.s3 + k.s4 + k.s5 + k.s6 + k.s7 + k.s8
 

@@ -25,14 +25,17 @@ pub record Summary : Type 0 where
 abbrev pub last_of : Meaning → ℕ → Days → Option Shift
 last_of c n days = shift_before (last_shift (past_of c n).border) days (length days)
 
+-- the open run of working days where a shift is last, else that of days off, up to its cap
 abbrev pub last_run_of : Meaning → ℕ → Days → Option Shift → ℕ
 last_run_of c n days None = min (open_run (free_before (past_of c n).border) (is_off days) (length days)) (cap (contract_of c n).free)
 last_run_of c n days (Some s) = min (open_run (worked_before (past_of c n).border) (works days) (length days)) (cap (contract_of c n).working)
 
+-- the open run of the last shift, up to its cap
 abbrev pub shift_run_of : Meaning → ℕ → Days → Option Shift → ℕ
 shift_run_of c n days None = 0
 shift_run_of c n days (Some s) = min (open_run (shift_run_before s.0 (past_of c n).border) (has_shift s.0 days) (length days)) (cap (run_of_shift c s.0))
 
+-- the summary of these days
 unfoldable pub summary_of : Meaning → ℕ → Days → Summary
 summary_of c n days = record {
   last = last_of c n days;

@@ -8,6 +8,7 @@ Steps S X = ℕ → S → X → Option (S × ℕ)
 
 -- ---- one row
 
+-- a step and what comes after it, none where the step is forbidden
 abbrev pub cost_behind : {S : Type 0} → Option (S × ℕ) → (S → Option ℕ) → Option ℕ
 cost_behind None rest = None
 cost_behind (Some t) rest = plus t.1 (rest t.0)
@@ -26,6 +27,7 @@ rows_from items (suc m) d = flat_map (λ first. map (λ rest. first ∷ rest) (r
 
 -- ---- the best row, by states
 
+-- an item and the best row after it, none where the item is forbidden
 abbrev pub best_behind : {S X : Type 0} → X → Option (S × ℕ) → (S → Priced (List X)) → Priced (List X)
 best_behind x None rest = None
 best_behind x (Some t) rest = raised t.1 (λ xs. x ∷ xs) (rest t.0)

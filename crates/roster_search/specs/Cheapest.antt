@@ -14,6 +14,7 @@ cheaper None q = q
 cheaper (Some p) None = Some p
 cheaper (Some p) (Some q) = if nat_lt q.0 p.0 then Some q else Some p
 
+-- the first of the cheapest, if any is allowed
 abbrev pub cheapest : {Y X : Type 0} → (Y → Priced X) → List Y → Priced X
 cheapest f [] = None
 cheapest f (y ∷ ys) = cheaper (f y) (cheapest f ys)

@@ -2,9 +2,11 @@
 use Rattle.std.specs.Prelude.{◌≡◌, ◌+◌, ◌/◌, ◌%◌, ◌<◌, ℕ, List, ◌++◌, length, map, slice_index_or, take}
 use Rattle.roster_lanes.specs.Lanes.{SameOutside}
 
+-- the pointer in the low half of a byte
 abbrev pub low : ℕ → ℕ
 low byte = byte % 16
 
+-- and in the high half
 abbrev pub high : ℕ → ℕ
 high byte = byte / 16
 

@@ -12,6 +12,7 @@ use Rattle.roster_search.specs.declared.offer.Offer.{Offer}
 use Rattle.roster_search.specs.Cheapest.{Priced}
 use Rattle.roster_search.specs.ByStates.{Steps, best_from}
 
+-- a choice with its price on a day
 abbrev pub offer_of : Meaning → Rows → ℕ → ℕ → Choice → Offer
 offer_of c r n d choice = record { choice = choice; price = price c r n d choice }
 

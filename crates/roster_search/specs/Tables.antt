@@ -46,6 +46,7 @@ pub record IsDayOf (c : Meaning) (at : SearchDay) : Type 0 where
   pub day : at.day < day_count c
   pub ranges : at.ranges ≡ sizes_of c at.nurse
 
+-- its choice is one of the case's, and it costs no more than an offer can
 pub record IsOfferOf (c : Meaning) (offer : Offer) : Type 0 where
   pub choice : is_choice_of c offer.choice ≡ true
   pub price : offer.price ≤ most_price
@@ -54,6 +55,7 @@ pub record IsOfferOf (c : Meaning) (offer : Offer) : Type 0 where
 abbrev pub best_by : Meaning → SearchDay → BestOnward → Summary → Offer → Priced (List Offer)
 best_by c at later s offer = best_behind offer (offer_step c at.nurse at.day s offer) later
 
+-- the best row from a state on, over all offers of the day
 abbrev pub best_on : Meaning → SearchDay → List Offer → BestOnward → BestOnward
 best_on c at offers later s = cheapest (best_by c at later s) offers
 
@@ -88,6 +90,7 @@ CellsOf which z right place cells = (s : Summary) → which s → right s (slice
 abbrev pub LabelsOf : (Summary → Type 0) → Meaning → ℕ → BestOnward → List ℕ → Type 0
 LabelsOf which c n best labels = CellsOf which (sizes_of c n) (λ s label. label ≡ label_of (best s)) (λ code. code) labels
 
+-- the labels of all states that stand are right
 abbrev pub AreLabels : Meaning → ℕ → List Area → BestOnward → List ℕ → Type 0
 AreLabels c n areas best labels = LabelsOf (Stands c n areas) c n best labels
 
@@ -114,6 +117,7 @@ abbrev pub PointersOf : (Summary → Type 0) → Meaning → SearchDay → List 
 PointersOf which c at offers later first pointers =
     CellsOf which (sizes_of c at.nurse) (λ s. PointsWhereBest (best_by c at later s) offers (best_on c at offers later s)) (λ code. first + code) pointers
 
+-- and so are their pointers
 abbrev pub ArePointers : Meaning → SearchDay → List Area → List Offer → BestOnward → ℕ → List ℕ → Type 0
 ArePointers c at areas offers later first pointers = PointersOf (Stands c at.nurse areas) c at offers later first pointers
 

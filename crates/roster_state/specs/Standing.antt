@@ -21,5 +21,6 @@ can_be_with c n more run shift_run None = nat_le run (cap (contract_of c n).free
 can_be_with c n more run shift_run (Some t) =
     nat_le run (cap (contract_of c n).working) && nat_le shift_run (cap (run_of_shift c t.0)) && (nat_le (cap (contract_of c n).working) run || nat_le shift_run (run + more))
 
+-- a row may lead to this state, by its last shift and its runs
 abbrev pub can_be : Meaning → ℕ → Summary → Bool
 can_be c n s = can_be_with c n (excess (past_of c n).border) s.run s.shift_run s.last

@@ -16,21 +16,25 @@ use Rattle.roster_rules.specs.Weights.{working_run_weight, shift_run_weight, fre
 
 -- ---- the runs that are open
 
+-- that of working days, 0 where the last day was off
 abbrev pub working_run : Summary → ℕ
 working_run s = if is_some s.last then s.run else 0
 
+-- that of days off, 0 where the last day was worked
 abbrev pub free_run : Summary → ℕ
 free_run s = if is_some s.last then 0 else s.run
 
+-- that of a shift, 0 where it isn't the last one
 abbrev pub open_shift_run : Summary → ℕ → ℕ
 open_shift_run s t = if is_shift t s.last then s.shift_run else 0
 
 -- ---- what one day more costs
 
--- points for each missing or extra day of the runs of working days and of days off
+-- S2: points for each missing or extra day of the runs of working days and of days off
 abbrev pub working_more : Meaning → ℕ → Summary → Option Shift → ℕ
 working_more c n s shift = working_run_weight * day_violations (contract_of c n).working (working_run s) (is_some shift)
 
+-- S3: points for the runs of days off
 abbrev pub free_more : Meaning → ℕ → Summary → Option Shift → ℕ
 free_more c n s shift = free_run_weight * day_violations (contract_of c n).free (free_run s) (not (is_some shift))
 
@@ -38,6 +42,7 @@ free_more c n s shift = free_run_weight * day_violations (contract_of c n).free 
 abbrev pub shift_more : Meaning → Summary → Option Shift → ℕ → ℕ
 shift_more c s shift t = shift_run_weight * day_violations (run_of_shift c t) (open_shift_run s t) (is_shift t shift)
 
+-- S2: points for the runs of all shifts
 abbrev pub shifts_more : Meaning → Summary → Option Shift → ℕ
 shifts_more c s shift = sum_below (shift_count c) (shift_more c s shift)
 
@@ -50,15 +55,15 @@ abbrev pub worked : (ℕ → Limits) → Option Shift → ℕ → Option Shift �
 worked runs last run None = 0
 worked runs last run (Some u) = day_violations (runs u.0) (if is_shift u.0 last then run else 0) true
 
--- points for a weekend that this day splits, where the contract wants whole weekends
+-- S5: points for a weekend that this day splits, where the contract wants whole weekends
 abbrev pub split_more : Meaning → ℕ → ℕ → Summary → Option Shift → ℕ
 split_more c n day s shift = if (contract_of c n).whole_weekends then split_weight * splits_more day (is_some s.last) (is_some shift) else 0
 
--- points for an assignment above the greatest total
+-- S6: points for an assignment above the greatest total
 abbrev pub total_more : Meaning → ℕ → Summary → Option Shift → ℕ
 total_more c n s shift = if nat_le (contract_of c n).total.greatest s.assignments then assignment_weight * one_if (is_some shift) else 0
 
--- points for a worked weekend above the greatest number
+-- S7: points for a worked weekend above the greatest number
 abbrev pub weekend_more : Meaning → ℕ → ℕ → Summary → Option Shift → ℕ
 weekend_more c n day s shift = if nat_le (contract_of c n).weekends s.weekends then weekend_weight * weekends_more day (is_some s.last) (is_some shift) else 0
 
@@ -66,6 +71,7 @@ weekend_more c n day s shift = if nat_le (contract_of c n).weekends s.weekends t
 abbrev pub cost_apart : Meaning → ℕ → ℕ → Summary → Option Shift → ℕ
 cost_apart c n day s shift = working_more c n s shift + free_more c n s shift + shifts_more c s shift + split_more c n day s shift + weekend_more c n day s shift
 
+-- what the day costs
 unfoldable pub step_cost : Meaning → ℕ → ℕ → Summary → Option Shift → ℕ
 step_cost c n day s shift = working_more c n s shift + free_more c n s shift + shifts_more c s shift + split_more c n day s shift + total_more c n s shift + weekend_more c n day s shift
 
@@ -79,6 +85,7 @@ abbrev pub shift_run_with : Meaning → Summary → Option Shift → ℕ
 shift_run_with c s None = 0
 shift_run_with c s (Some t) = min (open_shift_run s t.0 + 1) (cap (run_of_shift c t.0))
 
+-- the five numbers after the day
 unfoldable pub next_of : Meaning → ℕ → ℕ → Summary → Option Shift → Summary
 next_of c n day s shift = record {
   last = shift;
@@ -100,7 +107,7 @@ with_assignments s a = record s { assignments = a }
 abbrev pub with_weekends : Summary → ℕ → Summary
 with_weekends s w = record s { weekends = w }
 
--- points for each assignment missing to the least total, at the end
+-- S6: points for each assignment missing to the least total, at the end
 abbrev pub end_cost_of : Meaning → ℕ → Summary → ℕ
 end_cost_of c n s = missing_cost c n s.assignments
 

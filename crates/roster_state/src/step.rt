@@ -113,7 +113,7 @@ pub fn after(
     Some(next_of(case, nurse, day, state, shift))
 }
 
-/// What the days cost in the end, beside the steps: points for each assignment missing to the least total.
+/// S6. What the days cost in the end, beside the steps: points for each assignment missing to the least total.
 pub fn end_cost(case: &Case, nurse: usize, state: State) -> u32
     requires nurse { nurse < nurse_count case.now }
     requires fits { fits_sizes (sizes_of case.now nurse) state ≡ true }
@@ -167,7 +167,7 @@ fn start_cost(case: &Case, nurse: usize, past: Past) -> u32
     ASSIGNMENT * assignments + WEEKEND * weekends
 }
 
-/// The points for each assignment missing to the least total.
+/// S6. The points for each assignment missing to the least total.
 fn missing_cost(case: &Case, nurse: usize, state: State) -> u32
     ensures cost { result ≡ end_cost_of case.now nurse state }
     ensures within { result ≤ most_at_end }
@@ -229,7 +229,7 @@ pub(crate) fn cost_apart(
         + weekend_more(case, nurse, day, state, shift)
 }
 
-/// The points for each missing or extra day of the runs of working days and of days off.
+/// S2, S3. The points for each missing or extra day of the runs of working days and of days off.
 #[inline(always)]
 fn runs_more(case: &Case, nurse: usize, state: State, shift: Option<Shift>) -> u32
     ensures cost { result ≡ working_more case.now nurse state shift + free_more case.now nurse state shift }
@@ -242,7 +242,7 @@ fn runs_more(case: &Case, nurse: usize, state: State, shift: Option<Shift>) -> u
     WORKING_RUN * working + FREE_RUN * free
 }
 
-/// The points for a weekend that the day splits, where the contract wants whole weekends.
+/// S5. The points for a weekend that the day splits, where the contract wants whole weekends.
 #[inline(always)]
 fn split_more(case: &Case, nurse: usize, day: u16, state: State, shift: Option<Shift>) -> u32
     ensures cost { result ≡ split_more case.now nurse day state shift }
@@ -254,7 +254,7 @@ fn split_more(case: &Case, nurse: usize, day: u16, state: State, shift: Option<S
     SPLIT * splits_more(day, state.last, shift)
 }
 
-/// The points for a worked weekend above the greatest number.
+/// S7. The points for a worked weekend above the greatest number.
 #[inline(always)]
 fn weekend_more(case: &Case, nurse: usize, day: u16, state: State, shift: Option<Shift>) -> u32
     ensures cost { result ≡ weekend_more case.now nurse day state shift }

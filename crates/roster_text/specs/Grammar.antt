@@ -201,6 +201,7 @@ solution s = parts (
 
 -- ---- the bundle
 
+-- all places of a text that spells the bundle
 abbrev pub bundle : Bundle → List Pattern
 bundle b = parts (scenario b.scenario ∷ history b.history ∷ weeks b.week_data ∷ flat_map solution b.solutions ∷ [])
 

@@ -334,6 +334,7 @@ abbrev pub ended : ℕ → Bundle → List Seen → Result Bundle TextFault
 ended end b [] = Ok b
 ended end b (t ∷ ts) = Err (fault.AfterEnd t.token.line)
 
+-- a bundle and no token after it, or the first fault
 abbrev pub whole_of : ℕ → Read Bundle → Result Bundle TextFault
 whole_of end (Ok x) = ended end x.0 x.1
 whole_of end (Err stopped) = Err (fault_of stopped.0 (line_of_first end stopped.1))
