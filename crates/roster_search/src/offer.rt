@@ -4,8 +4,23 @@ use roster_rules::Choice;
 
 /// A choice that is offered to a nurse on a day, with its price in penalty points: that day's staffing with it, and the
 /// nurse's own requests.
-#[derive(Clone, Copy, Debug, Default, PartialEq, Eq)]
+#[derive(Clone, Copy, Debug, PartialEq, Eq)]
 pub struct Offer {
     pub choice: Choice,
     pub price: u32,
+}
+
+impl Default for Offer {
+    ghost use Rattle.std.specs.Prelude.{◌≡◌};
+    ghost use Rattle.roster_instance.specs.declared.Choice.TheVariants.{Off};
+
+    /// To be off, at no price.
+    ghost is_default = { λ offer. offer ≡ record { choice = Off; price = 0 } };
+
+    fn default() -> Offer {
+        Offer {
+            choice: Choice::default(),
+            price: 0,
+        }
+    }
 }

@@ -1,6 +1,7 @@
 //! Several readers as one.
 
 use roster_cli::Joined;
+use roster_text::Watch;
 use std::io::Read;
 use std::test::Fail;
 
@@ -18,7 +19,7 @@ fn gives_by_one_byte(input: &mut impl Read, bytes: &[u8]) -> bool {
 #[test]
 fn joined_readers_by_one_byte(rt: HostRuntime) -> Result<(), Fail> {
     let mut readers = Vec::new(rt.alloc());
-    readers.push(b"a".as_slice())?;
+    readers.push(Watch::new(b"a".as_slice()))?;
     assert!(rt; gives_by_one_byte(&mut Joined::new(readers), b"a\n"));
     Ok(())
 }

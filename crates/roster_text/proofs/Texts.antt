@@ -12,13 +12,14 @@ use Rattle.roster_text.specs.Io.{Watched, Writes, StopsAt, StopsIn, Stops, Sends
 
 -- no text is written by no write
 pub Writes-nil : {W : Type 0} (contents : W → Option (List ℕ)) (w : Watched W) → Writes contents w w []
-Writes-nil contents w = record { taken = Appends-nil (contents w.inner); failures = refl }
+Writes-nil contents w = record { taken = Appends-nil (contents w.inner); flushes = refl; failures = refl }
 
 -- wrote xs, and then ys
 pub Writes-append : {W : Type 0} (contents : W → Option (List ℕ)) (old mid new : Watched W) (xs ys : List ℕ) → Writes contents old mid xs → Writes contents mid new ys
     → Writes contents old new (xs ++ ys)
 Writes-append contents old mid new xs ys p q = record {
   taken = Appends-trans _ _ _ xs ys p.taken q.taken;
+  flushes = q.flushes ∙ p.flushes;
   failures = q.failures ∙ p.failures;
 }
 
@@ -30,6 +31,7 @@ StopsAt-append contents old new xs ys sent p =
     record {
       taken = rw (take-append-le sent xs ys (omega arith)) p.taken;
       left = simp length-append (omega arith);
+      flushes = p.flushes;
       failures = p.failures;
     }
 
@@ -41,6 +43,7 @@ StopsAt-after contents old mid new xs ys sent p q =
     record {
       taken = rw (take-append-add xs ys sent) (Appends-trans _ _ _ xs (take sent ys) p.taken q.taken);
       left = simp length-append (omega arith);
+      flushes = q.flushes ∙ p.flushes;
       failures = q.failures ∙ ap one_more p.failures;
     }
 

@@ -8,20 +8,22 @@ use Rattle.roster_text.specs.declared.fault.TextFault.TheVariants.{Memory, ReadF
 use Rattle.roster_text.specs.declared.fault.WriteFault.{WriteFault}
 use Rattle.roster_text.specs.declared.fault.WriteFault.TheVariants.{WriteFailed}
 
--- a reader or a writer, and how many of its reads and writes have failed
+-- a reader or a writer, how many reads and writes it had, how many flushes, and how many of all these have failed
 pub record Watched (T : Type 0) : Type 0 where
   pub inner : T
+  pub calls : ℕ
+  pub flushes : ℕ
   pub failures : ℕ
 
 -- a count that stops at 2 ^ 64 - 1
 abbrev pub saturated : ℕ → ℕ
 saturated n = min n (2 ^ 64 - 1)
 
--- one failure more; the count stops at 2 ^ 64 - 1
+-- one more; the count stops at 2 ^ 64 - 1
 abbrev pub one_more : ℕ → ℕ
-one_more failures = saturated (failures + 1)
+one_more count = saturated (count + 1)
 
--- the count behind a call that fails where the test says so
+-- the count of failures after a call that fails where the test says so
 abbrev pub counted : ℕ → Bool → ℕ
 counted failures fails = if fails then one_more failures else failures
 
@@ -70,15 +72,17 @@ is_read_failure _ = false
 
 -- ---- writing a text; contents is what a writer holds
 
--- the writer took the whole text, and no write failed
+-- the writer took the whole text, no write failed, and nothing was flushed
 pub record Writes {W : Type 0} (contents : W → Option (List ℕ)) (old new : Watched W) (text : List ℕ) : Type 0 where
   pub taken : Appends (contents old.inner) (contents new.inner) text
+  pub flushes : new.flushes ≡ old.flushes
   pub failures : new.failures ≡ old.failures
 
--- one write failed, where the writer had taken just these first bytes of the text, and more were left
+-- one write failed, where the writer had taken just these first bytes of the text, and more were left; nothing was flushed
 pub record StopsAt {W : Type 0} (contents : W → Option (List ℕ)) (old new : Watched W) (text : List ℕ) (sent : ℕ) : Type 0 where
   pub taken : Appends (contents old.inner) (contents new.inner) (take sent text)
   pub left : sent < length text
+  pub flushes : new.flushes ≡ old.flushes
   pub failures : new.failures ≡ one_more old.failures
 
 -- how many bytes a fault says were sent

@@ -10,6 +10,7 @@ mod pieces;
 mod reading;
 mod token;
 mod watch;
+mod watching;
 mod writing;
 
 pub use fault::{Keyword, TextFault, What, WriteFault};

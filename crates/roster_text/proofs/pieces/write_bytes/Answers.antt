@@ -10,6 +10,7 @@ loop-sent-preserved g c = record {
   within = search rules;
   written = rw take-add (Writes-append _ _ _ _ _ _ c.loop-sent.invariant.written (record {
     taken = rw take_rest at c.in-Ok.ensures.bytes;
+    flushes = search rules;
     failures = grind (arith, common_steps, c.in-Ok.ensures.failures);
   }));
 }

@@ -1,0 +1,305 @@
+"""A reckoning of the soft rules by code of its own: what a roster costs, a nurse's best row, and a run of the improver.
+
+The rules are those of docs/RULES.md, in their words and not in the program's. A choice is None, or a shift and a skill; a row
+has one for each day, and a roster has a row for each nurse. Shifts, skills, contracts and nurses are numbers.
+"""
+import collections
+import itertools
+import re
+
+DAYS = ["Mon", "Tue", "Wed", "Thu", "Fri", "Sat", "Sun"]
+SATURDAY, SUNDAY = 5, 6
+
+Limits = collections.namedtuple("Limits", "least greatest")
+Contract = collections.namedtuple("Contract", "assignments working off weekends whole_weekends")
+Nurse = collections.namedtuple("Nurse", "name contract skills history")
+History = collections.namedtuple("History", "assignments weekends last of_last working off")
+# Of a case `shifts` has the name and the limits of each, `skills` the names, `forbidden` the pairs of shifts, `needs` for each
+# shift and skill a minimum and an optimum for each day, `requests` and `wishes` a nurse, a shift or None for any, and a day. A day
+# counts from the first Monday.
+Case = collections.namedtuple("Case", "name weeks shifts skills forbidden contracts nurses needs requests wishes")
+Shift = collections.namedtuple("Shift", "name limits")
+
+
+def days_of(case):
+    return range(7 * case.weeks)
+
+
+def shifts_of(row):
+    return tuple(choice and choice[0] for choice in row)
+
+
+# ---- what a roster costs
+
+
+def violations(days, before, limits):
+    """The missing and the extra days of the runs of a kind: which days are of it, and how many of it stand right before."""
+    found = max(0, limits.least - before) if before and not days[0] else 0
+    for is_kind, run in itertools.groupby(range(len(days)), lambda day: days[day]):
+        if is_kind:
+            run = list(run)
+            length = len(run) + (before if run[0] == 0 else 0)
+            found += min(len(run), max(0, length - limits.greatest))
+            found += max(0, limits.least - length) if run[-1] != len(days) - 1 else 0
+    return found
+
+
+def total_cost(contract, total, weekends):
+    """What the totals of a nurse cost: assignments and worked weekends."""
+    lacking = max(0, contract.assignments.least - total) + max(0, total - contract.assignments.greatest)
+    return 20 * lacking + 30 * max(0, weekends - contract.weekends)
+
+
+def own_cost(case, nurse, shifts):
+    """What the days of a nurse cost by themselves: runs, weekends and totals."""
+    contract, history = case.contracts[nurse.contract], nurse.history
+    worked = [shift is not None for shift in shifts]
+    is_behind_work = history.last is not None
+    cost = 30 * violations(worked, history.working if is_behind_work else 0, contract.working)
+    cost += 30 * violations([not it for it in worked], 0 if is_behind_work else history.off, contract.off)
+    for number, shift in enumerate(case.shifts):
+        before = history.of_last if history.last == number else 0
+        cost += 15 * violations([it == number for it in shifts], before, shift.limits)
+    weekends = list(zip(worked[SATURDAY::7], worked[SUNDAY::7]))
+    if contract.whole_weekends:
+        cost += 30 * sum(saturday != sunday for saturday, sunday in weekends)
+    return cost + total_cost(contract, history.assignments + sum(worked), history.weekends + sum(map(any, weekends)))
+
+
+def request_cost(case, number, day, choice):
+    """The off requests of the nurse of this number against a choice, and the wishes that it doesn't meet."""
+    asked = choice and any((number, shift, day) in case.requests for shift in (choice[0], None))
+    wished = [shift for shift in (None, *range(len(case.shifts))) if (number, shift, day) in case.wishes]
+    met = all(choice and shift in (choice[0], None) for shift in wished)
+    return (10 if asked else 0) + (0 if met else 10)
+
+
+def cover(day_of_all):
+    return collections.Counter(choice for choice in day_of_all if choice)
+
+
+def staffing(case, day, covers):
+    return 30 * sum(max(0, need[day].greatest - covers[at]) for at, need in case.needs.items())
+
+
+def meets_minimums(case, day, covers):
+    return all(covers[at] >= need[day].least for at, need in case.needs.items())
+
+
+def penalty(case, roster):
+    """The penalty of a roster."""
+    cost = sum(staffing(case, day, cover(row[day] for row in roster)) for day in days_of(case))
+    for number, (nurse, row) in enumerate(zip(case.nurses, roster)):
+        cost += own_cost(case, nurse, shifts_of(row))
+        cost += sum(request_cost(case, number, day, row[day]) for day in days_of(case))
+    return cost
+
+
+# ---- the best row
+
+
+def follows(case, nurse, shifts):
+    """Whether no shift is forbidden by the one before it."""
+    before = (nurse.history.last, *shifts)
+    return not any(pair in case.forbidden for pair in zip(before, shifts))
+
+
+def offers_of(case, roster, number, first_week=0):
+    """For each day what the minimums leave to a nurse, in the order of choices, with its price there. On the days before the first
+    week that may change that is the present choice alone."""
+    skills = sorted(case.nurses[number].skills)
+    choices = [None, *((shift, skill) for shift in range(len(case.shifts)) for skill in skills)]
+    offers = []
+    for day in days_of(case):
+        others = [row[day] for other, row in enumerate(roster) if other != number]
+        covers = {choice: cover([*others, choice]) for choice in choices}
+        free = choices if day // 7 >= first_week else [roster[number][day]]
+        offered = [choice for choice in free if meets_minimums(case, day, covers[choice])]
+        offers.append([(it, staffing(case, day, covers[it]) + request_cost(case, number, day, it)) for it in offered])
+    return offers
+
+
+def missing(length, limits):
+    """What is missing to a run that ends; one of no day is none."""
+    return max(0, limits.least - length) if length else 0
+
+
+def counted(length, limits):
+    """The length of a run, as far as it matters for the days to come."""
+    return min(length, max(limits))
+
+
+def one_day_more(case, contract, state, shift, day):
+    """What a day costs by the runs that it ends or makes too long and by its weekend, and the state after it. A state has the
+    last shift, the run of working or free days, the run of that shift, the assignments and the worked weekends."""
+    last, run, of_last, total, weekends = state
+    works, worked = shift is not None, last is not None
+    kinds, cost = {True: contract.working, False: contract.off}, 0
+    if works != worked:
+        cost, run = 30 * missing(run, kinds[worked]), 0
+    if worked and shift != last:
+        cost += 15 * missing(of_last, case.shifts[last].limits)
+    cost += 30 * (run + 1 > kinds[works].greatest)
+    run, of_shift = counted(run + 1, kinds[works]), 0
+    if works:
+        limits = case.shifts[shift].limits
+        of_shift = (of_last if shift == last else 0) + 1
+        cost += 15 * (of_shift > limits.greatest)
+        of_shift = counted(of_shift, limits)
+    if day % 7 == SUNDAY:
+        cost += 30 * (contract.whole_weekends and works != worked)
+        weekends += works or worked
+    return cost, (shift, run, of_shift, total + works, weekends)
+
+
+def best_row(case, roster, number, first_week=0):
+    """The first of the cheapest rows of a nurse that keep the hard rules and the days before a week. Of all beginnings of rows that leave the same state, the
+    cheapest is kept, of equally cheap ones the first."""
+    nurse = case.nurses[number]
+    contract, past = case.contracts[nurse.contract], nurse.history
+    run = past.off if past.last is None else past.working
+    of_last = 0 if past.last is None else past.of_last
+    kept = {(past.last, run, of_last, past.assignments, past.weekends): (0, ())}
+    for day, offers in enumerate(offers_of(case, roster, number, first_week)):
+        # of the choices of one shift only the first of the cheapest can be in the best row
+        of_shifts = {}
+        for place, (choice, price) in enumerate(offers):
+            shift = choice and choice[0]
+            of_shifts[shift] = min(of_shifts.get(shift, (price, place)), (price, place))
+        found = {}
+        for state, (cost, row) in kept.items():
+            for shift, (price, place) in of_shifts.items():
+                if (state[0], shift) not in case.forbidden:
+                    more, after = one_day_more(case, contract, state, shift, day)
+                    label = (cost + price + more, (*row, place))
+                    found[after] = min(found.get(after, label), label)
+        kept = found
+    ends = [(cost + total_cost(contract, *state[3:]), row) for state, (cost, row) in kept.items()]
+    return [offers[place][0] for offers, place in zip(offers_of(case, roster, number, first_week), min(ends)[1])]
+
+
+def with_row(roster, number, row):
+    return [*roster[:number], row, *roster[number + 1 :]]
+
+
+# ---- what the commands answer: the output and the log
+
+
+def solutions(case, roster):
+    """The texts of a roster, as they are written."""
+    texts = []
+    for week in range(case.weeks):
+        lines = [
+            f"{nurse.name} {DAYS[day % 7]} {case.shifts[row[day][0]].name} {case.skills[row[day][1]]}"
+            for nurse, row in zip(case.nurses, roster)
+            for day in range(7 * week, 7 * week + 7)
+            if row[day]
+        ]
+        texts.append("".join(f"{it}\n" for it in ["SOLUTION", f"{week} {case.name}", "", f"ASSIGNMENTS = {len(lines)}", *lines]))
+    return "\n".join(texts)
+
+
+def best(case, roster, number, row):
+    """What 'best' answers where this is the best row."""
+    after = with_row(roster, number, row)
+    log = f"start {penalty(case, roster)}\nbest {case.nurses[number].name} {penalty(case, after)}\n"
+    return solutions(case, after), log
+
+
+def improve(case, roster, rounds, first_week=0):
+    """What 'improve' answers with so many rounds, where the days before a week stay."""
+    total, log = penalty(case, roster), []
+    log.append(f"start {total}")
+    changed = True
+    for number_of_round in range(1, rounds + 1):
+        changed = False
+        for number, nurse in enumerate(case.nurses):
+            after = with_row(roster, number, best_row(case, roster, number, first_week))
+            if penalty(case, after) < total:
+                roster, total, changed = after, penalty(case, after), True
+                log.append(f"{number_of_round} {nurse.name} {total}")
+        log.append(f"round {number_of_round} {total}")
+        if not changed:
+            break
+    log.append(f"{'stopped' if changed else 'settled'} {total}")
+    return solutions(case, roster), "".join(f"{it}\n" for it in log)
+
+
+# ---- texts of which nothing is refused
+
+
+class Words:
+    """The words of the texts, in their order."""
+
+    def __init__(self, text):
+        self.left = collections.deque(re.findall(r"[(),=]|[^\s(),=]+", text))
+
+    def next(self, *before):
+        """The next word, after these."""
+        for it in before:
+            found = self.left.popleft()
+            if found != it:
+                raise ValueError(f"{it} is missing before {found}")
+        return self.left.popleft()
+
+    def number(self, *before):
+        return int(self.next(*before))
+
+    def pair(self):
+        found = Limits(self.number("("), self.number(","))
+        self.next()
+        return found
+
+    def names(self, count):
+        return [self.next() for _ in range(count)]
+
+
+def scenario_of(words):
+    """The case without its history and its weeks, and the names by which both speak."""
+    name, weeks = words.next("SCENARIO", "="), words.number("WEEKS", "=")
+    skills = words.names(words.number("SKILLS", "="))
+    shifts = [Shift(words.next(), words.pair()) for _ in range(words.number("SHIFT_TYPES", "="))]
+    place = {shift.name: number for number, shift in enumerate(shifts)}
+    lines = [(words.next(*([] if at else ["FORBIDDEN_SHIFT_TYPES_SUCCESSIONS"])), words.names(words.number())) for at in range(len(shifts))]
+    forbidden = {(place[first], place[second]) for first, others in lines for second in others}
+    of_contract, contracts = {}, []
+    for number in range(words.number("CONTRACTS", "=")):
+        of_contract[words.next()] = number
+        contracts.append(Contract(words.pair(), words.pair(), words.pair(), words.number(), words.number()))
+    nurses = []
+    for _ in range(words.number("NURSES", "=")):
+        nurse, contract = words.names(2)
+        nurses.append(Nurse(nurse, of_contract[contract], [skills.index(it) for it in words.names(words.number())], None))
+    return Case(name, weeks, shifts, skills, forbidden, contracts, nurses, {}, set(), set())
+
+
+def read(text):
+    """The case and the roster of texts."""
+    words = Words(text)
+    case = scenario_of(words)
+    shift_of = {shift.name: number for number, shift in enumerate(case.shifts)}
+    nurse_of = {nurse.name: number for number, nurse in enumerate(case.nurses)}
+    nurses, needs, requests, wishes = list(case.nurses), {}, set(), set()
+    words.next("HISTORY", "0", case.name)
+    for _ in nurses:
+        number = nurse_of[words.next()]
+        totals, last = (words.number(), words.number()), shift_of.get(words.next())
+        nurses[number] = nurses[number]._replace(history=History(*totals, last, *(words.number() for _ in range(3))))
+    none = Limits(0, 0)
+    for week in range(case.weeks):
+        words.next("WEEK_DATA", case.name)
+        while (shift := words.next()) != "SHIFT_OFF_REQUESTS":
+            need = needs.setdefault((shift_of[shift], case.skills.index(words.next())), [none] * (7 * case.weeks))
+            need[7 * week : 7 * week + 7] = [words.pair() for _ in DAYS]
+        for asked in (requests, wishes):
+            if asked is wishes and words.left[0] != "SHIFT_ON_REQUESTS":
+                break
+            for _ in range(words.number(*(["SHIFT_ON_REQUESTS"] if asked is wishes else []), "=")):
+                nurse, shift, day = words.names(3)
+                asked.add((nurse_of[nurse], shift_of.get(shift), 7 * week + DAYS.index(day[:3])))
+    roster = [[None] * (7 * case.weeks) for _ in nurses]
+    for week in range(case.weeks):
+        for _ in range(words.number("SOLUTION", str(week), case.name, "ASSIGNMENTS", "=")):
+            nurse, day, shift, skill = words.names(4)
+            roster[nurse_of[nurse]][7 * week + DAYS.index(day[:3])] = shift_of[shift], case.skills.index(skill)
+    return case._replace(nurses=nurses, needs=needs, requests=requests, wishes=wishes), roster
