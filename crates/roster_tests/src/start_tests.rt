@@ -278,12 +278,7 @@ fn a_flush_that_fails_behind_a_full_answer(rt: HostRuntime) -> Result<(), Fail> 
 }
 
 /// Whether the words ask for a run of so many rounds from a week on over these files.
-fn asks_for_run(
-    alloc: Global,
-    words: &[&str],
-    (rounds, from): (u16, u16),
-    files: &[&str],
-) -> bool {
+fn asks_for_run(alloc: Global, words: &[&str], (rounds, from): (u16, u16), files: &[&str]) -> bool {
     let Ok(request) = request_of(alloc, words) else {
         return false;
     };
@@ -300,7 +295,9 @@ fn requests_of_words(rt: HostRuntime) {
     let words = ["roster", "improve", "--rounds", "5", "a.txt"];
     assert!(rt; asks_for_run(rt.alloc(), &words, (5, 0), &["a.txt"]));
     assert!(rt; asks_for_run(rt.alloc(), &words[..2], (100, 0), &[]));
-    let frozen = ["roster", "improve", "--from", "16", "--rounds", "5", "a.txt"];
+    let frozen = [
+        "roster", "improve", "--from", "16", "--rounds", "5", "a.txt",
+    ];
     assert!(rt; asks_for_run(rt.alloc(), &frozen, (5, 16), &["a.txt"]));
     assert!(rt; asks_for_run(rt.alloc(), &frozen[..4], (100, 16), &[]));
     let too_late = request_of(rt.alloc(), &["roster", "improve", "--from", "17"]);

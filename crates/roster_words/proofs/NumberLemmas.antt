@@ -358,7 +358,7 @@ passed false k e = absurd (cc)
 
 -- ---- the numbers of the program
 
--- the commands as clap completes them, with `help` behind them
+-- the commands as clap completes them, with `help` after them
 abbrev subs : List Shape
 subs = (built program).subs
 

@@ -95,7 +95,7 @@ memory and its greatest number of steps see 'roster sizes'.
 
 Examples:
   roster best --nurse Ann examples/mini.txt > better.txt
-  roster best --nurse Kim --from 2 examples/ward.txt > better.txt
+  roster best --nurse Ines --from 2 examples/ward.txt > better.txt
 
 The files are read one after another, in the order given. Without a file, the
 texts are read from standard input.";
@@ -127,9 +127,9 @@ The last line begins with one of two words:
   stopped  all rounds were made, and the last one still changed something, or
            there was none to make. More rounds may make the rosters cheaper.
 
-With --from V the weeks 0 to V - 1 are frozen: their days stay as they stand, for
-each nurse, as where they are published. All weeks are read, and count for what
-the roster costs. Where V is above the last week, all stays.
+With --from V the weeks 0 to V - 1 are frozen: each nurse's days in them stay as
+they stand, as where these weeks are published. All weeks are read, and count for
+what the roster costs. Where V is above the last week, all stays.
 
 What isn't promised: that these are the best rosters of all, settled or not,
 since two rows changed at once may still save something; how long the run takes.
