@@ -22,8 +22,8 @@ use roster_text::{Piece, Watch, write_pieces};
 use std::alloc::Global;
 use std::io::Write;
 
-/// Writes the weeks of an instance with the best row of the nurse of this name from a week on put in, also where it isn't cheaper. What the
-/// roster costs before and with it goes to the log first.
+/// Writes the weeks of an instance with the best row of the nurse of this name from a week on put in, also where it isn't cheaper.
+/// What the roster costs before and with it goes to the log first.
 pub(crate) fn best<'a, Out: Write, Log: Write>(
     alloc: Global,
     name: &'a [u8],
@@ -59,8 +59,8 @@ pub(crate) fn best<'a, Out: Write, Log: Write>(
     Ok(write_weeks(output, held.case(), held.roster())?)
 }
 
-/// Puts the best row of a nurse from a week on in. What the roster costs is logged before the search begins, and what it costs with the row
-/// behind it.
+/// Puts the best row of a nurse from a week on in. What the roster costs is logged before the search begins, and what it costs with
+/// the row after it.
 fn put_best_row<'a, Log: Write>(
     held: &mut Held,
     name: &[u8],

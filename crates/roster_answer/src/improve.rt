@@ -19,8 +19,8 @@ use roster_text::Watch;
 use std::alloc::Global;
 use std::io::Write;
 
-/// Writes the weeks of an instance after a run of at most so many rounds from a week on. The run's log goes to the log first, line by line as it
-/// is made.
+/// Writes the weeks of an instance after a run of at most so many rounds from a week on. The run's log goes to the log first, line by
+/// line as it is made.
 pub(crate) fn improve<'a, Out: Write, Log: Write>(
     alloc: Global,
     rounds: u16,

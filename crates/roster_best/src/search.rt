@@ -28,8 +28,9 @@ pub struct Best {
 }
 
 /// Searches a nurse's best row from a week on: among all rows with which the roster keeps the hard rules, the other rows and the
-/// nurse's days before that week as they are, the first of those with the least penalty. `Workspace::row` shows it afterwards. It takes no memory. The meter counts each state that is
-/// taken over a choice: one for each day at least, and at most one for each state, day and choice of the nurse.
+/// nurse's days before that week as they are, the first of those with the least penalty. Every `from` is allowed. `Workspace::row`
+/// shows the row afterwards. It takes no memory. The meter counts each state that is taken over a choice: one for each day at least,
+/// and at most one for each state, day and choice of the nurse.
 pub fn best_row(
     held: &Held,
     nurse: usize,
