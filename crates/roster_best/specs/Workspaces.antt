@@ -1,12 +1,14 @@
 -- What a workspace has room for, and what a search leaves in its tables (our own).
-use Rattle.std.specs.Prelude.{◌≡◌, ℕ, ◌+◌, ◌-◌, ◌*◌, ◌<◌, ◌≤◌, ◌==◌, ◌&&◌, All, Bool, List, [], nat_le, slice_index_or}
+use Rattle.std.specs.Prelude.{◌≡◌, ℕ, ◌+◌, ◌-◌, ◌*◌, ◌<◌, ◌≤◌, ◌==◌, ◌&&◌, All, Bool, List, [], length, nat_le, slice_index_or}
 use Rattle.roster_instance.specs.Meaning.{Meaning, day_count}
 use Rattle.roster_instance.specs.Rosters.{Row, Rows}
-use Rattle.roster_rules.specs.Prefix.{Summary}
+use Rattle.roster_rules.specs.Counting.{sum_below}
+use Rattle.roster_rules.specs.Prefix.{Summary, summary_of}
 use Rattle.roster_state.specs.declared.Area.{Area}
 use Rattle.roster_state.specs.Codes.{product, sizes_of}
 use Rattle.roster_laws.specs.Greatest.{greatest_state_count}
 use Rattle.roster_search.specs.declared.SearchDay.{SearchDay}
+use Rattle.roster_search.specs.Counts.{states_on}
 use Rattle.roster_search.specs.Offers.{best_of_offers, shift_offers}
 use Rattle.roster_search.specs.Tables.{ArePointers, BestOnward, LeadsOn, Stands}
 
@@ -46,6 +48,17 @@ areas_on areas day = slice_index_or areas day []
 -- each day's offers lead from its areas to those of the next day
 abbrev pub AreasLead : Meaning → ℕ → Rows → ℕ → List (List Area) → Type 0
 AreasLead c from r n areas = (day : ℕ) → day < day_count c → All (LeadsOn c (search_day c n day) (areas_on areas day) (areas_on areas (day + 1))) (shift_offers c from r n day)
+
+-- how many states a search goes over on a day: those that stand, each once for each of the day's offers
+abbrev pub steps_on : Meaning → ℕ → Rows → ℕ → List (List Area) → ℕ → ℕ
+steps_on c from r n areas day = states_on c n (areas_on areas day) * length (shift_offers c from r n day)
+
+-- so many were counted: exactly those that stand in areas in which the nurse's rows stay, from the start on
+pub record CountsStanding (c : Meaning) (from : ℕ) (r : Rows) (n before after : ℕ) : Type 0 where
+  pub areas : List (List Area)
+  pub start : Stands c n (areas_on areas 0) (summary_of c n [])
+  pub lead : AreasLead c from r n areas
+  pub counted : after ≡ before + sum_below (day_count c) (steps_on c from r n areas)
 
 -- a state that stands in these areas
 pub record SomeStands (c : Meaning) (n : ℕ) (areas : List Area) : Type 0 where

@@ -5,13 +5,15 @@ ghost use Rattle.roster_instance.specs.Meaning.{day_count, nurse_count};
 ghost use Rattle.roster_instance.specs.Sizes.{choice_count};
 ghost use Rattle.roster_rules.specs.AllowedRows.{IsBestRow, penalty_with, row_keeps};
 ghost use Rattle.roster_laws.specs.Greatest.{extension_count};
+ghost use Rattle.roster_rules.specs.Counting.{sum_below};
 ghost use Rattle.roster_rules.specs.Prefix.{summary_of};
 ghost use Rattle.roster_state.specs.Codes.{product, sizes_of};
+ghost use Rattle.roster_search.specs.Counts.{states_on};
 ghost use Rattle.roster_search.specs.Offers.{best_by_states, choices_of, shift_offers};
 ghost use Rattle.roster_lanes.specs.Lanes.{SameOutside};
 ghost use Rattle.roster_search.specs.Tables.{AreLabels, ArePointers, Around, BeginsWith, IsDayOf, LeadsOn, Stands, best_on, no_row};
 ghost use Rattle.roster_search.specs.declared.Offer.{Offer};
-ghost use Rattle.roster_best.specs.Workspaces.{AreasLead, PointersFrom, SameRoom, SomeStands, areas_on, fits_space, onward};
+ghost use Rattle.roster_best.specs.Workspaces.{AreasLead, CountsStanding, PointersFrom, SameRoom, SomeStands, areas_on, fits_space, onward, steps_on};
 
 use crate::by_shift::choices_by_shift;
 use crate::workspace::Workspace;
@@ -50,6 +52,7 @@ pub fn best_row(
     // What it takes.
     ensures each_day { meter.old + day_count held.now.case ≤ meter.new }
     ensures counted { meter.new ≤ meter.old + extension_count held.now.case nurse }
+    ensures standing { CountsStanding held.now.case from held.now.roster nurse meter.old meter.new }
     ensures room { SameRoom workspace.old workspace.new }
     ensures fits { fits_space held.now.case workspace.new ≡ true }
 {
@@ -142,6 +145,7 @@ fn label_days(
     ensures lengths { (length labels.new.items ≡ length labels.old.items) × (length later.new.items ≡ length later.old.items) × (length pointers.new ≡ length pointers.old) }
     ensures each_day { meter.old + day_count held.now.case ≤ meter.new }
     ensures counted { meter.new ≤ meter.old + extension_count held.now.case nurse }
+    ensures exactly { meter.new ≡ meter.old + sum_below (day_count held.now.case) (steps_on held.now.case from held.now.roster nurse areas.now) }
 {
     let days = held.case().days();
     label_end(held.case(), nurse, ranges, &areas[days as usize], later);
@@ -185,6 +189,7 @@ fn label_before(
     ensures lengths { (length labels.new ≡ length labels.old) × (length pointers.new ≡ length pointers.old) }
     ensures some { meter.old < meter.new }
     ensures counted { meter.new ≤ meter.old + product at.now.ranges * choice_count held.now.case at.now.nurse }
+    ensures exactly { meter.new ≡ meter.old + states_on held.now.case at.now.nurse rest.here * length (shift_offers held.now.case from held.now.roster at.now.nurse at.now.day) }
 {
     let case = held.case();
     case.keeps_limits();

@@ -151,3 +151,13 @@ returns-clause-total c =
     let best = found (goal.at.returns-clause-total c).After-of-ranges in
     let is = penalty_is k c.args.from rows c.roster.ensures.fits c.roster.ensures.keeps c.args.nurse c.requires.nurse best.row.0 best.row.1 best.is in
     omega (arith, is, c.rest.ensures, owed_is c, label_is c) ∙ ap (penalty_with k rows c.args.nurse) (sym (row_is c))
+
+-- ---- what is counted
+
+pub returns-clause-standing : goal.returns-clause-standing
+returns-clause-standing c = record {
+  areas = c.stand_days.new.areas;
+  start = c.stand_days.ensures.start;
+  lead = c.stand_days.ensures.lead;
+  counted = c.label_days.ensures.exactly;
+}

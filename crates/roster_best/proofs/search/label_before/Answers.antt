@@ -5,6 +5,7 @@ use Rattle.std.specs.List.{All}
 use Rattle.roster_instance.specs.Meaning.{day_count}
 use Rattle.roster_instance.specs.Sizes.{choice_count}
 use Rattle.roster_state.specs.Codes.{product}
+use Rattle.roster_search.specs.Counts.{states_on}
 use Rattle.roster_search.specs.Tables.{AreLabels, IsDayOf, IsReady, LeadsOn, Stands}
 use Rattle.roster_best.proofs.SearchLaws.{areas_read, offers_taken, shift_offers_few}
 use Rattle.roster_best.proofs.search.label_before.Goals as goal
@@ -49,3 +50,8 @@ returns-clause-counted g c =
     let offers = c.deref.ensures.0 ∙ c.choices_by_shift-offers.ensures.offers in
     let few = shift_offers_few k c.args.from c.args.held.now.roster at.nurse at.day in
     omega (arith, c.label_day.ensures.counted, mul-le size (length c.deref.result.now) size (choice_count k at.nurse) (omega arith) (omega (arith, few, ap length offers)))
+
+pub returns-clause-exactly : goal.returns-clause-exactly
+returns-clause-exactly g c =
+    let offers = c.deref.ensures.0 ∙ c.choices_by_shift-offers.ensures.offers in
+    c.label_day.ensures.exactly ∙ (λ i. c.args.meter.now + states_on (c.case-case.ensures i) c.args.at.now.nurse g.rest.here * length (offers i))

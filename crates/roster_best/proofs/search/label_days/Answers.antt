@@ -1,13 +1,14 @@
-use Rattle.std.proofs.Common.{◌≡◌, ◌∙◌, ◌+◌, ◌-◌, ◌*◌, ◌<◌, ap, arith, length, refl, subst, sym}
+use Rattle.std.proofs.Common.{◌≡◌, ◌∙◌, ◌+◌, ◌-◌, ◌*◌, ◌<◌, ℕ, suc, ap, arith, length, refl, subst, sym}
 use Rattle.std.proofs.Math.Path.{transport}
 use Rattle.std.proofs.lemmas.List.{with_items_is}
 use Rattle.std.proofs.lemmas.Nat.{mul-le}
 use Rattle.roster_instance.specs.Meaning.{day_count}
 use Rattle.roster_instance.specs.Sizes.{choice_count}
+use Rattle.roster_rules.specs.Counting.{sum_below}
 use Rattle.roster_state.specs.Codes.{Sizes, product}
 use Rattle.roster_lanes.specs.Lanes.{SameOutside}
 use Rattle.roster_search.specs.Tables.{AreLabels, best_at_end}
-use Rattle.roster_best.specs.Workspaces.{PointersFrom, areas_on, onward}
+use Rattle.roster_best.specs.Workspaces.{PointersFrom, areas_on, onward, steps_on}
 use Rattle.roster_best.proofs.SearchLaws.{areas_read, extensions_are, labels_before, length_after, onward-last, pointers_before, table_after}
 use Rattle.roster_best.proofs.search.label_days.Goals as goal
 
@@ -30,6 +31,7 @@ loop-day-init c =
       pointers_length = refl;
       each_day = omega (arith, last);
       counted = omega (arith, ap (λ d. d * steps) last);
+      exactly = ap (λ d. c.args.meter.now + sum_below d (steps_on k c.args.from rows n c.args.areas.now)) (sym last);
     }
 
 pub label_before-requires : goal.label_before-requires
@@ -101,6 +103,11 @@ loop-day-preserved c =
       pointers_length = told.lengths.1 ∙ i.pointers_length;
       each_day = omega (arith, i.each_day, told.some, again);
       counted = omega (arith, i.counted, told.counted, ap (λ d. d * steps) again);
+      exactly =
+          (let f : ℕ → ℕ = steps_on k c.args.from rows n c.args.areas.now in
+          let next : c.loop-day.day ≡ suc day = omega (arith, again) in
+          let sum : sum_below c.loop-day.day f ≡ sum_below day f + f day = ap (λ d. sum_below d f) next in
+          omega (arith, i.exactly, told.exactly, sum));
     }
 
 pub returns-clause-labels : goal.returns-clause-labels
@@ -116,3 +123,8 @@ returns-clause-pointers c =
 pub returns-clause-counted : goal.returns-clause-counted
 returns-clause-counted c =
     omega (arith, c.loop-day.invariant.counted, extensions_are c.args.held.now.case c.args.nurse c.args.ranges.now c.requires.ranges)
+
+pub returns-clause-exactly : goal.returns-clause-exactly
+returns-clause-exactly c =
+    let none : c.loop-day.day ≡ 0 = omega (arith, c.loop-day-test.false) in
+    omega (arith, c.loop-day.invariant.exactly, ap (λ d. sum_below d (steps_on c.args.held.now.case c.args.from c.args.held.now.roster c.args.nurse c.args.areas.now)) none)

@@ -1,9 +1,10 @@
 use Rattle.std.proofs.Common.{◌≡◌, ◌+◌, ◌*◌, ◌≤◌, length}
 use Rattle.roster_instance.specs.Meaning.{day_count}
 use Rattle.roster_instance.specs.Sizes.{choice_count}
+use Rattle.roster_rules.specs.Counting.{sum_below}
 use Rattle.roster_state.specs.Codes.{product}
 use Rattle.roster_search.specs.Tables.{AreLabels}
-use Rattle.roster_best.specs.Workspaces.{PointersFrom, areas_on, onward}
+use Rattle.roster_best.specs.Workspaces.{PointersFrom, areas_on, onward, steps_on}
 use Rattle.roster_best.proofs.search.label_days.Given as goal
 
 abbrev pub ghost-label_end : goal.ghost-label_end
@@ -25,4 +26,5 @@ invariant-loop-day l = record {
   pointers_length : length l.pointers ≡ length l.fn.pointers;
   each_day : l.fn.meter + day_count l.held.case ≤ l.meter + l.day;
   counted : l.meter + l.day * (product l.ranges * choice_count l.held.case l.nurse) ≤ l.fn.meter + day_count l.held.case * (product l.ranges * choice_count l.held.case l.nurse);
+  exactly : l.meter + sum_below l.day (steps_on l.held.case l.from l.held.roster l.nurse l.areas) ≡ l.fn.meter + sum_below (day_count l.held.case) (steps_on l.held.case l.from l.held.roster l.nurse l.areas);
 }
