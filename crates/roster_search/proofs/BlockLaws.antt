@@ -2,7 +2,6 @@
 use Rattle.std.proofs.Common.{◌≡◌, ◌∙◌, ◌+◌, ◌*◌, ◌<◌, ◌≤◌, ◌⊎◌, ℕ, Bool, suc, inl, inr, ap, arith, mul-pos, mul_assoc, mul_comm, mul_right_comm, subst, sym, List, length, min, nat_lt, if◌then◌else◌, slice_index_or, take}
 use Rattle.std.proofs.Math.Nat.{suc-mul}
 use Rattle.std.proofs.lemmas.Bool.{cases_lt, le-ltb, lt-ltb}
-use Rattle.std.proofs.lemmas.Nat.{mul-le}
 use Rattle.roster_search.specs.Cheapest.{Priced, cheapest}
 use Rattle.roster_search.specs.Tables.{AreOfLeast, label_of, no_row}
 use Rattle.roster_search.proofs.LabelLaws.{label_within, taken_kept, taken_lower}
@@ -34,11 +33,6 @@ pub next_block : (number size : ℕ) → number * size + size ≡ (number + 1) *
 next_block number size =
     let next : number + 1 ≡ suc number = omega arith in
     omega (arith, ap (λ k. k * size) next, suc-mul number size)
-
-pub block_within : (number count size all : ℕ) → count * size ≡ all → number < count → number * size + size ≤ all
-block_within number count size all is below =
-    let more : (number + 1) * size ≤ count * size = mul-le (number + 1) size count size (omega (arith, below)) (omega arith) in
-    omega (arith, more, next_block number size, is)
 
 -- so many for each state and each offer, counted by groups
 pub groups_counted : (count weekends size offers all : ℕ) → count * weekends * size ≡ all → count * (weekends * (offers * size)) ≡ all * offers

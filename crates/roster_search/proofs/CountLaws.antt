@@ -1,5 +1,5 @@
 -- How many states stand: of a group, and of the groups so far.
-use Rattle.std.proofs.Common.{◌≡◌, ◌∙◌, ◌+◌, ◌-◌, ◌*◌, ◌<◌, ◌≤◌, ℕ, zero, suc, Bool, true, false, ap, arith, sym, List, min, if◌then◌else◌}
+use Rattle.std.proofs.Common.{◌≡◌, ◌∙◌, ◌+◌, ◌-◌, ◌*◌, ◌≤◌, ℕ, suc, Bool, true, false, ap, arith, sym, List, min, if◌then◌else◌}
 use Rattle.roster_rules.specs.Counting.{sum_below}
 use Rattle.roster_rules.specs.Meaning.{Meaning}
 use Rattle.roster_rules.specs.Prefix.{Summary}

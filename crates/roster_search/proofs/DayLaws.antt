@@ -8,7 +8,7 @@ use Rattle.roster_rules.specs.Prefix.{Summary}
 use Rattle.roster_state.specs.declared.Area.{Area}
 use Rattle.roster_state.specs.declared.Span.{Span}
 use Rattle.roster_state.specs.Areas.{InArea, InSpan, area_at, nowhere}
-use Rattle.roster_state.specs.Codes.{Sizes, code_of, fits_sizes, product, shift_digit, shift_numbered, sizes_of}
+use Rattle.roster_state.specs.Codes.{Sizes, code_of, fits_sizes, product, shift_digit, sizes_of}
 use Rattle.roster_state.proofs.AreaLaw.{last_of_digit}
 use Rattle.roster_state.proofs.CodeLemmas.{Fits, all-fit, fits-all, shift_digit-shift_numbered}
 use Rattle.roster_lanes.specs.Lanes.{SameOutside}

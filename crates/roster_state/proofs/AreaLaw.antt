@@ -30,9 +30,6 @@ area_kept areas to digit area s inside keeps there = go (cases_lt digit to) (cas
 pub last_of_digit : (last : Option Shift) (digit : ℕ) → shift_digit last ≡ digit → last ≡ shift_numbered digit
 last_of_digit last digit is = sym (shift_numbered-shift_digit last) ∙ ap shift_numbered is
 
-pub area_read : (areas : List Area) (digit : ℕ) (d : Area) (s : Summary) → digit < length areas → InArea (slice_index_or areas digit d) s → InArea (area_at areas digit) s
-area_read areas digit d s inside = subst (λ (x : Area). InArea x s) (get_or_default areas digit d nowhere inside)
-
 pub area_shown : (areas : List Area) (digit : ℕ) (d : Area) (s : Summary) → digit < length areas → InArea (area_at areas digit) s → InArea (slice_index_or areas digit d) s
 area_shown areas digit d s inside = subst (λ (x : Area). InArea x s) (get_or_default areas digit nowhere d inside)
 

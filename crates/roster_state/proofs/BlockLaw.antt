@@ -1,19 +1,17 @@
 -- What a day does to the places of a block is what it does to their states.
-use Rattle.std.proofs.Common.{◌≡◌, ◌∙◌, ap, ap₂, arith, refl, subst, sym, ℕ, zero, suc, ◌+◌, ◌*◌, ◌<◌, ◌≤◌, Bool, true, false, min, nat_le, if◌then◌else◌, Option, Some, None, is_some, IfSome, option_map}
-use Rattle.std.proofs.lemmas.Bool.{lt-leb}
+use Rattle.std.proofs.Common.{◌≡◌, ◌∙◌, ap, ap₂, arith, refl, subst, sym, ℕ, ◌+◌, ◌*◌, ◌<◌, ◌≤◌, Bool, true, false, min, nat_le, if◌then◌else◌, Option, Some, None, is_some, IfSome, option_map}
 use Rattle.roster_rules.specs.declared.Shift.{Shift}
 use Rattle.roster_rules.specs.Counting.{one_if}
-use Rattle.roster_rules.specs.DayLaw.{weekends_more}
 use Rattle.roster_rules.specs.Meaning.{Meaning, contract_of, forbids, shift_count}
 use Rattle.roster_rules.specs.Prefix.{Summary}
 use Rattle.roster_rules.specs.Sizes.{cap}
 use Rattle.roster_rules.specs.Small.{HasSmallNumbers}
-use Rattle.roster_rules.specs.Weights.{assignment_weight, weekend_weight}
+use Rattle.roster_rules.specs.Weights.{assignment_weight}
 use Rattle.roster_state.specs.declared.block.BlockStep.{BlockStep}
 use Rattle.roster_state.specs.Blocks.{place_behind, place_step}
 use Rattle.roster_state.specs.Codes.{fits_sizes, sizes_of}
 use Rattle.roster_state.specs.Room.{most_of_step}
-use Rattle.roster_state.specs.Step.{cost_apart, free_more, next_of, run_with, shift_run_with, shifts_more, split_more, step_cost, step_of, with_assignments, with_weekends, working_more}
+use Rattle.roster_state.specs.Step.{cost_apart, next_of, step_cost, step_of, with_assignments}
 use Rattle.roster_state.proofs.CodeLemmas.{place-fits}
 use Rattle.roster_state.proofs.RangeLemmas.{next_fits}
 use Rattle.roster_state.proofs.StepBounds.{runs_more_within, shifts_more_within, split_more_within, weekend_more_within}

@@ -4,19 +4,18 @@ use Rattle.roster_rules.specs.DayLaw.{weekends_more}
 use Rattle.roster_rules.specs.Meaning.{contract_of}
 use Rattle.roster_rules.specs.Prefix.{Summary}
 use Rattle.roster_state.specs.declared.Area.{Area}
-use Rattle.roster_state.specs.declared.Stretch.{Stretch}
 use Rattle.roster_state.specs.Areas.{InSpan, area_at}
 use Rattle.roster_state.specs.Codes.{Sizes, code_of, fits_sizes, product, shift_digit, sizes_of}
 use Rattle.roster_state.specs.Standing.{can_be}
 use Rattle.roster_state.specs.Step.{with_weekends}
 use Rattle.roster_state.specs.Stretches.{stretch_state}
 use Rattle.roster_state.proofs.CodeLemmas.{fits-all}
-use Rattle.roster_search.specs.Tables.{IsStretchOf, PointsWhereBest, Stands, StandsLike, StretchCells, best_by, best_on, label_of}
+use Rattle.roster_search.specs.Tables.{IsStretchOf, PointsWhereBest, Stands, StretchCells, best_by, best_on, label_of}
 use Rattle.roster_search.proofs.BlockLaws.{product_some}
 use Rattle.roster_search.proofs.CellLaws.{outside_then, outside_wider}
 use Rattle.roster_search.specs.Counts.{numbers_in, states_with}
 use Rattle.roster_search.proofs.CountLaws.{none_with, numbers_are, some_with}
-use Rattle.roster_search.proofs.GroupLaws.{as_place, code_block, code_place, like_area, like_can_be, like_place, like_weekends, place_stands, weekends_fit}
+use Rattle.roster_search.proofs.GroupLaws.{as_place, code_block, code_place, like_can_be, like_place, like_weekends, place_stands, weekends_fit}
 use Rattle.roster_search.proofs.StretchLaws.{group_more, rows_counted, stretch_counted}
 use Rattle.roster_search.proofs.labels.label_group.Goals as goal
 

@@ -1,4 +1,4 @@
-use Rattle.std.proofs.Common.{◌≡◌, ◌+◌, ◌-◌, ◌*◌, ◌<◌, ◌≤◌, length, min}
+use Rattle.std.proofs.Common.{◌≡◌, ◌+◌, ◌-◌, ◌*◌, ◌≤◌, length, min}
 use Rattle.roster_lanes.specs.Lanes.{SameOutside}
 use Rattle.roster_state.specs.Areas.{area_at}
 use Rattle.roster_state.specs.Codes.{code_of, shift_digit}

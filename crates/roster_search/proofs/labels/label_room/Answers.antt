@@ -1,4 +1,4 @@
-use Rattle.std.proofs.Common.{◌≡◌, ◌∙◌, ◌-◌, ◌*◌, ◌+◌, ◌≤◌, ◌<◌, ◌++◌, ℕ, ap, arith, drop, get_or, length, subst, sym}
+use Rattle.std.proofs.Common.{◌≡◌, ◌∙◌, ◌-◌, ◌*◌, ◌+◌, ◌<◌, ◌++◌, ℕ, ap, arith, drop, get_or, length, subst, sym}
 use Rattle.std.proofs.lemmas.List.{length-take-le}
 use Rattle.roster_search.specs.Tables.{LeastFrom}
 use Rattle.roster_state.specs.Step.{with_weekends}

@@ -1,6 +1,5 @@
-use Rattle.std.proofs.Common.{◌≡◌, ◌∙◌, ◌+◌, ◌-◌, ◌*◌, ◌<◌, ◌≤◌, ℕ, ap, arith, length, refl, subst, sym}
+use Rattle.std.proofs.Common.{◌≡◌, ◌∙◌, ◌+◌, ◌-◌, ◌*◌, ◌≤◌, ap, arith, length}
 use Rattle.roster_state.specs.Codes.{Sizes, code_of, product}
-use Rattle.roster_state.specs.Stretches.{IsAlike}
 use Rattle.roster_search.proofs.CellLaws.{outside_then}
 use Rattle.roster_search.proofs.StretchLaws.{part_of, places_counted, places_more, places_room}
 use Rattle.roster_search.proofs.labels.label_rows.Goals as goal

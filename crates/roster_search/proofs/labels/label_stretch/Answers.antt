@@ -1,13 +1,12 @@
-use Rattle.std.proofs.Common.{◌≡◌, ◌∙◌, ◌-◌, ◌*◌, ◌+◌, ◌≤◌, ◌<◌, ℕ, ap, arith, get_or, length, subst}
+use Rattle.std.proofs.Common.{◌≡◌, ◌∙◌, ◌-◌, ◌*◌, ◌+◌, ◌≤◌, ℕ, ap, arith, get_or, length, subst}
 use Rattle.std.proofs.lemmas.List.{length-take-le}
 use Rattle.std.proofs.lemmas.List.Edits.{length-between}
 use borrow.Rule.Slice.PartMut.{put_mid}
 use Rattle.roster_state.specs.Codes.{code_of}
 use Rattle.roster_lanes.specs.Lanes.{SameOutside}
-use Rattle.roster_search.specs.Tables.{StretchCells}
 use Rattle.roster_search.proofs.CellLaws.{outside_wider}
 use Rattle.roster_search.proofs.PartLaws.{part_inside, part_outside}
-use Rattle.roster_search.proofs.StretchLaws.{count, count_short, count_within, rows_in_table, stretch_moved}
+use Rattle.roster_search.proofs.StretchLaws.{count_short, count_within, rows_in_table, stretch_moved}
 use Rattle.roster_search.proofs.labels.label_stretch.Goals as goal
 
 -- how many places there are, as the code reckons it

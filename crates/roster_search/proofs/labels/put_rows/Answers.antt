@@ -1,6 +1,6 @@
-use Rattle.std.proofs.Common.{◌≡◌, ◌∙◌, ◌+◌, ◌-◌, ◌*◌, ◌<◌, ◌≤◌, ℕ, ap, arith, get_or, length, refl, slice_index_or, subst, sym}
+use Rattle.std.proofs.Common.{◌≡◌, ◌∙◌, ◌+◌, ◌-◌, ◌*◌, ◌<◌, ℕ, ap, arith, refl, slice_index_or, subst, sym}
 use Rattle.std.proofs.lemmas.List.Edits.{get_or-between, length-between}
-use Rattle.roster_state.specs.Codes.{code_of, product}
+use Rattle.roster_state.specs.Codes.{code_of}
 use Rattle.roster_lanes.specs.Lanes.{SameOutside}
 use Rattle.roster_search.proofs.CellLaws.{outside_then, outside_wider}
 use Rattle.roster_search.proofs.StretchLaws.{count_short, row_end, row_in_count, row_kept, row_more, row_outside, rows_in_table}

@@ -1,15 +1,11 @@
-use Rattle.std.proofs.Common.{◌≡◌, ◌∙◌, ◌+◌, ◌≤◌, Option, Some, None, ap, arith, false, if◌then◌else◌, is_some, subst, sym, true}
-use Rattle.roster_rules.specs.declared.Shift.{Shift}
-use Rattle.roster_rules.specs.DayLaw.{weekends_more}
+use Rattle.std.proofs.Common.{◌≡◌, ◌∙◌, ◌+◌, ap, false, if◌then◌else◌, is_some, sym}
 use Rattle.roster_rules.specs.declared.ContractRules.{ContractRules}
-use Rattle.roster_rules.specs.Meaning.{contract_of, forbids}
+use Rattle.roster_rules.specs.Meaning.{forbids}
 use Rattle.roster_rules.specs.Prefix.{Summary}
 use Rattle.roster_rules.specs.Sizes.{cap}
 use Rattle.roster_state.specs.declared.block.Block.TheInside.{Inside}
-use Rattle.roster_state.specs.Standing.{can_be}
-use Rattle.roster_state.specs.Step.{next_of, step_of, with_assignments, with_weekends}
+use Rattle.roster_state.specs.Step.{next_of, step_of, with_assignments}
 use Rattle.roster_state.proofs.BlockLaw.{block_fits, dearer, places_step}
-use Rattle.roster_state.proofs.Standing.{next_can_be}
 use Rattle.roster_state.proofs.block.block_step.Goals as goal
 
 next : (c : goal.After-dearer_from) → c.of.result ≡ with_assignments (next_of c.args.case.now c.args.nurse c.args.day c.block.inside.state c.args.shift) 0

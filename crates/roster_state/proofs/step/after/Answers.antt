@@ -1,9 +1,7 @@
 use Rattle.std.proofs.Common.{◌≡◌, subst, sym, true}
 use Rattle.roster_rules.specs.Prefix.{Summary}
 use Rattle.roster_state.specs.Codes.{fits_sizes, sizes_of}
-use Rattle.roster_state.specs.Standing.{can_be}
 use Rattle.roster_state.proofs.RangeLemmas.{next_fits}
-use Rattle.roster_state.proofs.Standing.{next_can_be}
 use Rattle.roster_state.proofs.SumLaw.{step_leads}
 use Rattle.roster_state.proofs.step.after.Goals as goal
 

@@ -1,5 +1,4 @@
-use Rattle.std.proofs.Common.{◌≡◌, ◌+◌, ◌++◌, ◌∷◌, [], arith, ℕ, Option, Some, length, refl, rules}
-use Rattle.std.proofs.lemmas.Grind.{common_steps}
+use Rattle.std.proofs.Common.{◌≡◌, ◌+◌, ◌++◌, ◌∷◌, [], ℕ, Option, length, refl}
 use Rattle.roster_rules.specs.Days.{Days}
 use Rattle.roster_rules.specs.Meaning.{forbids}
 use Rattle.roster_rules.specs.Prefix.{Summary, due, summary_of}

@@ -1,4 +1,4 @@
-use Rattle.std.proofs.Common.{◌≡◌, ◌∙◌, ap, arith, option_map}
+use Rattle.std.proofs.Common.{◌∙◌, ap, arith, option_map}
 use Rattle.roster_rules.specs.Prefix.{Summary}
 use Rattle.roster_state.specs.Step.{step_of}
 use Rattle.roster_state.specs.Stretches.{moved_on}
