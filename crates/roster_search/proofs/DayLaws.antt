@@ -97,7 +97,7 @@ module _ (c : Meaning) (n : ℕ) (areas : List Area) (few : FewRuns (sizes_of c 
             let run_is : s.run ≡ run = omega (arith, here, high, below, fit.shift_run, few.shift_run) in
             omega (arith, here, run_is, each s.shift_run (inside here).shift_run fit.shift_run)
 
-  -- behind the last group
+  -- after the last group
   pub before_all : (last : ℕ) → z.last ≤ last → key_of s < group_key last 0 0
   before_all last all = omega (arith, all, fit.last, fit.run, fit.shift_run, few.run, few.shift_run)
 

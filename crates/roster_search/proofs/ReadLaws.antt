@@ -72,7 +72,7 @@ pub points_at : (c : Meaning) (at : SearchDay) → IsDayOf c at → (areas : Lis
 points_at c at day areas offers later first pointers right s code is stands row best low =
     subst (λ k. PointsToBest (best_by c at later s) offers row (slice_index_or pointers (first + k) 0)) (ap (λ z. code_of z s) (sym day.ranges) ∙ sym is) (right s stands row best low)
 
--- the state behind an allowed choice stands behind the day
+-- the state after an allowed choice stands after the day
 module _ (c : Meaning) (at : SearchDay) (s next : Summary) (shift : Option Shift) where
   abbrev cost : ℕ
   cost = step_cost c at.nurse at.day s shift

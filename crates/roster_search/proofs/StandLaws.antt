@@ -1,4 +1,4 @@
--- Which states stand behind a day, by one offer more.
+-- Which states stand after a day, by one offer more.
 use Rattle.std.proofs.Common.{◌≡◌, ◌+◌, ◌<◌, ℕ, Bool, true, false, subst, sym, List, if◌then◌else◌, Option, Some, None, IfSome}
 use Rattle.std.specs.List.{All}
 use Rattle.roster_rules.specs.declared.Choice.TheVariants.{Off}
@@ -24,7 +24,7 @@ next_last : (c : Meaning) (n day : ℕ) (s : Summary) (shift : Option Shift) →
 unfolding next_of
 next_last c n day s shift = λ i. shift
 
--- wider areas behind the day
+-- wider areas after the day
 pub leads_kept : (c : Meaning) (at : SearchDay) (areas behind wider : List Area) (offers : List Offer) → ((digit : ℕ) (s : Summary) → InArea (area_at behind digit) s → InArea (area_at wider digit) s) → All (LeadsOn c at areas behind) offers → All (LeadsOn c at areas wider) offers
 leads_kept c at areas behind wider offers keeps old k d within s t stands is =
     let there = old k d within s t stands is in

@@ -92,7 +92,7 @@ module _ (c : Meaning) (at : SearchDay) (later : BestOnward) (stretch : Stretch)
     behind_low i b in_rows in_width =
         subst (λ k. slice_index_or behind k 0 ≤ no_row) (code_is i b) (step_low c at ready.day rest.behind later behind right (reached i b).0 (reached_stands i b in_rows in_width))
 
-    -- the stretch behind is within the table
+    -- the stretch of the day after is within the table
     pub stretch_within : first + ((stretch.rows - 1) * side + width) ≤ product at.ranges
     stretch_within =
         let last_row : stretch.rows - 1 < stretch.rows = omega (arith, good.some_rows) in

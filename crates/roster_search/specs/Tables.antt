@@ -72,11 +72,11 @@ pub record Stands (c : Meaning) (n : ℕ) (areas : List Area) (s : Summary) : Ty
   pub can_be : can_be c n s ≡ true
   pub inside : InArea (area_at areas (shift_digit s.last)) s
 
--- from a state that stands on the day an offer leads, if it is allowed, to one that stands behind it
+-- from a state that stands on the day an offer leads, if it is allowed, to one that stands after it
 abbrev pub LeadsOn : Meaning → SearchDay → (areas behind : List Area) → Offer → Type 0
 LeadsOn c at areas behind offer = (s : Summary) (t : Summary × ℕ) → Stands c at.nurse areas s → step_of c at.nurse at.day s (shift_of offer.choice) ≡ Some t → Stands c at.nurse behind t.0
 
--- what a day's tables stand between: the areas of the day, those behind it, and the best rows from there on
+-- what a day's tables stand between: the areas of the day, those after it, and the best rows from there on
 pub record Around : Type 0 where
   pub here : List Area
   pub behind : List Area
@@ -130,7 +130,7 @@ pub record StandsLike (c : Meaning) (n : ℕ) (areas : List Area) (group s : Sum
 
 -- ---- what a day's labels are set by
 
--- the day is one of the case's, its offers lead from its areas to those behind it, and the labels behind it are right
+-- the day is one of the case's, its offers lead from its areas to those after it, and the labels after it are right
 pub record IsReady (c : Meaning) (at : SearchDay) (rest : Around) (xs : List Offer) (labels : List ℕ) : Type 0 where
   pub day : IsDayOf c at
   pub offers : All (IsOfferOf c) xs

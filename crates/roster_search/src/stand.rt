@@ -1,4 +1,4 @@
-//! Which states stand behind a day.
+//! Which states stand after a day.
 
 ghost use Rattle.std.specs.Prelude.{◌≡◌, ◌<◌, ◌≤◌, All, length};
 ghost use Rattle.roster_search.specs.Tables.{IsDayOf, IsOfferOf, LeadsOn};
@@ -8,7 +8,7 @@ use crate::offer::Offer;
 use roster_rules::Case;
 use roster_state::{AREAS, Area, NOWHERE, widen};
 
-/// The areas behind a day: where its offers lead from those before it.
+/// The areas after a day: where its offers lead from those before it.
 pub fn areas_behind(case: &Case, at: &SearchDay, areas: &[Area; 9], offers: &[Offer]) -> [Area; 9]
     requires day { IsDayOf case.now at.now }
     requires offers { All (IsOfferOf case.now) offers.now }

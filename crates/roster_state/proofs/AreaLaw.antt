@@ -1,4 +1,4 @@
--- A list of areas in which one is set, and the areas behind a day with one last shift more.
+-- A list of areas in which one is set, and the areas after a day with one last shift more.
 use Rattle.std.proofs.Common.{◌≡◌, ◌∙◌, ◌<◌, ◌≤◌, ◌⊎◌, ◌≢◌, ℕ, inl, inr, ap, arith, get_or-set_other, subst, sym, List, [], ◌∷◌, length, slice_index_or, slice_set, Option, Some, None, IfSome}
 use Rattle.std.proofs.lemmas.Bool.{cases_lt}
 use Rattle.std.proofs.lemmas.Grind.{get_or-set_at}

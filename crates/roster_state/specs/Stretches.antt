@@ -7,7 +7,7 @@ use Rattle.roster_rules.specs.Prefix.{Summary}
 use Rattle.roster_rules.specs.Sizes.{cap}
 use Rattle.roster_state.specs.Step.{with_assignments, with_weekends}
 
--- the state at a row and a place behind the first one, where the places begin at so many assignments
+-- the state at a row and a place after the first one, where the places begin at so many assignments
 abbrev pub stretch_state : Summary → (from i b : ℕ) → Summary
 stretch_state block from i b = with_assignments (with_weekends block (block.weekends + i)) (from + b)
 

@@ -143,7 +143,7 @@ pub fn areas_of(state: &State) -> [Area; 9]
     areas
 }
 
-/// Widens the areas behind a day, so that each state of the areas before it that a shift, or a day off, doesn't lead elsewhere
+/// Widens the areas after a day, so that each state of the areas before it that a shift, or a day off, doesn't lead elsewhere
 /// stands there.
 pub fn widen(
     case: &Case,
@@ -210,7 +210,7 @@ fn area_after(
     }
 }
 
-/// The runs of working days, or of days off, behind a day.
+/// The runs of working days, or of days off, after a day.
 fn run_after(
     case: &Case,
     nurse: usize,
@@ -227,7 +227,7 @@ fn run_after(
     }
 }
 
-/// The runs of the last shift behind a day.
+/// The runs of the last shift after a day.
 fn shift_run_after(case: &Case, shift_run: Span, last: Option<Shift>, shift: Option<Shift>) -> Span
     ensures { (s : Summary) → s.last ≡ last → InSpan shift_run s.shift_run → InSpan result (shift_run_with case.now s shift) }
 {
