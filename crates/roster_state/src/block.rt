@@ -1,7 +1,7 @@
 //! The states that differ in their assignments alone, and one day more from all of them at once.
 
 ghost use Rattle.std.specs.Prelude.{◌≡◌, ◌↔◌, ◌+◌, ◌*◌, ◌<◌, ◌≤◌, ◌&&◌, ◌||◌, ℕ, true, nat_le, IfSome, IsNone, Some, if◌then◌else◌, is_some, option_map};
-ghost use Rattle.roster_rules.specs.Meaning.{day_count, forbids, nurse_count, shift_count};
+ghost use Rattle.roster_rules.specs.Meaning.{contract_of, day_count, forbids, nurse_count, shift_count};
 ghost use Rattle.roster_rules.specs.Sizes.{cap};
 ghost use Rattle.roster_rules.specs.Weights.{assignment_weight};
 ghost use Rattle.roster_state.specs.Blocks.{place_step};
@@ -15,7 +15,7 @@ use crate::ranges::Ranges;
 use crate::state::{State, shift_digit, shift_numbered};
 use crate::step::{cost_apart, next_of};
 use roster_rules::weights::ASSIGNMENT;
-use roster_rules::{Border, Case, Limits, Past, Shift};
+use roster_rules::{Border, Case, ContractRules, Limits, Past, Shift};
 use std::cmp::min;
 use std::marker::Model;
 
@@ -270,8 +270,9 @@ pub fn extend_block(
     ensures dearer { IfSome result (λ step. step.dearer_from ≤ (sizes_of case.now nurse).assignments) }
     ensures within { IfSome result (λ step. step.cost + assignment_weight ≤ most_of_step) }
 {
-    meter.add(case.contract_rules(nurse).total.cap() as u64 + 1);
-    block_step(case, nurse, day, block, shift)
+    let rules = case.contract_rules(nurse);
+    meter.add(rules.total.cap() as u64 + 1);
+    block_step(case, nurse, rules, day, block, shift)
 }
 
 /// What `extend_block` answers. It counts nothing.
@@ -279,10 +280,12 @@ pub fn extend_block(
 pub(crate) fn block_step(
     case: &Case,
     nurse: usize,
+    rules: ContractRules,
     day: u16,
     block: Block,
     shift: Option<Shift>,
 ) -> Option<BlockStep>
+    requires rules { rules ≡ contract_of case.now nurse }
     requires shift { IfSome shift (λ s. s.0 < shift_count case.now) }
     requires fits { fits_sizes (sizes_of case.now nurse) block ≡ true }
     ensures forbidden { IsNone result ↔ forbids case.now.successions block.last shift ≡ true }
@@ -295,10 +298,10 @@ pub(crate) fn block_step(
         return None;
     }
     Some(BlockStep {
-        next: Block::of(next_of(case, nurse, day, block.state, shift)),
+        next: Block::of(next_of(case, nurse, rules, day, block.state, shift)),
         moves: shift.is_some(),
-        cost: cost_apart(case, nurse, day, block.state, shift),
-        dearer_from: dearer_from(case.contract_rules(nurse).total, shift),
+        cost: cost_apart(case, nurse, rules, day, block.state, shift),
+        dearer_from: dearer_from(rules.total, shift),
     })
 }
 

@@ -1,6 +1,6 @@
 //! One day more: what it costs, and the state behind it.
 
-ghost use Rattle.std.specs.Prelude.{◌≡◌, ◌↔◌, ◌+◌, ◌*◌, ◌<◌, ◌≤◌, ◌++◌, ◌∷◌, [], true, false, length, IfSome, IsNone, None, Some, if◌then◌else◌, is_some, min};
+ghost use Rattle.std.specs.Prelude.{◌≡◌, ◌↔◌, ◌+◌, ◌*◌, ◌<◌, ◌≤◌, ◌++◌, ◌∷◌, [], true, false, length, IfSome, IsNone, None, Some, if◌then◌else◌, is_some, min, nat_le, not};
 ghost use Rattle.roster_rules.specs.Days.{Days};
 ghost use Rattle.roster_rules.specs.Meaning.{contract_of, day_count, nurse_count, past_of, run_of_shift, shift_count, forbids};
 ghost use Rattle.roster_rules.specs.Penalties.{own_cost};
@@ -13,12 +13,13 @@ ghost use Rattle.roster_rules.specs.Weights.{assignment_weight, free_run_weight,
 ghost use Rattle.roster_state.specs.Room.{most_at_end, most_at_start, most_of_step};
 ghost use Rattle.roster_state.specs.Standing.{can_be};
 ghost use Rattle.roster_state.specs.Step.{cost_apart, end_cost_of, ended, free_more, free_run, next_of, open_shift_run, shifts_more, split_more, step_of, weekend_more, worked, working_more, working_run};
+ghost use Rattle.roster_rules.specs.RunLaw.{day_violations};
 
 use crate::block::{Block, block_step};
 use crate::meter::Meter;
 use crate::state::State;
 use roster_rules::weights::{ASSIGNMENT, FREE_RUN, SHIFT_RUN, SPLIT, WEEKEND, WORKING_RUN};
-use roster_rules::{Border, Case, Limits, Past, Shift};
+use roster_rules::{Border, Case, ContractRules, Limits, Past, Shift};
 use std::cmp::min;
 
 /// The state before day 0, and what the history's totals cost already: points for each assignment and each worked
@@ -84,8 +85,34 @@ pub(crate) fn step(
     ensures next_fits { IfSome result (λ step. fits_sizes (sizes_of case.now nurse) step.0 ≡ true) }
     ensures within { IfSome result (λ step. step.1 ≤ most_of_step) }
 {
-    let step = block_step(case, nurse, day, Block::of(state), shift)?;
-    let places = case.contract_rules(nurse).total.cap() as u32 + 1;
+    let rules = case.contract_rules(nurse);
+    match (state.last, shift) {
+        (Some(_), Some(shift)) => step_by(case, nurse, rules, day, state, Some(shift)),
+        (Some(_), None) => step_by(case, nurse, rules, day, state, None),
+        (None, Some(shift)) => step_by(case, nurse, rules, day, state, Some(shift)),
+        (None, None) => step_by(case, nurse, rules, day, state, None),
+    }
+}
+
+/// The same by the nurse's rules. It is compiled for each case of two shifts or days off apart.
+#[inline(always)]
+fn step_by(
+    case: &Case,
+    nurse: usize,
+    rules: ContractRules,
+    day: u16,
+    state: State,
+    shift: Option<Shift>,
+) -> Option<(State, u32)>
+    requires rules { rules ≡ contract_of case.now nurse }
+    requires shift { IfSome shift (λ s. s.0 < shift_count case.now) }
+    requires fits { fits_sizes (sizes_of case.now nurse) state ≡ true }
+    ensures step { result ≡ step_of case.now nurse day state shift }
+    ensures next_fits { IfSome result (λ step. fits_sizes (sizes_of case.now nurse) step.0 ≡ true) }
+    ensures within { IfSome result (λ step. step.1 ≤ most_of_step) }
+{
+    let step = block_step(case, nurse, rules, day, Block::of(state), shift)?;
+    let places = rules.total.cap() as u32 + 1;
     let place = state.assignments as u32;
     let behind = step.place_behind(places, place) as u16;
     Some((step.next.state(behind), step.place_cost(place)))
@@ -110,7 +137,8 @@ pub fn after(
     if case.forbids_next(state.last, shift) {
         return None;
     }
-    Some(next_of(case, nurse, day, state, shift))
+    let rules = case.contract_rules(nurse);
+    Some(next_of(case, nurse, rules, day, state, shift))
 }
 
 /// S6. What the days cost in the end, beside the steps: points for each assignment missing to the least total.
@@ -183,13 +211,14 @@ fn missing_cost(case: &Case, nurse: usize, state: State) -> u32
 pub(crate) fn next_of(
     case: &Case,
     nurse: usize,
+    rules: ContractRules,
     day: u16,
     state: State,
     shift: Option<Shift>,
 ) -> State
+    requires { rules ≡ contract_of case.now nurse }
     ensures { result ≡ next_of case.now nurse day state shift }
 {
-    let rules = case.contract_rules(nurse);
     let (run, shift_run) = match shift {
         Some(shift) => (
             longer(working_run(state), rules.working),
@@ -213,29 +242,30 @@ pub(crate) fn next_of(
 pub(crate) fn cost_apart(
     case: &Case,
     nurse: usize,
+    rules: ContractRules,
     day: u16,
     state: State,
     shift: Option<Shift>,
 ) -> u32
+    requires rules { rules ≡ contract_of case.now nurse }
     requires last { IfSome state.last (λ s. s.0 < shift_count case.now) }
     requires shift { IfSome shift (λ s. s.0 < shift_count case.now) }
     ensures cost { result ≡ cost_apart case.now nurse day state shift }
     ensures within { result + assignment_weight ≤ most_of_step }
 {
     case.keeps_limits();
-    runs_more(case, nurse, state, shift)
+    runs_more(rules, state, shift)
         + shifts_more(case, state, shift)
-        + split_more(case, nurse, day, state, shift)
-        + weekend_more(case, nurse, day, state, shift)
+        + split_more(rules, day, state, shift)
+        + weekend_more(rules, day, state, shift)
 }
 
 /// S2, S3. The points for each missing or extra day of the runs of working days and of days off.
 #[inline(always)]
-fn runs_more(case: &Case, nurse: usize, state: State, shift: Option<Shift>) -> u32
-    ensures cost { result ≡ working_more case.now nurse state shift + free_more case.now nurse state shift }
+fn runs_more(rules: ContractRules, state: State, shift: Option<Shift>) -> u32
+    ensures cost { result ≡ working_run_weight * day_violations rules.working (working_run state) (is_some shift) + free_run_weight * day_violations rules.free (free_run state) (not (is_some shift)) }
     ensures within { result ≤ 65536 * (working_run_weight + free_run_weight) }
 {
-    let rules = case.contract_rules(nurse);
     let works = shift.is_some();
     let working = rules.working.day_violations(working_run(state), works);
     let free = rules.free.day_violations(free_run(state), !works);
@@ -244,11 +274,11 @@ fn runs_more(case: &Case, nurse: usize, state: State, shift: Option<Shift>) -> u
 
 /// S5. The points for a weekend that the day splits, where the contract wants whole weekends.
 #[inline(always)]
-fn split_more(case: &Case, nurse: usize, day: u16, state: State, shift: Option<Shift>) -> u32
-    ensures cost { result ≡ split_more case.now nurse day state shift }
+fn split_more(rules: ContractRules, day: u16, state: State, shift: Option<Shift>) -> u32
+    ensures cost { result ≡ (if rules.whole_weekends then split_weight * splits_more day (is_some state.last) (is_some shift) else 0) }
     ensures within { result ≤ split_weight }
 {
-    if !case.contract_rules(nurse).whole_weekends {
+    if !rules.whole_weekends {
         return 0;
     }
     SPLIT * splits_more(day, state.last, shift)
@@ -256,11 +286,11 @@ fn split_more(case: &Case, nurse: usize, day: u16, state: State, shift: Option<S
 
 /// S7. The points for a worked weekend above the greatest number.
 #[inline(always)]
-fn weekend_more(case: &Case, nurse: usize, day: u16, state: State, shift: Option<Shift>) -> u32
-    ensures cost { result ≡ weekend_more case.now nurse day state shift }
+fn weekend_more(rules: ContractRules, day: u16, state: State, shift: Option<Shift>) -> u32
+    ensures cost { result ≡ (if nat_le rules.weekends state.weekends then weekend_weight * weekends_more day (is_some state.last) (is_some shift) else 0) }
     ensures within { result ≤ weekend_weight }
 {
-    if state.weekends < case.contract_rules(nurse).weekends {
+    if state.weekends < rules.weekends {
         return 0;
     }
     WEEKEND * weekends_more(day, state.last, shift)

@@ -12,7 +12,7 @@ next : (c : goal.After-dearer_from) → c.of.result ≡ with_assignments (next_o
 next c = c.of.ensures ∙ ap (λ (s : Summary). with_assignments s 0) c.next_of.ensures
 
 from : (c : goal.After-dearer_from) → c.dearer_from.result ≡ dearer c.args.case.now c.args.nurse c.args.day c.args.block c.args.shift
-from c = c.dearer_from.ensures ∙ ap (λ (r : ContractRules). if is_some c.args.shift then r.total.greatest else cap r.total + 1) c.contract_rules.ensures.rules
+from c = c.dearer_from.ensures ∙ ap (λ (r : ContractRules). if is_some c.args.shift then r.total.greatest else cap r.total + 1) c.requires.rules
 
 allowed : (c : goal.After-dearer_from) → forbids c.args.case.now.successions c.block.inside.state.last c.args.shift ≡ false
 allowed c = sym (c.forbids_next.ensures ∙ ap (λ (b : Inside). forbids c.args.case.now.successions b.state.last c.args.shift) c.block-inside.view_is) ∙ c.if-forbids_next.false
