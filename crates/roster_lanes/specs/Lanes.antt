@@ -14,7 +14,12 @@ abbrev pub LabelsLowered : (first end : ℕ) (others : List ℕ) (more : ℕ) (o
 LabelsLowered first end others more old new =
     (i : ℕ) → first ≤ i → i < end → slice_index_or new i 0 ≡ min (slice_index_or old i 0) (raised others more i)
 
--- and the pointers of those that became smaller are set
+-- the labels at the places from first up to end are set, to the most at most
+abbrev pub LabelsSet : (first end : ℕ) (others : List ℕ) (more most : ℕ) (new : List ℕ) → Type 0
+LabelsSet first end others more most new =
+    (i : ℕ) → first ≤ i → i < end → slice_index_or new i 0 ≡ min (raised others more i) most
+
+-- the pointers of the labels that became smaller are set
 abbrev pub PointersSet : (first end : ℕ) (others : List ℕ) (more pointer : ℕ) (labels old new : List ℕ) → Type 0
 PointersSet first end others more pointer labels old new =
     (i : ℕ) → first ≤ i → i < end → slice_index_or new i 0 ≡ pointer_by (slice_index_or labels i 0) (raised others more i) (slice_index_or old i 0) pointer

@@ -2,7 +2,7 @@
 
 ghost use Rattle.std.specs.Prelude.{◌≡◌, ℕ, ◌+◌, ◌<◌, ◌≤◌, length, min, nat_lt, slice_index_or, if◌then◌else◌, ◌==◌};
 ghost use Rattle.std.specs.Int.{bit_at};
-ghost use Rattle.roster_lanes.specs.Lanes.{LabelsLowered, PointersSet, SameOutside, pointer_by, raised};
+ghost use Rattle.roster_lanes.specs.Lanes.{LabelsLowered, LabelsSet, PointersSet, SameOutside, pointer_by, raised};
 
 use std::simd::prelude::*;
 
@@ -90,6 +90,59 @@ fn lower_at(
             pointer,
         );
     }
+}
+
+/// Sets each label to the other one at its place with so much more, or to the most where that is smaller. What is more than 32 bits
+/// hold is cut off before.
+pub fn set_all(labels: &mut [u32], others: &[u32], more: u32, most: u32)
+    requires { length others.now ≡ length labels.old }
+    ensures labels { (i : ℕ) → i < length labels.old → slice_index_or labels.new i 0 ≡ min (raised others.now more i) most }
+    ensures length { length labels.new ≡ length labels.old }
+{
+    let count = labels.len();
+    if count < LANES {
+        set_few(labels, others, more, most);
+        return;
+    }
+    'vectors: for vector in 0..count / LANES {
+        set_at(labels, others, vector * LANES, more, most);
+    }
+    // The places after the last whole vector, with some once more: what is set twice is the same.
+    if count % LANES > 0 {
+        set_at(labels, others, count - LANES, more, most);
+    }
+}
+
+/// The same, one place after the other.
+fn set_few(labels: &mut [u32], others: &[u32], more: u32, most: u32)
+    requires { length others.now ≡ length labels.old }
+    ensures labels { LabelsSet 0 (length labels.old) others.now more most labels.new }
+{
+    'places: for i in 0..labels.len() {
+        labels[i] = others[i].wrapping_add(more).min(most);
+    }
+}
+
+/// The same for 16 places from a first one on.
+#[inline(always)]
+fn set_at(labels: &mut [u32], others: &[u32], first: usize, more: u32, most: u32)
+    requires labels { first + 16 ≤ length labels.old }
+    requires others { first + 16 ≤ length others.now }
+    ensures labels { LabelsSet first (first + 16) others.now more most labels.new }
+    ensures labels_others { SameOutside first (first + 16) labels.old labels.new }
+{
+    let mut candidates = raised_at(others, first, more);
+    lower16(&mut candidates, &[most; 16]);
+    store(&mut labels[first..first + LANES], &candidates);
+}
+
+/// Sets 16 numbers.
+#[inline(always)]
+fn store(numbers: &mut [u32], new: &[u32; 16])
+    requires { length numbers.old ≡ 16 }
+    ensures { (i : ℕ) → i < 16 → slice_index_or numbers.new i 0 ≡ slice_index_or new.now i 0 }
+{
+    numbers.copy_from_slice(&new[..]);
 }
 
 /// The 16 numbers from a place on.

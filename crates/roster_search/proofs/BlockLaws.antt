@@ -27,6 +27,19 @@ module _ {O X : Type 0} (by : O → Priced X) (offers : List O) (place : ℕ) (i
   pub place_kept : no_row ≡ label_of (by (slice_index_or offers place d)) → AreOfLeast by (take (place + 1) offers) label number
   place_kept is = taken_kept by offers place inside d label number old no_row is (omega (arith, old.least, label_within (cheapest by (take place offers))))
 
+  -- where no row went on the number may be any: it says something of rows below no_row alone
+  pub place_set : label ≡ no_row → (other : ℕ) → min other no_row ≡ label_of (by (slice_index_or offers place d)) → AreOfLeast by (take (place + 1) offers) (min other no_row) place
+  place_set none other is = go (cases_lt other no_row)
+    where
+      go : (other < no_row) ⊎ (no_row ≤ other) → AreOfLeast by (take (place + 1) offers) (min other no_row) place
+      go (inl h) = subst (λ l. AreOfLeast by (take (place + 1) offers) l place) (omega (arith, h)) (taken_lower by offers place inside d label number old other (omega (arith, is, h)) (omega (arith, h, none)))
+      go (inr h) =
+          let kept = taken_kept by offers place inside d label number old (min other no_row) is (omega (arith, h, none)) in
+          record {
+            least = omega (arith, h, none) ∙ kept.least;
+            points = λ row e below. absurd (omega (arith, none, kept.least, ap label_of e, below));
+          }
+
 -- ---- blocks beside one another
 
 pub next_block : (number size : ℕ) → number * size + size ≡ (number + 1) * size

@@ -18,7 +18,7 @@ use Rattle.roster_lanes.specs.Lanes.{SameOutside, pointer_by, raised}
 use Rattle.roster_search.specs.declared.day.SearchDay.{SearchDay}
 use Rattle.roster_search.specs.declared.offer.Offer.{Offer}
 use Rattle.roster_search.specs.Tables.{AreLabels, AreOfLeast, Around, BestOnward, IsReady, IsStretchOf, LeadsOn, LeastFrom, PlacesKept, RunCells, Stands, StretchCells, best_by, label_of, most_price, no_row}
-use Rattle.roster_search.proofs.BlockLaws.{place_kept, place_lowered}
+use Rattle.roster_search.proofs.BlockLaws.{place_kept, place_lowered, place_set}
 use Rattle.roster_search.proofs.LabelLaws.{label_at-is, label_refused, step_low}
 
 -- ---- numbers
@@ -117,6 +117,23 @@ module _ (c : Meaning) (at : SearchDay) (later : BestOnward) (stretch : Stretch)
         let number : slice_index_or numbers_new j 0 ≡ (if nat_lt (candidate i b) (slice_index_or labels j 0) then place else slice_index_or numbers j 0) = pointed j there ∙ ap (λ k. if nat_lt k (slice_index_or labels j 0) then place else slice_index_or numbers j 0) other in
         subst (λ l. AreOfLeast by (take (place + 1) offers) l (slice_index_or numbers_new j 0)) (sym label)
         (subst (λ p. AreOfLeast by (take (place + 1) offers) (min (slice_index_or labels j 0) (candidate i b)) p) (sym number) new)
+
+    pub stretch_set : (others labels_new numbers_new : List ℕ) (count : ℕ) → count ≡ (stretch.rows - 1) * side + width → offer.price ≤ most_price → step.1 ≤ most_of_step
+        → ((j : ℕ) → j < count → slice_index_or others j 0 ≡ slice_index_or behind (first + j) 0)
+        → ((j : ℕ) → j < count → slice_index_or labels j 0 ≡ no_row)
+        → ((j : ℕ) → j < count → slice_index_or labels_new j 0 ≡ min (raised others (offer.price + step.1) j) no_row)
+        → ((j : ℕ) → j < count → slice_index_or numbers_new j 0 ≡ place)
+        → RunCells c at later stretch (take (place + 1) offers) labels_new numbers_new
+    stretch_set others labels_new numbers_new count long price cost shown none set numbered i b in_rows in_width =
+        let by = best_by c at later (state i b) in
+        let j = i * side + b in
+        let there : j < count = omega (arith, in_stretch stretch.rows width side i b in_rows in_width, long) in
+        let sum : slice_index_or others j 0 + (offer.price + step.1) ≡ candidate i b = omega (arith, shown j there) in
+        let other : raised others (offer.price + step.1) j ≡ candidate i b = ap (λ k. k % 2 ^ 32) sum ∙ mod-eq_of_lt (omega (arith, behind_low i b in_rows in_width, price, cost)) in
+        let new = place_set by offers place inside d (slice_index_or labels j 0) (slice_index_or numbers j 0) (old i b in_rows in_width) (none j there) (candidate i b) (label_behind i b in_rows in_width) in
+        let label : slice_index_or labels_new j 0 ≡ min (candidate i b) no_row = set j there ∙ ap (λ k. min k no_row) other in
+        subst (λ l. AreOfLeast by (take (place + 1) offers) l (slice_index_or numbers_new j 0)) (sym label)
+        (subst (λ p. AreOfLeast by (take (place + 1) offers) (min (candidate i b) no_row) p) (sym (numbered j there)) new)
 
 -- ---- the numbers stay small
 

@@ -1,6 +1,6 @@
 //! The labels and pointers of a day: for each state what the best row from there on costs, and with which offer it begins.
 
-ghost use Rattle.std.specs.Prelude.{◌≡◌, ◌+◌, ◌-◌, ◌*◌, ◌<◌, ◌≤◌, true, ℕ, List, is_some, length, slice_index_or, take};
+ghost use Rattle.std.specs.Prelude.{◌≡◌, ◌+◌, ◌-◌, ◌*◌, ◌<◌, ◌≤◌, true, false, ℕ, List, is_some, length, replicate, slice_index_or, take};
 ghost use Rattle.roster_rules.specs.DayLaw.{weekends_more};
 ghost use Rattle.roster_rules.specs.Meaning.{contract_of, nurse_count};
 ghost use Rattle.roster_rules.specs.Prefix.{Summary};
@@ -12,11 +12,11 @@ ghost use Rattle.roster_state.specs.Stretches.{IsAlike};
 ghost use Rattle.roster_lanes.specs.Lanes.{SameOutside};
 ghost use Rattle.roster_search.specs.Halves.{IsWritten};
 ghost use Rattle.roster_search.specs.Counts.{states_on, states_with};
-ghost use Rattle.roster_search.specs.Tables.{AreLabels, ArePointers, Around, IsReady, IsStretchOf, LabelsOf, PointersOf, PlacesKept, RunCells, Stands, StandsLike, StretchCells, best_at_end, best_on, label_of};
+ghost use Rattle.roster_search.specs.Tables.{AreLabels, ArePointers, Around, IsReady, IsStretchOf, LabelsOf, PointersOf, PlacesKept, RunCells, Stands, StandsLike, StretchCells, best_at_end, best_on, label_of, no_row};
 
 use crate::day::OpenDay;
 use crate::pointers::Pointers;
-use roster_lanes::lower_all;
+use roster_lanes::{lower_all, set_all};
 use roster_rules::Case;
 use roster_state::{Area, Block, Meter, Ranges, Stretch, end_cost, extend_stretch};
 
@@ -416,11 +416,56 @@ fn label_run(
     ensures lengths { (length labels.new ≡ length labels.old) × (length numbers.new ≡ length numbers.old) }
     ensures counted { meter.new ≡ meter.old + length day.now.offers.now * (stretch.now.rows * (stretch.now.end - stretch.now.from)) }
 {
-    labels.fill(NO_ROW);
-    numbers.fill(0);
+    let mut is_set = false;
     for place in 0..day.offers.len() {
-        lower_run(day, stretch, place, labels, numbers, meter);
+        if is_set {
+            lower_run(day, stretch, place, labels, numbers, meter);
+        } else {
+            is_set = set_run(day, stretch, place, labels, numbers, meter);
+        }
     }
+    if !is_set {
+        labels.fill(NO_ROW);
+        numbers.fill(0);
+    }
+}
+
+/// Sets the labels of a stretch to those by an offer, and the numbers to its place, where it is the first that is allowed there. The
+/// answer is whether it is allowed.
+fn set_run(
+    day: &OpenDay<'_>,
+    stretch: &Stretch,
+    place: usize,
+    labels: &mut [u32],
+    numbers: &mut [u8],
+    meter: &mut Meter,
+) -> bool
+    ghost rest: { Around }
+    requires ready { IsReady day.now.case.now day.now.at rest day.now.offers.now day.now.later.now }
+    requires stretch { IsStretchOf day.now.case.now day.now.at rest.here stretch.now }
+    requires alike { IsAlike day.now.case.now day.now.at.nurse day.now.at.day stretch.now.block stretch.now.rows stretch.now.from stretch.now.end }
+    requires place { place < length day.now.offers.now }
+    requires labels_length { length labels.old ≡ (stretch.now.rows - 1) * day.now.at.ranges.assignments + (stretch.now.end - stretch.now.from) }
+    requires numbers_length { length numbers.old ≡ (stretch.now.rows - 1) * day.now.at.ranges.assignments + (stretch.now.end - stretch.now.from) }
+    requires none { RunCells day.now.case.now day.now.at rest.best stretch.now (take place day.now.offers.now) (replicate (length labels.old) no_row) (replicate (length labels.old) 0) }
+    requires room { meter.old + stretch.now.rows * (stretch.now.end - stretch.now.from) ≤ 18446744073709551615 }
+    ensures least { result ≡ true → RunCells day.now.case.now day.now.at rest.best stretch.now (take (place + 1) day.now.offers.now) labels.new numbers.new }
+    ensures small { result ≡ true → (a : ℕ) → a < length numbers.new → slice_index_or numbers.new a 0 < 16 }
+    ensures none { result ≡ false → RunCells day.now.case.now day.now.at rest.best stretch.now (take (place + 1) day.now.offers.now) (replicate (length labels.new) no_row) (replicate (length labels.new) 0) }
+    ensures lengths { (length labels.new ≡ length labels.old) × (length numbers.new ≡ length numbers.old) }
+    ensures counted { meter.new ≡ meter.old + stretch.now.rows * (stretch.now.end - stretch.now.from) }
+{
+    let at = day.at;
+    let offer = day.offers[place];
+    let shift = offer.choice.shift();
+    let Some(step) = extend_stretch(day.case, at.nurse, at.day, *stretch, shift, meter) else {
+        return false;
+    };
+    let behind = step.0.code(&at.ranges) as usize;
+    let end = behind + labels.len();
+    set_all(labels, &day.later[behind..end], offer.price + step.1, NO_ROW);
+    numbers.fill(place as u8);
+    true
 }
 
 /// Lowers the labels of a stretch to those by one offer more, and sets the numbers of those that are lower: of equally good offers the

@@ -1,9 +1,11 @@
-use Rattle.std.proofs.Common.{◌≡◌, ◌∙◌, ◌-◌, ◌*◌, ◌+◌, [], arith, length, refl, slice_index_or, subst, sym}
+use Rattle.std.proofs.Common.{◌≡◌, ◌∙◌, ◌-◌, ◌*◌, ◌+◌, ◌<◌, [], arith, length, refl, replicate, slice_index_or, subst, sym}
+use Rattle.std.proofs.lemmas.List.{get_or-replicate}
 use Rattle.roster_state.specs.Stretches.{stretch_state}
 use Rattle.roster_search.specs.Tables.{AreOfLeast, best_by, no_row}
 use Rattle.roster_search.proofs.LabelLaws.{least_of_none}
 use Rattle.roster_search.proofs.StretchLaws.{in_stretch}
 use Rattle.roster_search.proofs.CellLaws.{room_for_more}
+use Rattle.roster_search.proofs.labels.label_run.Goals.{then-is_set, else-is_set}
 use Rattle.roster_search.proofs.labels.label_run.Goals as goal
 
 pub lower_run-requires : goal.lower_run-requires
@@ -16,25 +18,60 @@ lower_run-requires g c =
     let labels_length : length c.loop-place.labels ≡ count = old.labels_length ∙ r.1.1.1.0 in
     let numbers_length : length c.loop-place.numbers ≡ count = old.numbers_length ∙ r.1.1.1.1.0 in
     let room = room_for_more c.loop-place.place (length day.offers.now) (stretch.rows * (stretch.end - stretch.from)) c.args.meter.now c.loop-place.meter 18446744073709551615 c.loop-place-test.true old.counted r.1.1.1.1.1 in
-    (r.0, (r.1.0, (r.1.1.0, (c.loop-place-test.true, (labels_length, (numbers_length, (old.least, (old.small, room))))))))
+    (r.0, (r.1.0, (r.1.1.0, (c.loop-place-test.true, (labels_length, (numbers_length, (old.least c.if-is_set.true, (old.small c.if-is_set.true, room))))))))
+
+pub set_run-is_set-requires : goal.set_run-is_set-requires
+set_run-is_set-requires g c =
+    let r = c.requires in
+    let old = c.loop-place.invariant in
+    let day = c.args.day.now in
+    let stretch = c.args.stretch.now in
+    let count = (stretch.rows - 1) * day.at.ranges.assignments + (stretch.end - stretch.from) in
+    let labels_length : length c.loop-place.labels ≡ count = old.labels_length ∙ r.1.1.1.0 in
+    let numbers_length : length c.loop-place.numbers ≡ count = old.numbers_length ∙ r.1.1.1.1.0 in
+    let room = room_for_more c.loop-place.place (length day.offers.now) (stretch.rows * (stretch.end - stretch.from)) c.args.meter.now c.loop-place.meter 18446744073709551615 c.loop-place-test.true old.counted r.1.1.1.1.1 in
+    (r.0, (r.1.0, (r.1.1.0, (c.loop-place-test.true, (labels_length, (numbers_length, (old.none c.if-is_set.false, room)))))))
 
 pub loop-place-init : goal.loop-place-init
 loop-place-init g c =
     let day = c.args.day.now in
     let r = c.requires in
     let stretch = c.args.stretch.now in
-    let width = stretch.end - stretch.from in
-    let side = day.at.ranges.assignments in
+    let count = length c.args.labels.now in
     record {
-      least = λ i b in_rows in_width.
+      least = λ e. absurd cc;
+      small = λ e. absurd cc;
+      none = λ e i b in_rows in_width.
           let by = best_by day.case.now day.at g.rest.best (stretch_state stretch.block stretch.from i b) in
-          let j = i * side + b in
-          let below = in_stretch stretch.rows width side i b in_rows in_width in
-          let label : slice_index_or c.fill.new.self j 0 ≡ no_row = c.fill.ensures.clones j 0 (omega (arith, below, r.1.1.1.0)) refl in
-          let number : slice_index_or c.fill-2.new.self j 0 ≡ 0 = c.fill-2.ensures.clones j 0 (omega (arith, below, r.1.1.1.1.0)) refl in
-          subst (λ l. AreOfLeast by [] l (slice_index_or c.fill-2.new.self j 0)) (sym label) (subst (λ p. AreOfLeast by [] no_row p) (sym number) (least_of_none by));
-      small = λ a below. omega (arith, c.fill-2.ensures.clones a 0 (omega (arith, below, c.fill-2.ensures.len)) refl);
-      labels_length = c.fill.ensures.len;
-      numbers_length = c.fill-2.ensures.len;
+          let j = i * day.at.ranges.assignments + b in
+          let there : j < count = omega (arith, in_stretch stretch.rows (stretch.end - stretch.from) day.at.ranges.assignments i b in_rows in_width, r.1.1.1.0) in
+          subst (λ l. AreOfLeast by [] l (slice_index_or (replicate count 0) j 0)) (sym (get_or-replicate count j no_row 0 there)) (subst (λ p. AreOfLeast by [] no_row p) (sym (get_or-replicate count j 0 0 there)) (least_of_none by));
+      labels_length = refl;
+      numbers_length = refl;
       counted = omega arith;
     }
+
+pub loop-place-preserved : goal.loop-place-preserved
+loop-place-preserved g c =
+    let old = c.loop-place.invariant in
+    elim c.if-is_set.branch
+    [ then-is_set w ↦
+      let is_set = w.is_set-is ∙ w.if-is_set.true in
+      rw (w.labels-is, w.numbers-is, w.meter-is, is_set) record {
+        least = λ e. w.lower_run.ensures.least;
+        small = λ e. w.lower_run.ensures.small;
+        none = λ e. absurd cc;
+        labels_length = w.lower_run.ensures.lengths.0 ∙ old.labels_length;
+        numbers_length = w.lower_run.ensures.lengths.1 ∙ old.numbers_length;
+        counted = omega (arith, w.lower_run.ensures.counted, old.counted);
+      }
+    | else-is_set w ↦
+      rw (w.labels-is, w.numbers-is, w.meter-is, w.is_set-is) record {
+        least = w.set_run-is_set.ensures.least;
+        small = w.set_run-is_set.ensures.small;
+        none = w.set_run-is_set.ensures.none;
+        labels_length = w.set_run-is_set.ensures.lengths.0 ∙ old.labels_length;
+        numbers_length = w.set_run-is_set.ensures.lengths.1 ∙ old.numbers_length;
+        counted = omega (arith, w.set_run-is_set.ensures.counted, old.counted);
+      }
+    ]

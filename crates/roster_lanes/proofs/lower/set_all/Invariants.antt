@@ -1,0 +1,8 @@
+use Rattle.std.proofs.Common.{◌*◌}
+use Rattle.roster_lanes.specs.Lanes.{LabelsSet}
+use Rattle.roster_lanes.proofs.lower.set_all.Given as goal
+
+abbrev pub invariant-vectors : goal.invariant-vectors
+invariant-vectors l = record {
+  labels : LabelsSet 0 (l.vector * 16) l.others l.more l.most l.labels;
+}
