@@ -2,6 +2,7 @@
 use Rattle.std.proofs.Common.{◌≡◌, ◌∙◌, ◌+◌, ◌-◌, All, Vec, is_some, ◌*◌, ◌<◌, ◌≤◌, ◌⊎◌, ◌≢◌, ℕ, zero, suc, get_or-set_other, Option, None, inl, inr, ap, append_assoc, arith, mul_assoc, mul_comm, refl, subst, sym, List, [], ◌∷◌, ◌++◌, length, map, max, slice_index_or, slice_set, take, Some, IfSome, IsSome}
 use Rattle.std.specs.List.{range_with_len}
 use Rattle.std.proofs.Math.Path.{transport}
+use Rattle.arrayvec.specs.ArrayVec.{ArrayVec}
 use Rattle.std.proofs.lemmas.Bool.{cases_lt, true≢false}
 use Rattle.std.proofs.lemmas.Grind.{get_or-set_at}
 use Rattle.std.proofs.lemmas.List.Elements.{All-head, All-tail}
@@ -31,7 +32,7 @@ use Rattle.roster_search.proofs.OfferLaws.{offers_few, offers_of_case}
 use Rattle.roster_search.specs.Offers.{best_by_states, best_of_offers, choices_of, dearer, offer_step, offers_of, shift_offers}
 use Rattle.roster_lanes.specs.Lanes.{SameOutside}
 use Rattle.roster_search.specs.Tables.{AreLabels, ArePointers, BeginsWith, BestOnward, IsOfferOf, LeadsOn, PointsWhereBest, Stands, best_at_end, best_by, best_on, no_row}
-use Rattle.roster_best.specs.Workspaces.{AreasLead, PointersFrom, areas_on, onward, search_day}
+use Rattle.roster_best.specs.Workspaces.{AreOffers, AreasLead, PointersFrom, areas_on, onward, search_day}
 
 module _ (c : Meaning) (from : ℕ) (r : Rows) (n : ℕ) where
   -- ---- the best row from a day on
@@ -242,3 +243,8 @@ extensions_are c n z is = extension_is c n ∙ ap (λ (y : Sizes). day_count c *
 -- the areas of a day, as they are read from the table
 pub areas_read : (areas : List (List Area)) (day : ℕ) (d : List Area) → day < length areas → slice_index_or areas day d ≡ areas_on areas day
 areas_read areas day d inside = get_or_default areas day d [] inside
+
+-- a day's offers, as they are read from the table
+pub offers_read : (c : Meaning) (from : ℕ) (r : Rows) (n : ℕ) (offers : List (ArrayVec Offer)) → AreOffers c from r n offers → (day : ℕ) → day < day_count c → (read d : ArrayVec Offer) → read ≡ slice_index_or offers day d → read.items ≡ shift_offers c from r n day
+offers_read c from r n offers are day within read d is =
+    ap (λ (v : ArrayVec Offer). v.items) (is ∙ get_or_default offers day d (record { items = [] }) (omega (arith, within, are.days))) ∙ are.each day within

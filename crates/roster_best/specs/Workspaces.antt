@@ -1,5 +1,6 @@
 -- What a workspace has room for, and what a search leaves in its tables (our own).
 use Rattle.std.specs.Prelude.{◌≡◌, ℕ, ◌+◌, ◌-◌, ◌*◌, ◌<◌, ◌≤◌, ◌==◌, ◌&&◌, All, Bool, List, [], length, nat_le, slice_index_or}
+use Rattle.arrayvec.specs.ArrayVec.{ArrayVec}
 use Rattle.roster_instance.specs.Meaning.{Meaning, day_count}
 use Rattle.roster_instance.specs.Rosters.{Row, Rows}
 use Rattle.roster_rules.specs.Counting.{sum_below}
@@ -7,6 +8,7 @@ use Rattle.roster_rules.specs.Prefix.{Summary, summary_of}
 use Rattle.roster_state.specs.declared.Area.{Area}
 use Rattle.roster_state.specs.Codes.{product, sizes_of}
 use Rattle.roster_laws.specs.Greatest.{greatest_state_count}
+use Rattle.roster_search.specs.declared.Offer.{Offer}
 use Rattle.roster_search.specs.declared.SearchDay.{SearchDay}
 use Rattle.roster_search.specs.Counts.{states_on}
 use Rattle.roster_search.specs.Offers.{best_of_offers, shift_offers}
@@ -40,6 +42,15 @@ search_day c n day = record { nurse = n; day = day; ranges = sizes_of c n }
 -- the best row of the days from one on, from a state on, over one offer for each shift
 abbrev pub onward : Meaning → ℕ → Rows → ℕ → ℕ → BestOnward
 onward c from r n day s = best_of_offers c n (shift_offers c from r n) (day_count c - day) day s
+
+-- the offers of a day in a table with a list for each day
+abbrev pub offers_on : List (ArrayVec Offer) → ℕ → List Offer
+offers_on offers day = (slice_index_or offers day (record { items = [] })).items
+
+-- so many days, each with its offers, one for each shift
+pub record AreOffers (c : Meaning) (from : ℕ) (r : Rows) (n : ℕ) (offers : List (ArrayVec Offer)) : Type 0 where
+  pub days : length offers ≡ day_count c
+  pub each : (day : ℕ) → day < day_count c → offers_on offers day ≡ shift_offers c from r n day
 
 -- the areas of a day
 abbrev pub areas_on : List (List Area) → ℕ → List Area

@@ -13,12 +13,15 @@ ghost use Rattle.roster_search.specs.Offers.{best_by_states, choices_of, shift_o
 ghost use Rattle.roster_lanes.specs.Lanes.{SameOutside};
 ghost use Rattle.roster_search.specs.Tables.{AreLabels, ArePointers, Around, BeginsWith, IsDayOf, LeadsOn, Stands, best_on, no_row};
 ghost use Rattle.roster_search.specs.declared.Offer.{Offer};
-ghost use Rattle.roster_best.specs.Workspaces.{AreasLead, CountsStanding, PointersFrom, SameRoom, SomeStands, areas_on, fits_space, onward, steps_on};
+ghost use Rattle.roster_best.specs.Workspaces.{AreOffers, AreasLead, CountsStanding, PointersFrom, SameRoom, SomeStands, areas_on, fits_space, onward, steps_on};
 
 use crate::by_shift::choices_by_shift;
 use crate::workspace::Workspace;
+use arrayvec::ArrayVec;
 use roster_case::{Choice, Held};
-use roster_search::{OpenDay, Pointers, SearchDay, areas_behind, label_day, label_end, read_day};
+use roster_search::{
+    Offer, OpenDay, Pointers, SearchDay, areas_behind, label_day, label_end, read_day,
+};
 use roster_state::{AREAS, Area, Meter, NOWHERE, Ranges, State, areas_of, start};
 use std::mem;
 
@@ -67,12 +70,20 @@ pub fn best_row(
         choices,
         filled,
     } = workspace;
+    let table = offers_of_days(held, nurse, from);
+    let offers = table.as_slice();
     let mut areas = [[NOWHERE; AREAS]; MOST_DAYS + 1];
-    stand_days(held, nurse, from, &ranges, &mut areas);
-    label_days(
-        held, nurse, from, &ranges, &areas, labels, later, pointers, meter,
-    );
-    read_row(held, nurse, from, &ranges, &areas, pointers, choices);
+    stand_days(held, nurse, from, &ranges, offers, &mut areas);
+    let search = Search {
+        held,
+        nurse,
+        from,
+        ranges,
+        offers,
+        areas: &areas,
+    };
+    label_days(&search, labels, later, pointers, meter);
+    read_row(&search, pointers, choices);
     *filled = held.case().days() as usize;
     let (first, owed) = start(held.case(), nurse);
     let label = later[first.code(&ranges) as usize];
@@ -84,10 +95,44 @@ pub fn best_row(
 /// The greatest number of days.
 const MOST_DAYS: usize = 364;
 
-/// Sets the areas of each day, from the first day to the one behind the last.
-fn stand_days(held: &Held, nurse: usize, from: u16, ranges: &Ranges, areas: &mut [[Area; 9]])
+/// What the search for a nurse's best row knows before it labels: each day's offers, and the areas of each day and of the one after
+/// the last.
+#[derive(Clone, Copy)]
+struct Search<'a> {
+    held: &'a Held,
+    nurse: usize,
+    from: u16,
+    ranges: Ranges,
+    offers: &'a [ArrayVec<Offer, 9>],
+    areas: &'a [[Area; AREAS]],
+}
+
+/// The offers of each day, one for each shift.
+fn offers_of_days(held: &Held, nurse: usize, from: u16) -> ArrayVec<ArrayVec<Offer, 9>, MOST_DAYS>
+    requires nurse { nurse < nurse_count held.now.case }
+    ensures offers { AreOffers held.now.case from held.now.roster nurse result.items }
+{
+    let case = held.case();
+    case.keeps_limits();
+    let mut offers = ArrayVec::new();
+    for day in 0..case.days() {
+        offers.push(choices_by_shift(held, nurse, day, from));
+    }
+    offers
+}
+
+/// Sets the areas of each day, from the first day to the one after the last.
+fn stand_days(
+    held: &Held,
+    nurse: usize,
+    from: u16,
+    ranges: &Ranges,
+    offers: &[ArrayVec<Offer, 9>],
+    areas: &mut [[Area; AREAS]],
+)
     requires nurse { nurse < nurse_count held.now.case }
     requires ranges { ranges.now ≡ sizes_of held.now.case nurse }
+    requires offers { AreOffers held.now.case from held.now.roster nurse offers.now }
     requires room { day_count held.now.case < length areas.old }
     ensures start { Stands held.now.case nurse (areas_on areas.new 0) (summary_of held.now.case nurse []) }
     ensures lead { AreasLead held.now.case from held.now.roster nurse areas.new }
@@ -102,105 +147,92 @@ fn stand_days(held: &Held, nurse: usize, from: u16, ranges: &Ranges, areas: &mut
             day,
             ranges: *ranges,
         };
-        areas[day as usize + 1] = stand_behind(held, &at, from, &areas[day as usize]);
+        let day_offers = offers[day as usize].as_slice();
+        areas[day as usize + 1] = areas_behind(case, &at, &areas[day as usize], day_offers);
     }
-}
-
-/// The areas behind a day, by its offers.
-fn stand_behind(held: &Held, at: &SearchDay, from: u16, areas: &[Area; 9]) -> [Area; 9]
-    requires day { IsDayOf held.now.case at.now }
-    ensures { All (LeadsOn held.now.case at.now areas.now result) (shift_offers held.now.case from held.now.roster at.now.nurse at.now.day) }
-{
-    let case = held.case();
-    case.keeps_limits();
-    let offers = choices_by_shift(held, at.nurse, at.day, from);
-    areas_behind(case, at, areas, &offers)
 }
 
 /// Sets the labels and the pointers of all days, from the last day to the first, in two tables that change places. In the end the
 /// labels of the first day stand in `later`.
 fn label_days(
-    held: &Held,
-    nurse: usize,
-    from: u16,
-    ranges: &Ranges,
-    areas: &[[Area; 9]],
+    search: &Search<'_>,
     labels: &mut Vec<u32>,
     later: &mut Vec<u32>,
     pointers: &mut Pointers,
     meter: &mut Meter,
 )
-    requires nurse { nurse < nurse_count held.now.case }
-    requires ranges { ranges.now ≡ sizes_of held.now.case nurse }
-    requires offered { (day : ℕ) → day < day_count held.now.case → 0 < length (shift_offers held.now.case from held.now.roster nurse day) }
-    requires areas_room { day_count held.now.case < length areas.now }
-    requires lead { AreasLead held.now.case from held.now.roster nurse areas.now }
-    requires stand { (day : ℕ) → day < day_count held.now.case → SomeStands held.now.case nurse (areas_on areas.now day) }
-    requires labels_room { product ranges.now ≤ length labels.old.items }
+    requires nurse { search.now.nurse < nurse_count search.now.held.now.case }
+    requires ranges { search.now.ranges ≡ sizes_of search.now.held.now.case search.now.nurse }
+    requires offers { AreOffers search.now.held.now.case search.now.from search.now.held.now.roster search.now.nurse search.now.offers.now }
+    requires offered { (day : ℕ) → day < day_count search.now.held.now.case → 0 < length (shift_offers search.now.held.now.case search.now.from search.now.held.now.roster search.now.nurse day) }
+    requires areas_room { day_count search.now.held.now.case < length search.now.areas.now }
+    requires lead { AreasLead search.now.held.now.case search.now.from search.now.held.now.roster search.now.nurse search.now.areas.now }
+    requires stand { (day : ℕ) → day < day_count search.now.held.now.case → SomeStands search.now.held.now.case search.now.nurse (areas_on search.now.areas.now day) }
+    requires labels_room { product search.now.ranges ≤ length labels.old.items }
     requires same_room { length later.old.items ≡ length labels.old.items }
-    requires pointers_room { day_count held.now.case * product ranges.now ≤ length pointers.old }
-    requires room { meter.old + extension_count held.now.case nurse ≤ 18446744073709551615 }
-    ensures labels { AreLabels held.now.case nurse (areas_on areas.now 0) (onward held.now.case from held.now.roster nurse 0) later.new.items }
-    ensures pointers { PointersFrom held.now.case from held.now.roster nurse areas.now 0 pointers.new }
+    requires pointers_room { day_count search.now.held.now.case * product search.now.ranges ≤ length pointers.old }
+    requires room { meter.old + extension_count search.now.held.now.case search.now.nurse ≤ 18446744073709551615 }
+    ensures labels { AreLabels search.now.held.now.case search.now.nurse (areas_on search.now.areas.now 0) (onward search.now.held.now.case search.now.from search.now.held.now.roster search.now.nurse 0) later.new.items }
+    ensures pointers { PointersFrom search.now.held.now.case search.now.from search.now.held.now.roster search.now.nurse search.now.areas.now 0 pointers.new }
     ensures lengths { (length labels.new.items ≡ length labels.old.items) × (length later.new.items ≡ length later.old.items) × (length pointers.new ≡ length pointers.old) }
-    ensures each_day { meter.old + day_count held.now.case ≤ meter.new }
-    ensures counted { meter.new ≤ meter.old + extension_count held.now.case nurse }
-    ensures exactly { meter.new ≡ meter.old + sum_below (day_count held.now.case) (steps_on held.now.case from held.now.roster nurse areas.now) }
+    ensures each_day { meter.old + day_count search.now.held.now.case ≤ meter.new }
+    ensures counted { meter.new ≤ meter.old + extension_count search.now.held.now.case search.now.nurse }
+    ensures exactly { meter.new ≡ meter.old + sum_below (day_count search.now.held.now.case) (steps_on search.now.held.now.case search.now.from search.now.held.now.roster search.now.nurse search.now.areas.now) }
 {
-    let days = held.case().days();
-    label_end(held.case(), nurse, ranges, &areas[days as usize], later);
+    let case = search.held.case();
+    let days = case.days();
+    let last = &search.areas[days as usize];
+    label_end(case, search.nurse, &search.ranges, last, later);
     for day in (0..days).rev() {
         let at = SearchDay {
-            nurse,
+            nurse: search.nurse,
             day,
-            ranges: *ranges,
+            ranges: search.ranges,
         };
-        label_before(held, &at, from, areas, later, labels, pointers, meter);
+        label_before(search, &at, later, labels, pointers, meter);
         mem::swap(labels, later);
     }
 }
 
-/// Sets the labels and the pointers of a day, by its offers and by the labels of the day behind it.
+/// Sets the labels and the pointers of a day, by its offers and by the labels of the day after it.
 fn label_before(
-    held: &Held,
+    search: &Search<'_>,
     at: &SearchDay,
-    from: u16,
-    areas: &[[Area; 9]],
     later: &[u32],
     labels: &mut [u32],
     pointers: &mut Pointers,
     meter: &mut Meter,
 )
     ghost rest: { Around }
-    requires day { IsDayOf held.now.case at.now }
-    requires offered { 0 < length (shift_offers held.now.case from held.now.roster at.now.nurse at.now.day) }
-    requires here { rest.here ≡ areas_on areas.now at.now.day }
-    requires areas_room { day_count held.now.case < length areas.now }
-    requires leads { All (LeadsOn held.now.case at.now rest.here rest.behind) (shift_offers held.now.case from held.now.roster at.now.nurse at.now.day) }
-    requires stand { SomeStands held.now.case at.now.nurse rest.here }
-    requires later { AreLabels held.now.case at.now.nurse rest.behind rest.best later.now }
+    requires day { IsDayOf search.now.held.now.case at.now }
+    requires offered { 0 < length (shift_offers search.now.held.now.case search.now.from search.now.held.now.roster at.now.nurse at.now.day) }
+    requires here { rest.here ≡ areas_on search.now.areas.now at.now.day }
+    requires areas_room { day_count search.now.held.now.case < length search.now.areas.now }
+    requires leads { All (LeadsOn search.now.held.now.case at.now rest.here rest.behind) (shift_offers search.now.held.now.case search.now.from search.now.held.now.roster at.now.nurse at.now.day) }
+    requires stand { SomeStands search.now.held.now.case at.now.nurse rest.here }
+    requires later { AreLabels search.now.held.now.case at.now.nurse rest.behind rest.best later.now }
     requires all { product at.now.ranges ≤ length later.now }
     requires labels_room { product at.now.ranges ≤ length labels.old }
-    requires pointers_room { day_count held.now.case * product at.now.ranges ≤ length pointers.old }
-    requires room { meter.old + product at.now.ranges * choice_count held.now.case at.now.nurse ≤ 18446744073709551615 }
-    ensures labels { AreLabels held.now.case at.now.nurse rest.here (best_on held.now.case at.now (shift_offers held.now.case from held.now.roster at.now.nurse at.now.day) rest.best) labels.new }
-    ensures pointers { ArePointers held.now.case at.now rest.here (shift_offers held.now.case from held.now.roster at.now.nurse at.now.day) rest.best (at.now.day * product at.now.ranges) pointers.new }
+    requires pointers_room { day_count search.now.held.now.case * product at.now.ranges ≤ length pointers.old }
+    requires room { meter.old + product at.now.ranges * choice_count search.now.held.now.case at.now.nurse ≤ 18446744073709551615 }
+    requires offers { AreOffers search.now.held.now.case search.now.from search.now.held.now.roster at.now.nurse search.now.offers.now }
+    ensures labels { AreLabels search.now.held.now.case at.now.nurse rest.here (best_on search.now.held.now.case at.now (shift_offers search.now.held.now.case search.now.from search.now.held.now.roster at.now.nurse at.now.day) rest.best) labels.new }
+    ensures pointers { ArePointers search.now.held.now.case at.now rest.here (shift_offers search.now.held.now.case search.now.from search.now.held.now.roster at.now.nurse at.now.day) rest.best (at.now.day * product at.now.ranges) pointers.new }
     ensures others { SameOutside (at.now.day * product at.now.ranges) (at.now.day * product at.now.ranges + product at.now.ranges) pointers.old pointers.new }
     ensures lengths { (length labels.new ≡ length labels.old) × (length pointers.new ≡ length pointers.old) }
     ensures some { meter.old < meter.new }
-    ensures counted { meter.new ≤ meter.old + product at.now.ranges * choice_count held.now.case at.now.nurse }
-    ensures exactly { meter.new ≡ meter.old + states_on held.now.case at.now.nurse rest.here * length (shift_offers held.now.case from held.now.roster at.now.nurse at.now.day) }
+    ensures counted { meter.new ≤ meter.old + product at.now.ranges * choice_count search.now.held.now.case at.now.nurse }
+    ensures exactly { meter.new ≡ meter.old + states_on search.now.held.now.case at.now.nurse rest.here * length (shift_offers search.now.held.now.case search.now.from search.now.held.now.roster at.now.nurse at.now.day) }
 {
-    let case = held.case();
+    let case = search.held.case();
     case.keeps_limits();
-    let here = &areas[at.day as usize];
-    let offers = choices_by_shift(held, at.nurse, at.day, from);
+    let offers = search.offers[at.day as usize].as_slice();
     let first = at.day as u32 * at.ranges.product();
     let open = OpenDay {
         case,
         at: *at,
-        areas: here,
-        offers: &offers,
+        areas: &search.areas[at.day as usize],
+        offers,
         later,
         first,
     };
@@ -208,64 +240,56 @@ fn label_before(
 }
 
 /// Reads the best row by the pointers of all days, from the first day to the last.
-fn read_row(
-    held: &Held,
-    nurse: usize,
-    from: u16,
-    ranges: &Ranges,
-    areas: &[[Area; 9]],
-    pointers: &Pointers,
-    row: &mut [Choice],
-)
-    requires nurse { nurse < nurse_count held.now.case }
-    requires ranges { ranges.now ≡ sizes_of held.now.case nurse }
-    requires start { Stands held.now.case nurse (areas_on areas.now 0) (summary_of held.now.case nurse []) }
-    requires lead { AreasLead held.now.case from held.now.roster nurse areas.now }
-    requires pointers { PointersFrom held.now.case from held.now.roster nurse areas.now 0 pointers.now }
-    requires pointers_room { day_count held.now.case * product ranges.now ≤ length pointers.now }
-    requires row_room { day_count held.now.case ≤ length row.old }
-    requires some { IsSome (best_by_states held.now.case from held.now.roster nurse) }
-    requires low { IfSome (best_by_states held.now.case from held.now.roster nurse) (λ row. row.0 < no_row) }
-    ensures row { (cost : ℕ) (offers : List Offer) → best_by_states held.now.case from held.now.roster nurse ≡ Some (cost, offers) → take (day_count held.now.case) row.new ≡ choices_of offers }
+fn read_row(search: &Search<'_>, pointers: &Pointers, row: &mut [Choice])
+    requires nurse { search.now.nurse < nurse_count search.now.held.now.case }
+    requires ranges { search.now.ranges ≡ sizes_of search.now.held.now.case search.now.nurse }
+    requires offers { AreOffers search.now.held.now.case search.now.from search.now.held.now.roster search.now.nurse search.now.offers.now }
+    requires start { Stands search.now.held.now.case search.now.nurse (areas_on search.now.areas.now 0) (summary_of search.now.held.now.case search.now.nurse []) }
+    requires lead { AreasLead search.now.held.now.case search.now.from search.now.held.now.roster search.now.nurse search.now.areas.now }
+    requires pointers { PointersFrom search.now.held.now.case search.now.from search.now.held.now.roster search.now.nurse search.now.areas.now 0 pointers.now }
+    requires pointers_room { day_count search.now.held.now.case * product search.now.ranges ≤ length pointers.now }
+    requires row_room { day_count search.now.held.now.case ≤ length row.old }
+    requires some { IsSome (best_by_states search.now.held.now.case search.now.from search.now.held.now.roster search.now.nurse) }
+    requires low { IfSome (best_by_states search.now.held.now.case search.now.from search.now.held.now.roster search.now.nurse) (λ row. row.0 < no_row) }
+    ensures row { (cost : ℕ) (offers : List Offer) → best_by_states search.now.held.now.case search.now.from search.now.held.now.roster search.now.nurse ≡ Some (cost, offers) → take (day_count search.now.held.now.case) row.new ≡ choices_of offers }
     ensures length { length row.new ≡ length row.old }
 {
-    let case = held.case();
-    let (mut state, _) = start(case, nurse);
+    let case = search.held.case();
+    let (mut state, _) = start(case, search.nurse);
     for day in 0..case.days() {
         let at = SearchDay {
-            nurse,
+            nurse: search.nurse,
             day,
-            ranges: *ranges,
+            ranges: search.ranges,
         };
-        let (choice, next) = read_choice(held, &at, from, areas, &state, pointers);
+        let (choice, next) = read_choice(search, &at, &state, pointers);
         row[day as usize] = choice;
         state = next;
     }
 }
 
-/// The choice with which the best row from a state on begins, and the state behind it.
+/// The choice with which the best row from a state on begins, and the state after it.
 fn read_choice(
-    held: &Held,
+    search: &Search<'_>,
     at: &SearchDay,
-    from: u16,
-    areas: &[[Area; 9]],
     state: &State,
     pointers: &Pointers,
 ) -> (Choice, State)
     ghost rest: { Around }
-    requires day { IsDayOf held.now.case at.now }
-    requires stands { Stands held.now.case at.now.nurse rest.here state.now }
-    requires leads { All (LeadsOn held.now.case at.now rest.here rest.behind) (shift_offers held.now.case from held.now.roster at.now.nurse at.now.day) }
-    requires pointers { ArePointers held.now.case at.now rest.here (shift_offers held.now.case from held.now.roster at.now.nurse at.now.day) rest.best (at.now.day * product at.now.ranges) pointers.now }
-    requires pointers_room { day_count held.now.case * product at.now.ranges ≤ length pointers.now }
-    requires some { IsSome (best_on held.now.case at.now (shift_offers held.now.case from held.now.roster at.now.nurse at.now.day) rest.best state.now) }
-    requires low { IfSome (best_on held.now.case at.now (shift_offers held.now.case from held.now.roster at.now.nurse at.now.day) rest.best state.now) (λ row. row.0 < no_row) }
-    ensures begins { (row : ℕ × List Offer) → best_on held.now.case at.now (shift_offers held.now.case from held.now.roster at.now.nurse at.now.day) rest.best state.now ≡ Some row → BeginsWith rest.best row result.0 result.1 }
-    ensures stands { Stands held.now.case at.now.nurse rest.behind result.1 }
+    requires day { IsDayOf search.now.held.now.case at.now }
+    requires stands { Stands search.now.held.now.case at.now.nurse rest.here state.now }
+    requires leads { All (LeadsOn search.now.held.now.case at.now rest.here rest.behind) (shift_offers search.now.held.now.case search.now.from search.now.held.now.roster at.now.nurse at.now.day) }
+    requires pointers { ArePointers search.now.held.now.case at.now rest.here (shift_offers search.now.held.now.case search.now.from search.now.held.now.roster at.now.nurse at.now.day) rest.best (at.now.day * product at.now.ranges) pointers.now }
+    requires pointers_room { day_count search.now.held.now.case * product at.now.ranges ≤ length pointers.now }
+    requires some { IsSome (best_on search.now.held.now.case at.now (shift_offers search.now.held.now.case search.now.from search.now.held.now.roster at.now.nurse at.now.day) rest.best state.now) }
+    requires low { IfSome (best_on search.now.held.now.case at.now (shift_offers search.now.held.now.case search.now.from search.now.held.now.roster at.now.nurse at.now.day) rest.best state.now) (λ row. row.0 < no_row) }
+    requires offers { AreOffers search.now.held.now.case search.now.from search.now.held.now.roster at.now.nurse search.now.offers.now }
+    ensures begins { (row : ℕ × List Offer) → best_on search.now.held.now.case at.now (shift_offers search.now.held.now.case search.now.from search.now.held.now.roster at.now.nurse at.now.day) rest.best state.now ≡ Some row → BeginsWith rest.best row result.0 result.1 }
+    ensures stands { Stands search.now.held.now.case at.now.nurse rest.behind result.1 }
 {
-    let case = held.case();
+    let case = search.held.case();
     case.keeps_limits();
-    let offers = choices_by_shift(held, at.nurse, at.day, from);
+    let offers = search.offers[at.day as usize].as_slice();
     let first = at.day as u32 * at.ranges.product();
-    read_day(case, at, state, &offers, pointers, first)
+    read_day(case, at, state, offers, pointers, first)
 }

@@ -1,4 +1,4 @@
-use Rattle.std.proofs.Common.{◌∙◌, ap, List, slice_index_or}
+use Rattle.std.proofs.Common.{ap, List, slice_index_or}
 use Rattle.roster_instance.specs.declared.Choice.{Choice}
 use Rattle.roster_instance.specs.declared.Choice.TheVariants.{Off}
 use Rattle.roster_instance.specs.Rosters.{choice_on, row_of}

@@ -14,36 +14,36 @@ use Rattle.roster_best.proofs.search.label_days.Goals as goal
 
 pub loop-day-init : goal.loop-day-init
 loop-day-init c =
-    let k = c.args.held.now.case in
-    let rows = c.args.held.now.roster in
-    let n = c.args.nurse in
-    let last : day_count k ≡ c.days-days.result = sym (c.days-days.ensures.count ∙ ap day_count c.case.ensures) in
-    let steps = product c.args.ranges.now * choice_count k n in
+    let k = c.args.search.now.held.now.case in
+    let rows = c.args.search.now.held.now.roster in
+    let n = c.args.search.now.nurse in
+    let last : day_count k ≡ c.days-days.result = sym (c.days-days.ensures.count ∙ ap day_count c.case-case.ensures) in
+    let steps = product c.args.search.now.ranges * choice_count k n in
     let items = with_items_is c.args.later.now c.label_end.new.labels (c.label_end.ensures.length ∙ c.deref_mut.ensures.len) in
-    let read = areas_read c.args.areas.now c.days-days.result _ (omega (arith, last, c.requires.areas_room)) in
-    let end = transport (λ i. AreLabels (c.case-2.ensures i) n (read i) (best_at_end (c.case-2.ensures i) n) c.label_end.new.labels) c.label_end.ensures.labels in
-    let best : best_at_end k n ≡ onward k c.args.from rows n c.days-days.result = sym (onward-last k c.args.from rows n) ∙ ap (onward k c.args.from rows n) last in
+    let read = areas_read c.args.search.now.areas.now c.days-days.result _ (omega (arith, last, c.requires.areas_room)) in
+    let end = transport (λ i. AreLabels (c.case-case.ensures i) n (read i) (best_at_end (c.case-case.ensures i) n) c.label_end.new.labels) c.label_end.ensures.labels in
+    let best : best_at_end k n ≡ onward k c.args.search.now.from rows n c.days-days.result = sym (onward-last k c.args.search.now.from rows n) ∙ ap (onward k c.args.search.now.from rows n) last in
     record {
-      labels = transport (λ i. AreLabels k n (areas_on c.args.areas.now c.days-days.result) (best i) (sym items i)) end;
+      labels = transport (λ i. AreLabels k n (areas_on c.args.search.now.areas.now c.days-days.result) (best i) (sym items i)) end;
       pointers = λ day from within. absurd (omega (arith, from, within, last));
       labels_length = refl;
       later_length = ap length items ∙ c.label_end.ensures.length ∙ ap length c.deref_mut.ensures.value;
       pointers_length = refl;
       each_day = omega (arith, last);
       counted = omega (arith, ap (λ d. d * steps) last);
-      exactly = ap (λ d. c.args.meter.now + sum_below d (steps_on k c.args.from rows n c.args.areas.now)) (sym last);
+      exactly = ap (λ d. c.args.meter.now + sum_below d (steps_on k c.args.search.now.from rows n c.args.search.now.areas.now)) (sym last);
     }
 
 pub label_before-requires : goal.label_before-requires
 label_before-requires c =
-    let k = c.args.held.now.case in
-    let rows = c.args.held.now.roster in
-    let n = c.args.nurse in
+    let k = c.args.search.now.held.now.case in
+    let rows = c.args.search.now.held.now.roster in
+    let n = c.args.search.now.nurse in
     let day = c.loop-day.day in
     let r = c.requires in
     let i = c.loop-day.invariant in
-    let steps = product c.args.ranges.now * choice_count k n in
-    let last : c.days-days.result ≡ day_count k = c.days-days.ensures.count ∙ ap day_count c.case.ensures in
+    let steps = product c.args.search.now.ranges * choice_count k n in
+    let last : c.days-days.result ≡ day_count k = c.days-days.ensures.count ∙ ap day_count c.case-case.ensures in
     let within : day - 1 < day_count k = omega (arith, c.loop-day.auto.day, c.loop-day-test.true, last) in
     let again : day ≡ day - 1 + 1 = omega (arith, c.loop-day-test.true) in
     let room = c.deref.ensures.value in (
@@ -59,14 +59,14 @@ label_before-requires c =
               (
                 r.stand (day - 1) within,
                 (
-                  transport (λ j. AreLabels k n (areas_on c.args.areas.now (again j)) (onward k c.args.from rows n (again j)) (sym room j)) i.labels,
+                  transport (λ j. AreLabels k n (areas_on c.args.search.now.areas.now (again j)) (onward k c.args.search.now.from rows n (again j)) (sym room j)) i.labels,
                   (
                     omega (arith, r.labels_room, r.same_room, i.later_length, ap length room),
                     (
                       omega (arith, r.labels_room, i.labels_length, ap length c.deref_mut-in-loop-day.ensures.value),
                       (
                         omega (arith, r.pointers_room, i.pointers_length),
-                        omega (arith, i.counted, r.room, extensions_are c.args.held.now.case c.args.nurse c.args.ranges.now c.requires.ranges, mul-le 1 steps day steps (omega (arith, c.loop-day-test.true)) (omega arith)),
+                        (omega (arith, i.counted, r.room, extensions_are c.args.search.now.held.now.case c.args.search.now.nurse c.args.search.now.ranges c.requires.ranges, mul-le 1 steps day steps (omega (arith, c.loop-day-test.true)) (omega arith)), r.offers),
                       ),
                     ),
                   ),
@@ -80,31 +80,31 @@ label_before-requires c =
 
 pub loop-day-preserved : goal.loop-day-preserved
 loop-day-preserved c =
-    let k = c.args.held.now.case in
-    let rows = c.args.held.now.roster in
-    let n = c.args.nurse in
+    let k = c.args.search.now.held.now.case in
+    let rows = c.args.search.now.held.now.roster in
+    let n = c.args.search.now.nurse in
     let day = c.loop-day.day - 1 in
     let r = c.requires in
     let i = c.loop-day.invariant in
-    let steps = product c.args.ranges.now * choice_count k n in
-    let last : c.days-days.result ≡ day_count k = c.days-days.ensures.count ∙ ap day_count c.case.ensures in
+    let steps = product c.args.search.now.ranges * choice_count k n in
+    let last : c.days-days.result ≡ day_count k = c.days-days.ensures.count ∙ ap day_count c.case-case.ensures in
     let within : day < day_count k = omega (arith, c.loop-day.auto.day, c.loop-day-test.true, last) in
     let again : c.loop-day.day ≡ day + 1 = omega (arith, c.loop-day-test.true) in
     let told = c.label_before.ensures in
     let items = table_after c.loop-day.labels c.swap.new.y c.label_before.new.labels c.swap.ensures.y_after (told.lengths.0 ∙ c.deref_mut-in-loop-day.ensures.len) in
-    let first : day * product c.args.ranges.now ≡ day * product _ = ap (λ (z : Sizes). day * product z) r.ranges in
+    let first : day * product c.args.search.now.ranges ≡ day * product _ = ap (λ (z : Sizes). day * product z) r.ranges in
     record {
-      labels = subst (AreLabels k n (areas_on c.args.areas.now day) (onward k c.args.from rows n day)) (sym items) (labels_before k c.args.from rows n day within (areas_on c.args.areas.now day) c.label_before.new.labels told.labels);
-      pointers = pointers_before k c.args.from rows n c.args.areas.now day (day * product c.args.ranges.now) c.loop-day.pointers c.label_before.new.pointers first told.pointers
-          (subst (λ (z : Sizes). SameOutside (day * product c.args.ranges.now) (day * product c.args.ranges.now + product z) c.loop-day.pointers c.label_before.new.pointers) r.ranges told.others)
-          (subst (λ d. PointersFrom k c.args.from rows n c.args.areas.now d c.loop-day.pointers) again i.pointers);
+      labels = subst (AreLabels k n (areas_on c.args.search.now.areas.now day) (onward k c.args.search.now.from rows n day)) (sym items) (labels_before k c.args.search.now.from rows n day within (areas_on c.args.search.now.areas.now day) c.label_before.new.labels told.labels);
+      pointers = pointers_before k c.args.search.now.from rows n c.args.search.now.areas.now day (day * product c.args.search.now.ranges) c.loop-day.pointers c.label_before.new.pointers first told.pointers
+          (subst (λ (z : Sizes). SameOutside (day * product c.args.search.now.ranges) (day * product c.args.search.now.ranges + product z) c.loop-day.pointers c.label_before.new.pointers) r.ranges told.others)
+          (subst (λ d. PointersFrom k c.args.search.now.from rows n c.args.search.now.areas.now d c.loop-day.pointers) again i.pointers);
       labels_length = length_after c.loop-day.later c.swap.new.x c.swap.ensures.x_after ∙ i.later_length ∙ r.same_room;
       later_length = ap length items ∙ told.lengths.0 ∙ ap length c.deref_mut-in-loop-day.ensures.value ∙ i.labels_length ∙ sym r.same_room;
       pointers_length = told.lengths.1 ∙ i.pointers_length;
       each_day = omega (arith, i.each_day, told.some, again);
       counted = omega (arith, i.counted, told.counted, ap (λ d. d * steps) again);
       exactly =
-          (let f : ℕ → ℕ = steps_on k c.args.from rows n c.args.areas.now in
+          (let f : ℕ → ℕ = steps_on k c.args.search.now.from rows n c.args.search.now.areas.now in
           let next : c.loop-day.day ≡ suc day = omega (arith, again) in
           let sum : sum_below c.loop-day.day f ≡ sum_below day f + f day = ap (λ d. sum_below d f) next in
           omega (arith, i.exactly, told.exactly, sum));
@@ -113,18 +113,18 @@ loop-day-preserved c =
 pub returns-clause-labels : goal.returns-clause-labels
 returns-clause-labels c =
     let none : c.loop-day.day ≡ 0 = omega (arith, c.loop-day-test.false) in
-    subst (λ d. AreLabels c.args.held.now.case c.args.nurse (areas_on c.args.areas.now d) (onward c.args.held.now.case c.args.from c.args.held.now.roster c.args.nurse d) c.loop-day.later.items) none c.loop-day.invariant.labels
+    subst (λ d. AreLabels c.args.search.now.held.now.case c.args.search.now.nurse (areas_on c.args.search.now.areas.now d) (onward c.args.search.now.held.now.case c.args.search.now.from c.args.search.now.held.now.roster c.args.search.now.nurse d) c.loop-day.later.items) none c.loop-day.invariant.labels
 
 pub returns-clause-pointers : goal.returns-clause-pointers
 returns-clause-pointers c =
     let none : c.loop-day.day ≡ 0 = omega (arith, c.loop-day-test.false) in
-    subst (λ d. PointersFrom c.args.held.now.case c.args.from c.args.held.now.roster c.args.nurse c.args.areas.now d c.loop-day.pointers) none c.loop-day.invariant.pointers
+    subst (λ d. PointersFrom c.args.search.now.held.now.case c.args.search.now.from c.args.search.now.held.now.roster c.args.search.now.nurse c.args.search.now.areas.now d c.loop-day.pointers) none c.loop-day.invariant.pointers
 
 pub returns-clause-counted : goal.returns-clause-counted
 returns-clause-counted c =
-    omega (arith, c.loop-day.invariant.counted, extensions_are c.args.held.now.case c.args.nurse c.args.ranges.now c.requires.ranges)
+    omega (arith, c.loop-day.invariant.counted, extensions_are c.args.search.now.held.now.case c.args.search.now.nurse c.args.search.now.ranges c.requires.ranges)
 
 pub returns-clause-exactly : goal.returns-clause-exactly
 returns-clause-exactly c =
     let none : c.loop-day.day ≡ 0 = omega (arith, c.loop-day-test.false) in
-    omega (arith, c.loop-day.invariant.exactly, ap (λ d. sum_below d (steps_on c.args.held.now.case c.args.from c.args.held.now.roster c.args.nurse c.args.areas.now)) none)
+    omega (arith, c.loop-day.invariant.exactly, ap (λ d. sum_below d (steps_on c.args.search.now.held.now.case c.args.search.now.from c.args.search.now.held.now.roster c.args.search.now.nurse c.args.search.now.areas.now)) none)

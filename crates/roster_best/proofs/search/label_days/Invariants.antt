@@ -12,19 +12,19 @@ ghost-label_end a = a.areas.now
 
 abbrev pub ghost-label_before : goal.ghost-label_before
 ghost-label_before a = record {
-  here = areas_on a.areas.now a.at.now.day;
-  behind = areas_on a.areas.now (a.at.now.day + 1);
-  best = onward a.held.now.case a.from a.held.now.roster a.at.now.nurse (a.at.now.day + 1);
+  here = areas_on a.search.now.areas.now a.at.now.day;
+  behind = areas_on a.search.now.areas.now (a.at.now.day + 1);
+  best = onward a.search.now.held.now.case a.search.now.from a.search.now.held.now.roster a.at.now.nurse (a.at.now.day + 1);
 }
 
 abbrev pub invariant-loop-day : goal.invariant-loop-day
 invariant-loop-day l = record {
-  labels : AreLabels l.held.case l.nurse (areas_on l.areas l.day) (onward l.held.case l.from l.held.roster l.nurse l.day) l.later.items;
-  pointers : PointersFrom l.held.case l.from l.held.roster l.nurse l.areas l.day l.pointers;
+  labels : AreLabels l.search.held.now.case l.search.nurse (areas_on l.search.areas.now l.day) (onward l.search.held.now.case l.search.from l.search.held.now.roster l.search.nurse l.day) l.later.items;
+  pointers : PointersFrom l.search.held.now.case l.search.from l.search.held.now.roster l.search.nurse l.search.areas.now l.day l.pointers;
   labels_length : length l.labels.items ≡ length l.fn.labels.items;
   later_length : length l.later.items ≡ length l.fn.later.items;
   pointers_length : length l.pointers ≡ length l.fn.pointers;
-  each_day : l.fn.meter + day_count l.held.case ≤ l.meter + l.day;
-  counted : l.meter + l.day * (product l.ranges * choice_count l.held.case l.nurse) ≤ l.fn.meter + day_count l.held.case * (product l.ranges * choice_count l.held.case l.nurse);
-  exactly : l.meter + sum_below l.day (steps_on l.held.case l.from l.held.roster l.nurse l.areas) ≡ l.fn.meter + sum_below (day_count l.held.case) (steps_on l.held.case l.from l.held.roster l.nurse l.areas);
+  each_day : l.fn.meter + day_count l.search.held.now.case ≤ l.meter + l.day;
+  counted : l.meter + l.day * (product l.search.ranges * choice_count l.search.held.now.case l.search.nurse) ≤ l.fn.meter + day_count l.search.held.now.case * (product l.search.ranges * choice_count l.search.held.now.case l.search.nurse);
+  exactly : l.meter + sum_below l.day (steps_on l.search.held.now.case l.search.from l.search.held.now.roster l.search.nurse l.search.areas.now) ≡ l.fn.meter + sum_below (day_count l.search.held.now.case) (steps_on l.search.held.now.case l.search.from l.search.held.now.roster l.search.nurse l.search.areas.now);
 }

@@ -12,23 +12,23 @@ use Rattle.roster_best.proofs.search.read_row.Goals as goal
 
 pub loop-day-init : goal.loop-day-init
 loop-day-init c =
-    let k = c.args.held.now.case in
-    let rows = c.args.held.now.roster in
-    let n = c.args.nurse in
+    let k = c.args.search.now.held.now.case in
+    let rows = c.args.search.now.held.now.roster in
+    let n = c.args.search.now.nurse in
     record {
-      stands = subst (Stands k n (areas_on c.args.areas.now 0)) (sym (c.start-state.ensures.state ∙ ap (λ (m : Meaning). summary_of m n []) c.case-case.ensures)) c.requires.start;
-      read = λ cost best is. read_first k c.args.from rows n cost best c.start-state.result.0 c.args.row.now (c.start-state.ensures.state ∙ ap (λ (m : Meaning). summary_of m n []) c.case-case.ensures) is (low_of _ (cost, best) is c.requires.low);
+      stands = subst (Stands k n (areas_on c.args.search.now.areas.now 0)) (sym (c.start-state.ensures.state ∙ ap (λ (m : Meaning). summary_of m n []) c.case-case.ensures)) c.requires.start;
+      read = λ cost best is. read_first k c.args.search.now.from rows n cost best c.start-state.result.0 c.args.row.now (c.start-state.ensures.state ∙ ap (λ (m : Meaning). summary_of m n []) c.case-case.ensures) is (low_of _ (cost, best) is c.requires.low);
       same_length = refl;
     }
 
 pub read_choice-choice-requires : goal.read_choice-choice-requires
 read_choice-choice-requires c =
-    let k = c.args.held.now.case in
-    let rows = c.args.held.now.roster in
-    let n = c.args.nurse in
+    let k = c.args.search.now.held.now.case in
+    let rows = c.args.search.now.held.now.roster in
+    let n = c.args.search.now.nurse in
     let day = c.loop-day.day in
     let r = c.requires in
-    let low = low_row (best_by_states k c.args.from rows n) r.some r.low in
+    let low = low_row (best_by_states k c.args.search.now.from rows n) r.some r.low in
     let last : c.days-day-end.result ≡ day_count k = c.days-day-end.ensures.count ∙ ap day_count c.case-case.ensures in
     let within : day < day_count k = omega (arith, c.loop-day-test.true, last) in
     let read = c.loop-day.invariant.read low.row.0 low.row.1 low.is in (
@@ -38,10 +38,10 @@ read_choice-choice-requires c =
         (
           r.lead day within,
           (
-            subst (λ (z : Sizes). ArePointers k (search_day k n day) (areas_on c.args.areas.now day) (shift_offers k c.args.from rows n day) (onward k c.args.from rows n (day + 1)) (day * product z) c.args.pointers.now) (sym r.ranges) (r.pointers day (omega arith) within),
+            subst (λ (z : Sizes). ArePointers k (search_day k n day) (areas_on c.args.search.now.areas.now day) (shift_offers k c.args.search.now.from rows n day) (onward k c.args.search.now.from rows n (day + 1)) (day * product z) c.args.pointers.now) (sym r.ranges) (r.pointers day (omega arith) within),
             (
               r.pointers_room,
-              (reads_some k c.args.from rows n day within c.loop-day.state c.loop-day.row low.row.1 read, reads_low k c.args.from rows n day within c.loop-day.state c.loop-day.row low.row.1 read),
+              (reads_some k c.args.search.now.from rows n day within c.loop-day.state c.loop-day.row low.row.1 read, (reads_low k c.args.search.now.from rows n day within c.loop-day.state c.loop-day.row low.row.1 read, r.offers)),
             ),
           ),
         ),
@@ -50,9 +50,9 @@ read_choice-choice-requires c =
 
 pub loop-day-preserved : goal.loop-day-preserved
 loop-day-preserved c =
-    let k = c.args.held.now.case in
-    let rows = c.args.held.now.roster in
-    let n = c.args.nurse in
+    let k = c.args.search.now.held.now.case in
+    let rows = c.args.search.now.held.now.roster in
+    let n = c.args.search.now.nurse in
     let day = c.loop-day.day in
     let i = c.loop-day.invariant in
     let last : c.days-day-end.result ≡ day_count k = c.days-day-end.ensures.count ∙ ap day_count c.case-case.ensures in
@@ -61,16 +61,16 @@ loop-day-preserved c =
       stands = c.read_choice-choice.ensures.stands;
       read = λ cost best is.
           let so_far = i.read cost best is in
-          read_on k c.args.from rows n day c.loop-day.state c.read_choice-choice.result.1 c.loop-day.row c.read_choice-choice.result.0 best (omega (arith, within, i.same_length, c.requires.row_room)) so_far
-          (c.read_choice-choice.ensures.begins (so_far.cost, so_far.rest) (ap (λ (f : BestOnward). f c.loop-day.state) (sym (onward-day k c.args.from rows n day within)) ∙ so_far.is));
+          read_on k c.args.search.now.from rows n day c.loop-day.state c.read_choice-choice.result.1 c.loop-day.row c.read_choice-choice.result.0 best (omega (arith, within, i.same_length, c.requires.row_room)) so_far
+          (c.read_choice-choice.ensures.begins (so_far.cost, so_far.rest) (ap (λ (f : BestOnward). f c.loop-day.state) (sym (onward-day k c.args.search.now.from rows n day within)) ∙ so_far.is));
       same_length = length-set c.loop-day.row day c.read_choice-choice.result.0 ∙ i.same_length;
     }
 
 pub returns-clause-row : goal.returns-clause-row
 returns-clause-row c cost best is =
-    let k = c.args.held.now.case in
-    let rows = c.args.held.now.roster in
-    let n = c.args.nurse in
+    let k = c.args.search.now.held.now.case in
+    let rows = c.args.search.now.held.now.roster in
+    let n = c.args.search.now.nurse in
     let last : c.days-day-end.result ≡ day_count k = c.days-day-end.ensures.count ∙ ap day_count c.case-case.ensures in
     let all : c.loop-day.day ≡ day_count k = omega (arith, c.loop-day-test.false, c.loop-day.auto.day-end, last) in
-    read_last k c.args.from rows n c.loop-day.state c.loop-day.row best (subst (λ d. IsReadTo k c.args.from rows n d c.loop-day.state c.loop-day.row best) all (c.loop-day.invariant.read cost best is))
+    read_last k c.args.search.now.from rows n c.loop-day.state c.loop-day.row best (subst (λ d. IsReadTo k c.args.search.now.from rows n d c.loop-day.state c.loop-day.row best) all (c.loop-day.invariant.read cost best is))
