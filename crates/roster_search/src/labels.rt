@@ -463,7 +463,12 @@ fn set_run(
     };
     let behind = step.0.code(&at.ranges) as usize;
     let end = behind + labels.len();
-    set_all(labels, &day.later[behind..end], offer.price + step.1, NO_ROW);
+    set_all(
+        labels,
+        &day.later[behind..end],
+        offer.price + step.1,
+        NO_ROW,
+    );
     numbers.fill(place as u8);
     true
 }

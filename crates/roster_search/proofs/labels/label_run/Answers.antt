@@ -54,24 +54,24 @@ loop-place-init g c =
 pub loop-place-preserved : goal.loop-place-preserved
 loop-place-preserved g c =
     let old = c.loop-place.invariant in
-    elim c.if-is_set.branch
-    [ then-is_set w ↦
-      let is_set = w.is_set-is ∙ w.if-is_set.true in
-      rw (w.labels-is, w.numbers-is, w.meter-is, is_set) record {
-        least = λ e. w.lower_run.ensures.least;
-        small = λ e. w.lower_run.ensures.small;
-        none = λ e. absurd cc;
-        labels_length = w.lower_run.ensures.lengths.0 ∙ old.labels_length;
-        numbers_length = w.lower_run.ensures.lengths.1 ∙ old.numbers_length;
-        counted = omega (arith, w.lower_run.ensures.counted, old.counted);
-      }
-    | else-is_set w ↦
-      rw (w.labels-is, w.numbers-is, w.meter-is, w.is_set-is) record {
-        least = w.set_run-is_set.ensures.least;
-        small = w.set_run-is_set.ensures.small;
-        none = w.set_run-is_set.ensures.none;
-        labels_length = w.set_run-is_set.ensures.lengths.0 ∙ old.labels_length;
-        numbers_length = w.set_run-is_set.ensures.lengths.1 ∙ old.numbers_length;
-        counted = omega (arith, w.set_run-is_set.ensures.counted, old.counted);
-      }
+    elim c.if-is_set.branch [
+      | then-is_set w ↦
+          let is_set = w.is_set-is ∙ w.if-is_set.true in
+          rw (w.labels-is, w.numbers-is, w.meter-is, is_set) record {
+            least = λ e. w.lower_run.ensures.least;
+            small = λ e. w.lower_run.ensures.small;
+            none = λ e. absurd cc;
+            labels_length = w.lower_run.ensures.lengths.0 ∙ old.labels_length;
+            numbers_length = w.lower_run.ensures.lengths.1 ∙ old.numbers_length;
+            counted = omega (arith, w.lower_run.ensures.counted, old.counted);
+          }
+      | else-is_set w ↦
+          rw (w.labels-is, w.numbers-is, w.meter-is, w.is_set-is) record {
+            least = w.set_run-is_set.ensures.least;
+            small = w.set_run-is_set.ensures.small;
+            none = w.set_run-is_set.ensures.none;
+            labels_length = w.set_run-is_set.ensures.lengths.0 ∙ old.labels_length;
+            numbers_length = w.set_run-is_set.ensures.lengths.1 ∙ old.numbers_length;
+            counted = omega (arith, w.set_run-is_set.ensures.counted, old.counted);
+          }
     ]
