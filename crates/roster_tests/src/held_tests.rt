@@ -95,11 +95,11 @@ fn offers_with_wishes(rt: HostRuntime) -> Result<(), Fail> {
         SHIFT_ON_REQUESTS = 4\nAnn Early Tue\nAnn Any Wed\nAnn Night Thu\nBob Any Fri";
     let text = changed(alloc, &[("SHIFT_OFF_REQUESTS = 0", requests)])?;
     let held = held(alloc, text.as_bytes())?;
-    assert!(rt; offers_are(&held, 0, 0, &[off(30), work(0, 0, 0), work(1, 0, 30)]));
-    assert!(rt; offers_are(&held, 0, 1, &[off(40), work(0, 0, 0), work(1, 0, 40)]));
-    assert!(rt; offers_are(&held, 0, 2, &[off(40), work(0, 0, 0), work(1, 0, 30)]));
-    assert!(rt; offers_are(&held, 0, 3, &[off(40), work(0, 0, 20), work(1, 0, 30)]));
-    assert!(rt; offers_are(&held, 0, 4, &[off(30), work(0, 0, 0), work(1, 0, 30)]));
+    assert!(rt; offers_are(&held, 0, 0, 0, &[off(30), work(0, 0, 0), work(1, 0, 30)]));
+    assert!(rt; offers_are(&held, 0, 1, 0, &[off(40), work(0, 0, 0), work(1, 0, 40)]));
+    assert!(rt; offers_are(&held, 0, 2, 0, &[off(40), work(0, 0, 0), work(1, 0, 30)]));
+    assert!(rt; offers_are(&held, 0, 3, 0, &[off(40), work(0, 0, 20), work(1, 0, 30)]));
+    assert!(rt; offers_are(&held, 0, 4, 0, &[off(30), work(0, 0, 0), work(1, 0, 30)]));
     Ok(())
 }
 
