@@ -296,11 +296,11 @@ fn requests_of_words(rt: HostRuntime) {
     assert!(rt; asks_for_run(rt.alloc(), &words, (5, 0), &["a.txt"]));
     assert!(rt; asks_for_run(rt.alloc(), &words[..2], (100, 0), &[]));
     let frozen = [
-        "roster", "improve", "--from", "16", "--rounds", "5", "a.txt",
+        "roster", "improve", "--from", "52", "--rounds", "5", "a.txt",
     ];
-    assert!(rt; asks_for_run(rt.alloc(), &frozen, (5, 16), &["a.txt"]));
-    assert!(rt; asks_for_run(rt.alloc(), &frozen[..4], (100, 16), &[]));
-    let too_late = request_of(rt.alloc(), &["roster", "improve", "--from", "17"]);
+    assert!(rt; asks_for_run(rt.alloc(), &frozen, (5, 52), &["a.txt"]));
+    assert!(rt; asks_for_run(rt.alloc(), &frozen[..4], (100, 52), &[]));
+    let too_late = request_of(rt.alloc(), &["roster", "improve", "--from", "53"]);
     assert!(rt; matches!(too_late, Err(CliFault::Usage(_))));
     let above = request_of(rt.alloc(), &["roster", "improve", "--rounds", "1001"]);
     assert!(rt; matches!(above, Err(CliFault::Usage(_))));
