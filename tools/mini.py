@@ -13,13 +13,10 @@ The numbers are those of mini's own lines, also after other changes. A change is
     each line ends with CR LF
     the scenario's name has 70,000 letters
     16,777,217 blanks                       in place of mini
-
-Many stored changes say 'behind' for 'after'.
 """
 import re
 
 TEXT = r"`([^`]*)`"
-AFTER = "(?:after|behind)"
 
 
 class NotUnderstood(Exception):
@@ -51,7 +48,7 @@ class Mini:
     def twice(self, number):
         self.at(number)[:] *= 2
 
-    def behind(self, quoted, *_):
+    def add_after(self, quoted, *_):
         self.lines[self.spoken_of] += re.findall(TEXT, quoted)
 
     def append(self, text):
@@ -94,11 +91,11 @@ CHANGES = [
     (rf"line (\d+) is {TEXT}", Mini.replace),
     (rf"line (\d+) begins with {TEXT}", Mini.begin),
     (r"line (\d+) stands twice", Mini.twice),
-    (rf"{AFTER} it stands? ({TEXT}(?: and {TEXT})*)", Mini.behind),
-    (rf"a line {TEXT} {AFTER} the last", Mini.append),
+    (rf"after it stands? ({TEXT}(?: and {TEXT})*)", Mini.add_after),
+    (rf"a line {TEXT} after the last", Mini.append),
     (r"the first (\d+) lines alone", Mini.alone),
     (r"lines (\d+) to (\d+) stand (\d+) times", Mini.copies),
-    (rf"the text ends {AFTER} {TEXT} of line (\d+)", Mini.cut),
+    (rf"the text ends after {TEXT} of line (\d+)", Mini.cut),
     (r"each line ends with CR LF", Mini.by_cr_lf),
     (r"the scenario's name has ([\d,]+) letters", Mini.name_at_length),
     (r"([\d,]+) blanks", Mini.only_blanks),
@@ -127,6 +124,6 @@ def parts(sentence):
     quoted = re.findall(r"`[^`]*`", sentence)
     masked = re.sub(r"`[^`]*`", "`", sentence)
     found = []
-    for part in re.split(rf", and |, (?=line|{AFTER}|the |a |each |\d)", masked):
+    for part in re.split(rf", and |, (?=line|after|the |a |each |\d)", masked):
         found.append(re.sub("`", lambda _: quoted.pop(0), part))
     return found

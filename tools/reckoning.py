@@ -54,9 +54,9 @@ def own_cost(case, nurse, shifts):
     """What the days of a nurse cost by themselves: runs, weekends and totals."""
     contract, history = case.contracts[nurse.contract], nurse.history
     worked = [shift is not None for shift in shifts]
-    is_behind_work = history.last is not None
-    cost = 30 * violations(worked, history.working if is_behind_work else 0, contract.working)
-    cost += 30 * violations([not it for it in worked], 0 if is_behind_work else history.off, contract.off)
+    is_after_work = history.last is not None
+    cost = 30 * violations(worked, history.working if is_after_work else 0, contract.working)
+    cost += 30 * violations([not it for it in worked], 0 if is_after_work else history.off, contract.off)
     for number, shift in enumerate(case.shifts):
         before = history.of_last if history.last == number else 0
         cost += 15 * violations([it == number for it in shifts], before, shift.limits)

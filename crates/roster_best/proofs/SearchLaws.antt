@@ -24,7 +24,7 @@ use Rattle.roster_state.specs.declared.Area.{Area}
 use Rattle.roster_state.specs.Codes.{Sizes, code_of, product, sizes_of}
 use Rattle.roster_state.specs.Step.{step_of}
 use Rattle.roster_search.specs.declared.Offer.{Offer}
-use Rattle.roster_search.specs.ByStates.{best_behind}
+use Rattle.roster_search.specs.ByStates.{best_after}
 use Rattle.roster_search.specs.Cheapest.{Priced, cheaper, cheapest, raised}
 use Rattle.roster_search.proofs.Cheapest.{thing_or}
 use Rattle.roster_search.proofs.ByShift.{best_by_shift, by_shift_all, by_shift_fewer}
@@ -50,7 +50,7 @@ module _ (c : Meaning) (from : ℕ) (r : Rows) (n : ℕ) where
       none = omega arith
 
   pub onward-day : (d : ℕ) → d < day_count c → onward c from r n d ≡ best_on c (search_day c n d) (shift_offers c from r n d) (onward c from r n (d + 1))
-  onward-day d within = (λ i s. best_of_offers c n (shift_offers c from r n) (more i) d s) ∙ (λ i s. cheapest (λ x. best_behind x (offer_step c n d s x) (best_of_offers c n (shift_offers c from r n) (day_count c - (d + 1)) (next i))) (shift_offers c from r n d))
+  onward-day d within = (λ i s. best_of_offers c n (shift_offers c from r n) (more i) d s) ∙ (λ i s. cheapest (λ x. best_after x (offer_step c n d s x) (best_of_offers c n (shift_offers c from r n) (day_count c - (d + 1)) (next i))) (shift_offers c from r n d))
     where
       more : day_count c - d ≡ suc (day_count c - (d + 1))
       more = omega (arith, within)
@@ -74,20 +74,20 @@ module _ (c : Meaning) (from : ℕ) (r : Rows) (n : ℕ) where
     pointers_before d first old new is here same later day low within = go (cases_lt d day)
       where
         go : (d < day) ⊎ (day ≤ d) → DayPointed new (day * size) day
-        go (inl behind) = λ s stands.
+        go (inl after) = λ s stands.
             let code = code_of (sizes_of c n) s in
-            let place : first + size ≤ day * size + code = omega (arith, is, mul-le (d + 1) size day size (omega (arith, behind)) (omega arith)) in
+            let place : first + size ≤ day * size + code = omega (arith, is, mul-le (d + 1) size day size (omega (arith, after)) (omega arith)) in
             subst (PointsWhereBest (best_by c (search_day c n day) (onward c from r n (day + 1)) s) (shift_offers c from r n day) (best_on c (search_day c n day) (shift_offers c from r n day) (onward c from r n (day + 1)) s))
-            (sym (same.behind (day * size + code) place)) (later day (omega (arith, behind)) within s stands)
+            (sym (same.after (day * size + code) place)) (later day (omega (arith, after)) within s stands)
         go (inr this) =
             let same_day : d ≡ day = omega (arith, this, low) in
             subst (λ k. DayPointed new (k * size) k) same_day (subst (λ place. DayPointed new place d) is here)
 
 -- ---- the states that stand on a day: there is one
 
-some_behind : (later : BestOnward) (offer : Offer) (o : Option (Summary × ℕ)) → IsSome (best_behind offer (dearer offer.price o) later) → (t : Summary × ℕ) × (o ≡ Some t) × IsSome (later t.0)
-some_behind later offer None some = elim (true≢false (sym some)) [ ]
-some_behind later offer (Some t) some = (t, refl, go (later t.0) some)
+some_after : (later : BestOnward) (offer : Offer) (o : Option (Summary × ℕ)) → IsSome (best_after offer (dearer offer.price o) later) → (t : Summary × ℕ) × (o ≡ Some t) × IsSome (later t.0)
+some_after later offer None some = elim (true≢false (sym some)) [ ]
+some_after later offer (Some t) some = (t, refl, go (later t.0) some)
   where
     go : (p : Priced (List Offer)) → IsSome (raised (offer.price + t.1) (λ rest. offer ∷ rest) p) → IsSome p
     go None none = elim (true≢false (sym none)) [ ]
@@ -117,7 +117,7 @@ module _ (c : Meaning) (from : ℕ) (r : Rows) (n : ℕ) (areas : List (List Are
       let later = onward c from r n (day + 1) in
       let some : IsSome (best_on c (search_day c n day) (shift_offers c from r n day) later s) = subst (λ (f : BestOnward). IsSome (f s)) (onward-day c from r n day within) at.some in
       let found = some_cheapest (best_by c (search_day c n day) later s) (LeadsOn c (search_day c n day) (areas_on areas day) (areas_on areas (day + 1))) (shift_offers c from r n day) (lead day within) some in
-      let step = some_behind later found.0 (step_of c n day s (shift_of found.0.choice)) found.2 in
+      let step = some_after later found.0 (step_of c n day s (shift_of found.0.choice)) found.2 in
       record { state = step.0.0; stands = found.1 s step.0 at.stands step.1; some = step.2 }
 
   pub goes_on : Stands c n (areas_on areas 0) (summary_of c n []) → IsSome (best_by_states c from r n) → (day : ℕ) → day ≤ day_count c → GoesOn c from r n areas day
@@ -126,20 +126,20 @@ module _ (c : Meaning) (from : ℕ) (r : Rows) (n : ℕ) (areas : List (List Are
 
 -- ---- the areas of a day more
 
-module _ (c : Meaning) (from : ℕ) (r : Rows) (n : ℕ) (areas : List (List Area)) (day : ℕ) (inside : day + 1 < length areas) (behind : List Area) where
+module _ (c : Meaning) (from : ℕ) (r : Rows) (n : ℕ) (areas : List (List Area)) (day : ℕ) (inside : day + 1 < length areas) (after : List Area) where
   abbrev with_day : List (List Area)
-  with_day = slice_set areas (day + 1) behind
+  with_day = slice_set areas (day + 1) after
 
-  pub day_set : areas_on with_day (day + 1) ≡ behind
-  day_set = get_or-set_at areas (day + 1) (day + 1) behind [] (λ i. day + 1) inside
+  pub day_set : areas_on with_day (day + 1) ≡ after
+  day_set = get_or-set_at areas (day + 1) (day + 1) after [] (λ i. day + 1) inside
 
   pub day_kept : (d : ℕ) → d ≤ day → areas_on with_day d ≡ areas_on areas d
-  day_kept d up_to = let ne : d ≢ day + 1 = omega arith in get_or-set_other areas (day + 1) d behind [] ne
+  day_kept d up_to = let ne : d ≢ day + 1 = omega arith in get_or-set_other areas (day + 1) d after [] ne
 
   abbrev LeadOn : List (List Area) → ℕ → Type 0
   LeadOn table d = All (LeadsOn c (search_day c n d) (areas_on table d) (areas_on table (d + 1))) (shift_offers c from r n d)
 
-  pub lead_more : All (LeadsOn c (search_day c n day) (areas_on areas day) behind) (shift_offers c from r n day) → ((d : ℕ) → d < day → LeadOn areas d) → (d : ℕ) → d < day + 1 → LeadOn with_day d
+  pub lead_more : All (LeadsOn c (search_day c n day) (areas_on areas day) after) (shift_offers c from r n day) → ((d : ℕ) → d < day → LeadOn areas d) → (d : ℕ) → d < day + 1 → LeadOn with_day d
   lead_more here before d below = go (cases_lt d day)
     where
       go : (d < day) ⊎ (day ≤ d) → LeadOn with_day d

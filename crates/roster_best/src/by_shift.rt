@@ -35,7 +35,7 @@ fn cheapest_by_shift(offers: &[Offer]) -> ArrayVec<Offer, 9>
     kept
 }
 
-/// Puts the offer at a place behind those that are kept of the offers before it. Where the last of these is for the same shift, only
+/// Puts the offer at a place after those that are kept of the offers before it. Where the last of these is for the same shift, only
 /// the cheaper of the two stays, of equally cheap ones the first.
 fn keep_offer(offers: &[Offer], place: usize, kept: &mut ArrayVec<Offer, 9>)
     requires place { place < length offers.now }

@@ -20,7 +20,7 @@ use crate::workspace::Workspace;
 use arrayvec::ArrayVec;
 use roster_case::{Choice, Held};
 use roster_search::{
-    Offer, OpenDay, Pointers, SearchDay, areas_behind, label_day, label_end, read_day,
+    Offer, OpenDay, Pointers, SearchDay, areas_after, label_day, label_end, read_day,
 };
 use roster_state::{AREAS, Area, Meter, NOWHERE, Ranges, State, areas_of, start};
 use std::mem;
@@ -148,7 +148,7 @@ fn stand_days(
             ranges: *ranges,
         };
         let day_offers = offers[day as usize].as_slice();
-        areas[day as usize + 1] = areas_behind(case, &at, &areas[day as usize], day_offers);
+        areas[day as usize + 1] = areas_after(case, &at, &areas[day as usize], day_offers);
     }
 }
 
@@ -208,9 +208,9 @@ fn label_before(
     requires offered { 0 < length (shift_offers search.now.held.now.case search.now.from search.now.held.now.roster at.now.nurse at.now.day) }
     requires here { rest.here ≡ areas_on search.now.areas.now at.now.day }
     requires areas_room { day_count search.now.held.now.case < length search.now.areas.now }
-    requires leads { All (LeadsOn search.now.held.now.case at.now rest.here rest.behind) (shift_offers search.now.held.now.case search.now.from search.now.held.now.roster at.now.nurse at.now.day) }
+    requires leads { All (LeadsOn search.now.held.now.case at.now rest.here rest.next) (shift_offers search.now.held.now.case search.now.from search.now.held.now.roster at.now.nurse at.now.day) }
     requires stand { SomeStands search.now.held.now.case at.now.nurse rest.here }
-    requires later { AreLabels search.now.held.now.case at.now.nurse rest.behind rest.best later.now }
+    requires later { AreLabels search.now.held.now.case at.now.nurse rest.next rest.best later.now }
     requires all { product at.now.ranges ≤ length later.now }
     requires labels_room { product at.now.ranges ≤ length labels.old }
     requires pointers_room { day_count search.now.held.now.case * product at.now.ranges ≤ length pointers.old }
@@ -278,14 +278,14 @@ fn read_choice(
     ghost rest: { Around }
     requires day { IsDayOf search.now.held.now.case at.now }
     requires stands { Stands search.now.held.now.case at.now.nurse rest.here state.now }
-    requires leads { All (LeadsOn search.now.held.now.case at.now rest.here rest.behind) (shift_offers search.now.held.now.case search.now.from search.now.held.now.roster at.now.nurse at.now.day) }
+    requires leads { All (LeadsOn search.now.held.now.case at.now rest.here rest.next) (shift_offers search.now.held.now.case search.now.from search.now.held.now.roster at.now.nurse at.now.day) }
     requires pointers { ArePointers search.now.held.now.case at.now rest.here (shift_offers search.now.held.now.case search.now.from search.now.held.now.roster at.now.nurse at.now.day) rest.best (at.now.day * product at.now.ranges) pointers.now }
     requires pointers_room { day_count search.now.held.now.case * product at.now.ranges ≤ length pointers.now }
     requires some { IsSome (best_on search.now.held.now.case at.now (shift_offers search.now.held.now.case search.now.from search.now.held.now.roster at.now.nurse at.now.day) rest.best state.now) }
     requires low { IfSome (best_on search.now.held.now.case at.now (shift_offers search.now.held.now.case search.now.from search.now.held.now.roster at.now.nurse at.now.day) rest.best state.now) (λ row. row.0 < no_row) }
     requires offers { AreOffers search.now.held.now.case search.now.from search.now.held.now.roster at.now.nurse search.now.offers.now }
     ensures begins { (row : ℕ × List Offer) → best_on search.now.held.now.case at.now (shift_offers search.now.held.now.case search.now.from search.now.held.now.roster at.now.nurse at.now.day) rest.best state.now ≡ Some row → BeginsWith rest.best row result.0 result.1 }
-    ensures stands { Stands search.now.held.now.case at.now.nurse rest.behind result.1 }
+    ensures stands { Stands search.now.held.now.case at.now.nurse rest.next result.1 }
 {
     let case = search.held.case();
     case.keeps_limits();

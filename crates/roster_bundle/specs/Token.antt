@@ -88,7 +88,7 @@ pub record IsMark (text : List ℕ) (t : Token) : Type 0 where
 pub record IsWholeWord (text : List ℕ) (t : Token) : Type 0 where
   pub word : IsTrue (is_word (text_of text t))
   pub none_before : IsFalse (follows_word_byte text t.start)
-  pub none_behind : t.end < length text → IsFalse (is_word_byte (slice_index text t.end))
+  pub none_after : t.end < length text → IsFalse (is_word_byte (slice_index text t.end))
 
 abbrev pub IsMarkOrWord : List ℕ → Token → Type 0
 IsMarkOrWord text t = IsMark text t ⊎ IsWholeWord text t

@@ -2,12 +2,12 @@
 use Rattle.std.specs.Prelude.{◌≡◌, ℕ, ◌⊎◌, List, [], Option, codes, string_bytes}
 use Rattle.std.specs.Io.KnownBytes.{Appends}
 use Rattle.roster_text.specs.Io.{Watched}
-use Rattle.roster_answer.specs.Answer.{IsSilent, Logs}
-use Rattle.roster_answer.specs.Lines.{Text}
-use Rattle.roster_words.specs.CommandLine.{IsAsked, Refuses}
-use Rattle.roster_words.specs.declared.request.CliFault.{CliFault}
-use Rattle.roster_words.specs.declared.request.CliFault.TheVariants as cli
-use Rattle.roster_words.specs.declared.request.Request.{Request}
+use Rattle.roster_commands.specs.Answer.{IsSilent, Logs}
+use Rattle.roster_commands.specs.Lines.{Text}
+use Rattle.roster_request.specs.CommandLine.{IsAsked, Refuses}
+use Rattle.roster_request.specs.declared.request.CliFault.{CliFault}
+use Rattle.roster_request.specs.declared.request.CliFault.TheVariants as cli
+use Rattle.roster_request.specs.declared.request.Request.{Request}
 
 -- with status 0 the output took the text and sent all on, and nothing was logged; else the output failed, and that is told
 abbrev pub Sends : {Out Log : Type 0} → (Out → Option Text) → (Out → Text) → (Log → Option Text) → Text → ℕ → Out → Out → Watched Log → Watched Log → Type 0

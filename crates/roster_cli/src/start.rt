@@ -3,13 +3,13 @@
 ghost use Rattle.std.specs.Prelude.{◌≡◌, [], codes, map, string_bytes};
 ghost use Rattle.std.specs.Io.KnownBytes.{Keeps};
 ghost use Rattle.std.specs.Io.Buffered.{writer_buffer, writer_contents};
-ghost use Rattle.roster_answer.specs.Answer.{IsSilent, Logs};
+ghost use Rattle.roster_commands.specs.Answer.{IsSilent, Logs};
 ghost use Rattle.roster_cli.specs.Start.{AnswersWords, Sends, TellsWords};
 
-use roster_answer::{refuse, refuse_output, run};
+use roster_commands::{refuse, refuse_output, run};
 use roster_joined::Joined;
 use roster_text::{TextFault, Watch, write_bytes};
-use roster_words::{CliFault, Request, request_of};
+use roster_request::{CliFault, Request, request_of};
 use std::alloc::Global;
 use std::io::{BufWriter, ErrorKind, Read, Write};
 use std::rt::{Env, Files};

@@ -64,12 +64,12 @@ mini_lines =
     codes "ASSIGNMENTS = 0" ∷
     []
 
--- another line in the place of the n-th, from 1; and one behind it
+-- another line in the place of the n-th, from 1; and one after it
 abbrev pub line : ℕ → List ℕ → Lines → Lines
 line n text lines = slice_set lines (n - 1) text
 
-abbrev pub line_behind : ℕ → List ℕ → Lines → Lines
-line_behind n text lines = insert lines n text
+abbrev pub line_after : ℕ → List ℕ → Lines → Lines
+line_after n text lines = insert lines n text
 
 -- the lines with a solution of these assignments, and their number as it is written
 abbrev pub solved : List ℕ → Lines → Lines → Lines

@@ -5,7 +5,7 @@ ghost use Rattle.std.specs.Prelude.{◌≡◌, [], ◌∷◌, codes, take, true,
 ghost use Rattle.roster_rules.specs.declared.CaseFault.{CaseFault};
 ghost use Rattle.roster_rules.specs.declared.HardFault.{HardFault};
 ghost use Rattle.roster_run_examples.specs.Mini.{mini, big, limits, is_among, early_on, early_but, free_week, all_free, ann, bob, costs, costs_with_wishes};
-ghost use Rattle.roster_examples.specs.MiniText.{mini_lines, two_weeks, line, line_behind, solved, early_lines, case_in, roster_in, refusals_in, refusal_in, breaches_in, costs_in, total_in, sizes_in};
+ghost use Rattle.roster_examples.specs.MiniText.{mini_lines, two_weeks, line, line_after, solved, early_lines, case_in, roster_in, refusals_in, refusal_in, breaches_in, costs_in, total_in, sizes_in};
 ghost use Rattle.roster_rules.specs.Meaning.{shift_at, skill_at};
 ghost use Rattle.roster_rules.specs.Penalties.{penalty};
 ghost use Rattle.roster_rules.specs.Rosters.{fits_case};
@@ -28,7 +28,7 @@ pub fn refusals_of_names_and_counts()
     ensures instance { refusal_in (line 31 (codes "maxi") mini_lines) ≡ Some (CaseFault.OtherInstance 31) }
     ensures week { refusal_in (line 24 (codes "1 mini") mini_lines) ≡ Some (CaseFault.HistoryWeek 24) }
     ensures history { refusal_in (line 28 (codes "Ann 0 0 None 0 0 1") mini_lines) ≡ Some (CaseFault.HistoryNurses 28) }
-    ensures requirement { refusal_in (line_behind 34 (codes "Early Nurse (0,1) (0,1) (0,1) (0,1) (0,1) (0,1) (0,1)") mini_lines) ≡ Some (CaseFault.RepeatedRequirement 35) }
+    ensures requirement { refusal_in (line_after 34 (codes "Early Nurse (0,1) (0,1) (0,1) (0,1) (0,1) (0,1) (0,1)") mini_lines) ≡ Some (CaseFault.RepeatedRequirement 35) }
     ensures no_weeks { refusal_in (line 3 (codes "WEEKS = 0") (take 28 mini_lines)) ≡ Some (CaseFault.Limit 3) }
     ensures two_shifts_a_day { refusal_in (solved (codes "2") (codes "Ann Mon Early Nurse" ∷ codes "Ann Mon Night Nurse" ∷ []) mini_lines) ≡ Some (CaseFault.H1 0 0) }
     ensures most_states_taken { refusals_in (line 8 (codes "SHIFT_TYPES = 3") (line 11 (codes "Late (1,7)") (line 17 (codes "Full (2,511) (1,7) (1,5) 7 1") mini_lines))) ≡ Some [] }
@@ -87,9 +87,9 @@ pub fn totals_of_better_rosters()
     ensures settled { penalty mini (early_on (0 ∷ 2 ∷ 3 ∷ 4 ∷ []) ∷ early_on (1 ∷ 5 ∷ 6 ∷ []) ∷ []) ≡ 0 }
     ensures later_row { penalty mini (early_but 4 ∷ free_week ∷ []) ≡ 180 }
     ensures later_rows { penalty mini (early_but 4 ∷ early_on (4 ∷ 5 ∷ 6 ∷ []) ∷ []) ≡ 20 }
-    ensures needed_night { total_in (line_behind 34 (codes "Night Nurse (0,0) (0,0) (0,0) (1,1) (0,0) (0,0) (0,0)") (solved (codes "1") (codes "Bob Thu Night Nurse" ∷ []) mini_lines)) ≡ Some 360 }
-    ensures around_a_needed_night { total_in (line_behind 34 (codes "Night Nurse (0,0) (0,0) (0,0) (1,1) (0,0) (0,0) (0,0)") (solved (codes "6") (codes "Bob Thu Night Nurse" ∷ early_lines (codes "Bob") (codes "Mon" ∷ codes "Tue" ∷ codes "Wed" ∷ codes "Sat" ∷ codes "Sun" ∷ [])) mini_lines)) ≡ Some 210 }
-    ensures two_skills { total_in (line 5 (codes "SKILLS = 2") (line 6 (codes "Nurse Head") (line 20 (codes "Ann Full 2 Head Nurse") (line_behind 34 (codes "Early Head (0,1) (0,1) (0,1) (0,1) (0,1) (0,1) (0,1)") mini_lines)))) ≡ Some 680 }
+    ensures needed_night { total_in (line_after 34 (codes "Night Nurse (0,0) (0,0) (0,0) (1,1) (0,0) (0,0) (0,0)") (solved (codes "1") (codes "Bob Thu Night Nurse" ∷ []) mini_lines)) ≡ Some 360 }
+    ensures around_a_needed_night { total_in (line_after 34 (codes "Night Nurse (0,0) (0,0) (0,0) (1,1) (0,0) (0,0) (0,0)") (solved (codes "6") (codes "Bob Thu Night Nurse" ∷ early_lines (codes "Bob") (codes "Mon" ∷ codes "Tue" ∷ codes "Wed" ∷ codes "Sat" ∷ codes "Sun" ∷ [])) mini_lines)) ≡ Some 210 }
+    ensures two_skills { total_in (line 5 (codes "SKILLS = 2") (line 6 (codes "Nurse Head") (line 20 (codes "Ann Full 2 Head Nurse") (line_after 34 (codes "Early Head (0,1) (0,1) (0,1) (0,1) (0,1) (0,1) (0,1)") mini_lines)))) ≡ Some 680 }
 {}
 
 /// What single runs owe.

@@ -9,7 +9,7 @@ use Rattle.roster_instance.specs.declared.fault.CaseFault.TheVariants.{TooManySt
 use Rattle.roster_instance.specs.declared.rules.Past.{Past}
 use Rattle.roster_instance.specs.declared.scenario.Scenario.{Scenario}
 use Rattle.roster_instance.specs.Bundles.{meaning_of, past_meant, week_meant}
-use Rattle.roster_instance.specs.CaseParts.{HasFewStates, IsScenarioOf, case_of, faults_behind, known_of}
+use Rattle.roster_instance.specs.CaseParts.{HasFewStates, IsScenarioOf, case_of, faults_after, known_of}
 use Rattle.roster_instance.specs.Checking.{IsFirst}
 use Rattle.roster_instance.specs.Faults.{fault_if}
 use Rattle.roster_instance.specs.Meaning.{WeekFacts}
@@ -17,7 +17,7 @@ use Rattle.roster_instance.specs.Names.{nurse_names, shift_names, skill_names}
 use Rattle.roster_instance.specs.Refusals.{known_in, case_faults, history_faults, scenario_faults, state_fault, week_faults}
 use Rattle.roster_instance.specs.Limits.{most_states}
 use Rattle.roster_instance.specs.Sizes.{state_count}
-use Rattle.roster_instance.proofs.Sections.{IsFirst-behind, IsFirst-front, both_none}
+use Rattle.roster_instance.proofs.Sections.{IsFirst-after, IsFirst-front, both_none}
 
 -- the number of states doesn't depend on the history, nor on the weeks
 pub states_alike : (s : Scenario) (past : List (Option Past)) (weeks : List WeekFacts) (n : ℕ) → state_count (case_of s past weeks) n ≡ state_count (case_of s [] []) n
@@ -85,8 +85,8 @@ module _ (source : List ℕ) (b : Bundle) (s : Scenario) (is : IsScenarioOf sour
   states_same : faults_of_states ≡ flat_map (state_fault (meaning_of source b)) (enumerate_from 0 b.scenario.nurses.items)
   states_same = λ i. flat_map (λ (n : ℕ × Nurse). fault_if (nat_lt most_states (states_are n.0 i)) (TooManyStates n.0 n.1.name)) (enumerate_from 0 b.scenario.nurses.items)
 
-  -- the faults of the scenario and those behind it are all
-  all_same : scenario_faults source b ++ faults_behind source b s ≡ case_faults source b
+  -- the faults of the scenario and those after it are all
+  all_same : scenario_faults source b ++ faults_after source b s ≡ case_faults source b
   unfolding case_faults
   all_same =
       sym (append_assoc (scenario_faults source b) (past_faults ++ faults_of_weeks) faults_of_states)
@@ -94,11 +94,11 @@ module _ (source : List ℕ) (b : Bundle) (s : Scenario) (is : IsScenarioOf sour
       ∙ (λ i. scenario_faults source b ++ past_same i ++ weeks_same i ++ states_same i)
 
   module _ (none : scenario_faults source b ≡ []) where
-    pub first_behind : (f : CaseFault) → IsFirst (faults_behind source b s) f → IsFirst (case_faults source b) f
-    first_behind f first = subst (λ fs. IsFirst fs f) all_same (IsFirst-behind (scenario_faults source b) (faults_behind source b s) f none first)
+    pub first_after : (f : CaseFault) → IsFirst (faults_after source b s) f → IsFirst (case_faults source b) f
+    first_after f first = subst (λ fs. IsFirst fs f) all_same (IsFirst-after (scenario_faults source b) (faults_after source b s) f none first)
 
-    pub none_at_all : faults_behind source b s ≡ [] → case_faults source b ≡ []
-    none_at_all none_behind = sym all_same ∙ both_none (scenario_faults source b) (faults_behind source b s) none none_behind
+    pub none_at_all : faults_after source b s ≡ [] → case_faults source b ≡ []
+    none_at_all none_after = sym all_same ∙ both_none (scenario_faults source b) (faults_after source b s) none none_after
 
 pub first_of_scenario : (source : List ℕ) (b : Bundle) (f : CaseFault) → IsFirst (scenario_faults source b) f → IsFirst (case_faults source b) f
 unfolding case_faults

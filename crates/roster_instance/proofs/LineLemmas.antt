@@ -1,4 +1,4 @@
--- A line of a solution, behind those before it.
+-- A line of a solution, after those before it.
 use Rattle.std.proofs.Common.{◌≡◌, ◌∙◌, ◌+◌, ◌*◌, ◌<◌, ◌==◌, ◌&&◌, ℕ, Bool, true, false, sym, ap, ap₂, arith, lit<, List, [], ◌∷◌, ◌++◌, get_or, length, Option, Some, None, is_some}
 use Rattle.std.proofs.Math.ListN.{set}
 use Rattle.std.specs.Prelude.{option_map}

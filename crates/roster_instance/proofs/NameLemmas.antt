@@ -172,7 +172,7 @@ module _ (source : Text) (names : List Text) (t : Token) (none : found source na
   pub found-none-fault : unknown_fault source names t ≡ Unknown t.line ∷ []
   found-none-fault = ap (λ b. fault_if (not b) (Unknown t.line)) found-none-known
 
--- ---- names one behind the other
+-- ---- names one after the other
 
 pub names_of-push : (source : Text) (ts : List Token) (t : Token) → names_of source (ts ++ t ∷ []) ≡ names_of source ts ++ text_of source t ∷ []
 names_of-push source ts t = map_push (text_of source) ts t

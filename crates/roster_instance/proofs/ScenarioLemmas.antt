@@ -13,7 +13,7 @@ use Rattle.roster_instance.specs.Tables.{table_of}
 use Rattle.roster_instance.specs.declared.fault.CaseFault.{CaseFault}
 use Rattle.roster_instance.specs.declared.fault.CaseFault.TheVariants.{Repeated}
 use Rattle.roster_instance.proofs.NameLemmas.{any_same_name_map, found-no_fault, found-within}
-use Rattle.roster_instance.proofs.Sections.{IsFirst-alone, IsFirst-behind, IsFirst-front, both_none}
+use Rattle.roster_instance.proofs.Sections.{IsFirst-alone, IsFirst-after, IsFirst-front, both_none}
 use Rattle.roster_instance.proofs.TableSteps.{cell-filled, cell-taken}
 
 -- ---- tables
@@ -52,7 +52,7 @@ module _ (source : List ℕ) (shifts : Names) (l : Succession) (k : ℕ) (is : f
 
     -- a second line of a shift
     pub line-repeated : is_some (get_or lines k None) ≡ true → IsFirst (succession_faults source shifts earlier l) (Repeated l.shift.line)
-    line-repeated taken = IsFirst-front _ _ _ (IsFirst-behind _ _ _ (found-no_fault source shifts l.shift k is) (IsFirst-alone _ _ (said true taken)))
+    line-repeated taken = IsFirst-front _ _ _ (IsFirst-after _ _ _ (found-no_fault source shifts l.shift k is) (IsFirst-alone _ _ (said true taken)))
 
     -- the first line of a shift
     module _ (free : is_some (get_or lines k None) ≡ false) where
@@ -60,7 +60,7 @@ module _ (source : List ℕ) (shifts : Names) (l : Succession) (k : ℕ) (is : f
       front_none = both_none _ _ (found-no_fault source shifts l.shift k is) (said false free)
 
       pub line-forbidden : (f : CaseFault) → IsFirst (flat_map (unknown_fault source shifts) l.forbidden) f → IsFirst (succession_faults source shifts earlier l) f
-      line-forbidden f first = IsFirst-behind _ _ _ front_none first
+      line-forbidden f first = IsFirst-after _ _ _ front_none first
 
       pub line-none : flat_map (unknown_fault source shifts) l.forbidden ≡ [] → succession_faults source shifts earlier l ≡ []
       line-none none = both_none _ _ front_none none

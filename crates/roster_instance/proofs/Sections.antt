@@ -1,4 +1,4 @@
--- The faults of the items of a section, one behind the other.
+-- The faults of the items of a section, one after the other.
 use Rattle.std.proofs.Common.{◌≡◌, ◌∙◌, ◌+◌, ◌<◌, ℕ, refl, sym, ap, ap₂, arith, subst, List, [], ◌∷◌, ◌++◌, append_assoc, get_or, length, take, drop, Some}
 use Rattle.std.specs.List.{enumerate_from, flat_map}
 use Rattle.std.specs.Prelude.{IfErr, Result}
@@ -16,11 +16,11 @@ pub first-front : {F : Type 0} (xs ys : List F) (f : F) → first_fault xs ≡ S
 first-front [] ys f e = absurd (cc)
 first-front (x ∷ xs) ys f e = e
 
-pub first-behind : {F : Type 0} (xs ys : List F) (f : F) → xs ≡ [] → first_fault ys ≡ Some f → first_fault (xs ++ ys) ≡ Some f
-first-behind xs ys f none e = ap (λ zs. first_fault (zs ++ ys)) none ∙ e
+pub first-after : {F : Type 0} (xs ys : List F) (f : F) → xs ≡ [] → first_fault ys ≡ Some f → first_fault (xs ++ ys) ≡ Some f
+first-after xs ys f none e = ap (λ zs. first_fault (zs ++ ys)) none ∙ e
 
 pub both_none : {F : Type 0} (xs ys : List F) → xs ≡ [] → ys ≡ [] → xs ++ ys ≡ []
-both_none xs ys none none_behind = ap₂ (λ fs gs. fs ++ gs) none none_behind
+both_none xs ys none none_after = ap₂ (λ fs gs. fs ++ gs) none none_after
 
 pub alone-first : {F : Type 0} (xs : List F) (f : F) → xs ≡ f ∷ [] → first_fault xs ≡ Some f
 alone-first xs f e = ap first_fault e
@@ -28,8 +28,8 @@ alone-first xs f e = ap first_fault e
 pub IsFirst-front : (xs ys : List CaseFault) (f : CaseFault) → IsFirst xs f → IsFirst (xs ++ ys) f
 IsFirst-front xs ys f first other = first-front xs ys f (first other)
 
-pub IsFirst-behind : (xs ys : List CaseFault) (f : CaseFault) → xs ≡ [] → IsFirst ys f → IsFirst (xs ++ ys) f
-IsFirst-behind xs ys f none first other = first-behind xs ys f none (first other)
+pub IsFirst-after : (xs ys : List CaseFault) (f : CaseFault) → xs ≡ [] → IsFirst ys f → IsFirst (xs ++ ys) f
+IsFirst-after xs ys f none first other = first-after xs ys f none (first other)
 
 pub IsFirst-alone : (xs : List CaseFault) (f : CaseFault) → xs ≡ f ∷ [] → IsFirst xs f
 IsFirst-alone xs f e other = alone-first xs f e
@@ -60,7 +60,7 @@ module _ {A F : Type 0} (faults : List A → A → List F) where
   pub each-push : (xs : List A) (x : A) → each faults (xs ++ x ∷ []) ≡ each faults xs ++ faults xs x
   each-push xs x = each-append xs (x ∷ []) ∙ ap (λ fs. each faults xs ++ fs) (append-nil (faults xs x))
 
-  -- what stands in front of item i, its own faults and what stands behind them
+  -- what stands in front of item i, its own faults and what stands after them
   pub each-at : (xs : List A) (i : ℕ) (d : A) → i < length xs
       → each faults xs ≡ each faults (take i xs) ++ (faults (take i xs) (get_or xs i d) ++ each_after faults (take i xs ++ get_or xs i d ∷ []) (drop (i + 1) xs))
   each-at xs i d within =
@@ -71,12 +71,12 @@ module _ {A F : Type 0} (faults : List A → A → List F) where
   pub each-more_none : (xs : List A) (x : A) → each faults xs ≡ [] → faults xs x ≡ [] → each faults (xs ++ x ∷ []) ≡ []
   each-more_none xs x so_far none = each-push xs x ∙ both_none (each faults xs) (faults xs x) so_far none
 
-  -- the first fault of an item behind items without any
+  -- the first fault of an item after items without any
   pub each-first : (xs : List A) (i : ℕ) (d : A) (f : F) → i < length xs → each faults (take i xs) ≡ [] → first_fault (faults (take i xs) (get_or xs i d)) ≡ Some f → first_fault (each faults xs) ≡ Some f
   each-first xs i d f within so_far first =
       let own = faults (take i xs) (get_or xs i d) in
       let rest = each_after faults (take i xs ++ get_or xs i d ∷ []) (drop (i + 1) xs) in
-      ap first_fault (each-at xs i d within) ∙ first-behind (each faults (take i xs)) (own ++ rest) f so_far (first-front own rest f first)
+      ap first_fault (each-at xs i d within) ∙ first-after (each faults (take i xs)) (own ++ rest) f so_far (first-front own rest f first)
 
 pub IsFirst-each : {A : Type 0} (faults : List A → A → List CaseFault) (xs : List A) (i : ℕ) (d : A) (f : CaseFault) → i < length xs → each faults (take i xs) ≡ []
     → IsFirst (faults (take i xs) (get_or xs i d)) f → IsFirst (each faults xs) f

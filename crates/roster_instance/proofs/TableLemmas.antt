@@ -98,7 +98,7 @@ module _ {A V : Type 0} (place : A → Option ℕ) (says : A → V) (n : ℕ) wh
   item-push_same : (q : ℕ) (xs : List A) (x : A) → is_at q (place x) ≡ true → item_at place q xs ≡ None → item_at place q (xs ++ x ∷ []) ≡ Some x
   item-push_same q xs x same free = item-push q xs x ∙ ap₂ (λ b o. option_or o (cond b (Some x) None)) same free
 
-  -- one more item, whose cell is still empty; a cell behind the last is
+  -- one more item, whose cell is still empty; a cell after the last is
   pub table-put : (p : ℕ) (xs : List A) (x : A) → place x ≡ Some p → get_or (table_of place says n xs) p None ≡ None
       → table_of place says n (xs ++ x ∷ []) ≡ set (table_of place says n xs) p (Some (says x))
   table-put p xs x at empty = ext_get_or None (table_of place says n (xs ++ x ∷ [])) (set (table_of place says n xs) p (Some (says x)))

@@ -53,9 +53,9 @@ case_of s past weeks = record {
   weeks = weeks;
 }
 
--- the faults behind the scenario: of the history, of the weeks, and too many states
-abbrev pub faults_behind : List ℕ → Bundle → Scenario → List CaseFault
-faults_behind source b s =
+-- the faults after the scenario: of the history, of the weeks, and too many states
+abbrev pub faults_after : List ℕ → Bundle → Scenario → List CaseFault
+faults_after source b s =
     history_faults (known_of source s) b.history
     ++ flat_map (week_faults (known_of source s)) b.week_data
     ++ flat_map (state_fault (case_of s [] [])) (enumerate_from 0 b.scenario.nurses.items)

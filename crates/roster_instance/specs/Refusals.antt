@@ -1,5 +1,5 @@
 -- The refusals of a bundle (our profile): a list of all faults in the order in which they count, which is that of the text,
--- but for too many states, which stand behind all others of the case and before those of the solutions.
+-- but for too many states, which stand after all others of the case and before those of the solutions.
 use Rattle.std.specs.Prelude.{ℕ, ◌+◌, ◌*◌, not, ◌&&◌, ◌||◌, ◌==◌, nat_lt, List, ◌++◌, length, map, flat_map, codes}
 use Rattle.std.specs.List.{enumerate_from, list_any}
 use Rattle.roster_bundle.specs.declared.bundle.Assignment.{Assignment}
@@ -40,7 +40,7 @@ pub record AmongStaff : Type 0 where
   pub contracts : Names
   pub skills : Names
 
--- behind the scenario: its name, and the names that it has given
+-- after the scenario: its name, and the names that it has given
 pub record Known : Type 0 where
   pub source : List ℕ
   pub name : List ℕ
@@ -193,7 +193,7 @@ case_faults source b =
 
 -- ---- the solutions, by the names of a case
 
--- a second line of a nurse and day is a fault behind its last token
+-- a second line of a nurse and day is a fault after its last token
 abbrev pub assignment_faults : List ℕ → Names → Names → Names → ℕ → List Assignment → Assignment → List CaseFault
 assignment_faults source nurses shifts skills i earlier a =
     unknown_fault source nurses a.nurse

@@ -4,7 +4,7 @@ ghost use Rattle.std.specs.Prelude.{◌≡◌, ◌≢◌, ◌+◌, ◌*◌, ◌<
 ghost use Rattle.std.specs.List.{enumerate_from};
 ghost use Rattle.roster_bundle.specs.SmallNumbers.{SaysSmallNumbers};
 ghost use Rattle.roster_bundle.specs.declared.bundle.Nurse.{Nurse};
-ghost use Rattle.roster_instance.specs.CaseParts.{case_of, faults_behind, HasFewStates, IsScenarioOf};
+ghost use Rattle.roster_instance.specs.CaseParts.{case_of, faults_after, HasFewStates, IsScenarioOf};
 ghost use Rattle.roster_instance.specs.Bundles.{meaning_of, past_meant, week_meant};
 ghost use Rattle.roster_instance.specs.Checking.{IsFirst};
 ghost use Rattle.roster_instance.specs.Faults.{first_fault};
@@ -68,7 +68,7 @@ impl Case {
     /// # Errors
     ///
     /// The first fault in the order of the text: a name that is repeated, unknown or reserved, a part of another instance,
-    /// a count out of limits, a history that doesn't fit, a repeated requirement. Behind them a nurse with too many states.
+    /// a count out of limits, a history that doesn't fit, a repeated requirement. After them a nurse with too many states.
     /// `Memory` where a growth was refused.
     pub fn from_bundle(alloc: Global, bundle: &Bundle, source: &[u8]) -> Result<Case, CaseFault>
         requires weeks { length bundle.now.week_data ≡ bundle.now.scenario.weeks.value }
@@ -364,7 +364,7 @@ impl Case {
     }
 }
 
-/// What stands behind the scenario: the past of the nurses, and the weeks.
+/// What stands after the scenario: the past of the nurses, and the weeks.
 #[derive(Drop)]
 struct Told {
     past: Table<Past>,
@@ -382,8 +382,8 @@ fn read_told(
     ensures past { IfOk result (λ told. told.past ≡ past_meant source.now scenario.now.nurses scenario.now.shifts bundle.now.history.nurses) }
     ensures weeks { IfOk result (λ told. told.weeks.items ≡ map (week_meant source.now scenario.now.shifts scenario.now.skills scenario.now.nurses) bundle.now.week_data) }
     ensures few { OnOk result (HasFewStates (case_of scenario.now [] [])) }
-    ensures none { OnOk result (faults_behind source.now bundle.now scenario.now ≡ []) }
-    ensures first { IfErr result (IsFirst (faults_behind source.now bundle.now scenario.now)) }
+    ensures none { OnOk result (faults_after source.now bundle.now scenario.now ≡ []) }
+    ensures first { IfErr result (IsFirst (faults_after source.now bundle.now scenario.now)) }
 {
     let past = past_of(alloc, source, scenario, &bundle.history)?;
     let weeks = weeks_of(alloc, source, scenario, bundle.week_data.as_slice())?;

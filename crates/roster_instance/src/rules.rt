@@ -23,7 +23,7 @@ impl Limits {
         max(self.least, self.greatest)
     }
 
-    /// What a day adds to the missing and the extra days of the runs of a kind, behind a run of so many days: one extra day
+    /// What a day adds to the missing and the extra days of the runs of a kind, after a run of so many days: one extra day
     /// where it is of the kind and the run is full, and what the run misses where it ends.
     pub fn day_violations(self, run: u32, of_kind: bool) -> u32
         ensures violations { result ≡ day_violations self run of_kind }

@@ -16,7 +16,7 @@ pub(crate) trait Section<T> {
 
     ghost about: { Self → About };
 
-    /// What is wrong with an item behind these.
+    /// What is wrong with an item after these.
     ghost faults: { About → List T → T → List CaseFault };
 
     /// It is built of these items.

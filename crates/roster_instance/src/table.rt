@@ -35,7 +35,7 @@ impl<V: Copy> Table<V> {
         })
     }
 
-    /// What stands at a place; nothing does behind the last.
+    /// What stands at a place; nothing does after the last.
     pub(crate) fn get(&self, place: usize) -> Option<V>
         ensures { result ≡ slice_index_or self.now place None }
     {
@@ -45,7 +45,7 @@ impl<V: Copy> Table<V> {
         }
     }
 
-    /// Fills a place. Behind the last there is none to fill.
+    /// Fills a place. After the last there is none to fill.
     pub(crate) fn set(&mut self, place: usize, value: V)
         ensures { self.new ≡ slice_set self.old place (Some value) }
     {

@@ -27,4 +27,4 @@ PointersSet first end others more pointer labels old new =
 -- outside these places nothing has changed
 pub record SameOutside (first end : ℕ) (old new : List ℕ) : Type 0 where
   pub before : (i : ℕ) → i < first → slice_index_or new i 0 ≡ slice_index_or old i 0
-  pub behind : (i : ℕ) → end ≤ i → slice_index_or new i 0 ≡ slice_index_or old i 0
+  pub after : (i : ℕ) → end ≤ i → slice_index_or new i 0 ≡ slice_index_or old i 0

@@ -38,7 +38,7 @@ pub fn lower_all(labels: &mut [u32], pointers: &mut [u8], others: &[u32], more: 
     'vectors: for vector in 0..count / LANES {
         lower_at(labels, pointers, others, vector * LANES, more, pointer);
     }
-    // The places behind the last whole vector, with some once more: what is lowered twice stays as it was.
+    // The places after the last whole vector, with some once more: what is lowered twice stays as it was.
     if count % LANES != 0 {
         lower_at(labels, pointers, others, count - LANES, more, pointer);
     }

@@ -16,7 +16,7 @@ pub fn same_rows_are_equal()
 {}
 
 /// A step puts the best row in where that is strictly cheaper, and else changes nothing. So no allowed row is cheaper than the
-/// roster behind it.
+/// roster after it.
 pub fn steps_put_the_best_row_in()
     ensures cheaper { (c : Meaning) (from : ℕ) (r : Rows) (n : ℕ) (row : Row) → IsBestRow c from r n row → penalty_with c r n row < penalty c r → step c (best_row c from) r n ≡ with_row r n row }
     ensures as_dear { (c : Meaning) (from : ℕ) (r : Rows) (n : ℕ) (row : Row) → IsBestRow c from r n row → penalty c r ≤ penalty_with c r n row → step c (best_row c from) r n ≡ r }

@@ -42,7 +42,7 @@ changes_more_same c best k r now next n now_is next_is same =
     (subst (λ made. (cond (same_rows made now) [] (entry (changed k n) made ∷ []) ++ []) ≡ []) next_is (rw same refl)))
     ∙ append-nil (changes c best k (range_with_len 0 n) r)
 
--- the log of a round goes on behind the first nurses
+-- the log of a round goes on after the first nurses
 pub round_log-front : (c : Meaning) (best : BestRows) (k : ℕ) (r : Rows) (n : ℕ) → n ≤ nurse_count c → (rest : List Entry) × (round_log c best k r ≡ changes c best k (range_with_len 0 n) r ++ rest)
 round_log-front c best k r n within =
     let m = nurse_count c - n in

@@ -20,12 +20,12 @@ use Rattle.roster_rounds.proofs.Sent.{BreaksAmong-after, BreaksAmong-front, Brea
 -- ---- a run, a round at a time
 
 -- what follows a round
-behind : Meaning → BestRows → ℕ → ℕ → Rows → Bool → List Entry
-behind c best k m r true = entry settled r ∷ []
-behind c best k m r false = entries_from c best (k + 1) m (round c best r)
+after : Meaning → BestRows → ℕ → ℕ → Rows → Bool → List Entry
+following c best k m r true = entry settled r ∷ []
+following c best k m r false = entries_from c best (k + 1) m (round c best r)
 
-entries-split : (c : Meaning) (best : BestRows) (k m : ℕ) (r : Rows) (b : Bool) → same_rows (round c best r) r ≡ b → entries_from c best k (suc m) r ≡ round_log c best k r ++ behind c best k m r b
-unfolding behind
+entries-split : (c : Meaning) (best : BestRows) (k m : ℕ) (r : Rows) (b : Bool) → same_rows (round c best r) r ≡ b → entries_from c best k (suc m) r ≡ round_log c best k r ++ following c best k m r b
+unfolding following
 entries-split c best k m r true e = rw e refl
 entries-split c best k m r false e = rw e refl
 
@@ -98,7 +98,7 @@ module _ {W : Type 0} (contents : W → Option (List ℕ)) (c : Meaning) (best :
   round_breaks now after mid new sent count made fault p within q =
       let m = rounds - (made + 1) in
       let more : rounds - made ≡ suc m = omega arith in
-      breaks now after mid new sent count made (round_log c best (made + 1) now) (behind c best (made + 1) m now (same_rows (round c best now) now)) fault p
+      breaks now after mid new sent count made (round_log c best (made + 1) now) (following c best (made + 1) m now (same_rows (round c best now) now)) fault p
       (ap (λ m. entries_from c best (made + 1) m now) more ∙ entries-split c best (made + 1) m now (same_rows (round c best now) now) refl) q
 
   -- a round that changed something

@@ -1,4 +1,4 @@
--- Entries whose lines are sent one behind the other.
+-- Entries whose lines are sent one after the other.
 use Rattle.std.proofs.Common.{◌≡◌, ℕ, ◌+◌, ◌-◌, ◌^◌, ◌<◌, ◌≤◌, min, List, [], ◌∷◌, ◌++◌, Option, length, sym, ap, ◌∙◌, arith, refl, length-append, append-nil, append_assoc}
 use Rattle.std.proofs.lemmas.List.Concat.{flat_map-append}
 use Rattle.roster_text.specs.declared.fault.WriteFault.{WriteFault}

@@ -16,5 +16,5 @@ shift_of_it days c = get_or_push days c None (length days) refl
 pub off_past : (days : Days) (k : ℕ) → length days ≤ k → shift_on days k ≡ None
 off_past days k h = get_or_past days k None h
 
-pub off_behind_it : (days : Days) (c : Option Shift) → shift_on (days ++ c ∷ []) (suc (length days)) ≡ None
-off_behind_it days c = off_past (days ++ c ∷ []) (suc (length days)) (omega (arith, length_more days c))
+pub off_after_it : (days : Days) (c : Option Shift) → shift_on (days ++ c ∷ []) (suc (length days)) ≡ None
+off_after_it days c = off_past (days ++ c ∷ []) (suc (length days)) (omega (arith, length_more days c))

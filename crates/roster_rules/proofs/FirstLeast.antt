@@ -9,9 +9,9 @@ use Rattle.roster_rules.specs.AllowedRows.{IsFirstLeast, cheaper_of, first_least
 at_first : {A : Type 0} (cost : A → ℕ) (x : A) (xs : List A) → All (λ y. cost x ≤ cost y) xs → IsFirstLeast cost (x ∷ xs) x
 at_first cost x xs h = record { before = []; after = xs; split = refl; dearer = All-nil (λ y. cost x < cost y); least = h }
 
--- the answer stands behind a dearer one
-behind : {A : Type 0} (cost : A → ℕ) (x y : A) (xs : List A) → cost y < cost x → IsFirstLeast cost xs y → IsFirstLeast cost (x ∷ xs) y
-behind cost x y xs h f = record {
+-- the answer stands after a dearer one
+after : {A : Type 0} (cost : A → ℕ) (x y : A) (xs : List A) → cost y < cost x → IsFirstLeast cost xs y → IsFirstLeast cost (x ∷ xs) y
+following cost x y xs h f = record {
   before = x ∷ f.before;
   after = f.after;
   split = ap (λ (ys : List _). x ∷ ys) f.split;
@@ -28,7 +28,7 @@ least_of_all cost y xs f =
     rw f.split (All-append P f.before (y ∷ f.after) front back)
 
 cheaper_of_two : {A : Type 0} (cost : A → ℕ) (x y : A) (xs : List A) → IsFirstLeast cost xs y → (b : Bool) → nat_lt (cost y) (cost x) ≡ b → IsFirstLeast cost (x ∷ xs) (if b then y else x)
-cheaper_of_two cost x y xs f true e = behind cost x y xs (ltb-true _ _ e) f
+cheaper_of_two cost x y xs f true e = following cost x y xs (ltb-true _ _ e) f
 cheaper_of_two cost x y xs f false e =
     at_first cost x xs (λ k d h. omega (arith, ltb-false _ _ e, least_of_all cost y xs f k d h))
 
@@ -36,16 +36,16 @@ none_of_nothing : {A : Type 0} (cost : A → ℕ) (xs : List A) → first_least 
 none_of_nothing cost [] e = refl
 none_of_nothing cost (x ∷ xs) e = absurd cc
 
-found_behind : {A : Type 0} (cost : A → ℕ) (x : A) (xs : List A) (o : Option A) → first_least cost xs ≡ o → ((y : A) → first_least cost xs ≡ Some y → IsFirstLeast cost xs y) → IsFirstLeast cost (x ∷ xs) (cheaper_of cost x o)
-found_behind cost x xs None e f = rw (none_of_nothing cost xs e) (at_first cost x [] (All-nil (λ y. cost x ≤ cost y)))
-found_behind cost x xs (Some y) e f = cheaper_of_two cost x y xs (f y e) (nat_lt (cost y) (cost x)) refl
+found_after : {A : Type 0} (cost : A → ℕ) (x : A) (xs : List A) (o : Option A) → first_least cost xs ≡ o → ((y : A) → first_least cost xs ≡ Some y → IsFirstLeast cost xs y) → IsFirstLeast cost (x ∷ xs) (cheaper_of cost x o)
+found_after cost x xs None e f = rw (none_of_nothing cost xs e) (at_first cost x [] (All-nil (λ y. cost x ≤ cost y)))
+found_after cost x xs (Some y) e f = cheaper_of_two cost x y xs (f y e) (nat_lt (cost y) (cost x)) refl
 
 pub found : {A : Type 0} (cost : A → ℕ) (xs : List A) (x : A) → first_least cost xs ≡ Some x → IsFirstLeast cost xs x
 found cost [] x e = absurd cc
 found {A} cost (y ∷ xs) x e =
     let P : A → Type 0 = λ z. IsFirstLeast cost (y ∷ xs) z in
     let same : cheaper_of cost y (first_least cost xs) ≡ x = cc in
-    subst P same (found_behind cost y xs (first_least cost xs) refl (found cost xs))
+    subst P same (found_after cost y xs (first_least cost xs) refl (found cost xs))
 
 -- ---- the other way
 

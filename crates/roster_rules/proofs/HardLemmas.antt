@@ -12,7 +12,7 @@ use Rattle.roster_rules.specs.HardRules.{shift_before}
 use Rattle.roster_instance.specs.Rosters.{Row, Rows, choice_on, days_of_nurse, row_of}
 use Rattle.roster_instance.specs.declared.Choice.TheVariants.{Off}
 use Rattle.roster_instance.specs.declared.Shift.{Shift}
-use Rattle.roster_instance.proofs.Sections.{both_none, first-behind, first-front}
+use Rattle.roster_instance.proofs.Sections.{both_none, first-after, first-front}
 
 none_of-none : {F : Type 0} (faults : List F) → first_fault faults ≡ None → faults ≡ []
 none_of-none [] none = refl
@@ -33,7 +33,7 @@ none_where b fault e = ap (λ c. first_fault (fault_if c fault)) e
 pub below_more : {F : Type 0} (f : ℕ → List F) (i : ℕ) → below i f ≡ [] → first_fault (f i) ≡ None → below (i + 1) f ≡ []
 below_more f i none none_here = flat_map-range_more f i ∙ both_none (below i f) (f i) none (none_of-none (f i) none_here)
 
--- the first fault of a number behind numbers without any
+-- the first fault of a number after numbers without any
 pub below_first : {F : Type 0} (f : ℕ → List F) (n i : ℕ) (fault : F) → i < n → below i f ≡ [] → Some fault ≡ first_fault (f i) → Some fault ≡ first_fault (below n f)
 below_first f n i fault within none first =
     let rest = flat_map f (range_with_len (i + 1) (n - (i + 1))) in
@@ -43,7 +43,7 @@ below_first f n i fault within none first =
     ap (λ m. below m f) count
     ∙ ap (flat_map f) (range_with_len-add 0 i (suc (n - (i + 1))) ∙ ap (λ a. range_with_len 0 i ++ range_with_len a (suc (n - (i + 1)))) from)
     ∙ flat_map-append f (range_with_len 0 i) (range_with_len i (suc (n - (i + 1)))) in
-    sym (ap first_fault split ∙ first-behind (below i f) (f i ++ rest) fault none (first-front (f i) rest fault (sym first)))
+    sym (ap first_fault split ∙ first-after (below i f) (f i ++ rest) fault none (first-front (f i) rest fault (sym first)))
 
 -- ---- the shift before a day
 

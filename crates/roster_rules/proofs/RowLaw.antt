@@ -1,4 +1,4 @@
--- The violations of runs of a row with one day more: those of its first days don't depend on the days behind them.
+-- The violations of runs of a row with one day more: those of its first days don't depend on the days after them.
 use Rattle.std.proofs.Common.{◌≡◌, ap, sym, ◌∙◌, arith, ℕ, zero, suc, ◌+◌, ◌<◌, Bool, [], ◌∷◌, ◌++◌, length, if◌then◌else◌, Option}
 use Rattle.roster_instance.specs.declared.Shift.{Shift}
 use Rattle.roster_instance.specs.declared.Limits.{Limits}

@@ -5,7 +5,7 @@ use Rattle.roster_instance.specs.declared.Shift.{Shift}
 use Rattle.roster_instance.specs.Counting.{sum_below, one_if, count_below}
 use Rattle.roster_instance.specs.Days.{Days, works, days_worked, saturday, worked_weekends, split_weekends, one_alone}
 use Rattle.roster_rules.specs.DayLaw.{is_saturday, is_sunday, weekends_more, splits_more}
-use Rattle.roster_rules.proofs.DayMore.{length_more, shift_before_it, shift_of_it, off_past, off_behind_it}
+use Rattle.roster_rules.proofs.DayMore.{length_more, shift_before_it, shift_of_it, off_past, off_after_it}
 use Rattle.roster_rules.proofs.RunSums.{sum_same}
 
 -- v is w with the day d more, which is worked or not as x says
@@ -13,14 +13,14 @@ record More (w v : ℕ → Bool) (d : ℕ) (x : Bool) : Type 0 where
   same : (k : ℕ) → k < d → v k ≡ w k
   at : v d ≡ x
   was : w d ≡ false
-  behind : v (suc d) ≡ false
+  after : v (suc d) ≡ false
 
 more_of : (days : Days) (c : Option Shift) → More (works days) (works (days ++ c ∷ [])) (length days) (is_some c)
 more_of days c = record {
   same = λ k h. ap (λ (o : Option Shift). is_some o) (shift_before_it days c k h);
   at = ap (λ (o : Option Shift). is_some o) (shift_of_it days c);
   was = ap (λ (o : Option Shift). is_some o) (off_past days (length days) (omega arith));
-  behind = ap (λ (o : Option Shift). is_some o) (off_behind_it days c);
+  after = ap (λ (o : Option Shift). is_some o) (off_after_it days c);
 }
 
 pub worked_grow : (days : Days) (c : Option Shift) → days_worked (days ++ c ∷ []) ≡ days_worked days + one_if (is_some c)
@@ -44,7 +44,7 @@ weekends_before f w v d x n e m =
 on_saturday : (f : Bool → Bool → Bool) (w v : ℕ → Bool) (d : ℕ) (x : Bool) (n : ℕ) → d ≡ 7 * n + 5 → More w v d x → asked f v n ≡ one_if (f x false)
 on_saturday f w v d x n e m =
     let a : v (saturday n) ≡ x = ap v (omega arith) ∙ m.at in
-    let b : v (saturday n + 1) ≡ false = ap v (omega arith) ∙ m.behind in
+    let b : v (saturday n + 1) ≡ false = ap v (omega arith) ∙ m.after in
     rw (a, b)
 
 on_sunday : (f : Bool → Bool → Bool) (w v : ℕ → Bool) (d : ℕ) (x : Bool) (n : ℕ) → d ≡ 7 * n + 6 → More w v d x → asked f v n ≡ one_if (f (w (d - 1)) x)

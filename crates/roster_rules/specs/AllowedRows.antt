@@ -32,7 +32,7 @@ row_keeps c r n row = is_row_of c row && keeps_hard c (with_row r n row)
 abbrev pub penalty_with : Meaning → Rows → ℕ → Row → ℕ
 penalty_with c r n row = penalty c (with_row r n row)
 
--- x is the first member of which none is cheaper: those before it are dearer, and those behind are not cheaper
+-- x is the first member of which none is cheaper: those before it are dearer, and those after are not cheaper
 pub record IsFirstLeast {A : Type 0} (cost : A → ℕ) (xs : List A) (x : A) : Type 0 where
   pub before : List A
   pub after : List A

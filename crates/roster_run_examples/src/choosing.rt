@@ -41,8 +41,8 @@ pub fn rows_that_skills_exclude()
 /// Night forbids Early on the next day, also the night before the first Monday. A head can't work as a nurse. And a row has a choice
 /// for each day, with a shift and a skill of the case.
 pub fn rows_that_are_kept()
-    ensures behind_a_night { filter (row_keeps mini all_free ann) (beginning (night_shift ∷ early_shift ∷ []) ∷ beginning (early_shift ∷ night_shift ∷ []) ∷ beginning (night_shift ∷ Off ∷ early_shift ∷ []) ∷ beginning (night_shift ∷ night_shift ∷ []) ∷ []) ≡ beginning (early_shift ∷ night_shift ∷ []) ∷ beginning (night_shift ∷ Off ∷ early_shift ∷ []) ∷ beginning (night_shift ∷ night_shift ∷ []) ∷ [] }
-    ensures behind_the_last_night { filter (row_keeps (after_shift 1 mini) all_free ann) (beginning (early_shift ∷ []) ∷ beginning (night_shift ∷ []) ∷ beginning (Off ∷ early_shift ∷ []) ∷ []) ≡ beginning (night_shift ∷ []) ∷ beginning (Off ∷ early_shift ∷ []) ∷ [] }
+    ensures after_a_night { filter (row_keeps mini all_free ann) (beginning (night_shift ∷ early_shift ∷ []) ∷ beginning (early_shift ∷ night_shift ∷ []) ∷ beginning (night_shift ∷ Off ∷ early_shift ∷ []) ∷ beginning (night_shift ∷ night_shift ∷ []) ∷ []) ≡ beginning (early_shift ∷ night_shift ∷ []) ∷ beginning (night_shift ∷ Off ∷ early_shift ∷ []) ∷ beginning (night_shift ∷ night_shift ∷ []) ∷ [] }
+    ensures after_the_last_night { filter (row_keeps (after_shift 1 mini) all_free ann) (beginning (early_shift ∷ []) ∷ beginning (night_shift ∷ []) ∷ beginning (Off ∷ early_shift ∷ []) ∷ []) ≡ beginning (night_shift ∷ []) ∷ beginning (Off ∷ early_shift ∷ []) ∷ [] }
     ensures with_the_skill { filter (row_keeps with_heads all_free ann) (beginning (early_shift ∷ []) ∷ beginning (early_as_head ∷ []) ∷ free_week ∷ []) ≡ beginning (early_as_head ∷ []) ∷ free_week ∷ [] }
     ensures rows_of_the_case { filter (row_keeps mini_of_one_shift all_free ann) ([] ∷ (early_shift ∷ []) ∷ beginning (night_shift ∷ []) ∷ beginning (early_as_head ∷ []) ∷ beginning (early_shift ∷ []) ∷ []) ≡ beginning (early_shift ∷ []) ∷ [] }
 {}

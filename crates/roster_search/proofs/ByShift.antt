@@ -17,7 +17,7 @@ use Rattle.roster_laws.specs.OneRow.{is_offered}
 use Rattle.roster_state.specs.Step.{step_of}
 use Rattle.roster_search.specs.declared.offer.Offer.{Offer}
 use Rattle.roster_search.specs.Cheapest.{Priced, cheaper, cheapest, raised}
-use Rattle.roster_search.specs.ByStates.{best_behind}
+use Rattle.roster_search.specs.ByStates.{best_after}
 use Rattle.roster_search.specs.Offers.{best_of_offers, cheapest_by_shift, dearer, in_front, offer_of, offer_step, same_shift, shift_offers}
 use Rattle.roster_search.proofs.Cheapest.{grouped, keeps_first, takes_second}
 
@@ -78,7 +78,7 @@ module _ {X : Type 0} (f : Offer → Priced X) (first : (x y : Offer) → shift 
 
 module _ (x y : Offer) (rest : Summary → Priced (List Offer)) where
   abbrev by : Offer → Option (Summary × ℕ) → Priced (List Offer)
-  by o step = best_behind o (dearer o.price step) rest
+  by o step = best_after o (dearer o.price step) rest
 
   cheaper_first : x.price ≤ y.price → (step : Option (Summary × ℕ)) → cheaper (by x step) (by y step) ≡ by x step
   cheaper_first h None = refl
@@ -98,19 +98,19 @@ module _ (x y : Offer) (rest : Summary → Priced (List Offer)) where
 
 module _ (c : Meaning) (n : ℕ) where
   -- a step depends on the offer's shift and price alone
-  one_day : (d : ℕ) (s : Summary) (rest : Summary → Priced (List Offer)) (xs : List Offer) → cheapest (λ x. best_behind x (offer_step c n d s x) rest) (cheapest_by_shift xs) ≡ cheapest (λ x. best_behind x (offer_step c n d s x) rest) xs
+  one_day : (d : ℕ) (s : Summary) (rest : Summary → Priced (List Offer)) (xs : List Offer) → cheapest (λ x. best_after x (offer_step c n d s x) rest) (cheapest_by_shift xs) ≡ cheapest (λ x. best_after x (offer_step c n d s x) rest) xs
   one_day d s rest =
       let step : Option Shift → Option (Summary × ℕ) = step_of c n d s in
-      let f : Offer → Priced (List Offer) = λ x. best_behind x (offer_step c n d s x) rest in
+      let f : Offer → Priced (List Offer) = λ x. best_after x (offer_step c n d s x) rest in
       cheapest_same f
-      (λ x y e h. subst (λ (o : Option Shift). cheaper (f x) (best_behind y (dearer y.price (step o)) rest) ≡ f x) e (cheaper_first x y rest h (step (shift x))))
-      (λ x y e h. subst (λ (o : Option Shift). cheaper (f x) (best_behind y (dearer y.price (step o)) rest) ≡ best_behind y (dearer y.price (step o)) rest) e (cheaper_second x y rest h (step (shift x))))
+      (λ x y e h. subst (λ (o : Option Shift). cheaper (f x) (best_after y (dearer y.price (step o)) rest) ≡ f x) e (cheaper_first x y rest h (step (shift x))))
+      (λ x y e h. subst (λ (o : Option Shift). cheaper (f x) (best_after y (dearer y.price (step o)) rest) ≡ best_after y (dearer y.price (step o)) rest) e (cheaper_second x y rest h (step (shift x))))
 
   pub best_by_shift : (offers : ℕ → List Offer) (m d : ℕ) (s : Summary) → best_of_offers c n (λ day. cheapest_by_shift (offers day)) m d s ≡ best_of_offers c n offers m d s
   best_by_shift offers zero d s = refl
   best_by_shift offers (suc m) d s =
       one_day d s (best_of_offers c n (λ day. cheapest_by_shift (offers day)) m (suc d)) (offers d)
-      ∙ (λ i. cheapest (λ x. best_behind x (offer_step c n d s x) (λ t. best_by_shift offers m (suc d) t i)) (offers d))
+      ∙ (λ i. cheapest (λ x. best_after x (offer_step c n d s x) (λ t. best_by_shift offers m (suc d) t i)) (offers d))
 
 -- ---- each of these is one of all, and they are fewer
 
@@ -230,7 +230,7 @@ module _ (c : Meaning) (from : ℕ) (r : Rows) (n d : ℕ) where
       let skills : List ℕ = range_with_len 0 (skill_count c) in
       off_few (flat_map (λ t. with_skills t skills) shifts) (shift_count c) (omega (arith, shifts_few shifts skills, length-range_with_len 0 (shift_count c)))
 
--- ---- one offer more behind them
+-- ---- one offer more after them
 
 abbrev put_last : List Offer → Offer → List Offer
 put_last [] x = x ∷ []
@@ -275,13 +275,13 @@ unfolding cheapest_by_shift
 by_shift_push [] x = refl
 by_shift_push (y ∷ xs) x = ap (in_front y) (by_shift_push xs x) ∙ front_last y (cheapest_by_shift xs) x
 
-put_behind : (front : List Offer) (last x : Offer) → put_last (front ++ last ∷ []) x ≡ front ++ in_front last (x ∷ [])
-put_behind [] last x = refl
-put_behind (a ∷ []) last x = refl
-put_behind (a ∷ b ∷ front) last x = ap (λ os. a ∷ os) (put_behind (b ∷ front) last x)
+put_after : (front : List Offer) (last x : Offer) → put_last (front ++ last ∷ []) x ≡ front ++ in_front last (x ∷ [])
+put_after [] last x = refl
+put_after (a ∷ []) last x = refl
+put_after (a ∷ b ∷ front) last x = ap (λ os. a ∷ os) (put_after (b ∷ front) last x)
 
 by_shift_more : (xs front : List Offer) (last x : Offer) → cheapest_by_shift xs ≡ front ++ last ∷ [] → cheapest_by_shift (xs ++ x ∷ []) ≡ front ++ in_front last (x ∷ [])
-by_shift_more xs front last x is = by_shift_push xs x ∙ ap (λ os. put_last os x) is ∙ put_behind front last x
+by_shift_more xs front last x is = by_shift_push xs x ∙ ap (λ os. put_last os x) is ∙ put_after front last x
 
 put_grows : (zs : List Offer) (x : Offer) → length zs ≤ length (put_last zs x)
 put_grows [] x = omega arith

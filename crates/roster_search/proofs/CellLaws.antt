@@ -7,13 +7,13 @@ use Rattle.roster_lanes.specs.Lanes.{SameOutside}
 pub outside_then : (first end : ℕ) (old cells new : List ℕ) → SameOutside first end old cells → SameOutside first end cells new → SameOutside first end old new
 outside_then first end old cells new same then = record {
   before = λ place h. then.before place h ∙ same.before place h;
-  behind = λ place h. then.behind place h ∙ same.behind place h;
+  after = λ place h. then.after place h ∙ same.after place h;
 }
 
 pub outside_wider : (first end from to : ℕ) (old new : List ℕ) → from ≤ first → end ≤ to → SameOutside first end old new → SameOutside from to old new
 outside_wider first end from to old new low high same = record {
   before = λ place h. same.before place (omega (arith, h, low));
-  behind = λ place h. same.behind place (omega (arith, h, high));
+  after = λ place h. same.after place (omega (arith, h, high));
 }
 
 -- ---- how much is counted, so many for each cell

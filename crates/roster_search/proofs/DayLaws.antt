@@ -70,8 +70,8 @@ module _ (c : Meaning) (n : ℕ) (areas : List Area) (few : FewRuns (sizes_of c 
         go (inr from_last) (inl high) = absurd (omega (arith, high, below, most))
         go (inr from_last) (inr to_last) = let here : shift_digit s.last ≡ last = omega (arith, from_last, to_last) in absurd (omega (arith, here, below, each s.run (inside here).run fit.run))
 
-    pub behind_last_run : (to : ℕ) → ((x : ℕ) → InSpan area.run x → x < z.run → x < to) → key_of s < group_key (last + 1) 0 0 → key_of s < group_key last to 0
-    behind_last_run to each below = go (cases_lt (shift_digit s.last) last)
+    pub after_last_run : (to : ℕ) → ((x : ℕ) → InSpan area.run x → x < z.run → x < to) → key_of s < group_key (last + 1) 0 0 → key_of s < group_key last to 0
+    after_last_run to each below = go (cases_lt (shift_digit s.last) last)
       where
         go : (shift_digit s.last < last) ⊎ (last ≤ shift_digit s.last) → key_of s < group_key last to 0
         go (inl low) = omega (arith, low, fit.run, fit.shift_run, few.run, few.shift_run)
@@ -87,8 +87,8 @@ module _ (c : Meaning) (n : ℕ) (areas : List Area) (few : FewRuns (sizes_of c 
             let run_is : s.run ≡ run = omega (arith, here, high, below, most, fit.shift_run, few.shift_run) in
             absurd (omega (arith, here, run_is, below, each s.shift_run (inside here).shift_run fit.shift_run))
 
-    pub behind_last_shift_run : (run to : ℕ) → run < 1000 → ((x : ℕ) → InSpan area.shift_run x → x < z.shift_run → x < to) → key_of s < group_key last (run + 1) 0 → key_of s < group_key last run to
-    behind_last_shift_run run to few_runs each below = go (cases_lt (key_of s) (group_key last run 0))
+    pub after_last_shift_run : (run to : ℕ) → run < 1000 → ((x : ℕ) → InSpan area.shift_run x → x < z.shift_run → x < to) → key_of s < group_key last (run + 1) 0 → key_of s < group_key last run to
+    after_last_shift_run run to few_runs each below = go (cases_lt (key_of s) (group_key last run 0))
       where
         go : (key_of s < group_key last run 0) ⊎ (group_key last run 0 ≤ key_of s) → key_of s < group_key last run to
         go (inl low) = omega (arith, low)

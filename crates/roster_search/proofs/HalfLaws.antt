@@ -4,7 +4,7 @@ use Rattle.std.proofs.lemmas.Bool.{cases_eq, cases_lt}
 use Rattle.std.proofs.lemmas.List.{ext_get_or, get_or-append_right, get_or-drop, get_or-map, get_or-set_other, get_or-set_same, get_or-take, get_or_append_left, get_or_past, length-append, length-drop, length-map, length-set, length-take, map-append, take-append-drop}
 use borrow.Rule.Slice.PartMut.{mid_of, post_of, put_mid}
 use Rattle.roster_search.specs.Halves.{IsWritten, halves, high, low}
-use Rattle.roster_search.proofs.PartLaws.{part_before, part_behind, part_inside, part_length}
+use Rattle.roster_search.proofs.PartLaws.{part_before, part_after, part_inside, part_length}
 
 -- ---- a half of all bytes
 
@@ -36,22 +36,22 @@ written_taken first run old new n room is = record {
   inside = λ i below. get_or-take n new (first + i) 0 (omega (arith, room, below)) ∙ is.inside i below;
   others = record {
     before = λ place h. get_or-take n new place 0 (omega (arith, room, h)) ∙ is.others.before place h ∙ sym (get_or-take n old place 0 (omega (arith, room, h)));
-    behind = λ place h. go place h (cases_lt place n);
+    after = λ place h. go place h (cases_lt place n);
   };
   length_stays = length-take n new ∙ ap (min n) is.length_stays ∙ sym (length-take n old);
 }
   where
     go : (place : ℕ) → first + length run ≤ place → (place < n) ⊎ (n ≤ place) → slice_index_or (take n new) place 0 ≡ slice_index_or (take n old) place 0
-    go place h (inl below) = get_or-take n new place 0 below ∙ is.others.behind place h ∙ sym (get_or-take n old place 0 below)
+    go place h (inl below) = get_or-take n new place 0 below ∙ is.others.after place h ∙ sym (get_or-take n old place 0 below)
     go place h (inr past) = get_or_past (take n new) place 0 (omega (arith, past, length-take n new)) ∙ sym (get_or_past (take n old) place 0 (omega (arith, past, length-take n old)))
 
--- a front of the run, and then the rest behind it
+-- a front of the run, and then the rest after it
 pub written_both : (first : ℕ) (run : List ℕ) (m : ℕ) → m ≤ length run → (front back : List ℕ) → front ≡ take m run → back ≡ drop m run → (old middle new : List ℕ) → IsWritten first front old middle → IsWritten (first + m) back middle new → IsWritten first run old new
 written_both first run m short front back front_is back_is old middle new low_is high_is = record {
   inside = λ i below. inside i below (cases_lt i m);
   others = record {
     before = λ place h. high_is.others.before place (omega (arith, h)) ∙ low_is.others.before place h;
-    behind = λ place h. high_is.others.behind place (omega (arith, h, back_long, short)) ∙ low_is.others.behind place (omega (arith, h, front_long, short));
+    after = λ place h. high_is.others.after place (omega (arith, h, back_long, short)) ∙ low_is.others.after place (omega (arith, h, front_long, short));
   };
   length_stays = high_is.length_stays ∙ low_is.length_stays;
 }
@@ -83,7 +83,7 @@ written_one place value old new inside is =
       where
         elsewhere : (j : ℕ) → (j ≡ place → ⊥) → (j < place) ⊎ (place ≤ j) → get_or new j 0 ≡ get_or old j 0
         elsewhere j apart (inl before) = is.others.before j before
-        elsewhere j apart (inr behind) = is.others.behind j (omega (arith, behind, apart))
+        elsewhere j apart (inr after) = is.others.after j (omega (arith, after, apart))
 
 -- ---- among the halves of bytes
 
@@ -92,7 +92,7 @@ written_front first run old new back room is = record {
   inside = λ i below. get_or_append_left new back 0 (first + i) (omega (arith, below, room, is.length_stays)) ∙ is.inside i below;
   others = record {
     before = λ place h. at place (is.others.before place h) (cases_lt place (length old));
-    behind = λ place h. at place (is.others.behind place h) (cases_lt place (length old));
+    after = λ place h. at place (is.others.after place h) (cases_lt place (length old));
   };
   length_stays = length-append new back ∙ ap (λ n. n + length back) is.length_stays ∙ sym (length-append old back);
 }
@@ -108,7 +108,7 @@ written_back first run old new front n long is = record {
       get_or-append_right front new n (n + first + i) 0 long (omega arith) ∙ ap (λ j. get_or new j 0) index ∙ is.inside i below;
   others = record {
     before = λ place h. before place h (cases_lt place n);
-    behind = λ place h. get_or-append_right front new n place 0 long (omega (arith, h)) ∙ is.others.behind (place - n) (omega (arith, h)) ∙ sym (get_or-append_right front old n place 0 long (omega (arith, h)));
+    after = λ place h. get_or-append_right front new n place 0 long (omega (arith, h)) ∙ is.others.after (place - n) (omega (arith, h)) ∙ sym (get_or-append_right front old n place 0 long (omega (arith, h)));
   };
   length_stays = length-append front new ∙ ap (λ k. length front + k) is.length_stays ∙ sym (length-append front old);
 }
@@ -127,7 +127,7 @@ module _ (a : ℕ) (old part run : List ℕ) (long : length part ≡ length run)
     inside = λ i below. map_past half none (put_mid a (length part) old part) (a + i) ∙ ap half (part_inside a old part fits i (omega (arith, below, long))) ∙ sym (map_past half none part i) ∙ ap (λ xs. get_or xs i 0) is;
     others = record {
       before = λ place h. map_past half none (put_mid a (length part) old part) place ∙ ap half (part_before a old part fits place h) ∙ sym (map_past half none old place);
-      behind = λ place h. map_past half none (put_mid a (length part) old part) place ∙ ap half (part_behind a old part fits place (omega (arith, h, long))) ∙ sym (map_past half none old place);
+      after = λ place h. map_past half none (put_mid a (length part) old part) place ∙ ap half (part_after a old part fits place (omega (arith, h, long))) ∙ sym (map_past half none old place);
     };
     length_stays = length-map (put_mid a (length part) old part) half ∙ part_length a old part fits ∙ sym (length-map old half);
   }

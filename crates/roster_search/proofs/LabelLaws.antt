@@ -14,7 +14,7 @@ use Rattle.roster_state.specs.Codes.{code_of}
 use Rattle.roster_state.specs.Step.{step_of}
 use Rattle.roster_search.specs.declared.day.SearchDay.{SearchDay}
 use Rattle.roster_search.specs.declared.offer.Offer.{Offer}
-use Rattle.roster_search.specs.ByStates.{best_behind}
+use Rattle.roster_search.specs.ByStates.{best_after}
 use Rattle.roster_search.specs.Cheapest.{Priced, cheaper, cheapest, raised}
 use Rattle.roster_search.specs.Offers.{dearer}
 use Rattle.roster_search.specs.Tables.{AreLabels, AreOfLeast, BestOnward, IsDayOf, PointsToBest, Stands, best_by, label_of, no_row}
@@ -35,8 +35,8 @@ shift_of_case c (Work s k) e = ltb-true s.0 (shift_count c) (and_parts (nat_lt s
 -- ---- by one offer
 
 module _ (c : Meaning) (at : SearchDay) (later : BestOnward) (s : Summary) (offer : Offer) where
-  by_step : (step : Option (Summary × ℕ)) → step_of c at.nurse at.day s (shift_of offer.choice) ≡ step → label_of (best_by c at later s offer) ≡ label_of (best_behind offer (dearer offer.price step) later)
-  by_step step e = ap (λ t. label_of (best_behind offer (dearer offer.price t) later)) e
+  by_step : (step : Option (Summary × ℕ)) → step_of c at.nurse at.day s (shift_of offer.choice) ≡ step → label_of (best_by c at later s offer) ≡ label_of (best_after offer (dearer offer.price step) later)
+  by_step step e = ap (λ t. label_of (best_after offer (dearer offer.price t) later)) e
 
   pub label_by_offer : (next : Summary) (cost label : ℕ) → step_of c at.nurse at.day s (shift_of offer.choice) ≡ Some (next, cost) → label ≡ label_of (later next) → min (offer.price + cost + label) no_row ≡ label_of (best_by c at later s offer)
   label_by_offer next cost label e is =

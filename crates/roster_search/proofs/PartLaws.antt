@@ -15,11 +15,11 @@ module _ (a : ℕ) (old part : List ℕ) (room : a + length part ≤ length old)
   pub part_before : (i : ℕ) → i < a → get_or (put_mid a (length part) old part) i 0 ≡ get_or old i 0
   part_before i below = grind (arith, places)
 
-  pub part_behind : (i : ℕ) → a + length part ≤ i → get_or (put_mid a (length part) old part) i 0 ≡ get_or old i 0
-  part_behind i past = grind (arith, places)
+  pub part_after : (i : ℕ) → a + length part ≤ i → get_or (put_mid a (length part) old part) i 0 ≡ get_or old i 0
+  part_after i past = grind (arith, places)
 
   pub part_outside : SameOutside a (a + length part) old (put_mid a (length part) old part)
-  part_outside = record { before = part_before; behind = part_behind }
+  part_outside = record { before = part_before; after = part_after }
 
   pub part_written : IsWritten a part old (put_mid a (length part) old part)
   part_written = record { inside = part_inside; others = part_outside; length_stays = part_length }

@@ -1,4 +1,4 @@
--- The best row begins with the offer that its pointer gives, and goes on from the state behind it.
+-- The best row begins with the offer that its pointer gives, and goes on from the state after it.
 use Rattle.std.proofs.Common.{◌≡◌, ◌∙◌, ◌+◌, ◌<◌, ℕ, Bool, true, false, ap, arith, refl, sym, List, [], ◌∷◌, length, length-append, slice_index_or, subst, Option, Some, None, IfSome, IsSome, if◌then◌else◌}
 use Rattle.std.proofs.lemmas.Bool.{true≢false}
 use Rattle.std.proofs.Math.Seq.{get_or-append_seam}
@@ -11,21 +11,21 @@ use Rattle.roster_state.specs.Codes.{code_of}
 use Rattle.roster_state.specs.Step.{next_of, step_cost, step_of}
 use Rattle.roster_search.specs.declared.day.SearchDay.{SearchDay}
 use Rattle.roster_search.specs.declared.offer.Offer.{Offer}
-use Rattle.roster_search.specs.ByStates.{best_behind}
+use Rattle.roster_search.specs.ByStates.{best_after}
 use Rattle.roster_search.specs.Cheapest.{Priced, raised}
 use Rattle.roster_search.specs.Offers.{dearer}
 use Rattle.roster_search.specs.Tables.{ArePointers, BeginsWith, BestOnward, IsDayOf, LeadsOn, PointsToBest, Stands, best_by, best_on, no_row}
 use Rattle.roster_search.proofs.Cheapest.{cost_or, thing_or}
 
--- the state behind a step, if it is allowed
-abbrev behind : {S : Type 0} → Bool → S → Option S
-behind forbidden next = if forbidden then None else Some next
+-- the state after a step, if it is allowed
+abbrev following : {S : Type 0} → Bool → S → Option S
+following forbidden next = if forbidden then None else Some next
 
 module _ (later : BestOnward) (offer : Offer) (row : ℕ × List Offer) (reached : Summary) (cost : ℕ) where
   abbrev by : Bool → Priced (List Offer)
-  by forbidden = best_behind offer (dearer offer.price (if forbidden then None else Some (reached, cost))) later
+  by forbidden = best_after offer (dearer offer.price (if forbidden then None else Some (reached, cost))) later
 
-  begins : (forbidden : Bool) (next : Summary) → by forbidden ≡ Some row → behind forbidden reached ≡ Some next → BeginsWith later row offer.choice next
+  begins : (forbidden : Bool) (next : Summary) → by forbidden ≡ Some row → following forbidden reached ≡ Some next → BeginsWith later row offer.choice next
   begins true next best is = absurd cc
   begins false next best is = go (later reached) refl best
     where
@@ -44,7 +44,7 @@ module _ (later : BestOnward) (offer : Offer) (row : ℕ × List Offer) (reached
             below = omega (arith, total);
           }
 
-  goes_on : (forbidden : Bool) → by forbidden ≡ Some row → behind forbidden reached ≡ None → ⊥
+  goes_on : (forbidden : Bool) → by forbidden ≡ Some row → following forbidden reached ≡ None → ⊥
   goes_on true best is = absurd cc
   goes_on false best is = absurd cc
 
@@ -87,9 +87,9 @@ module _ (c : Meaning) (at : SearchDay) (s next : Summary) (shift : Option Shift
   step_is true e = absurd cc
   step_is false e = let same : next ≡ next_of c at.nurse at.day s shift = cc in λ i. Some (sym same i, cost)
 
-  pub after_stands : (areas behind : List Area) (offer : Offer) → LeadsOn c at areas behind offer → Stands c at.nurse areas s → shift ≡ shift_of offer.choice
-      → Some next ≡ (if forbids c.successions s.last shift then None else Some (next_of c at.nurse at.day s shift)) → Stands c at.nurse behind next
-  after_stands areas behind offer leads stands is found = leads s taken stands (ap (λ (x : Option Shift). step_of c at.nurse at.day s x) (sym is) ∙ step_is (forbids c.successions s.last shift) found)
+  pub after_stands : (areas following : List Area) (offer : Offer) → LeadsOn c at areas following offer → Stands c at.nurse areas s → shift ≡ shift_of offer.choice
+      → Some next ≡ (if forbids c.successions s.last shift then None else Some (next_of c at.nurse at.day s shift)) → Stands c at.nurse following next
+  after_stands areas following offer leads stands is found = leads s taken stands (ap (λ (x : Option Shift). step_of c at.nurse at.day s x) (sym is) ∙ step_is (forbids c.successions s.last shift) found)
 
 -- ---- what is read there
 

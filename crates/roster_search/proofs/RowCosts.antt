@@ -18,7 +18,7 @@ use Rattle.roster_laws.specs.OneRow.{is_offered, is_offered_row, price, prices}
 use Rattle.roster_laws.proofs.Below.{all_same}
 use Rattle.roster_state.specs.Step.{end_cost_of, next_of, step_cost}
 use Rattle.roster_state.proofs.SumLaw.{closes, next_is, owed_more}
-use Rattle.roster_search.specs.ByStates.{Steps, cost_behind, cost_from}
+use Rattle.roster_search.specs.ByStates.{Steps, cost_after, cost_from}
 use Rattle.roster_search.specs.Cheapest.{plus}
 use Rattle.roster_search.specs.Offers.{dearer, offer_of, offer_step}
 use Rattle.roster_search.proofs.Cheapest.{plus_twice}
@@ -26,7 +26,7 @@ use Rattle.roster_search.proofs.Cheapest.{plus_twice}
 -- a step that is made where two tests allow it
 one_step : {S : Type 0} (was offered forbidden : Bool) (before price cost : ℕ) (t : S) (rest : S → Option ℕ)
     → (if was && (offered && not forbidden) then plus (before + (price + cost)) (rest t) else None)
-    ≡ (if was then plus before (cost_behind (if offered then dearer price (if forbidden then None else Some (t, cost)) else None) rest) else None)
+    ≡ (if was then plus before (cost_after (if offered then dearer price (if forbidden then None else Some (t, cost)) else None) rest) else None)
 one_step true true true before price cost t rest = refl
 one_step true true false before price cost t rest = plus_twice before (price + cost) (rest t)
 one_step true false forbidden before price cost t rest = refl
@@ -97,7 +97,7 @@ module _ (c : Meaning) (from : ℕ) (r : Rows) (n : ℕ) where
   summary_with p x =
       ap (summary_of c n) (days_more p x) ∙ sym (next_is c n (days_of p) (shift_of x)) ∙ ap (λ m. next_of c n m (summary_of c n (days_of p)) (shift_of x)) (length-map p shift_of)
 
-  -- ---- the rest of a row, from the state behind its first days on
+  -- ---- the rest of a row, from the state after its first days on
 
   pub costs_by_states : (rest p : Row) → row_costs (p ++ rest) ≡ (if is_offered_row c from r n p (length p) then plus (owed p) (cost_from choice_step (end_cost_of c n) (length p) (summary_of c n (days_of p)) rest) else None)
   costs_by_states [] p =

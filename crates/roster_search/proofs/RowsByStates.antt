@@ -3,7 +3,7 @@ use Rattle.std.proofs.Common.{◌≡◌, ◌∙◌, ◌+◌, ℕ, zero, suc, Boo
 use Rattle.std.specs.List.{flat_map}
 use Rattle.roster_rules.specs.Choices.{all_rows}
 use Rattle.roster_search.specs.Cheapest.{Priced, cheaper, cheapest, raised, with_cost}
-use Rattle.roster_search.specs.ByStates.{Steps, best_behind, best_from, cost_behind, cost_from, rows_from}
+use Rattle.roster_search.specs.ByStates.{Steps, best_after, best_from, cost_after, cost_from, rows_from}
 use Rattle.roster_search.proofs.Cheapest.{cheapest_filter, cheapest_flat, cheapest_map, cheapest_none, cheapest_raised, cost-raised, raised_twice}
 
 -- ---- all rows
@@ -36,10 +36,10 @@ module _ {S X : Type 0} (items : ℕ → List X) (step : Steps S X) (finish : S 
   abbrev priced : ℕ → S → List X → Priced (List X)
   priced d s xs = with_cost xs (cost_from step finish d s xs)
 
-  behind : (x : X) (o : Option (S × ℕ)) (d m : ℕ) → ((s : S) → cheapest (priced d s) (rows_from items m d) ≡ best_from items step finish m d s)
-      → cheapest (λ xs. with_cost (x ∷ xs) (cost_behind o (λ t. cost_from step finish d t xs))) (rows_from items m d) ≡ best_behind x o (best_from items step finish m d)
-  behind x None d m best = cheapest_none (rows_from items m d)
-  behind x (Some t) d m best =
+  after : (x : X) (o : Option (S × ℕ)) (d m : ℕ) → ((s : S) → cheapest (priced d s) (rows_from items m d) ≡ best_from items step finish m d s)
+      → cheapest (λ xs. with_cost (x ∷ xs) (cost_after o (λ t. cost_from step finish d t xs))) (rows_from items m d) ≡ best_after x o (best_from items step finish m d)
+  after x None d m best = cheapest_none (rows_from items m d)
+  after x (Some t) d m best =
       (λ i. cheapest (λ xs. cost-raised t.1 (λ (ys : List X). x ∷ ys) xs (cost_from step finish d t.0 xs) i) (rows_from items m d))
       ∙ cheapest_raised t.1 (λ ys. x ∷ ys) (priced d t.0) (rows_from items m d)
       ∙ ap (raised t.1 (λ ys. x ∷ ys)) (best t.0)
@@ -47,7 +47,7 @@ module _ {S X : Type 0} (items : ℕ → List X) (step : Steps S X) (finish : S 
   pub cheapest_row : (m d : ℕ) (s : S) → cheapest (priced d s) (rows_from items m d) ≡ best_from items step finish m d s
   unfolding rows_from
   cheapest_row zero d s = refl
-  cheapest_row (suc m) d s = rows_by_head items (priced d s) m d ∙ (λ i. cheapest (λ x. behind x (step d s x) (suc d) m (cheapest_row m (suc d)) i) (items d))
+  cheapest_row (suc m) d s = rows_by_head items (priced d s) m d ∙ (λ i. cheapest (λ x. after x (step d s x) (suc d) m (cheapest_row m (suc d)) i) (items d))
 
 -- ---- what is offered in the place of the items that are kept
 
@@ -64,7 +64,7 @@ module _ {S X O : Type 0} (keep : ℕ → X → Bool) (offer : ℕ → X → O) 
   abbrev by_offers : (m d : ℕ) → S → Priced (List O)
   by_offers m d s = best_from offered step finish m d s
 
-  one_offer : (m d k : ℕ) (x : X) (o : Option (S × ℕ)) → ((s : S) → by_items m k s ≡ raised 0 (map item) (by_offers m k s)) → raised 0 (map item) (best_behind (offer d x) o (by_offers m k)) ≡ best_behind x o (by_items m k)
+  one_offer : (m d k : ℕ) (x : X) (o : Option (S × ℕ)) → ((s : S) → by_items m k s ≡ raised 0 (map item) (by_offers m k s)) → raised 0 (map item) (best_after (offer d x) o (by_offers m k)) ≡ best_after x o (by_items m k)
   one_offer m d k x None best = refl
   one_offer m d k x (Some t) best =
       raised_twice 0 t.1 (map item) (λ os. offer d x ∷ os) (by_offers m k t.0)
@@ -78,11 +78,11 @@ module _ {S X O : Type 0} (keep : ℕ → X → Bool) (offer : ℕ → X → O) 
   pub best_of_kept : (m d : ℕ) (s : S) → by_items m d s ≡ raised 0 (map item) (by_offers m d s)
   best_of_kept zero d s = ap (λ cost. Some (cost, [])) (omega arith)
   best_of_kept (suc m) d s =
-      let behind_item : X → Priced (List X) = λ x. best_behind x (kept_step d s x) (by_items m (suc d)) in
-      let behind_offer : O → Priced (List O) = λ o. best_behind o (step d s o) (by_offers m (suc d)) in
-      sym (cheapest_filter (keep d) (λ x. raised 0 (map item) (behind_offer (offer d x))) behind_item
-      (λ x e. one_offer m d (suc d) x (step d s (offer d x)) (best_of_kept m (suc d)) ∙ ap (λ b. best_behind x (if b then step d s (offer d x) else None) (by_items m (suc d))) (sym e))
-      (λ x e. ap (λ b. best_behind x (if b then step d s (offer d x) else None) (by_items m (suc d))) e)
+      let after_item : X → Priced (List X) = λ x. best_after x (kept_step d s x) (by_items m (suc d)) in
+      let after_offer : O → Priced (List O) = λ o. best_after o (step d s o) (by_offers m (suc d)) in
+      sym (cheapest_filter (keep d) (λ x. raised 0 (map item) (after_offer (offer d x))) after_item
+      (λ x e. one_offer m d (suc d) x (step d s (offer d x)) (best_of_kept m (suc d)) ∙ ap (λ b. best_after x (if b then step d s (offer d x) else None) (by_items m (suc d))) (sym e))
+      (λ x e. ap (λ b. best_after x (if b then step d s (offer d x) else None) (by_items m (suc d))) e)
       (items d))
-      ∙ cheapest_raised 0 (map item) (λ x. behind_offer (offer d x)) (filter (keep d) (items d))
-      ∙ ap (raised 0 (map item)) (sym (cheapest_map behind_offer (offer d) (filter (keep d) (items d))))
+      ∙ cheapest_raised 0 (map item) (λ x. after_offer (offer d x)) (filter (keep d) (items d))
+      ∙ ap (raised 0 (map item)) (sym (cheapest_map after_offer (offer d) (filter (keep d) (items d))))

@@ -62,7 +62,7 @@ module _ (c : Meaning) (at : SearchDay) (later : BestOnward) (stretch : Stretch)
       place_kept (best_by c at later (state i b)) offers place inside d (slice_index_or labels (i * side + b) 0) (slice_index_or numbers (i * side + b) 0) (old i b in_rows in_width)
       (label_refused c at later (state i b) (slice_index_or offers place d) (by_choice i b None (none i b in_rows in_width)))
 
-  module _ (rest : Around) (good : IsStretchOf c at rest.here stretch) (is_later : later ≡ rest.best) (behind : List ℕ) (ready : IsReady c at rest offers behind) (leads : LeadsOn c at rest.here rest.behind (slice_index_or offers place d))
+  module _ (rest : Around) (good : IsStretchOf c at rest.here stretch) (is_later : later ≡ rest.best) (following : List ℕ) (ready : IsReady c at rest offers following) (leads : LeadsOn c at rest.here rest.next (slice_index_or offers place d))
       (step : Summary × ℕ) (steps : (i b : ℕ) → i < stretch.rows → b < width → Some (moved_on i b step) ≡ step_of c at.nurse at.day (state i b) shift) (first : ℕ) (code : first ≡ code_of at.ranges step.0) where
     abbrev offer : Offer
     offer = slice_index_or offers place d
@@ -70,10 +70,10 @@ module _ (c : Meaning) (at : SearchDay) (later : BestOnward) (stretch : Stretch)
     abbrev reached : ℕ → ℕ → Summary × ℕ
     reached i b = moved_on i b step
 
-    right : AreLabels c at.nurse rest.behind later behind
-    right = subst (λ (best : BestOnward). AreLabels c at.nurse rest.behind best behind) (sym is_later) ready.later
+    right : AreLabels c at.nurse rest.next later following
+    right = subst (λ (best : BestOnward). AreLabels c at.nurse rest.next best following) (sym is_later) ready.later
 
-    reached_stands : (i b : ℕ) → i < stretch.rows → b < width → Stands c at.nurse rest.behind (reached i b).0
+    reached_stands : (i b : ℕ) → i < stretch.rows → b < width → Stands c at.nurse rest.next (reached i b).0
     reached_stands i b in_rows in_width = leads (state i b) (reached i b) (good.stands i b in_rows in_width) (by_choice i b (Some (reached i b)) (steps i b in_rows in_width))
 
     code_is : (i b : ℕ) → code_of at.ranges (reached i b).0 ≡ first + (i * side + b)
@@ -81,16 +81,16 @@ module _ (c : Meaning) (at : SearchDay) (later : BestOnward) (stretch : Stretch)
 
     -- what the place becomes, at most
     abbrev candidate : ℕ → ℕ → ℕ
-    candidate i b = offer.price + step.1 + slice_index_or behind (first + (i * side + b)) 0
+    candidate i b = offer.price + step.1 + slice_index_or following (first + (i * side + b)) 0
 
-    label_behind : (i b : ℕ) → i < stretch.rows → b < width → min (candidate i b) no_row ≡ label_of (best_by c at later (state i b) offer)
-    label_behind i b in_rows in_width =
-        ap (λ k. min (offer.price + step.1 + slice_index_or behind k 0) no_row) (sym (code_is i b))
-        ∙ label_at-is c at ready.day rest.behind later behind right (state i b) offer (reached i b) (by_choice i b (Some (reached i b)) (steps i b in_rows in_width)) (reached_stands i b in_rows in_width)
+    label_after : (i b : ℕ) → i < stretch.rows → b < width → min (candidate i b) no_row ≡ label_of (best_by c at later (state i b) offer)
+    label_after i b in_rows in_width =
+        ap (λ k. min (offer.price + step.1 + slice_index_or following k 0) no_row) (sym (code_is i b))
+        ∙ label_at-is c at ready.day rest.next later following right (state i b) offer (reached i b) (by_choice i b (Some (reached i b)) (steps i b in_rows in_width)) (reached_stands i b in_rows in_width)
 
-    behind_low : (i b : ℕ) → i < stretch.rows → b < width → slice_index_or behind (first + (i * side + b)) 0 ≤ no_row
-    behind_low i b in_rows in_width =
-        subst (λ k. slice_index_or behind k 0 ≤ no_row) (code_is i b) (step_low c at ready.day rest.behind later behind right (reached i b).0 (reached_stands i b in_rows in_width))
+    after_low : (i b : ℕ) → i < stretch.rows → b < width → slice_index_or following (first + (i * side + b)) 0 ≤ no_row
+    after_low i b in_rows in_width =
+        subst (λ k. slice_index_or following k 0 ≤ no_row) (code_is i b) (step_low c at ready.day rest.next later following right (reached i b).0 (reached_stands i b in_rows in_width))
 
     -- the stretch of the day after is within the table
     pub stretch_within : first + ((stretch.rows - 1) * side + width) ≤ product at.ranges
@@ -102,7 +102,7 @@ module _ (c : Meaning) (at : SearchDay) (later : BestOnward) (stretch : Stretch)
         omega (arith, fits, code_is (stretch.rows - 1) (width - 1), some)
 
     pub stretch_lowered : (others labels_new numbers_new : List ℕ) → length labels ≡ (stretch.rows - 1) * side + width → offer.price ≤ most_price → step.1 ≤ most_of_step
-        → ((j : ℕ) → j < length labels → slice_index_or others j 0 ≡ slice_index_or behind (first + j) 0)
+        → ((j : ℕ) → j < length labels → slice_index_or others j 0 ≡ slice_index_or following (first + j) 0)
         → ((j : ℕ) → j < length labels → slice_index_or labels_new j 0 ≡ min (slice_index_or labels j 0) (raised others (offer.price + step.1) j))
         → ((j : ℕ) → j < length labels → slice_index_or numbers_new j 0 ≡ pointer_by (slice_index_or labels j 0) (raised others (offer.price + step.1) j) (slice_index_or numbers j 0) place)
         → RunCells c at later stretch (take (place + 1) offers) labels_new numbers_new
@@ -111,15 +111,15 @@ module _ (c : Meaning) (at : SearchDay) (later : BestOnward) (stretch : Stretch)
         let j = i * side + b in
         let there : j < length labels = omega (arith, in_stretch stretch.rows width side i b in_rows in_width, long) in
         let sum : slice_index_or others j 0 + (offer.price + step.1) ≡ candidate i b = omega (arith, shown j there) in
-        let other : raised others (offer.price + step.1) j ≡ candidate i b = ap (λ k. k % 2 ^ 32) sum ∙ mod-eq_of_lt (omega (arith, behind_low i b in_rows in_width, price, cost)) in
-        let new = place_lowered by offers place inside d (slice_index_or labels j 0) (slice_index_or numbers j 0) (old i b in_rows in_width) (candidate i b) (label_behind i b in_rows in_width) in
+        let other : raised others (offer.price + step.1) j ≡ candidate i b = ap (λ k. k % 2 ^ 32) sum ∙ mod-eq_of_lt (omega (arith, after_low i b in_rows in_width, price, cost)) in
+        let new = place_lowered by offers place inside d (slice_index_or labels j 0) (slice_index_or numbers j 0) (old i b in_rows in_width) (candidate i b) (label_after i b in_rows in_width) in
         let label : slice_index_or labels_new j 0 ≡ min (slice_index_or labels j 0) (candidate i b) = lowered j there ∙ ap (λ k. min (slice_index_or labels j 0) k) other in
         let number : slice_index_or numbers_new j 0 ≡ (if nat_lt (candidate i b) (slice_index_or labels j 0) then place else slice_index_or numbers j 0) = pointed j there ∙ ap (λ k. if nat_lt k (slice_index_or labels j 0) then place else slice_index_or numbers j 0) other in
         subst (λ l. AreOfLeast by (take (place + 1) offers) l (slice_index_or numbers_new j 0)) (sym label)
         (subst (λ p. AreOfLeast by (take (place + 1) offers) (min (slice_index_or labels j 0) (candidate i b)) p) (sym number) new)
 
     pub stretch_set : (others labels_new numbers_new : List ℕ) (count : ℕ) → count ≡ (stretch.rows - 1) * side + width → offer.price ≤ most_price → step.1 ≤ most_of_step
-        → ((j : ℕ) → j < count → slice_index_or others j 0 ≡ slice_index_or behind (first + j) 0)
+        → ((j : ℕ) → j < count → slice_index_or others j 0 ≡ slice_index_or following (first + j) 0)
         → ((j : ℕ) → j < count → slice_index_or labels j 0 ≡ no_row)
         → ((j : ℕ) → j < count → slice_index_or labels_new j 0 ≡ min (raised others (offer.price + step.1) j) no_row)
         → ((j : ℕ) → j < count → slice_index_or numbers_new j 0 ≡ place)
@@ -129,8 +129,8 @@ module _ (c : Meaning) (at : SearchDay) (later : BestOnward) (stretch : Stretch)
         let j = i * side + b in
         let there : j < count = omega (arith, in_stretch stretch.rows width side i b in_rows in_width, long) in
         let sum : slice_index_or others j 0 + (offer.price + step.1) ≡ candidate i b = omega (arith, shown j there) in
-        let other : raised others (offer.price + step.1) j ≡ candidate i b = ap (λ k. k % 2 ^ 32) sum ∙ mod-eq_of_lt (omega (arith, behind_low i b in_rows in_width, price, cost)) in
-        let new = place_set by offers place inside d (slice_index_or labels j 0) (slice_index_or numbers j 0) (old i b in_rows in_width) (none j there) (candidate i b) (label_behind i b in_rows in_width) in
+        let other : raised others (offer.price + step.1) j ≡ candidate i b = ap (λ k. k % 2 ^ 32) sum ∙ mod-eq_of_lt (omega (arith, after_low i b in_rows in_width, price, cost)) in
+        let new = place_set by offers place inside d (slice_index_or labels j 0) (slice_index_or numbers j 0) (old i b in_rows in_width) (none j there) (candidate i b) (label_after i b in_rows in_width) in
         let label : slice_index_or labels_new j 0 ≡ min (candidate i b) no_row = set j there ∙ ap (λ k. min k no_row) other in
         subst (λ l. AreOfLeast by (take (place + 1) offers) l (slice_index_or numbers_new j 0)) (sym label)
         (subst (λ p. AreOfLeast by (take (place + 1) offers) (min (candidate i b) no_row) p) (sym (numbered j there)) new)
@@ -232,13 +232,13 @@ module _ (side from end code row : ℕ) (old new : List ℕ) (whole : end ≤ si
   row_kept i a inside some = go (cases_lt row i)
     where
       go : (row < i) ⊎ (i ≤ row) → slice_index_or new (code + (i * side + a)) 0 ≡ slice_index_or old (code + (i * side + a)) 0
-      go (inl after) = others.behind (code + (i * side + a)) (omega (arith, mul-le (row + 1) side i side (omega (arith, after)) (omega arith), whole, some))
+      go (inl after) = others.after (code + (i * side + a)) (omega (arith, mul-le (row + 1) side i side (omega (arith, after)) (omega arith), whole, some))
       go (inr before) = others.before (code + (i * side + a)) (omega (arith, mul-le i side row side before (omega arith), inside))
 
   pub row_outside : (rows : ℕ) → row < rows → from < end → SameOutside code (code + rows * side) old new
   row_outside rows in_rows some = record {
     before = λ j low. others.before j (omega (arith, low));
-    behind = λ j high. others.behind j (omega (arith, high, mul-le (row + 1) side rows side (omega (arith, in_rows)) (omega arith), whole, some));
+    after = λ j high. others.after j (omega (arith, high, mul-le (row + 1) side rows side (omega (arith, in_rows)) (omega arith), whole, some));
   }
 
 module _ (c : Meaning) (at : SearchDay) (later : BestOnward) (stretch : Stretch) (offers : List Offer) (code first row : ℕ) (block numbers labels_old pointers_old labels pointers : List ℕ) (whole : stretch.end ≤ at.ranges.assignments) (in_rows : row < stretch.rows) where

@@ -17,7 +17,7 @@ use Rattle.roster_state.specs.Stretches.{stretch_state}
 use Rattle.roster_state.specs.Step.{end_cost_of, step_of, with_assignments, with_weekends}
 use Rattle.roster_search.specs.declared.day.SearchDay.{SearchDay}
 use Rattle.roster_search.specs.declared.offer.Offer.{Offer}
-use Rattle.roster_search.specs.ByStates.{best_behind}
+use Rattle.roster_search.specs.ByStates.{best_after}
 use Rattle.roster_search.specs.Cheapest.{Priced, cheapest}
 use Rattle.roster_search.specs.Offers.{offer_step}
 
@@ -53,13 +53,13 @@ pub record IsOfferOf (c : Meaning) (offer : Offer) : Type 0 where
 
 -- the best row from a state on that begins with an offer, where these are the best rows from the next day on
 abbrev pub best_by : Meaning → SearchDay → BestOnward → Summary → Offer → Priced (List Offer)
-best_by c at later s offer = best_behind offer (offer_step c at.nurse at.day s offer) later
+best_by c at later s offer = best_after offer (offer_step c at.nurse at.day s offer) later
 
 -- the best row from a state on, over all offers of the day
 abbrev pub best_on : Meaning → SearchDay → List Offer → BestOnward → BestOnward
 best_on c at offers later s = cheapest (best_by c at later s) offers
 
--- behind the last day
+-- after the last day
 abbrev pub best_at_end : Meaning → ℕ → BestOnward
 best_at_end c n s = Some (end_cost_of c n s, [])
 
@@ -73,13 +73,13 @@ pub record Stands (c : Meaning) (n : ℕ) (areas : List Area) (s : Summary) : Ty
   pub inside : InArea (area_at areas (shift_digit s.last)) s
 
 -- from a state that stands on the day an offer leads, if it is allowed, to one that stands after it
-abbrev pub LeadsOn : Meaning → SearchDay → (areas behind : List Area) → Offer → Type 0
-LeadsOn c at areas behind offer = (s : Summary) (t : Summary × ℕ) → Stands c at.nurse areas s → step_of c at.nurse at.day s (shift_of offer.choice) ≡ Some t → Stands c at.nurse behind t.0
+abbrev pub LeadsOn : Meaning → SearchDay → (areas after : List Area) → Offer → Type 0
+LeadsOn c at areas after offer = (s : Summary) (t : Summary × ℕ) → Stands c at.nurse areas s → step_of c at.nurse at.day s (shift_of offer.choice) ≡ Some t → Stands c at.nurse after t.0
 
 -- what a day's tables stand between: the areas of the day, those after it, and the best rows from there on
 pub record Around : Type 0 where
   pub here : List Area
-  pub behind : List Area
+  pub next : List Area
   pub best : BestOnward
 
 -- at the number of each of some states stands in a table what is right for it
@@ -135,8 +135,8 @@ pub record IsReady (c : Meaning) (at : SearchDay) (rest : Around) (xs : List Off
   pub day : IsDayOf c at
   pub offers : All (IsOfferOf c) xs
   pub few : length xs ≤ 16
-  pub leads : All (LeadsOn c at rest.here rest.behind) xs
-  pub later : AreLabels c at.nurse rest.behind rest.best labels
+  pub leads : All (LeadsOn c at rest.here rest.next) xs
+  pub later : AreLabels c at.nurse rest.next rest.best labels
   pub all : product at.ranges ≤ length labels
 
 -- ---- a stretch of states

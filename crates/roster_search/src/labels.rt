@@ -23,7 +23,7 @@ use roster_state::{Area, Block, Meter, Ranges, Stretch, end_cost, extend_stretch
 /// The label of a state from which no row goes on. Each row costs less.
 pub const NO_ROW: u32 = 1_073_741_824;
 
-/// The labels behind the last day, of the states that stand there: what is missing in the end.
+/// The labels after the last day, of the states that stand there: what is missing in the end.
 pub fn label_end(case: &Case, nurse: usize, ranges: &Ranges, areas: &[Area; 9], labels: &mut [u32])
     ghost here: { List Area }
     requires nurse { nurse < nurse_count case.now }
@@ -47,7 +47,7 @@ pub fn label_end(case: &Case, nurse: usize, ranges: &Ranges, areas: &[Area; 9], 
     }
 }
 
-/// The labels behind the last day of the states that stand there, of those that differ in their weekends and assignments alone.
+/// The labels after the last day of the states that stand there, of those that differ in their weekends and assignments alone.
 fn label_group_end(
     case: &Case,
     nurse: usize,
@@ -74,7 +74,7 @@ fn label_group_end(
     }
 }
 
-/// The labels of a block behind the last day.
+/// The labels of a block after the last day.
 fn label_block_end(case: &Case, nurse: usize, ranges: &Ranges, block: Block, labels: &mut [u32])
     requires nurse { nurse < nurse_count case.now }
     requires ranges { ranges.now ≡ sizes_of case.now nurse }
@@ -461,11 +461,11 @@ fn set_run(
     let Some(step) = extend_stretch(day.case, at.nurse, at.day, *stretch, shift, meter) else {
         return false;
     };
-    let behind = step.0.code(&at.ranges) as usize;
-    let end = behind + labels.len();
+    let after = step.0.code(&at.ranges) as usize;
+    let end = after + labels.len();
     set_all(
         labels,
-        &day.later[behind..end],
+        &day.later[after..end],
         offer.price + step.1,
         NO_ROW,
     );
@@ -502,8 +502,8 @@ fn lower_run(
     let offer = day.offers[place];
     let shift = offer.choice.shift();
     if let Some(step) = extend_stretch(day.case, at.nurse, at.day, *stretch, shift, meter) {
-        let behind = step.0.code(&at.ranges) as usize;
-        let others = &day.later[behind..behind + labels.len()];
+        let after = step.0.code(&at.ranges) as usize;
+        let others = &day.later[after..after + labels.len()];
         let points = offer.price + step.1;
         lower_all(labels, numbers, others, points, place as u8);
     }

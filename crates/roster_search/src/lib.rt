@@ -24,4 +24,4 @@ pub use laws::{
 pub use offer::Offer;
 pub use pointers::Pointers;
 pub use read::read_day;
-pub use stand::areas_behind;
+pub use stand::areas_after;

@@ -11,7 +11,7 @@ use crate::pointers::Pointers;
 use roster_rules::{Case, Choice};
 use roster_state::{State, after};
 
-/// The choice with which the best row from a state on begins, and the state behind it, by the pointers that `label_day` set for the
+/// The choice with which the best row from a state on begins, and the state after it, by the pointers that `label_day` set for the
 /// day. No label is needed any more, and nothing is counted.
 pub fn read_day(
     case: &Case,
@@ -25,13 +25,13 @@ pub fn read_day(
     requires day { IsDayOf case.now at.now }
     requires stands { Stands case.now at.now.nurse rest.here state.now }
     requires offers { All (IsOfferOf case.now) offers.now }
-    requires leads { All (LeadsOn case.now at.now rest.here rest.behind) offers.now }
+    requires leads { All (LeadsOn case.now at.now rest.here rest.next) offers.now }
     requires pointers { ArePointers case.now at.now rest.here offers.now rest.best first pointers.now }
     requires room { first + product at.now.ranges ≤ length pointers.now }
     requires some { IsSome (best_on case.now at.now offers.now rest.best state.now) }
     requires low { IfSome (best_on case.now at.now offers.now rest.best state.now) (λ row. row.0 < no_row) }
     ensures begins { (row : ℕ × List Offer) → best_on case.now at.now offers.now rest.best state.now ≡ Some row → BeginsWith rest.best row result.0 result.1 }
-    ensures stands { Stands case.now at.now.nurse rest.behind result.1 }
+    ensures stands { Stands case.now at.now.nurse rest.next result.1 }
 {
     let pointer = pointers.get(first as usize + state.code(&at.ranges) as usize);
     let offer = offers[pointer as usize];

@@ -9,15 +9,15 @@ use roster_rules::Case;
 use roster_state::{AREAS, Area, NOWHERE, widen};
 
 /// The areas after a day: where its offers lead from those before it.
-pub fn areas_behind(case: &Case, at: &SearchDay, areas: &[Area; 9], offers: &[Offer]) -> [Area; 9]
+pub fn areas_after(case: &Case, at: &SearchDay, areas: &[Area; 9], offers: &[Offer]) -> [Area; 9]
     requires day { IsDayOf case.now at.now }
     requires offers { All (IsOfferOf case.now) offers.now }
     ensures { All (LeadsOn case.now at.now areas.now result) offers.now }
 {
-    let mut behind = [NOWHERE; AREAS];
+    let mut after = [NOWHERE; AREAS];
     for place in 0..offers.len() {
         let shift = offers[place].choice.shift();
-        widen(case, at.nurse, at.day, areas, shift, &mut behind);
+        widen(case, at.nurse, at.day, areas, shift, &mut after);
     }
-    behind
+    after
 }

@@ -8,7 +8,7 @@ use Rattle.roster_rules.specs.Sizes.{cap}
 use Rattle.roster_rules.specs.Small.{HasSmallNumbers}
 use Rattle.roster_rules.specs.Weights.{assignment_weight}
 use Rattle.roster_state.specs.declared.block.BlockStep.{BlockStep}
-use Rattle.roster_state.specs.Blocks.{place_behind, place_step}
+use Rattle.roster_state.specs.Blocks.{place_after, place_step}
 use Rattle.roster_state.specs.Codes.{fits_sizes, sizes_of}
 use Rattle.roster_state.specs.Room.{most_of_step}
 use Rattle.roster_state.specs.Step.{cost_apart, next_of, step_cost, step_of, with_assignments}
@@ -27,8 +27,8 @@ where_some false x o is P holds = subst (λ p. IfSome p P) (sym is) holds
 
 module _ (c : Meaning) (n day : ℕ) (s : Summary) where
   module _ (shift : Option Shift) where
-    abbrev pub assignments_behind : ℕ → ℕ
-    assignments_behind a = min (a + one_if (is_some shift)) (cap (contract_of c n).total)
+    abbrev pub assignments_after : ℕ → ℕ
+    assignments_after a = min (a + one_if (is_some shift)) (cap (contract_of c n).total)
 
     abbrev pub total_more : ℕ → ℕ
     total_more a = if nat_le (contract_of c n).total.greatest a then assignment_weight * one_if (is_some shift) else 0
@@ -41,7 +41,7 @@ module _ (c : Meaning) (n day : ℕ) (s : Summary) where
     apart_within small =
         omega (arith, runs_more_within c n s shift small, shifts_more_within c n s shift small, split_more_within c n s shift day, weekend_more_within c n s shift day)
 
-  pub next_at : (shift : Option Shift) (a : ℕ) → with_assignments (next_of c n day s shift) (assignments_behind shift a) ≡ next_of c n day (with_assignments s a) shift
+  pub next_at : (shift : Option Shift) (a : ℕ) → with_assignments (next_of c n day s shift) (assignments_after shift a) ≡ next_of c n day (with_assignments s a) shift
   unfolding next_of
   next_at None a = refl
   next_at (Some t) a = refl
@@ -55,9 +55,9 @@ module _ (c : Meaning) (n day : ℕ) (s : Summary) where
   abbrev pub dearer : Option Shift → ℕ
   dearer shift = if is_some shift then (contract_of c n).total.greatest else places
 
-  behind_at : (shift : Option Shift) (a : ℕ) → a < places → place_behind places (is_some shift) a ≡ assignments_behind shift a
-  behind_at None a inside = omega (arith, inside)
-  behind_at (Some t) a inside = omega arith
+  after_at : (shift : Option Shift) (a : ℕ) → a < places → place_after places (is_some shift) a ≡ assignments_after shift a
+  after_at None a inside = omega (arith, inside)
+  after_at (Some t) a inside = omega arith
 
   more_at : (shift : Option Shift) (a : ℕ) → a < places → (if nat_le (dearer shift) a then assignment_weight else 0) ≡ total_more shift a
   more_at None a inside = grind (arith, inside)
@@ -70,8 +70,8 @@ module _ (c : Meaning) (n day : ℕ) (s : Summary) where
 
     place : (a : ℕ) → a < places → place_step places a step ≡ (next_of c n day (with_assignments s a) shift, step_cost c n day (with_assignments s a) shift)
     place a inside =
-        (λ i. (with_assignments (next i) (place_behind places (moves i) a), cost i + (if nat_le (from i) a then assignment_weight else 0)))
-        ∙ ap₂ (λ b m. (with_assignments (next_of c n day s shift) b, cost_apart c n day s shift + m)) (behind_at shift a inside) (more_at shift a inside)
+        (λ i. (with_assignments (next i) (place_after places (moves i) a), cost i + (if nat_le (from i) a then assignment_weight else 0)))
+        ∙ ap₂ (λ b m. (with_assignments (next_of c n day s shift) b, cost_apart c n day s shift + m)) (after_at shift a inside) (more_at shift a inside)
         ∙ ap₂ (λ y k. (y, k)) (next_at shift a) (cost_at shift a)
 
     pub places_step : forbids c.successions s.last shift ≡ false → (a : ℕ) → a < places → option_map (place_step places a) (Some step) ≡ step_of c n day (with_assignments s a) shift

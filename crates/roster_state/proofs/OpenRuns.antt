@@ -1,5 +1,5 @@
--- The numbers of a summary are the runs that are open behind its days, up to their caps: of each kind of days one, and 0
--- where the last day isn't of the kind. A day costs as much behind a run as behind that number.
+-- The numbers of a summary are the runs that are open after its days, up to their caps: of each kind of days one, and 0
+-- where the last day isn't of the kind. A day costs as much after a run as after that number.
 use Rattle.std.proofs.Common.{◌≡◌, ◌⊎◌, refl, sym, ap, ◌∙◌, arith, ℕ, zero, suc, ◌+◌, ◌-◌, ◌<◌, ◌≤◌, Bool, true, false, not, min, nat_lt, length, if◌then◌else◌, true≢false, Option, Some, None, is_some, inl, inr}
 use Rattle.std.proofs.lemmas.Bool.{cases_lt, eqb-true, lt-ltb, le-ltb, ne_eqb}
 use Rattle.roster_rules.specs.declared.Shift.{Shift}

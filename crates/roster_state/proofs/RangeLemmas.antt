@@ -1,4 +1,4 @@
--- The state behind one day more fits the ranges, and so does the summary of any days.
+-- The state after one day more fits the ranges, and so does the summary of any days.
 use Rattle.std.proofs.Common.{◌≡◌, ◌+◌, ◌<◌, ◌≤◌, ℕ, zero, suc, true, arith, lt-ltb, max, List, [], ◌∷◌, map, slice_index_or, IfSome, Option, Some, None}
 use Rattle.roster_rules.specs.declared.Shift.{Shift}
 use Rattle.roster_rules.specs.declared.Limits.{Limits}

@@ -7,13 +7,13 @@ use Rattle.roster_state.specs.declared.block.BlockStep.{BlockStep}
 use Rattle.roster_state.specs.Step.{with_assignments}
 
 -- to which place of so many a place goes: to the next one, where the places move and this isn't the last
-abbrev pub place_behind : ℕ → Bool → ℕ → ℕ
-place_behind places moves a = if moves then min (a + 1) (places - 1) else a
+abbrev pub place_after : ℕ → Bool → ℕ → ℕ
+place_after places moves a = if moves then min (a + 1) (places - 1) else a
 
 -- what the day costs a place
 abbrev pub place_cost : BlockStep → ℕ → ℕ
 place_cost step a = step.cost + (if nat_le step.dearer_from a then assignment_weight else 0)
 
--- the summary behind the day and its cost, from a place of so many
+-- the summary after the day and its cost, from a place of so many
 abbrev pub place_step : ℕ → ℕ → BlockStep → Summary × ℕ
-place_step places a step = (with_assignments step.next (place_behind places step.moves a), place_cost step a)
+place_step places a step = (with_assignments step.next (place_after places step.moves a), place_cost step a)

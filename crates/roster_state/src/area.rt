@@ -151,22 +151,22 @@ pub fn widen(
     day: u16,
     areas: &[Area; 9],
     shift: Option<Shift>,
-    behind: &mut [Area; 9],
+    after: &mut [Area; 9],
 )
     requires nurse { nurse < nurse_count case.now }
     requires day { day < day_count case.now }
     requires shift { IfSome shift (λ s. s.0 < shift_count case.now) }
-    ensures leads { (s : Summary) → shift_digit s.last < shift_count case.now + 1 → InArea (area_at areas.now (shift_digit s.last)) s → forbids case.now.successions s.last shift ≡ false → InArea (area_at behind.new (shift_digit shift)) (next_of case.now nurse day s shift) }
-    ensures keeps { (digit : ℕ) (s : Summary) → InArea (area_at behind.old digit) s → InArea (area_at behind.new digit) s }
+    ensures leads { (s : Summary) → shift_digit s.last < shift_count case.now + 1 → InArea (area_at areas.now (shift_digit s.last)) s → forbids case.now.successions s.last shift ≡ false → InArea (area_at after.new (shift_digit shift)) (next_of case.now nurse day s shift) }
+    ensures keeps { (digit : ℕ) (s : Summary) → InArea (area_at after.old digit) s → InArea (area_at after.new digit) s }
 {
     case.keeps_limits();
     let to = shift_digit(shift) as usize;
-    let mut area = behind[to];
+    let mut area = after[to];
     for digit in 0..case.shifts() as usize + 1 {
         let last = shift_numbered(digit as u32);
         area = area_with(case, nurse, day, &area, &areas[digit], last, shift);
     }
-    behind[to] = area;
+    after[to] = area;
 }
 
 /// An area with the states to which those of another one, with this last shift, lead by a shift or a day off.

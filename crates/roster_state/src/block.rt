@@ -201,7 +201,7 @@ fn excess(past: Past) -> u32
 /// What a day does to the places of a block.
 #[derive(Clone, Copy, Debug, PartialEq, Eq)]
 pub struct BlockStep {
-    /// The block behind the day.
+    /// The block after the day.
     pub next: Block,
 
     /// Whether each place goes to the next one, while the last place stays; else each stays where it is.
@@ -216,13 +216,13 @@ pub struct BlockStep {
 }
 
 impl BlockStep {
-    ghost use Rattle.roster_state.specs.Blocks.{place_behind, place_cost};
+    ghost use Rattle.roster_state.specs.Blocks.{place_after, place_cost};
 
     /// To which of so many places a place goes.
     #[inline(always)]
-    pub fn place_behind(&self, places: u32, place: u32) -> u32
+    pub fn place_after(&self, places: u32, place: u32) -> u32
         requires { place < places }
-        ensures place { result ≡ place_behind places self.now.moves place }
+        ensures place { result ≡ place_after places self.now.moves place }
         ensures within { result < places }
     {
         if !self.moves {

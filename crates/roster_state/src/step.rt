@@ -1,4 +1,4 @@
-//! One day more: what it costs, and the state behind it.
+//! One day more: what it costs, and the state after it.
 
 ghost use Rattle.std.specs.Prelude.{◌≡◌, ◌↔◌, ◌+◌, ◌*◌, ◌<◌, ◌≤◌, ◌++◌, ◌∷◌, [], true, false, length, IfSome, IsNone, None, Some, if◌then◌else◌, is_some, min, nat_le, not};
 ghost use Rattle.roster_rules.specs.Days.{Days};
@@ -114,8 +114,8 @@ fn step_by(
     let step = block_step(case, nurse, rules, day, Block::of(state), shift)?;
     let places = rules.total.cap() as u32 + 1;
     let place = state.assignments as u32;
-    let behind = step.place_behind(places, place) as u16;
-    Some((step.next.state(behind), step.place_cost(place)))
+    let following = step.place_after(places, place) as u16;
+    Some((step.next.state(following), step.place_cost(place)))
 }
 
 /// The state that `extend` gives, without its cost. It counts nothing.

@@ -20,13 +20,13 @@ fn place_step(ranges: &Ranges, step: &BlockStep, place: u32) -> (u32, u32)
 {
     let _ = ranges.product();
     let last = step.next.places(ranges) - 1;
-    let behind = if step.moves {
+    let after = if step.moves {
         min(place + 1, last)
     } else {
         place
     };
     let more = if step.dearer_from <= place { 20 } else { 0 };
-    (step.next.first(ranges) + behind, step.cost + more)
+    (step.next.first(ranges) + after, step.cost + more)
 }
 
 /// What `extend` gives from a place of a block, as the number of the state and the cost.

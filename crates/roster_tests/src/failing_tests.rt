@@ -1,4 +1,4 @@
-//! Runs of which a read fails, or an output or a log behind each byte in turn.
+//! Runs of which a read fails, or an output or a log after each byte in turn.
 
 use crate::best_tests::{ready, row_of};
 use crate::texts::{MINI, SHOWN, changed};
@@ -151,7 +151,7 @@ fn an_input_that_fails_at_each_read(rt: HostRuntime) -> Result<(), Fail> {
 }
 
 #[test]
-fn an_output_that_fails_behind_each_byte(rt: HostRuntime) -> Result<(), Fail> {
+fn an_output_that_fails_after_each_byte(rt: HostRuntime) -> Result<(), Fail> {
     let (alloc, input) = (rt.alloc(), MINI.as_bytes());
     for Answer {
         name,
@@ -184,7 +184,7 @@ fn an_output_that_fails_behind_each_byte(rt: HostRuntime) -> Result<(), Fail> {
 }
 
 #[test]
-fn a_log_that_fails_behind_each_byte(rt: HostRuntime) -> Result<(), Fail> {
+fn a_log_that_fails_after_each_byte(rt: HostRuntime) -> Result<(), Fail> {
     let (alloc, input) = (rt.alloc(), MINI.as_bytes());
     for Answer {
         name,
@@ -218,7 +218,7 @@ fn a_log_that_fails_behind_each_byte(rt: HostRuntime) -> Result<(), Fail> {
     Ok(())
 }
 
-/// Behind how many bytes a log may fail (the first and the last number), and the total and the weeks of Ann and Bob that a run
+/// After how many bytes a log may fail (the first and the last number), and the total and the weeks of Ann and Bob that a run
 /// over mini leaves then.
 type Left = (usize, usize, u64, &'static [u8; 7], &'static [u8; 7]);
 
@@ -234,7 +234,7 @@ const LEFT: [Left; 4] = [
 ];
 
 #[test]
-fn rosters_behind_a_log_that_fails(rt: HostRuntime) -> Result<(), Fail> {
+fn rosters_after_a_log_that_fails(rt: HostRuntime) -> Result<(), Fail> {
     for (first, last, total, ann, bob) in LEFT {
         for sent in first..last + 1 {
             let (mut held, mut workspace, mut meter) = ready(rt.alloc(), &[])?;
@@ -256,7 +256,7 @@ fn rosters_behind_a_log_that_fails(rt: HostRuntime) -> Result<(), Fail> {
 }
 
 #[test]
-fn a_refusal_whose_line_fails_behind_each_byte(rt: HostRuntime) -> Result<(), Fail> {
+fn a_refusal_whose_line_fails_after_each_byte(rt: HostRuntime) -> Result<(), Fail> {
     let alloc = rt.alloc();
     let text = changed(alloc, &[("Early Nurse (0,1)", "Early Nurse (1,1)")])?;
     let told = "H2 week 0 Mon Early Nurse: 0 of 1\n";

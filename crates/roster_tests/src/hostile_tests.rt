@@ -20,13 +20,13 @@ fn show(alloc: Global, text: &[u8]) -> (u8, Vec<u8>, Vec<u8>) {
 }
 
 #[test]
-fn texts_cut_off_behind_each_byte(rt: HostRuntime) -> Result<(), Fail> {
+fn texts_cut_off_after_each_byte(rt: HostRuntime) -> Result<(), Fail> {
     let whole = MINI.as_bytes();
     let mut line: u32 = 1;
     for (end, byte) in whole.iter().enumerate() {
         let (status, output, log) = show(rt.alloc(), &whole[..end]);
         let told = format!(in rt.alloc(); "line {line}: expected ")?;
-        // The last token is one byte, with an LF behind it.
+        // The last token is one byte, with an LF after it.
         let is_right = if end + 1 < whole.len() {
             status == 1 && output.is_empty() && log.starts_with(told.as_bytes())
         } else {

@@ -52,7 +52,7 @@ fn lower_each(labels: &mut [u32], pointers: &mut [u8], others: &[u32], more: u32
     }
 }
 
-/// Whether so many places of 70, lowered three times, become the same by both, and the places behind them stay.
+/// Whether so many places of 70, lowered three times, become the same by both, and the places after them stay.
 fn agrees(count: usize, from: usize) -> bool
     requires { count ≤ 70 }
 {

@@ -271,7 +271,7 @@ fn shows_input(alloc: Global, flush_fails: bool, end: End<'_>) -> Result<bool, F
 }
 
 #[test]
-fn a_flush_that_fails_behind_a_full_answer(rt: HostRuntime) -> Result<(), Fail> {
+fn a_flush_that_fails_after_a_full_answer(rt: HostRuntime) -> Result<(), Fail> {
     let end = (3, SHOWN, "write failed\n");
     assert!(rt; shows_input(rt.alloc(), true, end)?);
     Ok(())

@@ -1,4 +1,4 @@
--- The tokens of a text that is made of words and marks with separators behind each.
+-- The tokens of a text that is made of words and marks with separators after each.
 use Rattle.std.proofs.Common.{◌≡◌, ◌⊎◌, inl, inr, ℕ, ◌+◌, ◌-◌, ◌<◌, ◌≤◌, Bool, true, List, [], ◌∷◌, ◌++◌, length, map, get_or, take, drop, refl, sym, subst, ◌∙◌, ap, arith, ⊎_elim, append_assoc, length-append, length-drop}
 use Rattle.std.proofs.lemmas.Bool.{and_parts, ltb-true}
 use Rattle.std.proofs.lemmas.List.{get_or-drop, get_or_append_left, drop-drop, drop_at, take_at}
@@ -8,7 +8,7 @@ use Rattle.std.specs.List.{AllByRecursion, flat_map, list_all, prefix_len}
 use Rattle.roster_text.proofs.TokenLemmas.{is_word_byte-separator, token_at-separator, tokens_from-over, tokens_from-end, tokens_from-mark, tokens_from-word, word_end_from, IsBetweenTokens-after, IsBetweenTokens-start}
 use Rattle.roster_bundle.specs.Token.{is_separator, is_mark, is_word_byte, is_word, line_at, tokens_from, tokens_of, text_of, IsBetweenTokens}
 
--- the text of a token, and the separators behind it
+-- the text of a token, and the separators after it
 pub record Chunk : Type 0 where
   pub text : List ℕ
   pub gap : List ℕ
@@ -51,8 +51,8 @@ pub record Stands (text : List ℕ) (i : ℕ) (rest : List ℕ) : Type 0 where
 stands_length : (text : List ℕ) (i : ℕ) (rest : List ℕ) → Stands text i rest → length text ≡ i + length rest
 stands_length text i rest s = omega (arith, length-drop i text, ap length s.is, s.inside)
 
-stands_behind : (text : List ℕ) (i : ℕ) (front rest : List ℕ) → Stands text i (front ++ rest) → Stands text (i + length front) rest
-stands_behind text i front rest s = record {
+stands_after : (text : List ℕ) (i : ℕ) (front rest : List ℕ) → Stands text i (front ++ rest) → Stands text (i + length front) rest
+stands_after text i front rest s = record {
   inside = omega (arith, stands_length text i (front ++ rest) s, length-append front rest);
   is = sym (drop-drop (length front) i text) ∙ ap (drop (length front)) s.is ∙ drop_at front rest (length front) refl;
 }
@@ -83,7 +83,7 @@ gap_between text i gap rest g s =
 
 -- ---- over a word
 
--- a word goes on up to the separators behind it
+-- a word goes on up to the separators after it
 word_len : (w gap rest : List ℕ) → list_all is_word_byte w ≡ true → IsGap gap → prefix_len is_word_byte (w ++ (gap ++ rest)) ≡ length w
 word_len [] [] rest all g = let none = g.some in absurd (omega arith)
 word_len [] (b ∷ gap) rest all g = rw (is_word_byte-separator b (and_parts _ _ g.separators).0) refl
@@ -95,7 +95,7 @@ word_front : (w : List ℕ) → IsTrue (is_word w) → (0 < length w) × (list_a
 unfolding is_word
 word_front w word = let parts = and_parts _ _ word in (ltb-true 0 (length w) parts.0, parts.1)
 
--- the first token from a place on, and what is behind it
+-- the first token from a place on, and what is after it
 record Reads (text : List ℕ) (i j : ℕ) (bytes : List ℕ) : Type 0 where
   end : ℕ
   first : tokens_from text i ≡ record { start = i; end = end; line = line_at text i } ∷ tokens_from text j
@@ -117,7 +117,7 @@ word_read text i w gap rest word g s between =
       end = i + length w;
       first = tokens_from-word text i inside here between
           ∙ ap (λ e. record { start = i; end = e; line = line_at text i } ∷ tokens_from text e) ends
-          ∙ ap (λ ts. record { start = i; end = i + length w; line = line_at text i } ∷ ts) (gap_over text (i + length w) gap rest g (stands_behind text i w (gap ++ rest) s));
+          ∙ ap (λ ts. record { start = i; end = i + length w; line = line_at text i } ∷ ts) (gap_over text (i + length w) gap rest g (stands_after text i w (gap ++ rest) s));
       says = first_bytes text i w (gap ++ rest) s;
     }
 
@@ -129,7 +129,7 @@ mark_read text i b gap rest mark g s =
     record {
       end = i + 1;
       first = tokens_from-mark text i inside (ap is_mark here ∙ mark)
-          ∙ ap (λ ts. record { start = i; end = i + 1; line = line_at text i } ∷ ts) (gap_over text (i + 1) gap rest g (stands_behind text i (b ∷ []) (gap ++ rest) s));
+          ∙ ap (λ ts. record { start = i; end = i + 1; line = line_at text i } ∷ ts) (gap_over text (i + 1) gap rest g (stands_after text i (b ∷ []) (gap ++ rest) s));
       says = first_bytes text i (b ∷ []) (gap ++ rest) s;
     }
 
@@ -148,8 +148,8 @@ chunks_from text [] i all s between = ap (map (text_of text)) (tokens_from-end t
 chunks_from text (p ∷ ps) i all s between =
     let here : Stands text i (p.text ++ (p.gap ++ bytes ps)) = record { inside = s.inside; is = s.is ∙ append_assoc p.text p.gap (bytes ps) } in
     let read = chunk_read text i p (bytes ps) all.0 here between in
-    let behind = stands_behind text i p.text (p.gap ++ bytes ps) here in
-    let rest = chunks_from text ps (i + length p.text + length p.gap) all.1 (stands_behind text (i + length p.text) p.gap (bytes ps) behind) (gap_between text (i + length p.text) p.gap (bytes ps) all.0.gap behind) in
+    let after = stands_after text i p.text (p.gap ++ bytes ps) here in
+    let rest = chunks_from text ps (i + length p.text + length p.gap) all.1 (stands_after text (i + length p.text) p.gap (bytes ps) after) (gap_between text (i + length p.text) p.gap (bytes ps) all.0.gap after) in
     ap (map (text_of text)) read.first ∙ (λ k. read.says k ∷ rest k)
 
 -- the tokens have the texts of the chunks

@@ -59,7 +59,7 @@ regrouped front more t = append_assoc front (t ∷ []) more
 goes_on_read : (front : List Seen) (t : Seen) (g : GoesOn (front ++ t ∷ [])) → bundle_at (front ++ t ∷ g.more) ≡ Ok (g.value, [])
 goes_on_read front t g = ap bundle_at (sym (regrouped front g.more t)) ∙ read_all_of ((front ++ t ∷ []) ++ g.more) g.value g.spells
 
--- tokens behind the end
+-- tokens after the end
 after_end : (end : ℕ) (ts : List Seen) (b : Bundle) (t : Seen) (us : List Seen) → bundle_at ts ≡ Ok (b, t ∷ us) → IsFirstFault end ts (fault.AfterEnd t.token.line)
 after_end end ts b t us e =
     let f = bundle_reader.sound ts (t ∷ us) b e in
@@ -124,14 +124,14 @@ pub data Answer (end : ℕ) (ts : List Seen) : Type 0 where
   read : (b : Bundle) → Spells ts b → whole_of end (bundle_at ts) ≡ Ok b → Answer end ts
   refused : (f : TextFault) → IsFirstFault end ts f → whole_of end (bundle_at ts) ≡ Err f → Answer end ts
 
-behind : (end : ℕ) (ts : List Seen) (b : Bundle) (left : List Seen) → bundle_at ts ≡ Ok (b, left) → Answer end ts
-behind end ts b [] e = read b (read_spelled ts b e) (ap (whole_of end) e)
-behind end ts b (t ∷ us) e = refused (fault.AfterEnd t.token.line) (after_end end ts b t us e) (ap (whole_of end) e)
+after : (end : ℕ) (ts : List Seen) (b : Bundle) (left : List Seen) → bundle_at ts ≡ Ok (b, left) → Answer end ts
+after end ts b [] e = read b (read_spelled ts b e) (ap (whole_of end) e)
+after end ts b (t ∷ us) e = refused (fault.AfterEnd t.token.line) (after_end end ts b t us e) (ap (whole_of end) e)
 
 pub answer : (end : ℕ) (ts : List Seen) → Answer end ts
 answer end ts =
     elim (outcome (bundle_at ts)) [
-      | inl x ↦ behind end ts x.0.0 x.0.1 x.1
+      | inl x ↦ after end ts x.0.0 x.0.1 x.1
       | inr d ↦ refused (fault_of d.0.0 (line_of_first end d.0.1)) (stopped end ts d.0.0 d.0.1 d.1) (ap (whole_of end) d.1)
     ]
 

@@ -91,8 +91,8 @@ two_skips [] = refl
 two_skips (t ∷ []) = refl
 two_skips (t ∷ u ∷ ts) = refl
 
--- two tokens fewer behind the keyword and `=`
-pub shorter_behind_section : (k : Keyword) (ts : List Seen) → begins_section k ts ≡ true → length (drop 2 ts) + 2 ≡ length ts
-shorter_behind_section k [] e = absurd cc
-shorter_behind_section k (t ∷ []) e = absurd cc
-shorter_behind_section k (t ∷ u ∷ ts) e = omega arith
+-- two tokens fewer after the keyword and `=`
+pub shorter_after_section : (k : Keyword) (ts : List Seen) → begins_section k ts ≡ true → length (drop 2 ts) + 2 ≡ length ts
+shorter_after_section k [] e = absurd cc
+shorter_after_section k (t ∷ []) e = absurd cc
+shorter_after_section k (t ∷ u ∷ ts) e = omega arith

@@ -119,7 +119,7 @@ record SolutionRead (source : List ℕ) (ts : List Token) (s : Shown) : Type 0 w
 number_fits : (n : ℕ) (text read : List ℕ) → read ≡ text → IsDecimal n text → (is_number read ≡ true) × (digits_value 10 read ≡ n)
 number_fits n text read e d = (ap is_number e ∙ d.number, ap (digits_value 10) e ∙ d.value)
 
--- the heading's tokens, and those of the lines behind them
+-- the heading's tokens, and those of the lines after them
 solution_of : (source : List ℕ) (s : Shown) → IsWritable s → IsReadable s → (a b c d e f : Token) (ts : List Token)
     → text_of source a ≡ codes "SOLUTION" → text_of source b ≡ decimal s.week → text_of source c ≡ s.name
     → text_of source d ≡ codes "ASSIGNMENTS" → text_of source e ≡ codes "=" → text_of source f ≡ decimal (length (assignments s))
@@ -144,8 +144,8 @@ solution_read source s w r (a ∷ b ∷ c ∷ []) e = absurd cc
 solution_read source s w r (a ∷ b ∷ c ∷ d ∷ []) e = absurd cc
 solution_read source s w r (a ∷ b ∷ c ∷ d ∷ q ∷ []) e = absurd cc
 solution_read source s w r (a ∷ b ∷ c ∷ d ∷ q ∷ f ∷ ts) e =
-    let behind : map (text_of source) ts ≡ texts (flat_map line_chunks (assignments s)) = cc in
-    solution_of source s w r a b c d q f ts (cc) (cc) (cc) (cc) (cc) (cc) (lines_read source (assignments s) r.lines ts behind)
+    let after : map (text_of source) ts ≡ texts (flat_map line_chunks (assignments s)) = cc in
+    solution_of source s w r a b c d q f ts (cc) (cc) (cc) (cc) (cc) (cc) (lines_read source (assignments s) r.lines ts after)
 
 -- tokens spell one solution at most
 spelled_once : (ts : List Seen) (v w : Solution) → Spelled (solution v) ts → Spelled (solution w) ts → v ≡ w

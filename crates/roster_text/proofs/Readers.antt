@@ -33,7 +33,7 @@ pub record Example {B : Type 0} (V : B → Type 0) (pat : B → List Pattern) : 
   pub spelled : Spelled (pat value) tokens
 
 -- Reading stops at the tokens `left`: those before fit the patterns before `next` of some value, which more
--- tokens could complete; and it stops the same whatever stands behind the refused token.
+-- tokens could complete; and it stops the same whatever stands after the refused token.
 pub record Stops {B : Type 0} (V : B → Type 0) (pat : B → List Pattern) (read : List Seen → Read B) (ts : List Seen) (r : Refusal) (left : List Seen) : Type 0 where
   pub front : List Seen
   pub split : ts ≡ front ++ left
@@ -210,7 +210,7 @@ module _ {A B : Type 0} (VA : A → Type 0) (patA : A → List Pattern) (readA :
   then_ends b done due p front more v e s m =
       elim (cut (patA (get b)) (patB b) done due p e) [
         | inl c ↦
-            let m' : Spelled ((p ∷ c.rest) ++ patB b) more = subst (λ (ps : List Pattern). Spelled (p ∷ ps) more) c.behind m in
+            let m' : Spelled ((p ∷ c.rest) ++ patB b) more = subst (λ (ps : List Pattern). Spelled (p ∷ ps) more) c.after m in
             let q = parted (p ∷ c.rest) (patB b) more m' in
             bind_stops (readA front) (λ x. k x.0 x.1) (Due (label p), []) (first.ends (get b) done c.rest p front q.front (valid b v) c.place s q.first)
         | inr c ↦

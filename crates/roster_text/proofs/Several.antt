@@ -110,7 +110,7 @@ module _ {A : Type 0} (pat : A → List Pattern) (read : List Seen → Read A) (
   times_reader zero = none
   times_reader (suc n) = one_more n (times_reader n)
 
-  -- ---- a section behind its keyword
+  -- ---- a section after its keyword
 
   abbrev listed_count : Listed A → Number
   listed_count b = record { token = b.count; value = length b.items }

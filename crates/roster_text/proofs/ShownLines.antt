@@ -132,10 +132,10 @@ lines_read source (a ∷ xs) all (n ∷ d ∷ f ∷ k ∷ ts) e =
     let day : text_of source d ≡ weekday_text a.weekday = cc in
     let shift : text_of source f ≡ a.shift = cc in
     let skill : text_of source k ≡ a.skill = cc in
-    let behind : map (text_of source) ts ≡ texts (flat_map line_chunks xs) = cc in
+    let after : map (text_of source) ts ≡ texts (flat_map line_chunks xs) = cc in
     let words = all.0.words in
     let on = all.0.day in
-    let rest = lines_read source xs all.1 ts behind in
+    let rest = lines_read source xs all.1 ts after in
     record {
       items = record { nurse = n; day = on.day; shift = f; skill = k } ∷ rest.items;
       spelled = ((name_reads _ _ nurse words.nurse, refl), (inl (day ∙ on.text), ((name_reads _ _ shift words.shift, refl), ((name_reads _ _ skill words.skill, refl), rest.spelled))));

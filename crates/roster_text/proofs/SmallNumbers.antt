@@ -50,7 +50,7 @@ spelled_within [] ts s = tt
 spelled_within (p ∷ ps) [] s = absurd s
 spelled_within (p ∷ ps) (t ∷ ts) s = (fits_within p t s.0, spelled_within ps ts s.1)
 
--- ---- patterns one behind the other
+-- ---- patterns one after the other
 
 both_within : (ps qs : List Pattern) → AreWithin (ps ++ qs) → AreWithin ps × AreWithin qs
 both_within [] qs w = (tt, w)

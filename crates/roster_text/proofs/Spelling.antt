@@ -28,7 +28,7 @@ parted (p ∷ ps) qs (t ∷ ts) s =
 pub record InFirst (ps qs done due : List Pattern) (p : Pattern) : Type 0 where
   pub rest : List Pattern
   pub place : ps ≡ done ++ p ∷ rest
-  pub behind : due ≡ rest ++ qs
+  pub after : due ≡ rest ++ qs
 
 pub record InSecond (ps qs done due : List Pattern) (p : Pattern) : Type 0 where
   pub before : List Pattern
@@ -37,11 +37,11 @@ pub record InSecond (ps qs done due : List Pattern) (p : Pattern) : Type 0 where
 
 pub cut : (ps qs done due : List Pattern) (p : Pattern) → ps ++ qs ≡ done ++ p ∷ due → InFirst ps qs done due p ⊎ InSecond ps qs done due p
 cut [] qs done due p e = inr (record { before = done; passed = refl; place = e })
-cut (a ∷ ps) qs [] due p e = inl (record { rest = ps; place = cc; behind = cc })
+cut (a ∷ ps) qs [] due p e = inl (record { rest = ps; place = cc; after = cc })
 cut (a ∷ ps) qs (d ∷ done) due p e =
     let head : a ≡ d = cc in
     let tail : ps ++ qs ≡ done ++ p ∷ due = cc in
     elim (cut ps qs done due p tail) [
-      | inl r ↦ inl (record { rest = r.rest; place = cc (r.place); behind = r.behind })
+      | inl r ↦ inl (record { rest = r.rest; place = cc (r.place); after = r.after })
       | inr r ↦ inr (record { before = r.before; passed = cc (r.passed); place = r.place })
     ]

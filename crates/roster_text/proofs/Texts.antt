@@ -107,7 +107,7 @@ StopsIn-from_breaks_in contents old new text fault p = record {
 
 -- ---- texts that are made piece by piece
 
--- the pieces up to m, the next piece, and those behind it
+-- the pieces up to m, the next piece, and those after it
 pub flat_map-range_split : {A : Type 0} (f : ℕ → List A) (m n : ℕ) → m < n → flat_map f (range_with_len 0 n) ≡ (flat_map f (range_with_len 0 m) ++ f m) ++ flat_map f (range_with_len (m + 1) (n - (m + 1)))
 flat_map-range_split f m n h =
     let count : n ≡ (m + 1) + (n - (m + 1)) = omega arith in
@@ -115,7 +115,7 @@ flat_map-range_split f m n h =
     let next : range_with_len (0 + (m + 1)) (n - (m + 1)) ≡ range_with_len (m + 1) (n - (m + 1)) = ap (λ a. range_with_len a (n - (m + 1))) (zero-add (m + 1)) in
     ap (flat_map f) (split ∙ ap (λ l. range_with_len 0 (m + 1) ++ l) next) ∙ flat_map-append f _ _ ∙ ap (λ l. l ++ flat_map f (range_with_len (m + 1) (n - (m + 1)))) (flat_map-range_more f m)
 
--- the pieces of a list up to i, the next piece, and those behind it
+-- the pieces of a list up to i, the next piece, and those after it
 pub flat_map-split : {X A : Type 0} (f : X → List A) (xs : List X) (i : ℕ) (d : X) → i < length xs
     → flat_map f xs ≡ (flat_map f (take i xs) ++ f (get_or xs i d)) ++ flat_map f (drop (i + 1) xs)
 flat_map-split f xs i d h =
@@ -129,7 +129,7 @@ pub BreaksIn-flat_map : {W X : Type 0} (contents : W → Option (List ℕ)) (old
 BreaksIn-flat_map contents old mid new before between f xs i d fault h p q =
     rw (flat_map-split f xs i d h) (BreaksIn-append contents old new before _ _ fault (BreaksIn-after contents old mid new before between _ _ fault p q))
 
--- the same behind a front, where the pieces are numbered from 0
+-- the same after a front, where the pieces are numbered from 0
 pub BreaksIn-range : {W : Type 0} (contents : W → Option (List ℕ)) (old mid new : Watched W) (before between : ℕ) (front : List ℕ) (f : ℕ → List ℕ) (m n : ℕ) (fault : WriteFault)
     → m < n → Sends contents old mid before between (front ++ flat_map f (range_with_len 0 m)) → BreaksIn contents mid new between (f m) fault
     → BreaksIn contents old new before (front ++ flat_map f (range_with_len 0 n)) fault

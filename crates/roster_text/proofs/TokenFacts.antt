@@ -71,19 +71,19 @@ whole_word : (text : List ℕ) (i : ℕ) → i < length text → IsTrue (is_word
 whole_word text i inside word first = record {
   word = word_text text i inside word;
   none_before = first;
-  none_behind = stops_after is_word_byte text i;
+  none_after = stops_after is_word_byte text i;
 }
 
 -- ---- their order
 
--- behind a token the next begins at its end or later
+-- after a token the next begins at its end or later
 after_token : (text : List ℕ) (i : ℕ) → i < length text → IfSome (token_at text i) (λ t. (k : ℕ) → i < k → k < length text → IfSome (token_at text k) (λ u. t.end ≤ u.start))
 after_token text i inside = IfSome-token_at _ text i
     (λ mark k above below. IfSome-token_at _ text k (λ _. omega arith) (λ _ _. omega arith))
     (λ word first k above below. ⊎_elim
     (λ in_word. subst (λ o. IfSome o (λ u. word_end_from text i ≤ u.start))
     (sym (token_at-in_word text k (passes_from is_word_byte text i k (omega arith) in_word) (follows-in_word text i k above (omega arith)))) tt)
-    (λ behind. IfSome-token_at _ text k (λ _. behind) (λ _ _. behind))
+    (λ following. IfSome-token_at _ text k (λ _. following) (λ _ _. following))
     (cases_lt k (word_end_from text i)))
 
 abbrev InOrder : Token → Token → Type 0
@@ -130,11 +130,11 @@ record WordAround (text : List ℕ) (k : ℕ) : Type 0 where
   before : start ≤ k
   word : IsTrue (is_word_byte (get_or text start 0))
   first : IsFalse (follows_word_byte text start)
-  behind : k < word_end_from text start
+  after : k < word_end_from text start
 
 word_around : (text : List ℕ) (k : ℕ) → k < length text → IsTrue (is_word_byte (get_or text k 0)) → WordAround text k
 unfolding follows_word_byte
-word_around text zero inside word = record { start = 0; before = omega arith; word = word; first = refl; behind = word_end-lt text 0 inside word }
+word_around text zero inside word = record { start = 0; before = omega arith; word = word; first = refl; after = word_end-lt text 0 inside word }
 word_around text (suc k) inside word =
     let one_less : suc k - 1 ≡ k = omega arith in
     ⊎_elim
@@ -142,11 +142,11 @@ word_around text (suc k) inside word =
     let last : IsTrue (is_word_byte (get_or text k 0)) = ap (λ j. is_word_byte (get_or text j 0)) (sym one_less) ∙ (and_parts _ _ follows).1 in
     let around = word_around text k (omega arith) last in
     let further : suc k < word_end_from text around.start = ⊎_elim (λ below. below) (λ reached.
-    let ends_here : word_end_from text around.start ≡ suc k = omega (arith, around.behind) in
+    let ends_here : word_end_from text around.start ≡ suc k = omega (arith, around.after) in
     absurd (both_ways _ (ap (λ j. is_word_byte (get_or text j 0)) (sym ends_here) ∙ stops_after is_word_byte text around.start (omega arith)) word))
     (cases_lt (suc k) (word_end_from text around.start)) in
-    record { start = around.start; before = omega (arith, around.before); word = around.word; first = around.first; behind = further })
-    (λ first. record { start = suc k; before = omega arith; word = word; first = first; behind = word_end-lt text (suc k) inside word })
+    record { start = around.start; before = omega (arith, around.before); word = around.word; first = around.first; after = further })
+    (λ first. record { start = suc k; before = omega arith; word = word; first = first; after = word_end-lt text (suc k) inside word })
     (cases_Bool (follows_word_byte text (suc k)))
 
 separator_or_covered : (text : List ℕ) (k : ℕ) → k < length text → IsTrue (is_separator (get_or text k 0)) ⊎ Any (Covers k) (tokens_of text)
@@ -157,7 +157,7 @@ separator_or_covered text k inside =
     (λ mark. Any-tokens_from (Covers k) text 0 k k (mark_at text k) (omega arith) inside (token_at-mark text k mark) (omega arith, omega arith))
     (λ no_mark.
     let around = word_around text k inside (word_byte_from _ no_separator no_mark) in
-    Any-tokens_from (Covers k) text 0 around.start around.start (word_at text around.start) (omega arith) (omega (arith, around.before)) (token_at-word text around.start around.word around.first) (around.before, around.behind))
+    Any-tokens_from (Covers k) text 0 around.start around.start (word_at text around.start) (omega arith) (omega (arith, around.before)) (token_at-word text around.start around.word around.first) (around.before, around.after))
     (cases_Bool (is_mark (get_or text k 0)))))
     (cases_Bool (is_separator (get_or text k 0)))
 

@@ -86,7 +86,7 @@ stops_after p text i inside =
 pub front_within : (p : ℕ → Bool) (text : List ℕ) (i : ℕ) → i ≤ length text → i + prefix_len p (drop i text) ≤ length text
 front_within p text i inside = omega (arith, prefix_len-le-length p (drop i text), length-drop i text)
 
--- a place within a word, behind its first
+-- a place within a word, after its first
 pub follows-in_word : (text : List ℕ) (i k : ℕ) → i < k → k ≤ i + prefix_len is_word_byte (drop i text) → IsTrue (follows_word_byte text k)
 unfolding follows_word_byte
 follows-in_word text i k low high =
@@ -94,7 +94,7 @@ follows-in_word text i k low high =
 
 -- ---- over separators, a mark, a word
 
--- no word goes on over a place behind a byte that is none of a word's
+-- no word goes on over a place after a byte that is none of a word's
 pub IsBetweenTokens-after : (text : List ℕ) (i j : ℕ) → j ≡ i + 1 → IsFalse (is_word_byte (get_or text i 0)) → IsBetweenTokens text j
 unfolding follows_word_byte
 IsBetweenTokens-after text i j next other inside word =

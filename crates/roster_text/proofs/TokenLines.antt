@@ -6,12 +6,12 @@ use Rattle.std.proofs.lemmas.List.Sums.{count_by_more_yes, count_by_more_no, cou
 use Rattle.std.specs.Prelude.{◌==◌}
 use Rattle.roster_bundle.specs.Token.{line_feeds, line_at}
 
--- behind an LF the line is the next
+-- after an LF the line is the next
 pub line_at-feed : (text : List ℕ) (i : ℕ) → i < length text → get_or text i 0 ≡ 10 → line_at text (i + 1) ≡ line_at text i + 1
 unfolding line_feeds
 line_at-feed text i inside feed = omega (arith, count_by_more_yes (λ b. b == 10) text i 0 inside (eq-eqb _ 10 feed))
 
--- behind another byte it is the same
+-- after another byte it is the same
 pub line_at-other : (text : List ℕ) (i : ℕ) → i < length text → (get_or text i 0 ≡ 10 → ⊥) → line_at text (i + 1) ≡ line_at text i
 unfolding line_feeds
 line_at-other text i inside other = omega (arith, count_by_more_no (λ b. b == 10) text i 0 inside (ne_eqb _ 10 other))

@@ -19,7 +19,7 @@ use Rattle.roster_text.proofs.Spelling.{spelled_append, parted, cut}
 use Rattle.roster_text.proofs.Readers.{Reader, Stops, Example, Takes, same_value, same_rest}
 use Rattle.roster_text.proofs.Several.{every}
 
--- A line begins with a name, and behind it something is due that is no `=`.
+-- A line begins with a name, and after it something is due that is no `=`.
 pub record Start (second : What) (ps : List Pattern) : Type 0 where
   pub lead : Token
   pub next : Pattern
@@ -69,12 +69,12 @@ both_true false b e = absurd cc
 
 -- ---- where a section begins
 
--- the two tokens, and what is behind them
+-- the two tokens, and what is after them
 record Begun (k : Keyword) (ts : List Seen) : Type 0 where
   first : Seen
   second : Seen
-  behind : List Seen
-  is : ts ≡ first ∷ second ∷ behind
+  after : List Seen
+  is : ts ≡ first ∷ second ∷ after
   keyword : first.text ≡ keyword_text k
   equals : second.text ≡ codes "="
 
@@ -83,7 +83,7 @@ begun k [] e = absurd cc
 begun k (t ∷ []) e = absurd cc
 begun k (t ∷ u ∷ ts) e =
     let b = both_true (bytes_eq t.text (keyword_text k)) (bytes_eq u.text (codes "=")) e in
-    record { first = t; second = u; behind = ts; is = refl; keyword = (bytes_eq-Decides t.text (keyword_text k)).0 b.0; equals = (bytes_eq-Decides u.text (codes "=")).0 b.1 }
+    record { first = t; second = u; after = ts; is = refl; keyword = (bytes_eq-Decides t.text (keyword_text k)).0 b.0; equals = (bytes_eq-Decides u.text (codes "=")).0 b.1 }
 
 begins : (k : Keyword) (t u : Seen) (ts : List Seen) → t.text ≡ keyword_text k → u.text ≡ codes "=" → begins_section k (t ∷ u ∷ ts) ≡ true
 begins k t u ts e f = rw ((bytes_eq-Decides t.text (keyword_text k)).1 e, (bytes_eq-Decides u.text (codes "=")).1 f) refl
@@ -120,8 +120,8 @@ module _ {A : Type 0} (pat : A → List Pattern) (read : List Seen → Read A) (
   record Two (front : List Seen) : Type 0 where
     one : Seen
     two : Seen
-    behind : List Seen
-    is : front ≡ one ∷ two ∷ behind
+    after : List Seen
+    is : front ≡ one ∷ two ∷ after
     no_equals : two.text ≡ codes "=" → ⊥
 
   two_of : (a : A) (front : List Seen) → Spelled (pat a) front → Two front
@@ -133,19 +133,19 @@ module _ {A : Type 0} (pat : A → List Pattern) (read : List Seen → Read A) (
       split : (front : List Seen) (n : Token) (q : Pattern) (due : List Pattern) → Spelled (name n ∷ q ∷ due) front → ((t : Seen) → Fits q t → t.text ≡ codes "=" → ⊥) → Two front
       split [] n q due s h = absurd s
       split (t ∷ []) n q due s h = absurd s.1
-      split (t ∷ u ∷ us) n q due s h = record { one = t; two = u; behind = us; is = refl; no_equals = h u s.1.0 }
+      split (t ∷ u ∷ us) n q due s h = record { one = t; two = u; after = us; is = refl; no_equals = h u s.1.0 }
 
   line_begins_none : (a : A) (front rest : List Seen) → Spelled (pat a) front → begins_section k (front ++ rest) ≡ false
   line_begins_none a front rest s =
       let w = two_of a front s in
-      ap (λ (ts : List Seen). begins_section k (ts ++ rest)) w.is ∙ no_equals_no_section k w.one w.two (w.behind ++ rest) w.no_equals
+      ap (λ (ts : List Seen). begins_section k (ts ++ rest)) w.is ∙ no_equals_no_section k w.one w.two (w.after ++ rest) w.no_equals
 
   shorter : (ts rest : List Seen) (a : A) → read ts ≡ Ok (a, rest) → length rest < length ts
   shorter ts rest a e =
       let f = item.sound ts rest a e in
       let w = two_of a f.takes.front f.takes.spelled in
       let len : length ts ≡ length f.takes.front + length rest = ap length f.takes.split ∙ length-append f.takes.front rest in
-      let front_len : length f.takes.front ≡ 2 + length w.behind = ap length w.is ∙ (omega arith) in
+      let front_len : length f.takes.front ≡ 2 + length w.after = ap length w.is ∙ (omega arith) in
       omega (arith, len, front_len)
 
   -- ---- the tries are enough
@@ -283,7 +283,7 @@ module _ {A : Type 0} (pat : A → List Pattern) (read : List Seen → Read A) (
       let both : ok_of (x.value, []) ≡ err_of (r, t ∷ x.more) = sym w ∙ stopped x.more in
       let bad : ⊥ = cc in bad
 
-  -- no section begins there either, whatever stands behind the refused token
+  -- no section begins there either, whatever stands after the refused token
   still_none : (front : List Seen) (t : Seen) (us other : List Seen) (r : Refusal) → begins_section k (front ++ t ∷ us) ≡ false → ((other : List Seen) → read (front ++ t ∷ other) ≡ Err (r, t ∷ other)) → begins_section k (front ++ t ∷ other) ≡ false
   still_none [] t us other r b stopped = no_keyword_no_section k t other (refused_first t r stopped)
   still_none (u ∷ []) t us other r b stopped = b
@@ -311,8 +311,8 @@ module _ {A : Type 0} (pat : A → List Pattern) (read : List Seen → Read A) (
             until_refused (s.front ++ t ∷ other) (r, t ∷ other) none (s.again t us other e);
       }
 
-  stops_behind_line : (ts mid : List Seen) (a : A) (r : Refusal) (left : List Seen) → Takes (pat a) ts mid → Stops every all until mid r left → Stops every all until ts r left
-  stops_behind_line ts mid a r left f s = record {
+  stops_after_line : (ts mid : List Seen) (a : A) (r : Refusal) (left : List Seen) → Takes (pat a) ts mid → Stops every all until mid r left → Stops every all until ts r left
+  stops_after_line ts mid a r left f s = record {
     front = f.front ++ s.front;
     split = f.split ∙ ap (λ (us : List Seen). f.front ++ us) s.split ∙ sym (append_assoc f.front s.front left);
     value = a ∷ s.value;
@@ -343,7 +343,7 @@ module _ {A : Type 0} (pat : A → List Pattern) (read : List Seen → Read A) (
                   let f = item.sound ts x.0.1 x.0.0 x.1 in
                   let d = with_first_err x.0.0 (until x.0.1) (r, left) (sym (until_line ts x.0.1 x.0.0 b x.1) ∙ e) in
                   let shorter_mid = shorter ts x.0.1 x.0.0 x.1 in
-                  stops_behind_line ts x.0.1 x.0.0 r left f.takes (until_stops n x.0.1 r left (omega arith) d)
+                  stops_after_line ts x.0.1 x.0.0 r left f.takes (until_stops n x.0.1 r left (omega arith) d)
               | inr d ↦
                   let both : err_of {B = List A} d.0 ≡ err_of (r, left) = sym (until_refused ts d.0 b d.1) ∙ e in
                   let same : d.0 ≡ (r, left) = cc in
@@ -403,7 +403,7 @@ module _ {A : Type 0} (pat : A → List Pattern) (read : List Seen → Read A) (
   until_ends (a ∷ xs) done due p front more e s m =
       elim (cut (pat a) (all xs) done due p (sym (all_cons a xs) ∙ e)) [
         | inl c ↦
-            let m' : Spelled ((p ∷ c.rest) ++ all xs) more = subst (λ (ps : List Pattern). Spelled (p ∷ ps) more) c.behind m in
+            let m' : Spelled ((p ∷ c.rest) ++ all xs) more = subst (λ (ps : List Pattern). Spelled (p ∷ ps) more) c.after m in
             let q = parted (p ∷ c.rest) (all xs) more m' in
             until_refused front (Due (label p), []) (front_begins_none a done c.rest p front c.place s) (item.ends a done c.rest p front q.front tt c.place s q.first)
         | inr c ↦

@@ -14,7 +14,7 @@ pub record GoesOn (ts : List Seen) : Type 0 where
   pub value : Bundle
   pub spells : Spells (ts ++ more) value
 
--- These patterns are due behind the tokens `front`: more tokens complete it to a bundle whose patterns are those
+-- These patterns are due after the tokens `front`: more tokens complete it to a bundle whose patterns are those
 -- that the front fits, and then these.
 pub record AreDue (front : List Seen) (due : List Pattern) : Type 0 where
   pub more : List Seen

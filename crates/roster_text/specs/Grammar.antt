@@ -112,11 +112,11 @@ abbrev pub counted_names : List Token → List Pattern
 counted_names names = parts (count (length names) ∷ flat_map named names ∷ [])
 
 -- Lines up to the keyword of the next section, followed by `=`: wherever a line may begin, a name is due.
--- `second` is what is due behind a line's first word.
+-- `second` is what is due after a line's first word.
 abbrev pub lines_until : {T : Type 0} → Keyword → What → (T → List Pattern) → List T → List Pattern
 lines_until end second line xs = parts (flat_map line xs ∷ (fixed what.Name (keyword_text end) ∷ fixed second (codes "=") ∷ []) ∷ [])
 
--- the same section behind its keyword and `=`, which ended the lines before it
+-- the same section after its keyword and `=`, which ended the lines before it
 abbrev pub rest_of_section : {T : Type 0} → (T → List Pattern) → Listed T → List Pattern
 rest_of_section item xs = parts ((placed xs.count most_counted (length xs.items) ∷ []) ∷ flat_map item xs.items ∷ [])
 

@@ -8,6 +8,6 @@ abbrev pub piece_text : Piece → List ℕ
 piece_text (Bytes bytes) = bytes.now
 piece_text (Number n) = decimal n
 
--- one piece behind the other
+-- one piece after the other
 abbrev pub pieces_text : List Piece → List ℕ
 pieces_text pieces = flat_map piece_text pieces

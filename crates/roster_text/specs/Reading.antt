@@ -1,4 +1,4 @@
--- Reading from left to right: the value of a part and the tokens behind it, or why and where it stops.
+-- Reading from left to right: the value of a part and the tokens after it, or why and where it stops.
 use Rattle.std.specs.Prelude.{◌≡◌, ℕ, zero, suc, Bool, false, ◌&&◌, ◌||◌, List, [], ◌∷◌, length, drop, codes, Option, Some, None, Result, Ok, Err, nat_le, if◌then◌else◌}
 use Rattle.std.specs.List.{find}
 use Rattle.std.specs.Str.{bytes_eq}
@@ -329,7 +329,7 @@ abbrev pub fault_of : Refusal → ℕ → TextFault
 fault_of (Due w) at = fault.Expected at w
 fault_of OutOfRange at = fault.NumberRange at
 
--- a bundle, and no token behind it; `end` is the line of the end
+-- a bundle, and no token after it; `end` is the line of the end
 abbrev pub ended : ℕ → Bundle → List Seen → Result Bundle TextFault
 ended end b [] = Ok b
 ended end b (t ∷ ts) = Err (fault.AfterEnd t.token.line)

@@ -111,7 +111,7 @@ impl<'a> Parser<'a> {
         Some(token.line)
     }
 
-    /// Goes behind the next token.
+    /// Goes after the next token.
     fn skip(&mut self)
         requires { 0 < length self.old }
         ensures { self.new ≡ drop 1 self.old }

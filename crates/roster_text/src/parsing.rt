@@ -14,7 +14,7 @@ use roster_bundle::{Bundle, Token};
 use std::alloc::Global;
 
 /// The bundle that the tokens of a source spell: a scenario, a history, the data of as many weeks as it says,
-/// as many solutions, and nothing behind them. Names stay tokens of the source.
+/// as many solutions, and nothing after them. Names stay tokens of the source.
 pub fn parse_bundle(alloc: Global, source: &[u8], tokens: &[Token]) -> Result<Bundle, TextFault>
     requires { tokens.now ≡ tokens_of source.now }
 

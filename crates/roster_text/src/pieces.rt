@@ -42,7 +42,7 @@ pub fn write_number<W: Write>(out: &mut Watch<W>, number: u64) -> Result<(), Wri
     write_bytes(out, digits.format(number).as_bytes())
 }
 
-/// Writes pieces, one behind the other.
+/// Writes pieces, one after the other.
 pub fn write_pieces<W: Write>(out: &mut Watch<W>, pieces: &[Piece<'_>]) -> Result<(), WriteFault>
     ensures ok { OnOk result (Writes W.contents out.old out.new (pieces_text pieces.now)) }
     ensures err { IfErr result (StopsIn W.contents out.old out.new (pieces_text pieces.now)) }

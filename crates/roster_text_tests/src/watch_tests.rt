@@ -23,7 +23,7 @@ fn a_failed_read_is_not_tried_again(rt: HostRuntime) {
 }
 
 #[test]
-fn a_write_behind_a_failure_reaches_the_device(rt: HostRuntime) {
+fn a_write_after_a_failure_reaches_the_device(rt: HostRuntime) {
     let mut out = Watch::new(CallCounter::new(Vec::new(rt.alloc()), 1));
     assert!(rt; out.write(b"one").is_err());
     assert!(rt; write_bytes(&mut out, b"two").is_ok());
@@ -32,7 +32,7 @@ fn a_write_behind_a_failure_reaches_the_device(rt: HostRuntime) {
 }
 
 #[test]
-fn a_read_behind_a_failure_reaches_the_device(rt: HostRuntime) {
+fn a_read_after_a_failure_reaches_the_device(rt: HostRuntime) {
     let mut input = Watch::new(CallCounter::new(b"one".as_slice(), 1));
     assert!(rt; input.read(&mut [0; 8]).is_err());
     assert!(rt; read_all(rt.alloc(), &mut input).is_ok());

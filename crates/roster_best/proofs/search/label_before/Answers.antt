@@ -30,8 +30,8 @@ label_day-requires g c =
       day = subst (λ m. IsDayOf m at) same r.0;
       offers = offers_taken k c.case-case.result.now same limits.small limits.shifts limits.skills c.args.search.now.from rows at.nurse at.day c.as_slice-offers.result.now offers;
       few = omega (arith, c.as_slice-offers.ensures.fits);
-      leads = transport (λ i. All (LeadsOn (same i) at g.rest.here g.rest.behind) (back i)) r.1.1.1.1.0;
-      later = subst (λ m. AreLabels m at.nurse g.rest.behind g.rest.best c.args.later.now) same r.1.1.1.1.1.1.0;
+      leads = transport (λ i. All (LeadsOn (same i) at g.rest.here g.rest.next) (back i)) r.1.1.1.1.0;
+      later = subst (λ m. AreLabels m at.nurse g.rest.next g.rest.best c.args.later.now) same r.1.1.1.1.1.1.0;
       all = r.1.1.1.1.1.1.1.0;
     } in
     (ready, (here, (r.1.1.1.1.1.1.1.1.0, (pointers_room, room))))

@@ -13,7 +13,7 @@ ghost-label_end a = a.areas.now
 abbrev pub ghost-label_before : goal.ghost-label_before
 ghost-label_before a = record {
   here = areas_on a.search.now.areas.now a.at.now.day;
-  behind = areas_on a.search.now.areas.now (a.at.now.day + 1);
+  next = areas_on a.search.now.areas.now (a.at.now.day + 1);
   best = onward a.search.now.held.now.case a.search.now.from a.search.now.held.now.roster a.at.now.nurse (a.at.now.day + 1);
 }
 

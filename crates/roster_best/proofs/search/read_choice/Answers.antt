@@ -27,7 +27,7 @@ read_day-requires g c =
         (
           offers_taken k c.case-case.result.now same limits.small limits.shifts limits.skills c.args.search.now.from rows at.nurse at.day c.as_slice-offers.result.now offers,
           (
-            transport (λ i. All (LeadsOn (same i) at g.rest.here g.rest.behind) (back i)) r.1.1.0,
+            transport (λ i. All (LeadsOn (same i) at g.rest.here g.rest.next) (back i)) r.1.1.0,
             (
               transport (λ i. ArePointers (same i) at g.rest.here (back i) g.rest.best (first i) c.args.pointers.now) r.1.1.1.0,
               (

@@ -7,7 +7,7 @@ use Rattle.roster_best.proofs.SearchLaws.{IsReadTo}
 use Rattle.roster_best.proofs.search.read_row.Given as goal
 
 abbrev pub ghost-read_choice : goal.ghost-read_choice
-ghost-read_choice a = record { here = areas_on a.search.now.areas.now a.at.now.day; behind = areas_on a.search.now.areas.now (a.at.now.day + 1); best = onward a.search.now.held.now.case a.search.now.from a.search.now.held.now.roster a.at.now.nurse (a.at.now.day + 1) }
+ghost-read_choice a = record { here = areas_on a.search.now.areas.now a.at.now.day; next = areas_on a.search.now.areas.now (a.at.now.day + 1); best = onward a.search.now.held.now.case a.search.now.from a.search.now.held.now.roster a.at.now.nurse (a.at.now.day + 1) }
 
 abbrev pub invariant-loop-day : goal.invariant-loop-day
 invariant-loop-day l = record {

@@ -21,10 +21,10 @@ offers_here c =
     let days : c.days-day-end.result ≡ day_count c.args.held.now.case = c.days-day-end.ensures.count ∙ ap day_count c.case-case.ensures in
     c.as_slice-day_offers.ensures.value ∙ offers_read c.args.held.now.case c.args.from c.args.held.now.roster c.args.nurse c.args.offers.now c.requires.offers c.loop-day.day (omega (arith, c.loop-day-test.true, days)) _ _ c.index-offers-day.is
 
-pub areas_behind-requires-clause-offers : goal.areas_behind-requires-clause-offers
-areas_behind-requires-clause-offers c =
+pub areas_after-requires-clause-offers : goal.areas_after-requires-clause-offers
+areas_after-requires-clause-offers c =
     let limits = c.keeps_limits.ensures in
-    offers_taken c.args.held.now.case c.case-case.result.now (sym c.case-case.ensures) limits.small limits.shifts limits.skills c.args.from c.args.held.now.roster c.args.nurse c.loop-day.day c.as_slice-day_offers.result.now (offers_here (goal.at.areas_behind-requires-clause-offers c).After-as_slice-day_offers)
+    offers_taken c.args.held.now.case c.case-case.result.now (sym c.case-case.ensures) limits.small limits.shifts limits.skills c.args.from c.args.held.now.roster c.args.nurse c.loop-day.day c.as_slice-day_offers.result.now (offers_here (goal.at.areas_after-requires-clause-offers c).After-as_slice-day_offers)
 
 pub loop-day-preserved : goal.loop-day-preserved
 loop-day-preserved c =
@@ -39,11 +39,11 @@ loop-day-preserved c =
     let same : c.case-case.result.now ≡ k = c.case-case.ensures in
     let offers = offers_here (goal.at.loop-day-preserved c).After-as_slice-day_offers in
     let sizes : c.args.ranges.now ≡ sizes_of k n = c.requires.ranges in
-    let here = transport (λ i. All (LeadsOn (same i) (record { nurse = n; day = day; ranges = sizes i }) (read i) c.areas_behind.result) (offers i)) c.areas_behind.ensures in
+    let here = transport (λ i. All (LeadsOn (same i) (record { nurse = n; day = day; ranges = sizes i }) (read i) c.areas_after.result) (offers i)) c.areas_after.ensures in
     record {
-      start = subst (λ (x : _). Stands k n x (summary_of k n [])) (sym (day_kept k c.args.from rows n c.loop-day.areas day inside c.areas_behind.result 0 (omega arith))) old.start;
-      lead = lead_more k c.args.from rows n c.loop-day.areas day inside c.areas_behind.result here old.lead;
-      length = length-set c.loop-day.areas (day + 1) c.areas_behind.result ∙ old.length;
+      start = subst (λ (x : _). Stands k n x (summary_of k n [])) (sym (day_kept k c.args.from rows n c.loop-day.areas day inside c.areas_after.result 0 (omega arith))) old.start;
+      lead = lead_more k c.args.from rows n c.loop-day.areas day inside c.areas_after.result here old.lead;
+      length = length-set c.loop-day.areas (day + 1) c.areas_after.result ∙ old.length;
     }
 
 pub returns-clause-lead : goal.returns-clause-lead

@@ -89,7 +89,7 @@ returns-in_err-sent-clause-counted g c =
     let at = (goal.at.returns-in_err-sent-clause-counted g c).After-step-step in
     step_within c.args.held.now.case c.loop-nurse.held.case c.loop-nurse.invariant.case_is c.loop-nurse.nurse c.args.meter.now c.loop-nurse.meter c.loop-nurse.invariant.counted (inside g (goal.at.returns-in_err-sent-clause-counted g c).In-loop-nurse) c.step-step.new.meter c.step-step.ensures.counted
 
--- ---- behind the last nurse
+-- ---- after the last nurse
 
 all_nurses : (g : _) (c : After-loop-nurse g) → c.loop-nurse.nurse ≡ nurse_count c.args.held.now.case
 all_nurses g c = omega (arith, c.loop-nurse-test.false, c.loop-nurse.auto.nurse-end, c.nurses-nurse-end.ensures.count, ap (λ (m : Meaning). nurse_count m) c.case.ensures)

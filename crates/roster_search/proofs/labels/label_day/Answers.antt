@@ -9,7 +9,7 @@ use Rattle.roster_search.specs.Tables.{LabelsOf, PointersOf, PointsWhereBest, St
 use Rattle.roster_search.proofs.BlockLaws.{groups_counted}
 use Rattle.roster_search.proofs.CellLaws.{outside_then, outside_wider, room_for_some, some_more_counted}
 use Rattle.roster_search.proofs.CountLaws.{exactly_more, exactly_on, sum_begun, sum_ended, sum_more}
-use Rattle.roster_search.proofs.DayLaws.{FewRuns, before_all, before_first_run, before_first_shift_run, behind_last_run, behind_last_shift_run, cells_grouped, counted_on, done_skipped, few_of, group_digit, group_end, group_fits, group_key, group_number, groups, key_of, last_more, number_all, number_up, number_within, of_group, run_more, span_same}
+use Rattle.roster_search.proofs.DayLaws.{FewRuns, before_all, before_first_run, before_first_shift_run, after_last_run, after_last_shift_run, cells_grouped, counted_on, done_skipped, few_of, group_digit, group_end, group_fits, group_key, group_number, groups, key_of, last_more, number_all, number_up, number_within, of_group, run_more, span_same}
 use Rattle.roster_search.proofs.labels.label_day.Goals as goal
 
 pub loop-last-init : goal.loop-last-init
@@ -17,7 +17,7 @@ loop-last-init g c = record {
   done = record {
     labels = λ s which. absurd (omega (arith, which.1));
     pointers = λ s which. absurd (omega (arith, which.1));
-    others = record { before = λ i below. refl; behind = λ i from. refl };
+    others = record { before = λ i below. refl; after = λ i from. refl };
     some = λ offered s stands below. absurd (omega (arith, below));
     grown = omega arith;
   };
@@ -208,7 +208,7 @@ loop-run-preserved g c =
     let more = sum_more at_least.run.least run f low in
     record {
       done = done_skipped k at g.rest offers c.args.day.now.first (group_key last run to) (group_key last (run + 1) 0) c.loop-shift_run.labels c.args.pointers.now c.loop-shift_run.pointers c.args.meter.now c.loop-shift_run.meter
-          (λ s stands. behind_last_shift_run k n g.rest.here few s stands last _ area run to few_runs (λ x in_span fits. omega (arith, (c.below-first_shift_run.ensures.each x in_span (omega (arith, fits, shift_runs_size))).1, c.loop-shift_run-test.false))) old.done;
+          (λ s stands. after_last_shift_run k n g.rest.here few s stands last _ area run to few_runs (λ x in_span fits. omega (arith, (c.below-first_shift_run.ensures.each x in_span (omega (arith, fits, shift_runs_size))).1, c.loop-shift_run-test.false))) old.done;
       labels_length = old.labels_length;
       pointers_length = old.pointers_length;
       counted = counted_on (group_number z last run to) (group_number z last (run + 1) 0) (z.weekends * (length offers * z.assignments)) c.args.meter.now c.loop-shift_run.meter (run_more z last run to up_to) old.counted;
@@ -239,7 +239,7 @@ loop-last-preserved g c =
     let next : suc last ≡ last + 1 = omega arith in
     record {
       done = done_skipped k at g.rest offers c.args.day.now.first (group_key last to 0) (group_key (last + 1) 0 0) c.loop-run.labels c.args.pointers.now c.loop-run.pointers c.args.meter.now c.loop-run.meter
-          (λ s stands. behind_last_run k n g.rest.here few s stands last _ area to (λ x in_span fits. omega (arith, (c.below-first_run.ensures.each x in_span (omega (arith, fits, runs_size))).1, c.loop-run-test.false))) old.done;
+          (λ s stands. after_last_run k n g.rest.here few s stands last _ area to (λ x in_span fits. omega (arith, (c.below-first_run.ensures.each x in_span (omega (arith, fits, runs_size))).1, c.loop-run-test.false))) old.done;
       labels_length = old.labels_length;
       pointers_length = old.pointers_length;
       counted = counted_on (group_number z last to 0) (group_number z (last + 1) 0 0) (z.weekends * (length offers * z.assignments)) c.args.meter.now c.loop-run.meter (last_more z last to up_to) old.counted;

@@ -4,7 +4,7 @@ use Rattle.roster_state.specs.Areas.{area_at}
 use Rattle.roster_state.specs.Codes.{Sizes, code_of, fits_sizes, product, shift_digit, sizes_of}
 use Rattle.roster_search.specs.Counts.{group_of}
 use Rattle.roster_search.specs.Tables.{LabelsOf, StandsLike, best_at_end, label_of}
-use Rattle.roster_search.proofs.DayLaws.{FewRuns, area_is, before_all, before_first_run, before_first_shift_run, behind_last_run, behind_last_shift_run, cells_grouped, cells_skipped, few_of, group_digit, group_fits, group_key}
+use Rattle.roster_search.proofs.DayLaws.{FewRuns, area_is, before_all, before_first_run, before_first_shift_run, after_last_run, after_last_shift_run, cells_grouped, cells_skipped, few_of, group_digit, group_fits, group_key}
 use Rattle.roster_search.proofs.labels.label_end.Goals as goal
 
 pub loop-run-init : goal.loop-run-init
@@ -106,7 +106,7 @@ loop-run-preserved g c =
     let to = c.loop-shift_run.shift_run in
     record {
       labels = cells_skipped k n g.here (sizes_of k n) (λ s label. label ≡ label_of (best_at_end k n s)) (λ j. j) c.loop-shift_run.labels (group_key last run to) (group_key last (run + 1) 0)
-          (λ s stands. behind_last_shift_run k n g.here few s stands last _ area run to few_runs (λ x in_span fits. omega (arith, (c.below-first_shift_run.ensures.each x in_span (omega (arith, fits, shift_runs_size))).1, c.loop-shift_run-test.false))) c.loop-shift_run.invariant.labels;
+          (λ s stands. after_last_shift_run k n g.here few s stands last _ area run to few_runs (λ x in_span fits. omega (arith, (c.below-first_shift_run.ensures.each x in_span (omega (arith, fits, shift_runs_size))).1, c.loop-shift_run-test.false))) c.loop-shift_run.invariant.labels;
       length = c.loop-shift_run.invariant.length;
     }
 
@@ -124,7 +124,7 @@ loop-last-preserved g c =
     let to = c.loop-run.run in
     record {
       labels = cells_skipped k n g.here (sizes_of k n) (λ s label. label ≡ label_of (best_at_end k n s)) (λ j. j) c.loop-run.labels (group_key last to 0) (group_key (last + 1) 0 0)
-          (λ s stands. behind_last_run k n g.here few s stands last _ area to (λ x in_span fits. omega (arith, (c.below-first_run.ensures.each x in_span (omega (arith, fits, runs_size))).1, c.loop-run-test.false))) c.loop-run.invariant.labels;
+          (λ s stands. after_last_run k n g.here few s stands last _ area to (λ x in_span fits. omega (arith, (c.below-first_run.ensures.each x in_span (omega (arith, fits, runs_size))).1, c.loop-run-test.false))) c.loop-run.invariant.labels;
       length = c.loop-run.invariant.length;
     }
 

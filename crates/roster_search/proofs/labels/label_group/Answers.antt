@@ -203,8 +203,8 @@ loop-weekends-init g c =
       begun = omega (arith, first_is);
       inside = c.below-first.ensures.order.0;
       least = λ w a low high from_a to_a. absurd (omega (arith, low, high, first_is));
-      labels_others = record { before = λ i below. refl; behind = λ i from. refl };
-      pointers_others = record { before = λ i below. refl; behind = λ i from. refl };
+      labels_others = record { before = λ i below. refl; after = λ i from. refl };
+      pointers_others = record { before = λ i below. refl; after = λ i from. refl };
       labels_length = refl;
       pointers_length = refl;
       counted = (let same : c.args.meter.now ≡ c.args.meter.now + long * (0 * (end - from)) = omega arith in same ∙ ap (λ j. c.args.meter.now + long * (j * (end - from))) (sym none));

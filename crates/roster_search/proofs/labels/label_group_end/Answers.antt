@@ -18,7 +18,7 @@ loop-weekends-init g c =
           let fits = (like_fits k n g.here c.args.group s which.0).weekends in
           let from = (c.below-first.ensures.each s.weekends inside (omega (arith, fits, c.weekends.ensures.weekends, ap (λ (z : Sizes). z.weekends) r.1.0))).0 in
           absurd (omega (arith, from, which.1));
-      others = record { before = λ i below. refl; behind = λ i from. refl };
+      others = record { before = λ i below. refl; after = λ i from. refl };
       length = refl;
     }
 

@@ -13,10 +13,10 @@ slice_bounds-others-end g c =
     let day = c.args.day.now in
     let k = day.case.now in
     let offers = day.offers.now in
-    let leads = All-get_or (LeadsOn k day.at g.rest.here g.rest.behind) offers c.args.place no_offer r.1.1.1.0 r.0.leads in
-    let within : c.code-behind.result + ((c.args.stretch.now.rows - 1) * day.at.ranges.assignments + (c.args.stretch.now.end - c.args.stretch.now.from)) ≤ product day.at.ranges =
+    let leads = All-get_or (LeadsOn k day.at g.rest.here g.rest.next) offers c.args.place no_offer r.1.1.1.0 r.0.leads in
+    let within : c.code-after.result + ((c.args.stretch.now.rows - 1) * day.at.ranges.assignments + (c.args.stretch.now.end - c.args.stretch.now.from)) ≤ product day.at.ranges =
     stretch_within k day.at g.rest.best c.args.stretch.now offers c.args.place r.1.1.1.0 no_offer c.shift-shift.result c.shift-shift.ensures c.args.labels.now c.args.numbers.now r.1.1.1.1.1.1.0
-    g.rest r.1.0 refl day.later.now r.0 leads c.in-Some.step c.in-Some.ensures.steps c.code-behind.result c.code-behind.ensures.code in
+    g.rest r.1.0 refl day.later.now r.0 leads c.in-Some.step c.in-Some.ensures.steps c.code-after.result c.code-after.ensures.code in
     omega (arith, within, r.0.all, r.1.1.1.1.0)
 
 pub overflow_add-points : goal.overflow_add-points
@@ -30,12 +30,12 @@ returns-in-Some-clause-least g c =
     let day = c.args.day.now in
     let k = day.case.now in
     let offers = day.offers.now in
-    let leads = All-get_or (LeadsOn k day.at g.rest.here g.rest.behind) offers c.args.place no_offer r.1.1.1.0 r.0.leads in
+    let leads = All-get_or (LeadsOn k day.at g.rest.here g.rest.next) offers c.args.place no_offer r.1.1.1.0 r.0.leads in
     let price = (All-get_or (IsOfferOf k) offers c.args.place no_offer r.1.1.1.0 r.0.offers).price in
     stretch_lowered k day.at g.rest.best c.args.stretch.now offers c.args.place r.1.1.1.0 no_offer c.shift-shift.result c.shift-shift.ensures c.args.labels.now c.args.numbers.now r.1.1.1.1.1.1.0
-    g.rest r.1.0 refl day.later.now r.0 leads c.in-Some.step c.in-Some.ensures.steps c.code-behind.result c.code-behind.ensures.code
+    g.rest r.1.0 refl day.later.now r.0 leads c.in-Some.step c.in-Some.ensures.steps c.code-after.result c.code-after.ensures.code
     _ c.lower_all.new.labels c.lower_all.new.pointers r.1.1.1.1.0 price c.in-Some.ensures.within
-    (λ j below. get_or-between day.later.now c.code-behind.result (c.code-behind.result + length c.args.labels.now) j 0 (omega (arith, below)))
+    (λ j below. get_or-between day.later.now c.code-after.result (c.code-after.result + length c.args.labels.now) j 0 (omega (arith, below)))
     c.lower_all.ensures.labels c.lower_all.ensures.pointers
 
 pub returns-in-Some-clause-small : goal.returns-in-Some-clause-small

@@ -73,8 +73,8 @@ loop-row-init g c = record {
   least = λ i a none low high. absurd (omega (arith, none));
   labels_kept = λ i a in_rows low. refl;
   pointers_kept = λ i a in_rows low. refl;
-  labels_others = record { before = λ i below. refl; behind = λ i from. refl };
-  pointers_others = record { before = λ i below. refl; behind = λ i from. refl };
+  labels_others = record { before = λ i below. refl; after = λ i from. refl };
+  pointers_others = record { before = λ i below. refl; after = λ i from. refl };
   labels_length = refl;
   pointers_length = refl;
 }

@@ -48,4 +48,4 @@ returns-clause-stands g c =
     let low = low_row (best_on k at offers g.rest.best s) r.1.1.1.1.1.1.0 r.1.1.1.1.1.1.1 in
     let points = points_at k at r.0 g.rest.here offers g.rest.best c.args.first c.args.pointers.now r.1.1.1.1.0 s c.code.result c.code.ensures.code r.1.0 low.row low.is low.low in
     let within = pointer_within (best_by k at g.rest.best s) offers low.row (slice_index_or c.args.pointers.now (c.args.first + c.code.result) 0) points in
-    after_stands k at s c.in-Some.next c.shift.result g.rest.here g.rest.behind (slice_index_or offers c.get-pointer.result no_offer) (All-get_or (LeadsOn k at g.rest.here g.rest.behind) offers c.get-pointer.result no_offer (omega (arith, c.get-pointer.ensures.value, within)) r.1.1.1.0) r.1.0 c.shift.ensures (sym c.in-Some.is ∙ c.after.ensures.state)
+    after_stands k at s c.in-Some.next c.shift.result g.rest.here g.rest.next (slice_index_or offers c.get-pointer.result no_offer) (All-get_or (LeadsOn k at g.rest.here g.rest.next) offers c.get-pointer.result no_offer (omega (arith, c.get-pointer.ensures.value, within)) r.1.1.1.0) r.1.0 c.shift.ensures (sym c.in-Some.is ∙ c.after.ensures.state)

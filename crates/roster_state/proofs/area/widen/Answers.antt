@@ -9,11 +9,11 @@ use Rattle.roster_state.proofs.area.widen.Goals as goal
 
 pub loop-digit-init : goal.loop-digit-init
 loop-digit-init c =
-    let long : length c.args.behind.now ≡ 9 = omega (arith, c.told-behind) in
+    let long : length c.args.after.now ≡ 9 = omega (arith, c.told-after) in
     let few : c.shift_digit-to.result < 9 = omega (arith, c.shift_digit-to.ensures.number, digit_few c.args.shift _ c.requires.shift c.keeps_limits.ensures.shifts) in
     record {
       leads = λ s below there allowed. absurd (omega (arith, below));
-      keeps = λ s there. area_shown c.args.behind.now c.shift_digit-to.result _ s (omega (arith, long, few)) (subst (λ d. InArea (area_at c.args.behind.now d) s) (sym c.shift_digit-to.ensures.number) there);
+      keeps = λ s there. area_shown c.args.after.now c.shift_digit-to.result _ s (omega (arith, long, few)) (subst (λ d. InArea (area_at c.args.after.now d) s) (sym c.shift_digit-to.ensures.number) there);
     }
 
 pub loop-digit-preserved : goal.loop-digit-preserved
@@ -36,14 +36,14 @@ loop-digit-preserved c =
 
 pub returns-clause-leads : goal.returns-clause-leads
 returns-clause-leads c s below there allowed =
-    let long : length c.args.behind.now ≡ 9 = omega (arith, c.told-behind) in
+    let long : length c.args.after.now ≡ 9 = omega (arith, c.told-after) in
     let few : c.shift_digit-to.result < 9 = omega (arith, c.shift_digit-to.ensures.number, digit_few c.args.shift _ c.requires.shift c.keeps_limits.ensures.shifts) in
-    area_set c.args.behind.now c.shift_digit-to.result (shift_digit c.args.shift) c.loop-digit.area (next_of c.args.case.now c.args.nurse c.args.day s c.args.shift) (sym c.shift_digit-to.ensures.number) (omega (arith, long, few))
+    area_set c.args.after.now c.shift_digit-to.result (shift_digit c.args.shift) c.loop-digit.area (next_of c.args.case.now c.args.nurse c.args.day s c.args.shift) (sym c.shift_digit-to.ensures.number) (omega (arith, long, few))
     (c.loop-digit.invariant.leads s (omega (arith, below, c.loop-digit-test.false, c.shifts.ensures.count)) there allowed)
 
 pub returns-clause-keeps : goal.returns-clause-keeps
 returns-clause-keeps c digit s there =
-    let long : length c.args.behind.now ≡ 9 = omega (arith, c.told-behind) in
+    let long : length c.args.after.now ≡ 9 = omega (arith, c.told-after) in
     let few : c.shift_digit-to.result < 9 = omega (arith, c.shift_digit-to.ensures.number, digit_few c.args.shift _ c.requires.shift c.keeps_limits.ensures.shifts) in
-    area_kept c.args.behind.now c.shift_digit-to.result digit c.loop-digit.area s (omega (arith, long, few))
-    (λ here. c.loop-digit.invariant.keeps s (subst (λ d. InArea (area_at c.args.behind.now d) s) c.shift_digit-to.ensures.number here)) there
+    area_kept c.args.after.now c.shift_digit-to.result digit c.loop-digit.area s (omega (arith, long, few))
+    (λ here. c.loop-digit.invariant.keeps s (subst (λ d. InArea (area_at c.args.after.now d) s) c.shift_digit-to.ensures.number here)) there

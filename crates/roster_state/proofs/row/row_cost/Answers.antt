@@ -26,7 +26,7 @@ returns-in_err-next-clause-forbidden c none keeps =
     not_both _ (c.in_err-next.ensures.forbidden.0 refl)
     (forbidden_by k n row day c.loop-day.state c.shift.result (omega (arith, days, c.days-day-end.ensures.count)) c.loop-day.invariant.state_is c.shift.ensures ∙ keeps day inside)
 
--- the refused day counts, and no day behind it
+-- the refused day counts, and no day after it
 pub returns-in_err-next-clause-counted : goal.returns-in_err-next-clause-counted
 returns-in_err-next-clause-counted c =
     let k = c.args.case.now in

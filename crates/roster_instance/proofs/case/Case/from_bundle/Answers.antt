@@ -3,7 +3,7 @@ use Rattle.std.proofs.lemmas.List.{length-map}
 use Rattle.roster_instance.specs.Bundles.{week_meant}
 use Rattle.roster_instance.specs.Small.{HasSmallNumbers}
 use Rattle.roster_instance.proofs.Sections.{IsFirst-through}
-use Rattle.roster_instance.proofs.CaseLemmas.{case_is, few_states, first_behind, first_of_scenario, none_at_all}
+use Rattle.roster_instance.proofs.CaseLemmas.{case_is, few_states, first_after, first_of_scenario, none_at_all}
 use Rattle.roster_instance.proofs.PastLemmas.{past_known}
 use Rattle.roster_instance.proofs.SmallLemmas.{meaning_small}
 use Rattle.roster_instance.proofs.case.Case.from_bundle.Goals as goal
@@ -17,7 +17,7 @@ pub returns-in_err-told-clause-refused : goal.returns-in_err-told-clause-refused
 returns-in_err-told-clause-refused c =
     let ok = c.in_ok-scenario.ensures in
     IsFirst-through c.from_residual-in_err-told.result c.in_err-told.field-0.0 _ c.from_residual-in_err-told.ensures.1
-    (first_behind c.args.source.now c.args.bundle.now c.in_ok-scenario.scenario ok.meant ok.none c.in_err-told.field-0.0 c.in_err-told.ensures.first)
+    (first_after c.args.source.now c.args.bundle.now c.in_ok-scenario.scenario ok.meant ok.none c.in_err-told.field-0.0 c.in_err-told.ensures.first)
 
 pub invariant_of-result : goal.invariant_of-result
 invariant_of-result c =

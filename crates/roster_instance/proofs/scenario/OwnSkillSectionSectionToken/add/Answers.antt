@@ -7,7 +7,7 @@ use Rattle.roster_instance.specs.Meaning.{skill_at}
 use Rattle.roster_instance.specs.declared.fault.CaseFault.TheVariants.{Repeated}
 use Rattle.roster_instance.proofs.FlagLemmas.{count-room, numbers_among-push, repeated_by_flag}
 use Rattle.roster_instance.proofs.NameLemmas.{found-number}
-use Rattle.roster_instance.proofs.Sections.{IsFirst-alone, IsFirst-behind, both_none}
+use Rattle.roster_instance.proofs.Sections.{IsFirst-alone, IsFirst-after, both_none}
 use Rattle.roster_instance.proofs.scenario.OwnSkillSectionSectionToken.add.Goals as goal
 
 pub returns-then-self-skill-clause-first : goal.returns-then-self-skill-clause-first
@@ -18,7 +18,7 @@ returns-then-self-skill-clause-first c = λ earlier has.
     let own =
     repeated_by_flag s.source.now s.skills.now t k c.in_ok-skill.ensures.number s.taken earlier false (omega (arith, c.in_ok-skill.ensures.within)) has.flags
     ∙ ap (λ b. fault_if b (Repeated t.line)) c.if-self-skill.true in
-    IsFirst-behind _ _ _ c.in_ok-skill.ensures.none (IsFirst-alone _ _ own)
+    IsFirst-after _ _ _ c.in_ok-skill.ensures.none (IsFirst-alone _ _ own)
 
 pub push-requires : goal.push-requires
 push-requires c =

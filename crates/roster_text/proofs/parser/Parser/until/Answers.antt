@@ -1,7 +1,7 @@
 use Rattle.std.proofs.Common.{◌≡◌, false, arith, sym}
 use Rattle.std.proofs.lemmas.Result.{err_from_is_err_and}
 use Rattle.roster_text.specs.Reading.{until_at, begins_section}
-use Rattle.roster_text.proofs.Loops.{until_init, until_goes_on, until_stops, until_done, two_skips, shorter_behind_section}
+use Rattle.roster_text.proofs.Loops.{until_init, until_goes_on, until_stops, until_done, two_skips, shorter_after_section}
 use Rattle.roster_text.proofs.parser.Parser.until.Goals as goal
 
 pub loop-keyword-init : goal.loop-keyword-init
@@ -31,5 +31,5 @@ returns-clause-reads g c =
 
 pub returns-clause-takes : goal.returns-clause-takes
 returns-clause-takes g c =
-    let shorter = shorter_behind_section c.args.keyword c.loop-keyword.self (sym c.loop-keyword-test.ensures) in
+    let shorter = shorter_after_section c.args.keyword c.loop-keyword.self (sym c.loop-keyword-test.ensures) in
     rw (c.skip-2.ensures, c.skip.ensures, two_skips) (omega (arith, shorter, c.loop-keyword.invariant.shorter))

@@ -1,0 +1,161 @@
+-- Which fault a failing reader or writer gives, and what a bundle means.
+use Rattle.std.proofs.Common.{◌≡◌, ◌∙◌, ◌∷◌, [], ◌<◌, Err, List, Option, None, Some, Result, Ok, ap, ap₂, length, lit<, refl, subst, sym, true≢false, is_some, true}
+use Rattle.std.specs.Prelude.{Contains, IfErr, IfSome, IsErrOf, OnOk}
+use Rattle.std.proofs.lemmas.List.{length-map}
+use Rattle.roster_text.specs.Grammar.{Spells}
+use Rattle.roster_text.specs.Io.{IsReadFault, Writes, counted, is_read_failure}
+use Rattle.roster_text.specs.Limits.{most_bytes}
+use Rattle.roster_text.specs.Token.{all_seen, tokens_of}
+use Rattle.roster_text.specs.declared.Bundle.{Bundle}
+use Rattle.roster_text.specs.declared.fault.TextFault.{TextFault}
+use Rattle.roster_text.specs.declared.fault.TextFault.TheVariants as text
+use Rattle.roster_case.specs.Bundles.{meaning_of, rows_of, week_meant}
+use Rattle.roster_case.specs.Checking.{IsFirst}
+use Rattle.roster_case.specs.Meaning.{Meaning, week_count}
+use Rattle.roster_case.specs.Names.{nurse_names, shift_names, skill_names}
+use Rattle.roster_case.specs.Refusals.{all_faults, case_faults, roster_faults}
+use Rattle.roster_case.specs.declared.CaseFault.{CaseFault}
+use Rattle.roster_case.specs.declared.CaseFault.TheVariants as case
+use Rattle.roster_case.proofs.Sections.{IsFirst-after}
+use Rattle.roster_case.specs.declared.HardFault.{HardFault}
+use Rattle.roster_commands.specs.Answer.{Answers, Ends, Input, IsOutcomeOf, IsUnheld, IsUnread, Leaves, LeavesLog, Outcome, Output, Report, Says, StopsOutput, StopsReading, Untouched, answered, outcome_of, plain, report_of}
+use Rattle.roster_commands.specs.Lines.{Text, status_of}
+use Rattle.roster_commands.specs.declared.fault.Fault.{Fault}
+use Rattle.roster_commands.specs.declared.fault.Fault.TheVariants as fault
+use Rattle.roster_commands.specs.declared.reading.Instance.{Instance}
+use Rattle.roster_request.specs.declared.request.Command.{Command}
+
+-- ---- a bundle
+
+weeks_meant : (source : Text) (b : Bundle) → week_count (meaning_of source b) ≡ length b.week_data
+unfolding meaning_of
+weeks_meant source b = length-map b.week_data (week_meant source (shift_names source b) (skill_names source b) (nurse_names source b))
+
+-- a solution for each week of its case
+pub as_many_solutions : (source : Text) (b : Bundle) (c : Meaning) → Spells (all_seen source (tokens_of source)) b → c ≡ meaning_of source b → length b.solutions ≡ week_count c
+as_many_solutions source b c spelled is = spelled.solution_parts ∙ sym spelled.week_data_parts ∙ sym (weeks_meant source b) ∙ sym (ap week_count is)
+
+pub first_of_roster : (source : Text) (b : Bundle) (c : Meaning) (f : CaseFault) → c ≡ meaning_of source b → case_faults source b ≡ [] → IsFirst (roster_faults source c b) f → IsFirst (all_faults source b) f
+first_of_roster source b c f is none first =
+    IsFirst-after (case_faults source b) (roster_faults source (meaning_of source b) b) f none (subst (λ m. IsFirst (roster_faults source m b) f) is first)
+
+-- ---- statuses
+
+pub status_listed : (f : Fault) → Contains (0 ∷ 1 ∷ 3 ∷ 4 ∷ []) (status_of f)
+status_listed (fault.Text text.Memory) = (3, lit< tt, refl)
+status_listed (fault.Text text.ReadFailed) = (2, lit< tt, refl)
+status_listed (fault.Text text.TooLong) = (1, lit< tt, refl)
+status_listed (fault.Text (text.Expected line what)) = (1, lit< tt, refl)
+status_listed (fault.Text (text.NumberRange line)) = (1, lit< tt, refl)
+status_listed (fault.Text (text.AfterEnd line)) = (1, lit< tt, refl)
+status_listed (fault.Case case.Memory nurse) = (3, lit< tt, refl)
+status_listed (fault.Case (case.Repeated line) nurse) = (1, lit< tt, refl)
+status_listed (fault.Case (case.Unknown line) nurse) = (1, lit< tt, refl)
+status_listed (fault.Case (case.Reserved line) nurse) = (1, lit< tt, refl)
+status_listed (fault.Case (case.OtherInstance line) nurse) = (1, lit< tt, refl)
+status_listed (fault.Case (case.HistoryWeek line) nurse) = (1, lit< tt, refl)
+status_listed (fault.Case (case.HistoryNurses line) nurse) = (1, lit< tt, refl)
+status_listed (fault.Case (case.RepeatedRequirement line) nurse) = (1, lit< tt, refl)
+status_listed (fault.Case (case.Limit line) nurse) = (1, lit< tt, refl)
+status_listed (fault.Case (case.TooManyStates number name) nurse) = (1, lit< tt, refl)
+status_listed (fault.Case (case.H1 number day) nurse) = (1, lit< tt, refl)
+status_listed (fault.Hard f names) = (1, lit< tt, refl)
+status_listed (fault.Nurse name) = (1, lit< tt, refl)
+status_listed fault.Memory = (3, lit< tt, refl)
+status_listed fault.Output = (2, lit< tt, refl)
+status_listed fault.Log = (2, lit< tt, refl)
+
+-- ---- an input that was not read to its end
+
+module _ {R : Type 0} (A : Type 0) (input : Input R) where
+  pub unread : (f : TextFault) → IsReadFault f → input.after.failures ≡ counted input.before.failures (is_read_failure {A = A} (Err f))
+      → (IsErrOf {T = A} (Err f) text.TooLong → IfSome (input.remaining input.before.inner) (λ given. most_bytes < length given)) → IsUnread input (fault.Text f)
+  unread text.Memory is failures long = failures
+  unread text.ReadFailed is failures long = failures
+  unread text.TooLong is failures long = (failures, long refl)
+  unread (text.Expected line what) is failures long = absurd is
+  unread (text.NumberRange line) is failures long = absurd is
+  unread (text.AfterEnd line) is failures long = absurd is
+
+-- ---- the bytes are refused by every command
+
+pub refused_reading : {W L : Type 0} (output : Output W) (log : Output L) (command : Command) (source : Text) (f : Fault) → StopsReading source f → Untouched output → Untouched log
+    → Answers output log command source (Some f)
+refused_reading output log command source (fault.Text f) h o l = (h, o, l)
+refused_reading output log command source (fault.Case f nurse) h o l = record { bundle = h.bundle; spelled = h.spelled; ends = h.refused; left = o; logged = l }
+refused_reading output log command source (fault.Hard f names) h o l = absurd h
+refused_reading output log command source (fault.Nurse name) h o l = absurd h
+refused_reading output log command source fault.Memory h o l = absurd h
+refused_reading output log command source fault.Output h o l = absurd h
+refused_reading output log command source fault.Log h o l = absurd h
+
+-- ---- an instance, once it is read
+
+module _ {W L : Type 0} (output : Output W) (log : Output L) (command : Command) (source : Text) (i : Instance) (says : Says source i) where
+  report_meant : report_of command i.case i.roster ≡ answered command source i.bundle
+  report_meant = ap₂ (report_of command) says.case (says.roster ∙ ap (λ m. rows_of source m i.bundle) says.case)
+
+  as_taken : (outcome : Outcome) → IsOutcomeOf (answered command source i.bundle) source i.bundle outcome → Leaves output (answered command source i.bundle).output outcome
+      → LeavesLog log (answered command source i.bundle).log outcome → Answers output log command source outcome
+  as_taken None h o l = record { bundle = i.bundle; spelled = says.spelled; ends = record { taken = says.taken; ends = h }; left = o; logged = l }
+  as_taken (Some (fault.Text f)) h o l = absurd h
+  as_taken (Some (fault.Case f nurse)) h o l = absurd h
+  as_taken (Some (fault.Hard f names)) h o l = record { bundle = i.bundle; spelled = says.spelled; ends = record { taken = says.taken; ends = h }; left = o; logged = l }
+  as_taken (Some (fault.Nurse name)) h o l = record { bundle = i.bundle; spelled = says.spelled; ends = record { taken = says.taken; ends = h }; left = o; logged = l }
+  as_taken (Some fault.Memory) h o l = record { bundle = i.bundle; spelled = says.spelled; ends = record { taken = says.taken; ends = h }; left = o; logged = l }
+  as_taken (Some fault.Output) h o l = record { bundle = i.bundle; spelled = says.spelled; ends = record { taken = says.taken; ends = h }; left = o; logged = l }
+  as_taken (Some fault.Log) h o l = record { bundle = i.bundle; spelled = says.spelled; ends = record { taken = says.taken; ends = h }; left = o; logged = l }
+
+  pub answers : (outcome : Outcome) → Ends output (report_of command i.case i.roster) source i.bundle outcome → LeavesLog log (report_of command i.case i.roster).log outcome
+      → Answers output log command source outcome
+  answers outcome e l =
+      as_taken outcome (subst (λ p. IsOutcomeOf p source i.bundle outcome) report_meant e.ends) (subst (λ (p : Report). Leaves output p.output outcome) report_meant e.left)
+      (subst (λ (p : Report). LeavesLog log p.log outcome) report_meant l)
+
+-- ---- a command for an instance
+
+-- one that only writes a text
+pub plain_ends : {W X : Type 0} (output : Output W) (text source : Text) (b : Bundle) (result : Result X Fault) → OnOk result (Writes output.contents output.before output.after text)
+    → IfErr result (StopsOutput output.contents output.before output.after text) → Ends output (plain text) source b (outcome_of result)
+plain_ends output text source b (Ok x) ok err = record { ends = record { kept = refl; known = refl }; left = ok }
+plain_ends output text source b (Err (fault.Text f)) ok err = absurd err
+plain_ends output text source b (Err (fault.Case f nurse)) ok err = absurd err
+plain_ends output text source b (Err (fault.Hard f names)) ok err = absurd err
+plain_ends output text source b (Err (fault.Nurse name)) ok err = absurd err
+plain_ends output text source b (Err fault.Memory) ok err = absurd err
+plain_ends output text source b (Err fault.Output) ok err = record { ends = record { kept = refl; known = refl }; left = err }
+plain_ends output text source b (Err fault.Log) ok err = absurd err
+
+-- one that tells nothing leaves the log as it was
+pub silent_log : {W L : Type 0} (output : Output W) (log : Output L) (p : Report) (source : Text) (b : Bundle) (outcome : Outcome) → p.log ≡ None → Ends output p source b outcome
+    → Untouched log → LeavesLog log p.log outcome
+silent_log output log p source b None none e same = rw none same
+silent_log output log p source b (Some (fault.Text f)) none e same = same
+silent_log output log p source b (Some (fault.Case f nurse)) none e same = same
+silent_log output log p source b (Some (fault.Hard f names)) none e same = same
+silent_log output log p source b (Some (fault.Nurse name)) none e same = same
+silent_log output log p source b (Some fault.Memory) none e same = same
+silent_log output log p source b (Some fault.Output) none e same = rw none same
+silent_log output log p source b (Some fault.Log) none e same = absurd (true≢false (sym e.ends.1 ∙ ap is_some none))
+
+-- a roster that is not held
+pub unheld_ends : {W : Type 0} (output : Output W) (p : Report) (source : Text) (b : Bundle) (f : Fault) → p.is_held ≡ true → IsUnheld source b p.broken f → Untouched output
+    → Ends output p source b (Some f)
+unheld_ends output p source b (fault.Text f) held h same = absurd h
+unheld_ends output p source b (fault.Case f nurse) held h same = absurd h
+unheld_ends output p source b (fault.Hard f names) held h same = record { ends = h; left = same }
+unheld_ends output p source b (fault.Nurse name) held h same = absurd h
+unheld_ends output p source b fault.Memory held h same = record { ends = (h, held); left = same }
+unheld_ends output p source b fault.Output held h same = absurd h
+unheld_ends output p source b fault.Log held h same = absurd h
+
+-- and so the log is as it was
+pub unheld_log : {L : Type 0} (log : Output L) (told : Option Text) (source : Text) (b : Bundle) (broken : List HardFault) (f : Fault) → IsUnheld source b broken f → Untouched log
+    → LeavesLog log told (Some f)
+unheld_log log told source b broken (fault.Text f) h same = absurd h
+unheld_log log told source b broken (fault.Case f nurse) h same = absurd h
+unheld_log log told source b broken (fault.Hard f names) h same = same
+unheld_log log told source b broken (fault.Nurse name) h same = absurd h
+unheld_log log told source b broken fault.Memory h same = same
+unheld_log log told source b broken fault.Output h same = absurd h
+unheld_log log told source b broken fault.Log h same = absurd h

@@ -1,0 +1,329 @@
+-- What a run answers.
+use Rattle.std.specs.Prelude.{◌≡◌, ◌≢◌, ℕ, ◌<◌, ◌≤◌, ◌⊎◌, Bool, true, false, List, [], IfSome, Ok, Err, Option, None, Some, Result, if◌then◌else◌, is_some, length, string_bytes, unwrap_or}
+use Rattle.std.specs.Io.KnownBytes.{IsAtEnd}
+use Rattle.roster_text.specs.FirstFault.{IsFirstFault}
+use Rattle.roster_text.specs.Grammar.{Spells}
+use Rattle.roster_text.specs.Io.{Stops, Watched, Writes, one_more}
+use Rattle.roster_text.specs.Limits.{most_bytes}
+use Rattle.roster_text.specs.Token.{all_seen, line_at_end, tokens_of}
+use Rattle.roster_text.specs.declared.Bundle.{Bundle}
+use Rattle.roster_text.specs.declared.fault.TextFault.{TextFault}
+use Rattle.roster_text.specs.declared.fault.TextFault.TheVariants as text
+use Rattle.roster_case.specs.AllowedRows.{best_row}
+use Rattle.roster_case.specs.Bundles.{meaning_of, rows_of}
+use Rattle.roster_case.specs.Faults.{first_fault}
+use Rattle.roster_case.specs.HardRules.{hard_faults}
+use Rattle.roster_case.specs.Meaning.{Meaning}
+use Rattle.roster_case.specs.Names.{find_name}
+use Rattle.roster_case.specs.Penalties.{costs_of, penalty}
+use Rattle.roster_case.specs.Refusals.{all_faults}
+use Rattle.roster_case.specs.Rosters.{Rows, fits_case, with_row}
+use Rattle.roster_case.specs.Shown.{weeks_text}
+use Rattle.roster_case.specs.declared.CaseFault.{CaseFault}
+use Rattle.roster_case.specs.declared.CaseFault.TheVariants.{Memory}
+use Rattle.roster_case.specs.declared.HardFault.{HardFault}
+use Rattle.roster_rules.specs.Improver.{log_of, run}
+use Rattle.roster_rounds.specs.RunLogs.{text_of}
+use Rattle.roster_commands.specs.Lines.{IsFirstBreach, Text, best_log, costs_text, fault_line, nurse_of, output_line, sizes_text, status_of}
+use Rattle.roster_commands.specs.declared.fault.Fault.{Fault}
+use Rattle.roster_commands.specs.declared.fault.Fault.TheVariants as fault
+use Rattle.roster_commands.specs.declared.reading.Instance.{Instance}
+use Rattle.roster_request.specs.declared.request.Command.{Command}
+use Rattle.roster_request.specs.declared.request.Command.TheVariants as command
+
+-- ---- the devices of a run
+
+-- an input before and after a run; `remaining` is what a reader has left
+pub record Input (R : Type 0) : Type 0 where
+  pub remaining : R → Option Text
+  pub before : Watched R
+  pub after : Watched R
+
+-- an output or a log before and after a run; `contents` is what a writer holds
+pub record Output (W : Type 0) : Type 0 where
+  pub contents : W → Option Text
+  pub before : Watched W
+  pub after : Watched W
+
+-- these are all bytes of the reader, and no read failed
+pub record ReadsAll {R : Type 0} (input : Input R) (bytes : Text) : Type 0 where
+  pub all : IfSome (input.remaining input.before.inner) (λ given. bytes ≡ given)
+  pub end : IsAtEnd (input.remaining input.after.inner)
+  pub kept : length bytes ≤ most_bytes
+  pub failures : input.after.failures ≡ input.before.failures
+
+-- nothing was written to it
+abbrev pub Untouched : {W : Type 0} → Output W → Type 0
+Untouched output = output.after ≡ output.before
+
+-- the log has all that a command tells of its work, if it tells any
+abbrev pub Logged : {L : Type 0} → Output L → Option Text → Type 0
+Logged log None = Untouched log
+Logged log (Some told) = Writes log.contents log.before log.after told
+
+-- a write failed inside it
+abbrev pub StopsLog : {L : Type 0} → Output L → Option Text → Type 0
+StopsLog log None = ⊥
+StopsLog log (Some told) = Stops log.contents log.before log.after told
+
+-- the log has the line, or a write failed inside it
+abbrev pub Logs : {L : Type 0} → (L → Option (List ℕ)) → Watched L → Watched L → Text → Type 0
+Logs contents old new line = Writes contents old new line ⊎ Stops contents old new line
+
+-- a fault is told by its line; where the log itself had failed, nothing more is written
+abbrev pub Tells : {L : Type 0} → (L → Option (List ℕ)) → Watched L → Watched L → Fault → Type 0
+Tells contents old new fault.Log = new ≡ old
+Tells contents old new f = Logs contents old new (fault_line f)
+
+-- ---- how a run ends: it is done, or it stops for a fault
+
+-- no fault where the run is done, else the fault for which it stops
+abbrev pub Outcome : Type 0
+Outcome = Option Fault
+
+-- the outcome of a call's answer
+abbrev pub outcome_of : {X : Type 0} → Result X Fault → Outcome
+outcome_of (Ok x) = None
+outcome_of (Err f) = Some f
+
+-- what a run leaves of its text: all, where it is done; some, where the output failed; else none
+abbrev pub Leaves : {W : Type 0} → Output W → Text → Outcome → Type 0
+Leaves output text None = Writes output.contents output.before output.after text
+Leaves output text (Some fault.Output) = Stops output.contents output.before output.after text
+Leaves output text (Some (fault.Text f)) = Untouched output
+Leaves output text (Some (fault.Case f nurse)) = Untouched output
+Leaves output text (Some (fault.Hard f names)) = Untouched output
+Leaves output text (Some (fault.Nurse name)) = Untouched output
+Leaves output text (Some fault.Memory) = Untouched output
+Leaves output text (Some fault.Log) = Untouched output
+
+-- what it leaves of its log before a fault is told: all, where it is done or the output failed; some, where the log failed;
+-- else none
+abbrev pub LeavesLog : {L : Type 0} → Output L → Option Text → Outcome → Type 0
+LeavesLog log told None = Logged log told
+LeavesLog log told (Some fault.Output) = Logged log told
+LeavesLog log told (Some fault.Log) = StopsLog log told
+LeavesLog log told (Some (fault.Text f)) = Untouched log
+LeavesLog log told (Some (fault.Case f nurse)) = Untouched log
+LeavesLog log told (Some (fault.Hard f names)) = Untouched log
+LeavesLog log told (Some (fault.Nurse name)) = Untouched log
+LeavesLog log told (Some fault.Memory) = Untouched log
+
+-- ---- the bytes
+
+-- the bytes spell the bundle
+abbrev pub SpellsBundle : Text → Bundle → Type 0
+SpellsBundle bytes b = Spells (all_seen bytes (tokens_of bytes)) b
+
+-- the bytes have this fault
+abbrev pub HasFault : Text → TextFault → Type 0
+HasFault bytes text.Memory = Unit {0}
+HasFault bytes text.ReadFailed = ⊥
+HasFault bytes text.TooLong = ⊥
+HasFault bytes f = IsFirstFault (line_at_end bytes) (all_seen bytes (tokens_of bytes)) f
+
+-- ---- a case and its roster: what a command answers for them
+
+-- what a command asks of them and writes for them
+pub record Report : Type 0 where
+  -- it holds the roster, so that it takes memory for what it keeps of it
+  pub is_held : Bool
+  -- the breaches of the hard rules for which it refuses them, in their order
+  pub broken : List HardFault
+  -- the name of the nurse whom it is for, where the case has none of that name
+  pub unknown : Option Text
+  pub output : Text
+  -- what it tells of its work, if it tells any
+  pub log : Option Text
+
+-- one that writes a text and asks for nothing
+abbrev pub plain : Text → Report
+plain text = record { is_held = false; broken = []; unknown = None; output = text; log = None }
+
+-- the number of the nurse of this name; it is asked for only where the case has one
+abbrev pub number_of : Meaning → Text → ℕ
+number_of c name = unwrap_or (find_name c.nurse_names name) 0
+
+-- the name, where the case has no nurse of this name
+abbrev pub unknown_in : Meaning → Text → Option Text
+unknown_in c name = if is_some (find_name c.nurse_names name) then None else Some name
+
+-- the roster with the best row of this nurse from a week on put in
+abbrev pub with_best : Meaning → ℕ → Rows → ℕ → Rows
+with_best c from r n = with_row r n (unwrap_or (best_row c from r n) [])
+
+-- what each soft rule costs
+abbrev pub cost_report : Meaning → Rows → Report
+cost_report c r = record (plain (costs_text (costs_of c r))) { is_held = true; broken = hard_faults c r }
+
+-- the best row of the nurse of this name from a week on
+abbrev pub best_report : Text → ℕ → Meaning → Rows → Report
+best_report name from c r =
+    let better = with_best c from r (number_of c name) in
+    record {
+      is_held = true;
+      broken = hard_faults c r;
+      unknown = unknown_in c name;
+      output = weeks_text c better;
+      log = Some (best_log (penalty c r) name (penalty c better));
+    }
+
+-- the roster after a run of at most so many rounds from a week on
+abbrev pub improved : Meaning → (rounds from : ℕ) → Rows → Rows
+improved c rounds from r = (run c (best_row c from) rounds r).roster
+
+-- the lines of the run's log
+abbrev pub run_log : Meaning → (rounds from : ℕ) → Rows → Text
+run_log c rounds from r = text_of c (log_of c (best_row c from) rounds r)
+
+-- the run
+abbrev pub improve_report : (rounds from : ℕ) → Meaning → Rows → Report
+improve_report rounds from c r =
+    record (plain (weeks_text c (improved c rounds from r))) { is_held = true; broken = hard_faults c r; log = Some (run_log c rounds from r) }
+
+-- what each command asks of a case and its roster, and writes for them
+abbrev pub report_of : Command → Meaning → Rows → Report
+report_of command.Show c r = plain (weeks_text c r)
+report_of command.Cost c r = cost_report c r
+report_of command.Sizes c r = plain (sizes_text c)
+report_of (command.Best nurse from) c r = best_report (string_bytes nurse) from c r
+report_of (command.Improve rounds from) c r = improve_report rounds from c r
+
+-- a command that tells nothing of its work
+abbrev pub IsSilent : Command → Type 0
+IsSilent command = (c : Meaning) (r : Rows) → (report_of command c r).log ≡ None
+
+-- nothing is refused
+pub record IsAllowed (p : Report) : Type 0 where
+  pub kept : p.broken ≡ []
+  pub known : p.unknown ≡ None
+
+-- how a command ends for them; of its faults the first is told
+abbrev pub IsOutcomeOf : Report → Text → Bundle → Outcome → Type 0
+IsOutcomeOf p bytes b None = IsAllowed p
+IsOutcomeOf p bytes b (Some fault.Output) = IsAllowed p
+IsOutcomeOf p bytes b (Some fault.Log) = IsAllowed p × (is_some p.log ≡ true)
+IsOutcomeOf p bytes b (Some (fault.Hard f names)) = IsFirstBreach bytes b p.broken (fault.Hard f names)
+IsOutcomeOf p bytes b (Some (fault.Nurse name)) = (p.broken ≡ []) × (p.unknown ≡ Some name.now)
+IsOutcomeOf p bytes b (Some fault.Memory) = (p.broken ≡ []) × (p.is_held ≡ true)
+IsOutcomeOf p bytes b (Some (fault.Text f)) = ⊥
+IsOutcomeOf p bytes b (Some (fault.Case f nurse)) = ⊥
+
+-- the same with what it leaves of its text
+pub record Ends {W : Type 0} (output : Output W) (p : Report) (bytes : Text) (b : Bundle) (outcome : Outcome) : Type 0 where
+  pub ends : IsOutcomeOf p bytes b outcome
+  pub left : Leaves output p.output outcome
+
+-- why a text was not all written, and what was written
+abbrev pub StopsOutput : {W : Type 0} → (W → Option (List ℕ)) → Watched W → Watched W → Text → Fault → Type 0
+StopsOutput contents old new text fault.Output = Stops contents old new text
+StopsOutput contents old new text _ = ⊥
+
+-- the same of a search that tells of its work
+abbrev pub StopsSearch : {L : Type 0} → (L → Option (List ℕ)) → Watched L → Watched L → Text → Fault → Type 0
+StopsSearch contents old new told fault.Log = Stops contents old new told
+StopsSearch contents old new told _ = ⊥
+
+-- why a roster is not held: for the first of these breaches, or for want of memory where there is none
+abbrev pub IsUnheld : Text → Bundle → List HardFault → Fault → Type 0
+IsUnheld bytes b broken fault.Memory = broken ≡ []
+IsUnheld bytes b broken f = IsFirstBreach bytes b broken f
+
+-- ---- a bundle: the same, and why it is refused
+
+-- the roster that its solutions say, by the names of its own case
+abbrev pub roster_of : Text → Bundle → Rows
+roster_of bytes b = rows_of bytes (meaning_of bytes b) b
+
+-- what a command asks of it and writes for it
+abbrev pub answered : Command → Text → Bundle → Report
+answered command bytes b = report_of command (meaning_of bytes b) (roster_of bytes b)
+
+-- the first fault of its case and its solutions, want of memory aside, with the name of the nurse of which it speaks
+pub record IsRefusedFor (bytes : Text) (b : Bundle) (f : CaseFault) (nurse : Text) : Type 0 where
+  pub first : f ≢ Memory → first_fault (all_faults bytes b) ≡ Some f
+  pub nurse_is : nurse ≡ nurse_of bytes b f
+
+-- its case and its roster are taken, and the command ends so for them
+pub record IsTaken (command : Command) (bytes : Text) (b : Bundle) (outcome : Outcome) : Type 0 where
+  pub taken : all_faults bytes b ≡ []
+  pub ends : IsOutcomeOf (answered command bytes b) bytes b outcome
+
+-- how a command ends for it
+abbrev pub IsOutcomeFor : Command → Text → Bundle → Outcome → Type 0
+IsOutcomeFor command bytes b (Some (fault.Case f nurse)) = IsRefusedFor bytes b f nurse.now
+IsOutcomeFor command bytes b outcome = IsTaken command bytes b outcome
+
+-- ---- a command, from the bytes
+
+-- the bytes spell a bundle, for which the command ends so, with what it leaves of its text and of its log
+pub record AnswersBundle {W L : Type 0} (output : Output W) (log : Output L) (command : Command) (bytes : Text) (outcome : Outcome) : Type 0 where
+  pub bundle : Bundle
+  pub spelled : SpellsBundle bytes bundle
+  pub ends : IsOutcomeFor command bytes bundle outcome
+  pub left : Leaves output (answered command bytes bundle).output outcome
+  pub logged : LeavesLog log (answered command bytes bundle).log outcome
+
+-- the command ends so for the bytes
+abbrev pub Answers : {W L : Type 0} → Output W → Output L → Command → Text → Outcome → Type 0
+Answers output log command bytes (Some (fault.Text f)) = HasFault bytes f × Untouched output × Untouched log
+Answers output log command bytes outcome = AnswersBundle output log command bytes outcome
+
+-- the bytes spell a bundle whose case or solutions have this fault first
+pub record HasCaseFault (bytes : Text) (f : CaseFault) (nurse : Text) : Type 0 where
+  pub bundle : Bundle
+  pub spelled : SpellsBundle bytes bundle
+  pub refused : IsRefusedFor bytes bundle f nurse
+
+-- the bytes spell the bundle of the instance, in which nothing is refused, and it has its case and its roster
+pub record Says (bytes : Text) (instance : Instance) : Type 0 where
+  pub spelled : SpellsBundle bytes instance.bundle
+  pub taken : all_faults bytes instance.bundle ≡ []
+  pub case : instance.case ≡ meaning_of bytes instance.bundle
+  pub roster : instance.roster ≡ rows_of bytes instance.case instance.bundle
+  pub fitting : fits_case instance.case instance.roster ≡ true
+
+-- why the bytes are refused by every command
+abbrev pub StopsReading : Text → Fault → Type 0
+StopsReading bytes (fault.Text f) = HasFault bytes f
+StopsReading bytes (fault.Case f nurse) = HasCaseFault bytes f nurse.now
+StopsReading bytes _ = ⊥
+
+-- ---- from the reader
+
+-- the input was read, and the command ends so for its bytes
+pub record ReadsAndAnswers {R W L : Type 0} (input : Input R) (output : Output W) (log : Output L) (command : Command) (outcome : Outcome) : Type 0 where
+  pub bytes : Text
+  pub read : ReadsAll input bytes
+  pub answers : Answers output log command bytes outcome
+
+-- the input was not read to its end
+abbrev pub IsUnread : {R : Type 0} → Input R → Fault → Type 0
+IsUnread input (fault.Text text.Memory) = input.after.failures ≡ input.before.failures
+IsUnread input (fault.Text text.ReadFailed) = input.after.failures ≡ one_more input.before.failures
+IsUnread input (fault.Text text.TooLong) = (input.after.failures ≡ input.before.failures) × IfSome (input.remaining input.before.inner) (λ given. most_bytes < length given)
+IsUnread input _ = ⊥
+
+-- why the command stopped, and what it left on the output and on the log
+abbrev pub Refuses : {R W L : Type 0} → Input R → Output W → Output L → Command → Fault → Type 0
+Refuses input output log command f =
+    (IsUnread input f × Untouched output × Untouched log) ⊎ ReadsAndAnswers input output log command (Some f)
+
+-- The run stopped for a fault, with its status. `met` is the log when the fault came, and after that the fault is told.
+pub record StopsRun {R W L : Type 0} (input : Input R) (output : Output W) (log : Output L) (command : Command) (status : ℕ) : Type 0 where
+  pub fault : Fault
+  pub status_is : status ≡ status_of fault
+  pub met : Watched L
+  pub refused : Refuses input output (record log { after = met }) command fault
+  pub told : Tells log.contents met log.after fault
+
+-- an output that failed was told after the command's log
+pub record TellsOutput {L : Type 0} (log : Output L) (command : Command) : Type 0 where
+  pub met : Watched L
+  pub silent : IsSilent command → met ≡ log.before
+  pub line : Logs log.contents met log.after output_line
+
+-- the log has failed, of a command that has one
+pub record IsLogFailed {L : Type 0} (log : Output L) (command : Command) : Type 0 where
+  pub tells : IsSilent command → ⊥
+  pub failures : log.after.failures ≡ one_more log.before.failures

@@ -1,0 +1,87 @@
+//! A command, from the bytes of its input to its output, its log and its status.
+
+ghost use Rattle.std.specs.Prelude.{◌≡◌, ◌≢◌, ◌⊎◌, ℕ, None, Contains, [], ◌∷◌, codes};
+ghost use Rattle.roster_text.specs.Io.{one_more};
+ghost use Rattle.roster_commands.specs.Answer.{Answers, IsLogFailed, IsSilent, Logs, ReadsAndAnswers, StopsRun, TellsOutput, outcome_of};
+
+use crate::commands::report;
+use crate::fault::Fault;
+use crate::lines::tell;
+use crate::reading::read_instance;
+use roster_text::{Watch, read_all};
+use roster_request::{Command, Request};
+use std::alloc::Global;
+use std::io::{Read, Write};
+
+/// Answers a request: reads the input to its end, writes the output, and answers the status. What the command tells of its work
+/// goes to the log, all of it before the output begins, and after that the line of a fault.
+pub fn run<R: Read, Out: Write, Log: Write>(
+    alloc: Global,
+    request: &Request,
+    input: &mut Watch<R>,
+    output: &mut Watch<Out>,
+    log: &mut Watch<Log>,
+) -> u8
+    ensures status { Contains (0 ∷ 1 ∷ 3 ∷ 4 ∷ []) result }
+
+    // What is answered, where nothing is refused.
+    ensures done { result ≡ 0 → ReadsAndAnswers (record { remaining = R.remaining; before = input.old; after = input.new })
+        (record { contents = Out.contents; before = output.old; after = output.new })
+        (record { contents = Log.contents; before = log.old; after = log.new }) request.now.command None }
+    ensures silent { result ≡ 0 → IsSilent request.now.command → log.new ≡ log.old }
+
+    // Else there is a fault, with its status and its line.
+    ensures refused { (result ≡ 0 → ⊥) → StopsRun (record { remaining = R.remaining; before = input.old; after = input.new })
+        (record { contents = Out.contents; before = output.old; after = output.new })
+        (record { contents = Log.contents; before = log.old; after = log.new }) request.now.command result }
+
+    // A read or an output write that fails is told so, and status 3 comes from nothing else but a log that fails.
+    ensures read_failed { input.new.failures ≢ input.old.failures → (result ≡ 3)
+        × (output.new ≡ output.old) × Logs Log.contents log.old log.new (codes "read failed\n") }
+    ensures write_failed { output.new.failures ≢ output.old.failures → (result ≡ 3)
+        × TellsOutput (record { contents = Log.contents; before = log.old; after = log.new }) request.now.command }
+    ensures device { result ≡ 3 → (input.new.failures ≡ one_more input.old.failures)
+        ⊎ (output.new.failures ≡ one_more output.old.failures)
+        ⊎ IsLogFailed (record { contents = Log.contents; before = log.old; after = log.new }) request.now.command }
+{
+    answer(alloc, &request.command, input, output, log)
+}
+
+fn answer<R: Read, Out: Write, Log: Write>(
+    alloc: Global,
+    command: &Command,
+    input: &mut Watch<R>,
+    output: &mut Watch<Out>,
+    log: &mut Watch<Log>,
+) -> u8
+    ensures done { result ≡ 0 → ReadsAndAnswers (record { remaining = R.remaining; before = input.old; after = input.new })
+        (record { contents = Out.contents; before = output.old; after = output.new })
+        (record { contents = Log.contents; before = log.old; after = log.new }) command.now None }
+    ensures refused { (result ≡ 0 → ⊥) → StopsRun (record { remaining = R.remaining; before = input.old; after = input.new })
+        (record { contents = Out.contents; before = output.old; after = output.new })
+        (record { contents = Log.contents; before = log.old; after = log.new }) command.now result }
+{
+    let source = match read_all(alloc, input) {
+        Ok(source) => source,
+        Err(fault) => return tell(Fault::Text(fault), log),
+    };
+    match answer_bytes(alloc, command, &source, output, log) {
+        Ok(()) => 0,
+        Err(fault) => tell(fault, log),
+    }
+}
+
+/// Answers a command for the instance that the bytes spell.
+fn answer_bytes<'a, Out: Write, Log: Write>(
+    alloc: Global,
+    command: &'a Command,
+    source: &'a [u8],
+    output: &mut Watch<Out>,
+    log: &mut Watch<Log>,
+) -> Result<(), Fault<'a>>
+    ensures { Answers (record { contents = Out.contents; before = output.old; after = output.new })
+        (record { contents = Log.contents; before = log.old; after = log.new }) command.now source.now (outcome_of result) }
+{
+    let instance = read_instance(alloc, source)?;
+    report(alloc, command, source, instance, output, log)
+}

@@ -1,0 +1,133 @@
+//! The command `best`: the best row of a nurse, put in.
+
+ghost use Rattle.std.specs.Prelude.{◌≡◌, ◌++◌, codes, ◌<◌, ◌≤◌, true, OnOk, IfErr};
+ghost use Rattle.roster_text.specs.Io.{Writes};
+ghost use Rattle.roster_text.specs.Pieces.{pieces_text};
+ghost use Rattle.roster_case.specs.Meaning.{nurse_count};
+ghost use Rattle.roster_case.specs.Penalties.{penalty};
+ghost use Rattle.roster_case.specs.Rosters.{fits_case};
+ghost use Rattle.roster_commands.specs.Answer.{Ends, LeavesLog, StopsSearch, best_report, outcome_of, with_best};
+ghost use Rattle.roster_commands.specs.Lines.{best_log, report_line};
+ghost use Rattle.roster_laws.specs.Greatest.{extension_count};
+ghost use Rattle.roster_best.specs.Workspaces.{fits_space};
+
+use crate::fault::Fault;
+use crate::held::hold;
+use crate::reading::Instance;
+use roster_best::{Workspace, best_row, most_steps};
+use roster_case::Held;
+use roster_reports::write_weeks;
+use roster_state::Meter;
+use roster_text::{Piece, Watch, write_pieces};
+use std::alloc::Global;
+use std::io::Write;
+
+/// Writes the weeks of an instance with the best row of the nurse of this name from a week on put in, also where it isn't cheaper.
+/// What the roster costs before and with it goes to the log first.
+pub(crate) fn best<'a, Out: Write, Log: Write>(
+    alloc: Global,
+    name: &'a [u8],
+    from: u16,
+    source: &'a [u8],
+    mut instance: Instance,
+    output: &mut Watch<Out>,
+    log: &mut Watch<Log>,
+) -> Result<(), Fault<'a>>
+    requires { fits_case instance.case instance.roster ≡ true }
+    ensures ends { Ends (record { contents = Out.contents; before = output.old; after = output.new }) (best_report name.now from instance.case instance.roster) source.now instance.bundle (outcome_of result) }
+    ensures logged { LeavesLog (record { contents = Log.contents; before = log.old; after = log.new }) (best_report name.now from instance.case instance.roster).log (outcome_of result) }
+{
+    let mut meter = Meter::new(&mut instance.case);
+    let mut held = hold(alloc, source, instance)?;
+    let Some(nurse) = held.case().find_nurse(name) else {
+        return Err(Fault::Nurse(name));
+    };
+    let Ok(mut workspace) = Workspace::for_case(alloc, held.case()) else {
+        return Err(Fault::Memory);
+    };
+    // A new meter has room for so many.
+    let _ = most_steps(held.case(), nurse);
+    put_best_row(
+        &mut held,
+        name,
+        nurse,
+        from,
+        &mut workspace,
+        &mut meter,
+        log,
+    )?;
+    Ok(write_weeks(output, held.case(), held.roster())?)
+}
+
+/// Puts the best row of a nurse from a week on in. What the roster costs is logged before the search begins, and what it costs with
+/// the row after it.
+fn put_best_row<'a, Log: Write>(
+    held: &mut Held,
+    name: &[u8],
+    nurse: usize,
+    from: u16,
+    workspace: &mut Workspace,
+    meter: &mut Meter,
+    log: &mut Watch<Log>,
+) -> Result<(), Fault<'a>>
+    requires nurse { nurse < nurse_count held.old.case }
+    requires fits { fits_space held.old.case workspace.old ≡ true }
+    requires none { meter.old ≡ 0 }
+    requires room { extension_count held.old.case nurse ≤ 18446744073709551615 }
+    ensures put { OnOk result (held.new ≡ record { case = held.old.case; roster = with_best held.old.case from held.old.roster nurse }) }
+    ensures ok { OnOk result (Writes Log.contents log.old log.new (best_log (penalty held.old.case held.old.roster) name.now (penalty held.old.case (with_best held.old.case from held.old.roster nurse)))) }
+    ensures err { IfErr result (StopsSearch Log.contents log.old log.new (best_log (penalty held.old.case held.old.roster) name.now (penalty held.old.case (with_best held.old.case from held.old.roster nurse)))) }
+{
+    write_start(held.total(), log)?;
+    let best = best_row(held, nurse, from, workspace, meter);
+    write_best(name, best.total, log)?;
+    held.replace_row(nurse, workspace.row());
+    Ok(())
+}
+
+/// Writes what the roster costs before the search.
+fn write_start<'a, Log: Write>(total: u64, log: &mut Watch<Log>) -> Result<(), Fault<'a>>
+    ensures ok { OnOk result (Writes Log.contents log.old log.new (report_line (codes "start") total)) }
+    ensures err { IfErr result (StopsSearch Log.contents log.old log.new (report_line (codes "start") total)) }
+{
+    log_line(
+        &[
+            Piece::Bytes(b"start "),
+            Piece::Number(total),
+            Piece::Bytes(b"\n"),
+        ],
+        log,
+    )
+}
+
+/// Writes what it costs with the best row of the nurse of this name.
+fn write_best<'a, Log: Write>(
+    name: &[u8],
+    total: u64,
+    log: &mut Watch<Log>,
+) -> Result<(), Fault<'a>>
+    ensures ok { OnOk result (Writes Log.contents log.old log.new (report_line (codes "best " ++ name.now) total)) }
+    ensures err { IfErr result (StopsSearch Log.contents log.old log.new (report_line (codes "best " ++ name.now) total)) }
+{
+    log_line(
+        &[
+            Piece::Bytes(b"best "),
+            Piece::Bytes(name),
+            Piece::Bytes(b" "),
+            Piece::Number(total),
+            Piece::Bytes(b"\n"),
+        ],
+        log,
+    )
+}
+
+/// Writes a line of what a command tells of its work.
+fn log_line<'a, Log: Write>(pieces: &[Piece<'_>], log: &mut Watch<Log>) -> Result<(), Fault<'a>>
+    ensures ok { OnOk result (Writes Log.contents log.old log.new (pieces_text pieces.now)) }
+    ensures err { IfErr result (StopsSearch Log.contents log.old log.new (pieces_text pieces.now)) }
+{
+    match write_pieces(log, pieces) {
+        Ok(()) => Ok(()),
+        Err(_) => Err(Fault::Log),
+    }
+}

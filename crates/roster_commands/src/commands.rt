@@ -1,0 +1,89 @@
+//! What each command writes for an instance.
+
+ghost use Rattle.std.specs.Prelude.{◌≡◌, true, [], OnOk, IfErr};
+ghost use Rattle.roster_text.specs.Io.{Writes};
+ghost use Rattle.roster_case.specs.HardRules.{hard_faults};
+ghost use Rattle.roster_case.specs.Penalties.{costs_of};
+ghost use Rattle.roster_case.specs.Rosters.{fits_case};
+ghost use Rattle.roster_case.specs.Shown.{weeks_text};
+ghost use Rattle.roster_commands.specs.Answer.{Ends, LeavesLog, StopsOutput, cost_report, outcome_of, report_of};
+ghost use Rattle.roster_commands.specs.Lines.{costs_text, sizes_text};
+
+use crate::best::best;
+use crate::fault::Fault;
+use crate::held::hold;
+use crate::improve::improve;
+use crate::reading::Instance;
+use roster_case::{Case, Roster, costs};
+use roster_reports::{write_costs, write_sizes, write_weeks};
+use roster_text::Watch;
+use roster_request::Command;
+use std::alloc::Global;
+use std::io::Write;
+
+/// Writes what a command reports of an instance, or says why it is refused, with the names that the source has. What the
+/// command tells of its work goes to the log.
+pub(crate) fn report<'a, Out: Write, Log: Write>(
+    alloc: Global,
+    command: &'a Command,
+    source: &'a [u8],
+    instance: Instance,
+    output: &mut Watch<Out>,
+    log: &mut Watch<Log>,
+) -> Result<(), Fault<'a>>
+    requires { fits_case instance.case instance.roster ≡ true }
+    ensures ends { Ends (record { contents = Out.contents; before = output.old; after = output.new }) (report_of command.now instance.case instance.roster) source.now instance.bundle (outcome_of result) }
+    ensures logged { LeavesLog (record { contents = Log.contents; before = log.old; after = log.new }) (report_of command.now instance.case instance.roster).log (outcome_of result) }
+{
+    match command {
+        Command::Show => show(&instance.case, &instance.roster, output),
+        Command::Cost => cost(alloc, source, instance, output),
+        Command::Sizes => sizes(&instance.case, output),
+        Command::Best { nurse, from } => {
+            best(
+                alloc,
+                nurse.as_bytes(),
+                *from,
+                source,
+                instance,
+                output,
+                log,
+            )
+        }
+        Command::Improve { rounds, from } => {
+            improve(alloc, *rounds, *from, source, instance, output, log)
+        }
+    }
+}
+
+fn show<'a, Out: Write>(
+    case: &Case,
+    roster: &Roster,
+    output: &mut Watch<Out>,
+) -> Result<(), Fault<'a>>
+    requires { fits_case case.now roster.now ≡ true }
+    ensures ok { OnOk result (Writes Out.contents output.old output.new (weeks_text case.now roster.now)) }
+    ensures err { IfErr result (StopsOutput Out.contents output.old output.new (weeks_text case.now roster.now)) }
+{
+    Ok(write_weeks(output, case, roster)?)
+}
+
+fn cost<'a, Out: Write>(
+    alloc: Global,
+    source: &'a [u8],
+    instance: Instance,
+    output: &mut Watch<Out>,
+) -> Result<(), Fault<'a>>
+    requires { fits_case instance.case instance.roster ≡ true }
+    ensures ends { Ends (record { contents = Out.contents; before = output.old; after = output.new }) (cost_report instance.case instance.roster) source.now instance.bundle (outcome_of result) }
+{
+    let held = hold(alloc, source, instance)?;
+    Ok(write_costs(output, costs(held.case(), held.roster()))?)
+}
+
+fn sizes<'a, Out: Write>(case: &Case, output: &mut Watch<Out>) -> Result<(), Fault<'a>>
+    ensures ok { OnOk result (Writes Out.contents output.old output.new (sizes_text case.now)) }
+    ensures err { IfErr result (StopsOutput Out.contents output.old output.new (sizes_text case.now)) }
+{
+    Ok(write_sizes(output, case)?)
+}

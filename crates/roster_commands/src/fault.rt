@@ -1,0 +1,47 @@
+//! Why a command stops.
+
+use roster_case::{CaseFault, HardFault};
+use roster_reports::BreachNames;
+use roster_text::{TextFault, WriteFault};
+
+/// Why a command stopped.
+#[derive(Clone, Copy)]
+pub(crate) enum Fault<'a> {
+    /// The input was not read, or is not spelled as the grammar says.
+    Text(TextFault),
+    /// The case or the solutions are not taken. Beside the fault stands the name of the nurse of which it speaks, empty where
+    /// it speaks of none.
+    Case(CaseFault, &'a [u8]),
+    /// The roster breaks a hard rule that the command asks for.
+    Hard(HardFault, BreachNames<'a>),
+    /// The case has no nurse of this name, for whom the command is.
+    Nurse(&'a [u8]),
+    /// A growth was refused for what a command keeps of a roster that it holds.
+    Memory,
+    /// The output failed.
+    Output,
+    /// The log failed, inside what the command tells of its work.
+    Log,
+}
+
+impl<'a> From<TextFault> for Fault<'a> {
+    ghost use Rattle.std.specs.Prelude.{◌≡◌};
+    ghost use Rattle.roster_commands.specs.declared.fault.Fault.TheVariants as fault;
+
+    ghost from_gives = { λ e f. f ≡ fault.Text e };
+
+    fn from(e: TextFault) -> Fault<'a> {
+        Fault::Text(e)
+    }
+}
+
+impl<'a> From<WriteFault> for Fault<'a> {
+    ghost use Rattle.std.specs.Prelude.{◌≡◌};
+    ghost use Rattle.roster_commands.specs.declared.fault.Fault.TheVariants as fault;
+
+    ghost from_gives = { λ _ f. f ≡ fault.Output };
+
+    fn from(_e: WriteFault) -> Fault<'a> {
+        Fault::Output
+    }
+}

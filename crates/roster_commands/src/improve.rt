@@ -1,0 +1,68 @@
+//! The command `improve`: rounds of best rows, put in where they are cheaper.
+
+ghost use Rattle.std.specs.Prelude.{◌≡◌, ◌+◌, ◌≤◌, true, IfErr, OnOk};
+ghost use Rattle.roster_text.specs.Io.{Writes};
+ghost use Rattle.roster_case.specs.Rosters.{fits_case};
+ghost use Rattle.roster_best.specs.Workspaces.{fits_space};
+ghost use Rattle.roster_rounds.specs.RunLogs.{extensions_in};
+ghost use Rattle.roster_commands.specs.Answer.{Ends, LeavesLog, StopsSearch, improve_report, improved, outcome_of, run_log};
+
+use crate::fault::Fault;
+use crate::held::hold;
+use crate::reading::Instance;
+use roster_best::Workspace;
+use roster_case::Held;
+use roster_reports::write_weeks;
+use roster_rounds::{LogFault, most_extensions};
+use roster_state::Meter;
+use roster_text::Watch;
+use std::alloc::Global;
+use std::io::Write;
+
+/// Writes the weeks of an instance after a run of at most so many rounds from a week on. The run's log goes to the log first, line by
+/// line as it is made.
+pub(crate) fn improve<'a, Out: Write, Log: Write>(
+    alloc: Global,
+    rounds: u16,
+    from: u16,
+    source: &'a [u8],
+    mut instance: Instance,
+    output: &mut Watch<Out>,
+    log: &mut Watch<Log>,
+) -> Result<(), Fault<'a>>
+    requires { fits_case instance.case instance.roster ≡ true }
+    ensures ends { Ends (record { contents = Out.contents; before = output.old; after = output.new }) (improve_report rounds from instance.case instance.roster) source.now instance.bundle (outcome_of result) }
+    ensures logged { LeavesLog (record { contents = Log.contents; before = log.old; after = log.new }) (improve_report rounds from instance.case instance.roster).log (outcome_of result) }
+{
+    let mut meter = Meter::new(&mut instance.case);
+    let mut held = hold(alloc, source, instance)?;
+    let Ok(mut workspace) = Workspace::for_case(alloc, held.case()) else {
+        return Err(Fault::Memory);
+    };
+    // A new meter has room for so many.
+    let _ = most_extensions(held.case(), rounds);
+    run_rounds(&mut held, rounds, from, &mut workspace, &mut meter, log)?;
+    Ok(write_weeks(output, held.case(), held.roster())?)
+}
+
+/// Makes the run. Where its log fails, that is the fault.
+fn run_rounds<'a, Log: Write>(
+    held: &mut Held,
+    rounds: u16,
+    from: u16,
+    workspace: &mut Workspace,
+    meter: &mut Meter,
+    log: &mut Watch<Log>,
+) -> Result<(), Fault<'a>>
+    requires fits { fits_space held.old.case workspace.old ≡ true }
+    requires none { meter.old ≡ 0 }
+    requires room { extensions_in held.old.case rounds ≤ 18446744073709551615 }
+    ensures put { OnOk result (held.new ≡ record { case = held.old.case; roster = improved held.old.case rounds from held.old.roster }) }
+    ensures ok { OnOk result (Writes Log.contents log.old log.new (run_log held.old.case rounds from held.old.roster)) }
+    ensures err { IfErr result (StopsSearch Log.contents log.old log.new (run_log held.old.case rounds from held.old.roster)) }
+{
+    match roster_rounds::improve(held, rounds, from, workspace, meter, log) {
+        Ok(_) => Ok(()),
+        Err(LogFault::LogFailed { .. }) => Err(Fault::Log),
+    }
+}

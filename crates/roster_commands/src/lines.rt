@@ -1,0 +1,71 @@
+//! The line of each fault on the log, and its status.
+
+ghost use Rattle.std.specs.Prelude.{◌≡◌, OnOk, IfErr, codes};
+ghost use Rattle.roster_text.specs.Io.{StopsIn, Writes};
+ghost use Rattle.roster_commands.specs.Answer.{Logs, Tells};
+ghost use Rattle.roster_commands.specs.Lines.{fault_line, status_of, text_line, text_status};
+
+use crate::fault::Fault;
+use roster_case::CaseFault;
+use roster_reports::{write_case_line, write_hard_line, write_no_memory, write_text_line};
+use roster_text::{Piece, TextFault, Watch, WriteFault, write_pieces};
+use std::io::Write;
+
+/// Tells a fault of the input, as `run` does: its line goes to the log, and its status is answered.
+pub fn refuse<Log: Write>(fault: TextFault, log: &mut Watch<Log>) -> u8
+    ensures status { result ≡ text_status fault }
+    ensures line { Logs Log.contents log.old log.new (text_line fault) }
+{
+    tell(Fault::Text(fault), log)
+}
+
+/// Tells that the output failed, as `run` does.
+pub fn refuse_output<Log: Write>(log: &mut Watch<Log>) -> u8
+    ensures status { result ≡ 3 }
+    ensures line { Logs Log.contents log.old log.new (codes "write failed\n") }
+{
+    tell(Fault::Output, log)
+}
+
+/// Tells a fault: its line goes to the log, and its status is answered, also where the line can't be written. To a log that
+/// failed nothing more is written.
+pub(crate) fn tell<Log: Write>(fault: Fault<'_>, log: &mut Watch<Log>) -> u8
+    ensures status { result ≡ status_of fault.entry }
+    ensures line { Tells Log.contents log.old log.new fault.entry }
+{
+    let _ = write_line(fault, log);
+    status_of(fault)
+}
+
+fn status_of(fault: Fault<'_>) -> u8
+    ensures { result ≡ status_of fault.entry }
+{
+    match fault {
+        Fault::Text(TextFault::Memory) | Fault::Case(CaseFault::Memory, _) | Fault::Memory => 4,
+        Fault::Text(TextFault::ReadFailed) | Fault::Output | Fault::Log => 3,
+        Fault::Text(_) | Fault::Case(_, _) | Fault::Hard(_, _) | Fault::Nurse(_) => 1,
+    }
+}
+
+fn write_line<Log: Write>(fault: Fault<'_>, log: &mut Watch<Log>) -> Result<(), WriteFault>
+    ensures ok { OnOk result (Writes Log.contents log.old log.new (fault_line fault.entry)) }
+    ensures err { IfErr result (StopsIn Log.contents log.old log.new (fault_line fault.entry)) }
+    ensures none { fault.entry ≡ Fault.Log → log.new ≡ log.old }
+{
+    match fault {
+        Fault::Text(fault) => write_text_line(fault, log),
+        Fault::Case(fault, nurse) => write_case_line(fault, nurse, log),
+        Fault::Hard(fault, names) => write_hard_line(fault, names, log),
+        Fault::Nurse(name) => write_pieces(
+            log,
+            &[
+                Piece::Bytes(b"unknown nurse "),
+                Piece::Bytes(name),
+                Piece::Bytes(b"\n"),
+            ],
+        ),
+        Fault::Memory => write_no_memory(log),
+        Fault::Output => write_pieces(log, &[Piece::Bytes(b"write failed\n")]),
+        Fault::Log => Ok(()),
+    }
+}

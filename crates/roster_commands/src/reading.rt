@@ -1,0 +1,90 @@
+//! What the bytes of an input say: the bundle, and the case and the roster that it means.
+
+ghost use Rattle.std.specs.Prelude.{◌≡◌, ◌≢◌, true, [], Some, OnOk, IfOk, IfErr};
+ghost use Rattle.roster_case.specs.Bundles.{meaning_of, rows_of};
+ghost use Rattle.roster_case.specs.Faults.{first_fault};
+ghost use Rattle.roster_case.specs.Refusals.{all_faults};
+ghost use Rattle.roster_case.specs.Rosters.{fits_case};
+ghost use Rattle.roster_commands.specs.Answer.{HasFault, Says, SpellsBundle, StopsReading};
+
+use crate::fault::Fault;
+use roster_case::{Case, CaseFault, Roster};
+use roster_reports::nurse_of;
+use roster_text::{Bundle, TextFault, parse_bundle, tokens};
+use std::alloc::Global;
+
+/// What the texts of an instance say.
+pub(crate) struct Instance {
+    pub(crate) bundle: Bundle,
+    pub(crate) case: Case,
+    pub(crate) roster: Roster,
+}
+
+// By hand, so that who drops an instance has one call to prove and not the drops of all its parts.
+impl Drop for Instance {
+    fn drop(self) {
+        let Instance {
+            bundle: _,
+            case: _,
+            roster: _,
+        } = self;
+    }
+}
+
+impl Instance {
+    /// The bundle, the case and the roster.
+    pub(crate) fn into_parts(self) -> (Bundle, Case, Roster)
+        ensures bundle { result.0 ≡ self.bundle }
+        ensures case { result.1 ≡ self.case }
+        ensures roster { result.2 ≡ self.roster }
+    {
+        let Instance {
+            bundle,
+            case,
+            roster,
+        } = self;
+        (bundle, case, roster)
+    }
+}
+
+/// What the bytes of an input say, or why they are refused.
+pub(crate) fn read_instance<'a>(alloc: Global, source: &'a [u8]) -> Result<Instance, Fault<'a>>
+    ensures says { IfOk result (Says source.now) }
+    ensures refused { IfErr result (StopsReading source.now) }
+{
+    let bundle = match bundle_of(alloc, source) {
+        Ok(bundle) => bundle,
+        Err(fault) => return Err(Fault::Text(fault)),
+    };
+    match roster_of(alloc, source, &bundle) {
+        Ok((case, roster)) => Ok(Instance {
+            bundle,
+            case,
+            roster,
+        }),
+        Err(fault) => Err(Fault::Case(fault, nurse_of(source, &bundle, fault))),
+    }
+}
+
+/// The bundle that the bytes spell.
+fn bundle_of(alloc: Global, source: &[u8]) -> Result<Bundle, TextFault>
+    ensures spelled { IfOk result (SpellsBundle source.now) }
+    ensures refused { IfErr result (HasFault source.now) }
+{
+    let tokens = tokens(alloc, source)?;
+    parse_bundle(alloc, source, &tokens)
+}
+
+/// The case and the roster of a bundle.
+fn roster_of(alloc: Global, source: &[u8], bundle: &Bundle) -> Result<(Case, Roster), CaseFault>
+    requires { SpellsBundle source.now bundle.now }
+    ensures case { IfOk result (λ r. r.0 ≡ meaning_of source.now bundle.now) }
+    ensures roster { IfOk result (λ r. r.1 ≡ rows_of source.now r.0 bundle.now) }
+    ensures fitting { IfOk result (λ r. fits_case r.0 r.1 ≡ true) }
+    ensures taken { OnOk result (all_faults source.now bundle.now ≡ []) }
+    ensures refused { IfErr result (λ f. f ≢ CaseFault.Memory → first_fault (all_faults source.now bundle.now) ≡ Some f) }
+{
+    let case = Case::from_bundle(alloc, bundle, source)?;
+    let roster = Roster::from_bundle(alloc, &case, bundle, source)?;
+    Ok((case, roster))
+}

@@ -1,0 +1,10 @@
+use Rattle.std.proofs.Common.{◌∙◌}
+use Rattle.roster_text.specs.declared.ShiftType.{ShiftType}
+use Rattle.roster_reports.proofs.NameLemmas.{name_found}
+use Rattle.roster_reports.proofs.names.shift_name.Goals as goal
+
+pub returns-in-Some : goal.returns-in-Some
+returns-in-Some c =
+    c.text.ensures
+    ∙ name_found c.args.source.now (λ (line : ShiftType). line.name) c.args.bundle.now.scenario.shifts.items c.as_slice.result.now c.args.shift.0 c.in-Some.line.now
+    c.as_slice.ensures c.in-Some.ensures.lookup.0 c.in-Some.ensures.lookup.1

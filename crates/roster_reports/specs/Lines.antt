@@ -1,0 +1,107 @@
+-- The lines of faults and reports.
+use Rattle.std.specs.Prelude.{◌≡◌, ℕ, ◌*◌, ◌/◌, ◌%◌, ◌++◌, List, [], codes, decimal, flat_map, slice_index_or}
+use Rattle.std.specs.List.{range_with_len}
+use Rattle.roster_text.specs.Canonical.{weekday_text}
+use Rattle.roster_text.specs.Limits.{most_bytes}
+use Rattle.roster_text.specs.Token.{text_of}
+use Rattle.roster_text.specs.Words.{what_text}
+use Rattle.roster_text.specs.declared.Bundle.{Bundle}
+use Rattle.roster_text.specs.declared.fault.TextFault.{TextFault}
+use Rattle.roster_text.specs.declared.fault.TextFault.TheVariants as text
+use Rattle.roster_case.specs.Meaning.{Meaning, day_count, nurse_count, nurse_name}
+use Rattle.roster_case.specs.Names.{nurse_names, shift_names, skill_names}
+use Rattle.roster_case.specs.Penalties.{total_cost}
+use Rattle.roster_case.specs.Sizes.{choice_count, state_count}
+use Rattle.roster_case.specs.declared.CaseFault.{CaseFault}
+use Rattle.roster_case.specs.declared.CaseFault.TheVariants as case
+use Rattle.roster_case.specs.declared.HardFault.{HardFault}
+use Rattle.roster_case.specs.declared.HardFault.TheVariants.{H2, H3, H4}
+use Rattle.roster_case.specs.declared.Costs.{Costs}
+use Rattle.roster_reports.specs.declared.names.BreachNames.{BreachNames}
+
+abbrev pub Text : Type 0
+Text = List ℕ
+
+-- ---- faults
+
+-- the line of want of memory
+abbrev pub memory_line : Text
+memory_line = codes "no memory\n"
+
+-- the line of a fault of the text
+abbrev pub text_line : TextFault → Text
+text_line text.Memory = memory_line
+text_line text.ReadFailed = codes "read failed\n"
+text_line text.TooLong = codes "input longer than " ++ decimal most_bytes ++ codes " bytes\n"
+text_line (text.Expected line what) = codes "line " ++ decimal line ++ codes ": expected " ++ what_text what ++ codes "\n"
+text_line (text.NumberRange line) = codes "line " ++ decimal line ++ codes ": number out of range\n"
+text_line (text.AfterEnd line) = codes "line " ++ decimal line ++ codes ": text after the end\n"
+
+-- a nurse breaks a rule on a weekday of a week
+abbrev pub nurse_day_line : Text → ℕ → Text → Text → Text
+nurse_day_line rule week weekday nurse = rule ++ codes " week " ++ decimal week ++ codes " " ++ weekday ++ codes " " ++ nurse ++ codes "\n"
+
+-- the name of the nurse of which a fault of the case or the solutions speaks, if it speaks of one
+abbrev pub nurse_of : Text → Bundle → CaseFault → Text
+nurse_of source b (case.TooManyStates nurse name) = text_of source name
+nurse_of source b (case.H1 nurse day) = slice_index_or (nurse_names source b) nurse []
+nurse_of source b _ = []
+
+-- the line of such a fault, with that name
+abbrev pub case_line : CaseFault → Text → Text
+case_line case.Memory nurse = memory_line
+case_line (case.Repeated line) nurse = codes "line " ++ decimal line ++ codes ": repeated name\n"
+case_line (case.Unknown line) nurse = codes "line " ++ decimal line ++ codes ": unknown name\n"
+case_line (case.Reserved line) nurse = codes "line " ++ decimal line ++ codes ": reserved name\n"
+case_line (case.OtherInstance line) nurse = codes "line " ++ decimal line ++ codes ": other instance\n"
+case_line (case.HistoryWeek line) nurse = codes "line " ++ decimal line ++ codes ": history week is not 0\n"
+case_line (case.HistoryNurses line) nurse = codes "line " ++ decimal line ++ codes ": repeated nurse in history\n"
+case_line (case.RepeatedRequirement line) nurse = codes "line " ++ decimal line ++ codes ": repeated requirement\n"
+case_line (case.Limit line) nurse = codes "line " ++ decimal line ++ codes ": count out of limits\n"
+case_line (case.TooManyStates number name) nurse = codes "too many states for " ++ nurse ++ codes "\n"
+case_line (case.H1 number day) nurse = nurse_day_line (codes "H1") (day / 7) (weekday_text (day % 7)) nurse
+
+-- the names of which a breach of the hard rules speaks are those that the scenario gives their numbers
+abbrev pub AreNamesOf : Text → Bundle → HardFault → BreachNames → Type 0
+AreNamesOf source b (H2 day shift skill have need) names =
+    (names.shift.now ≡ slice_index_or (shift_names source b) shift.0 []) × (names.skill.now ≡ slice_index_or (skill_names source b) skill.0 [])
+AreNamesOf source b (H3 nurse day) names = names.nurse.now ≡ slice_index_or (nurse_names source b) nurse []
+AreNamesOf source b (H4 nurse day) names = names.nurse.now ≡ slice_index_or (nurse_names source b) nurse []
+
+-- nurses are missing to a minimum on a weekday of a week
+abbrev pub missing_line : ℕ → Text → BreachNames → ℕ → ℕ → Text
+missing_line week weekday names have need =
+    codes "H2 week " ++ decimal week ++ codes " " ++ weekday ++ codes " " ++ names.shift.now ++ codes " " ++ names.skill.now ++ codes ": " ++ decimal have ++ codes " of " ++ decimal need ++ codes "\n"
+
+-- the line of a breach of the hard rules, with those names
+abbrev pub hard_line : HardFault → BreachNames → Text
+hard_line (H2 day shift skill have need) names = missing_line (day / 7) (weekday_text (day % 7)) names have need
+hard_line (H3 number day) names = nurse_day_line (codes "H3") (day / 7) (weekday_text (day % 7)) names.nurse.now
+hard_line (H4 number day) names = nurse_day_line (codes "H4") (day / 7) (weekday_text (day % 7)) names.nurse.now
+
+-- ---- reports
+
+-- a word and a number
+abbrev pub report_line : Text → ℕ → Text
+report_line word n = word ++ codes " " ++ decimal n ++ codes "\n"
+
+-- the report of what a roster costs: each soft rule, and the total
+unfoldable pub costs_text : Costs → Text
+costs_text k =
+    report_line (codes "S1") k.s1 ++ report_line (codes "S2") k.s2 ++ report_line (codes "S3") k.s3 ++ report_line (codes "S4") k.s4
+    ++ report_line (codes "S5") k.s5 ++ report_line (codes "S6") k.s6 ++ report_line (codes "S7") k.s7 ++ report_line (codes "S8") k.s8
+    ++ report_line (codes "total") (total_cost k)
+
+-- a name and the sizes of a search of so many states, days and choices a day: its states, labels in two tables, pointers, and
+-- steps at most
+abbrev pub search_line : Text → ℕ → ℕ → ℕ → Text
+search_line name states days choices =
+    name ++ codes " " ++ decimal states ++ codes " " ++ decimal (2 * states) ++ codes " " ++ decimal (states * days) ++ codes " " ++ decimal (states * days * choices) ++ codes "\n"
+
+-- those of the search for a nurse
+abbrev pub sizes_line : Meaning → ℕ → Text
+sizes_line c n = search_line (nurse_name c n) (state_count c n) (day_count c) (choice_count c n)
+
+-- the report of the sizes: a line for each nurse, in the order of the scenario
+unfoldable pub sizes_text : Meaning → Text
+sizes_text c = flat_map (sizes_line c) (range_with_len 0 (nurse_count c))

@@ -1,0 +1,46 @@
+//! The weeks of a roster, written one after the other.
+
+ghost use Rattle.std.specs.Prelude.{◌≡◌, ◌<◌, ◌++◌, [], OnOk, OnErr, true, codes, if◌then◌else◌, nat_lt};
+ghost use Rattle.roster_text.specs.Canonical.{canonical};
+ghost use Rattle.roster_text.specs.Io.{Stops, Writes};
+ghost use Rattle.roster_case.specs.Meaning.{week_count};
+ghost use Rattle.roster_case.specs.Rosters.{fits_case};
+ghost use Rattle.roster_case.specs.Shown.{shown_week, weeks_text};
+
+use roster_case::{Case, Roster, WeekView};
+use roster_text::{Watch, WriteFault, write_bytes, write_solution};
+use std::io::Write;
+
+/// Writes all weeks, with an empty line between two.
+pub fn write_weeks<W: Write>(
+    output: &mut Watch<W>,
+    case: &Case,
+    roster: &Roster,
+) -> Result<(), WriteFault>
+    requires { fits_case case.now roster.now ≡ true }
+    ensures ok { OnOk result (Writes W.contents output.old output.new (weeks_text case.now roster.now)) }
+    ensures err { OnErr result (Stops W.contents output.old output.new (weeks_text case.now roster.now)) }
+{
+    for week in 0..case.weeks() {
+        write_week(output, case, roster, week)?;
+    }
+    Ok(())
+}
+
+/// Writes a week, after an empty line where it is not the first.
+fn write_week<W: Write>(
+    output: &mut Watch<W>,
+    case: &Case,
+    roster: &Roster,
+    week: u16,
+) -> Result<(), WriteFault>
+    requires fitting { fits_case case.now roster.now ≡ true }
+    requires within { week < week_count case.now }
+    ensures ok { OnOk result (Writes W.contents output.old output.new ((if nat_lt 0 week then codes "\n" else []) ++ canonical (shown_week case.now roster.now week))) }
+    ensures err { OnErr result (Stops W.contents output.old output.new ((if nat_lt 0 week then codes "\n" else []) ++ canonical (shown_week case.now roster.now week))) }
+{
+    if week > 0 {
+        write_bytes(output, b"\n")?;
+    }
+    write_solution(output, &WeekView::of(case, roster, week))
+}

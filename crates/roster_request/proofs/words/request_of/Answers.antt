@@ -1,0 +1,68 @@
+use Rattle.std.proofs.Common.{◌≡◌, ◌∙◌, ap, codes, map, refl, subst, sym, true, Result, Ok, Err}
+use Rattle.std.specs.Prelude.{IsSomeAnd, OnOk}
+use Rattle.clap.specs.Words.{App, HasKind, fault_of, is_simple, is_simple_and_free, kind_of, subcommand_of, takes}
+use Rattle.roster_request.specs.CommandLine.{HasFrom, HasNurse, HasRounds, IsNameOf, Meets, commands, program}
+use Rattle.roster_request.proofs.CommandLineLemmas.{meets_command, refuses}
+use Rattle.roster_request.proofs.NumberLemmas.{best_meets_from, improve_meets_from, meets_rounds}
+use Rattle.roster_request.proofs.NurseLemmas.{meets_nurse}
+use Rattle.roster_request.proofs.words.request_of.Goals as goal
+
+simple : is_simple program ≡ true
+simple = refl
+
+free : is_simple_and_free program ≡ true
+free = refl
+
+OnOk-always : {X E : Type 0} (r : Result X E) (P : Type 0) → P → OnOk r P
+OnOk-always (Ok x) P p = p
+OnOk-always (Err e) P p = tt
+
+pub request_in-requires-clause-met : goal.request_in-requires-clause-met
+request_in-requires-clause-met g c =
+    let words = map g.S.AsStr.text c.args.words.now in
+    let none = c.in-Ok.ensures.kinds (ap is_simple_and_free c.in_ok-program.ensures ∙ free) in
+    let met = (c.in-Ok.ensures.matches (ap is_simple c.in_ok-program.ensures ∙ simple)).1 ∙ ap (λ (a : App). subcommand_of a words) c.in_ok-program.ensures in
+    subst (λ rows. IsSomeAnd rows (λ m. IsNameOf commands m.0)) (sym met) (meets_command words (ap (λ (a : App). fault_of a words) (sym c.in_ok-program.ensures) ∙ none))
+
+pub request_in-requires-clause-rounds : goal.request_in-requires-clause-rounds
+request_in-requires-clause-rounds g c =
+    let words = map g.S.AsStr.text c.args.words.now in
+    let none = c.in-Ok.ensures.kinds (ap is_simple_and_free c.in_ok-program.ensures ∙ free) in
+    let met = (c.in-Ok.ensures.matches (ap is_simple c.in_ok-program.ensures ∙ simple)).1 ∙ ap (λ (a : App). subcommand_of a words) c.in_ok-program.ensures in
+    subst (Meets (codes "improve") HasRounds) (sym met) (meets_rounds words (ap (λ (a : App). fault_of a words) (sym c.in_ok-program.ensures) ∙ none))
+
+pub request_in-requires-clause-best_from : goal.request_in-requires-clause-best_from
+request_in-requires-clause-best_from g c =
+    let words = map g.S.AsStr.text c.args.words.now in
+    let none = c.in-Ok.ensures.kinds (ap is_simple_and_free c.in_ok-program.ensures ∙ free) in
+    let met = (c.in-Ok.ensures.matches (ap is_simple c.in_ok-program.ensures ∙ simple)).1 ∙ ap (λ (a : App). subcommand_of a words) c.in_ok-program.ensures in
+    subst (Meets (codes "best") HasFrom) (sym met) (best_meets_from words (ap (λ (a : App). fault_of a words) (sym c.in_ok-program.ensures) ∙ none))
+
+pub request_in-requires-clause-improve_from : goal.request_in-requires-clause-improve_from
+request_in-requires-clause-improve_from g c =
+    let words = map g.S.AsStr.text c.args.words.now in
+    let none = c.in-Ok.ensures.kinds (ap is_simple_and_free c.in_ok-program.ensures ∙ free) in
+    let met = (c.in-Ok.ensures.matches (ap is_simple c.in_ok-program.ensures ∙ simple)).1 ∙ ap (λ (a : App). subcommand_of a words) c.in_ok-program.ensures in
+    subst (Meets (codes "improve") HasFrom) (sym met) (improve_meets_from words (ap (λ (a : App). fault_of a words) (sym c.in_ok-program.ensures) ∙ none))
+
+pub request_in-requires-clause-nurse : goal.request_in-requires-clause-nurse
+request_in-requires-clause-nurse g c =
+    let words = map g.S.AsStr.text c.args.words.now in
+    let none = c.in-Ok.ensures.kinds (ap is_simple_and_free c.in_ok-program.ensures ∙ free) in
+    let met = (c.in-Ok.ensures.matches (ap is_simple c.in_ok-program.ensures ∙ simple)).1 ∙ ap (λ (a : App). subcommand_of a words) c.in_ok-program.ensures in
+    subst HasNurse (sym met) (meets_nurse words (ap (λ (a : App). fault_of a words) (sym c.in_ok-program.ensures) ∙ none))
+
+pub returns-in-Ok-clause-faultless : goal.returns-in-Ok-clause-faultless
+returns-in-Ok-clause-faultless g c =
+    let words = map g.S.AsStr.text c.args.words.now in
+    let none = c.in-Ok.ensures.kinds (ap is_simple_and_free c.in_ok-program.ensures ∙ free) in
+    OnOk-always c.request_in.result _ (ap (λ (a : App). fault_of a words) (sym c.in_ok-program.ensures) ∙ none)
+
+pub returns-in-Err-clause-refusal : goal.returns-in-Err-clause-refusal
+returns-in-Err-clause-refusal g c =
+    let words = map g.S.AsStr.text c.args.words.now in
+    let is_program = c.in_ok-program.ensures in
+    let among = c.in-Err.ensures.kinds (ap is_simple_and_free is_program ∙ free) in
+    refuses words (kind_of c.in-Err.error) c.refusal.result c.refusal.ensures.kind
+    (λ taken. c.in-Err.ensures.passes (ap (λ (a : App). takes a words) is_program ∙ taken))
+    (subst (λ (a : App). HasKind (fault_of a words) c.in-Err.error) is_program among)

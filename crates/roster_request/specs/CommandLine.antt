@@ -1,0 +1,177 @@
+-- What the words of a command line ask for, by clap's reading of them.
+use Rattle.std.specs.Prelude.{◌≡◌, ◌≢◌, ◌⊎◌, ◌<◌, ◌≤◌, ◌^◌, ℕ, pos, Bool, true, false, not, List, [], ◌∷◌, map, Option, Some, unwrap_or, codes, string_bytes, None, is_some}
+use Rattle.std.specs.List.{fold, list_any}
+use Rattle.std.specs.Str.Parse.{IsNumeral, digits_value, without_leading_plus}
+use Rattle.clap.specs.Lexer.{usize_max}
+use Rattle.clap.specs.Words.{App, Row, Rule, Shape, Text, all_of, fault_of, first_of, new_app, new_rule, one_of, subcommand_of, takes, with_rule, with_subcommand, without_minus}
+use Rattle.clap.specs.Values.{IsSignedIn}
+use Rattle.clap.specs.declared.builder.action.ArgAction.TheVariants as action
+use Rattle.clap.specs.declared.builder.value_parser.ValueParser.TheVariants as parser
+use Rattle.clap.specs.declared.error.kind.ErrorKind.{ErrorKind}
+use Rattle.clap.specs.declared.error.kind.ErrorKind.TheVariants as kind
+use Rattle.roster_request.specs.declared.request.Command.{Command}
+use Rattle.roster_request.specs.declared.request.Command.TheVariants as command
+use Rattle.roster_request.specs.declared.request.CliFault.{CliFault}
+use Rattle.roster_request.specs.declared.request.CliFault.TheVariants as fault
+use Rattle.roster_request.specs.declared.request.Request.{Request}
+use Rattle.roster_request.specs.Limits.{most_from, most_rounds}
+
+-- any number of files
+abbrev pub files_rule : Rule
+files_rule = record (new_rule (codes "FILE")) {
+  action = Some action.Append;
+  range = Some (record { start_inclusive = 0; end_inclusive = usize_max });
+}
+
+-- a nurse's name, which has to be given
+abbrev pub nurse_rule : Rule
+nurse_rule = record (new_rule (codes "nurse")) {
+  long = Some (codes "nurse");
+  action = Some action.Set;
+  value_names = 1;
+  required = true;
+}
+
+-- how many rounds a run may make; where it isn't given, 100
+abbrev pub rounds_rule : Rule
+rounds_rule = record (new_rule (codes "rounds")) {
+  long = Some (codes "rounds");
+  action = Some action.Set;
+  value_names = 1;
+  parser = Some (parser.Signed (pos 0) (pos most_rounds));
+  defaults = codes "100" ∷ [];
+}
+
+-- the first week that may change; where it isn't given, 0
+abbrev pub from_rule : Rule
+from_rule = record (new_rule (codes "from")) {
+  long = Some (codes "from");
+  action = Some action.Set;
+  value_names = 1;
+  parser = Some (parser.Signed (pos 0) (pos most_from));
+  defaults = codes "0" ∷ [];
+}
+
+-- a command that reads files
+abbrev pub command_of : Text → App
+command_of name = with_rule (new_app name) files_rule
+
+-- one with arguments of its own
+abbrev pub own_command_of : List Rule → Text → App
+own_command_of rules name = with_rule (fold with_rule (new_app name) rules) files_rule
+
+-- the program before its commands: it has a version, and one of its commands is wanted
+abbrev pub bare : App
+bare = record {
+  top = record (new_app (codes "roster")).top { has_version = true; subcommand_required = true; arg_required_else_help = true };
+  subs = [];
+}
+
+-- the commands, in the order of the help
+abbrev pub commands : List Shape
+commands =
+    (command_of (codes "show")).top ∷ (command_of (codes "cost")).top ∷ (command_of (codes "sizes")).top
+    ∷ (own_command_of (nurse_rule ∷ from_rule ∷ []) (codes "best")).top ∷ (own_command_of (rounds_rule ∷ from_rule ∷ []) (codes "improve")).top ∷ []
+
+-- the program's definition for clap
+abbrev pub program : App
+program = fold with_subcommand bare commands
+
+-- a command's name
+abbrev pub name_of : Command → Text
+name_of command.Show = codes "show"
+name_of command.Cost = codes "cost"
+name_of command.Sizes = codes "sizes"
+name_of (command.Best nurse from) = codes "best"
+name_of (command.Improve rounds from) = codes "improve"
+
+-- it is the name of one of these commands
+abbrev pub IsNameOf : List Shape → Text → Type 0
+IsNameOf [] name = ⊥
+IsNameOf (first ∷ rest) name = (name ≡ first.name) ⊎ IsNameOf rest name
+
+-- where a command was met that is for a nurse, its matches have the nurse's name
+abbrev pub HasNurse : Option (Text × List Row) → Type 0
+HasNurse None = Unit {0}
+HasNurse (Some met) = met.0 ≡ codes "best" → is_some (first_of (codes "nurse") met.1) ≡ true
+
+-- the text that clap has for an argument of this name, as it was given and as it is read, is a number from 0 to the greatest
+pub record HasNumber (name : Text) (most : ℕ) (rows : List Row) : Type 0 where
+  pub text : Text
+  pub read : one_of name rows ≡ Some (without_minus text)
+  pub within : IsSignedIn (pos 0) (pos most) text
+
+abbrev pub HasRounds : List Row → Type 0
+HasRounds rows = HasNumber (codes "rounds") most_rounds rows
+
+abbrev pub HasFrom : List Row → Type 0
+HasFrom rows = HasNumber (codes "from") most_from rows
+
+-- where this command was met, its matches have the number
+abbrev pub Meets : Text → (List Row → Type 0) → Option (Text × List Row) → Type 0
+Meets command has None = Unit {0}
+Meets command has (Some met) = met.0 ≡ command → has met.1
+
+-- the files among the matches of a command
+abbrev pub files_in : List Row → List Text
+files_in rows = unwrap_or (all_of (codes "FILE") rows) []
+
+-- it is the number, of 16 bits, of the text that clap reads for an argument of this name: the text given, or else its rule's default
+pub record IsNumberOf (name : Text) (number : ℕ) (rows : List Row) : Type 0 where
+  pub text : Text
+  pub read : one_of name rows ≡ Some text
+  pub numeral : IsNumeral 10 (without_leading_plus text)
+  pub fits : number < 2 ^ 16
+  pub value : number ≡ digits_value 10 (without_leading_plus text)
+
+-- the command's own arguments are those among its matches
+abbrev pub HasArguments : Command → List Row → Type 0
+HasArguments (command.Best nurse from) rows = (first_of (codes "nurse") rows ≡ Some (string_bytes nurse)) × IsNumberOf (codes "from") from rows
+HasArguments (command.Improve rounds from) rows = IsNumberOf (codes "rounds") rounds rows × IsNumberOf (codes "from") from rows
+HasArguments _ rows = Unit {0}
+
+-- the rounds of a command that has some are within their limit, and its first week within that of weeks
+abbrev pub IsInRange : Command → Type 0
+IsInRange (command.Best nurse from) = from ≤ most_from
+IsInRange (command.Improve rounds from) = (rounds ≤ most_rounds) × (from ≤ most_from)
+IsInRange _ = Unit {0}
+
+-- the command that was met, by its name and its matches, is that of the request, with its arguments and its files
+pub record IsAskedIn (met : Option (Text × List Row)) (r : Request) : Type 0 where
+  pub rows : List Row
+  pub command : met ≡ Some (name_of r.command, rows)
+  pub arguments : HasArguments r.command rows
+  pub files : map string_bytes r.files.items ≡ files_in rows
+
+-- the request is what clap's matches give for the words
+abbrev pub IsAsked : List Text → Request → Type 0
+IsAsked words r = IsAskedIn (subcommand_of program words) r
+
+-- help or the version was asked for
+abbrev pub is_help : ErrorKind → Bool
+is_help kind.DisplayHelp = true
+is_help kind.DisplayVersion = true
+is_help _ = false
+
+-- an error of this kind is told as want of memory, help or a mistake
+abbrev pub TellsKind : ErrorKind → CliFault → Type 0
+TellsKind k fault.Memory = Unit {0}
+TellsKind k (fault.Usage text) = (k ≢ kind.OutOfMemory) × (is_help k ≡ false)
+TellsKind k (fault.Help text) = (k ≢ kind.OutOfMemory) × (is_help k ≡ true)
+
+-- clap's definition doesn't take the words, and p holds of a kind of fault that they have
+pub record IsRefused (p : ErrorKind → Bool) (words : List Text) : Type 0 where
+  pub untaken : takes program words ≡ false
+  pub kind : list_any p (fault_of program words) ≡ true
+
+-- why words are refused, where memory is found
+abbrev pub Refuses : List Text → CliFault → Type 0
+Refuses words fault.Memory = Unit {0}
+Refuses words (fault.Usage text) = IsRefused (λ k. not (is_help k)) words
+Refuses words (fault.Help text) = IsRefused is_help words
+
+-- its text isn't empty
+abbrev pub HasText : CliFault → Type 0
+HasText fault.Memory = Unit {0}
+HasText (fault.Usage text) = string_bytes text ≢ []
+HasText (fault.Help text) = string_bytes text ≢ []

@@ -1,0 +1,60 @@
+//! What a command line can ask for, and why words are no request.
+
+ghost use Rattle.std.specs.Prelude.{◌≡◌};
+
+use std::alloc::{AllocError, AllocFailed};
+
+/// What the program is to do.
+#[derive(Debug, Drop)]
+pub enum Command {
+    /// Writes the solutions that it was given, in canonical form.
+    Show,
+    /// Writes what the roster costs by each soft rule, where it keeps the hard rules.
+    Cost,
+    /// Writes how much the search for each nurse takes.
+    Sizes,
+    /// Writes the solutions with the best row of the nurse of this name put in, also where it isn't cheaper. The weeks before week
+    /// `from` stay as they are.
+    Best { nurse: String, from: u16 },
+    /// Writes the solutions after a run of the improver of at most so many rounds. The weeks before week `from`
+    /// stay as they are.
+    Improve { rounds: u16, from: u16 },
+}
+
+/// A command with the files that it reads, in order. With none it reads standard input.
+#[derive(Debug, Drop)]
+pub struct Request {
+    pub command: Command,
+    pub files: Vec<String>,
+}
+
+/// Why words are no request.
+#[derive(Debug, Drop)]
+pub enum CliFault {
+    /// A growth was refused.
+    Memory,
+    /// The words are no command line of the program. The text says why.
+    Usage(String),
+    /// The words ask for help or for the version. The text is what they ask for.
+    Help(String),
+}
+
+impl From<AllocError> for CliFault {
+    ghost use Rattle.roster_request.specs.declared.request.CliFault.TheVariants.{Memory};
+
+    ghost from_gives = { λ _ e. e ≡ Memory };
+
+    fn from(_e: AllocError) -> CliFault {
+        CliFault::Memory
+    }
+}
+
+impl<T: Drop> From<AllocFailed<T>> for CliFault {
+    ghost use Rattle.roster_request.specs.declared.request.CliFault.TheVariants.{Memory};
+
+    ghost from_gives = { λ _ e. e ≡ Memory };
+
+    fn from(_e: AllocFailed<T>) -> CliFault {
+        CliFault::Memory
+    }
+}

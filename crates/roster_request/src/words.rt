@@ -1,0 +1,146 @@
+//! From words to a request.
+
+ghost use Rattle.std.specs.Prelude.{◌≡◌, ◌≢◌, ◌≤◌, [], Some, codes, IfOk, IfErr, OnOk, IsSomeAnd, is_some, true, map, string_bytes};
+ghost use Rattle.clap.specs.Words.{fault_of, first_of, found_of, kind_of, rows_of, subcommand_rows_of};
+ghost use Rattle.roster_request.specs.CommandLine.{HasArguments, HasFrom, HasNurse, HasRounds, HasText, IsAsked, IsAskedIn, IsInRange, IsNameOf, IsNumberOf, Meets, Refuses, TellsKind, commands, files_in, name_of, program};
+ghost use Rattle.roster_request.specs.Limits.{most_from, most_rounds};
+
+use crate::program::{FILES, FROM, NURSE, ROUNDS, program};
+use crate::request::{CliFault, Command, Request};
+use crate::texts::EXAMPLES;
+use clap::ArgMatches;
+use clap::error::ErrorKind;
+use std::alloc::{AllocError, Global};
+use std::convert::AsStr;
+
+/// What the words of a command line ask for. The program's name is the first of them.
+pub fn request_of<S: AsStr>(alloc: Global, words: &[S]) -> Result<Request, CliFault>
+    // The command with its arguments, and the files, are those that clap's matches give for the words.
+    ensures request { IfOk result (IsAsked (map S.text words.now)) }
+    // The rounds of a run and the first week that may change are within their limits.
+    ensures range { IfOk result (λ r. IsInRange r.command) }
+    ensures faultless { OnOk result (fault_of program (map S.text words.now) ≡ []) }
+    ensures refusal { IfErr result (Refuses (map S.text words.now)) }
+    ensures text { IfErr result HasText }
+{
+    match program(alloc)?.try_get_matches_from(words) {
+        Ok(matches) => request_in(alloc, &matches),
+        Err(error) => Err(refusal(alloc, &error)),
+    }
+}
+
+fn request_in(alloc: Global, matches: &ArgMatches<'_>) -> Result<Request, CliFault>
+    requires met { IsSomeAnd (subcommand_rows_of matches.now) (λ met. IsNameOf commands met.0) }
+    requires nurse { HasNurse (subcommand_rows_of matches.now) }
+    requires rounds { Meets (codes "improve") HasRounds (subcommand_rows_of matches.now) }
+    requires best_from { Meets (codes "best") HasFrom (subcommand_rows_of matches.now) }
+    requires improve_from { Meets (codes "improve") HasFrom (subcommand_rows_of matches.now) }
+    ensures request { IfOk result (IsAskedIn (subcommand_rows_of matches.now)) }
+    ensures range { IfOk result (λ r. IsInRange r.command) }
+    ensures memory { IfErr result (λ e. e ≡ CliFault.Memory) }
+{
+    let Some((name, given)) = matches.subcommand() else {
+        unreachable!()
+    };
+    Ok(Request {
+        command: command_in(alloc, name, given)?,
+        files: files_of(alloc, given)?,
+    })
+}
+
+/// The command of this name, with its own arguments.
+fn command_in(alloc: Global, name: &str, given: &ArgMatches<'_>) -> Result<Command, AllocError>
+    requires name { IsNameOf commands name.now }
+    requires nurse { name.now ≡ codes "best" → is_some (first_of (codes "nurse") (rows_of (found_of given.now))) ≡ true }
+    requires rounds { name.now ≡ codes "improve" → HasRounds (rows_of (found_of given.now)) }
+    requires best_from { name.now ≡ codes "best" → HasFrom (rows_of (found_of given.now)) }
+    requires improve_from { name.now ≡ codes "improve" → HasFrom (rows_of (found_of given.now)) }
+    ensures name { IfOk result (λ command. name_of command ≡ name.now) }
+    ensures arguments { IfOk result (λ command. HasArguments command (rows_of (found_of given.now))) }
+    ensures range { IfOk result IsInRange }
+{
+    match name {
+        "show" => Ok(Command::Show),
+        "cost" => Ok(Command::Cost),
+        "sizes" => Ok(Command::Sizes),
+        "best" => Ok(Command::Best {
+            nurse: nurse_of(alloc, given)?,
+            from: from_of(given),
+        }),
+        "improve" => Ok(Command::Improve {
+            rounds: rounds_of(given),
+            from: from_of(given),
+        }),
+        _ => unreachable!(),
+    }
+}
+
+/// The nurse's name, which `clap` asks for.
+fn nurse_of(alloc: Global, given: &ArgMatches<'_>) -> Result<String, AllocError>
+    requires { is_some (first_of (codes "nurse") (rows_of (found_of given.now))) ≡ true }
+    ensures { IfOk result (λ nurse. first_of (codes "nurse") (rows_of (found_of given.now)) ≡ Some (string_bytes nurse)) }
+{
+    let Some(nurse) = given.get_str(NURSE) else {
+        unreachable!()
+    };
+    String::from_str(alloc, nurse)
+}
+
+/// The number of rounds, which `clap` has read in its range, or has by its default.
+fn rounds_of(given: &ArgMatches<'_>) -> u16
+    requires { HasRounds (rows_of (found_of given.now)) }
+    ensures rounds { IsNumberOf (codes "rounds") result (rows_of (found_of given.now)) }
+    ensures range { result ≤ most_rounds }
+{
+    let Some(rounds) = given.get_one::<u16>(ROUNDS) else {
+        unreachable!()
+    };
+    rounds
+}
+
+/// The first week that may change, which `clap` has read in its range, or has by its default.
+fn from_of(given: &ArgMatches<'_>) -> u16
+    requires { HasFrom (rows_of (found_of given.now)) }
+    ensures from { IsNumberOf (codes "from") result (rows_of (found_of given.now)) }
+    ensures range { result ≤ most_from }
+{
+    let Some(from) = given.get_one::<u16>(FROM) else {
+        unreachable!()
+    };
+    from
+}
+
+fn files_of(alloc: Global, given: &ArgMatches<'_>) -> Result<Vec<String>, AllocError>
+    ensures { IfOk result (λ files. map string_bytes files.items ≡ files_in (rows_of (found_of given.now))) }
+{
+    let mut files = Vec::new(alloc);
+    for file in given.get_strs(FILES).unwrap_or(&[]) {
+        files.push(String::from_str(alloc, file)?)?;
+    }
+    Ok(files)
+}
+
+fn refusal(alloc: Global, error: &clap::Error) -> CliFault
+    ensures kind { TellsKind (kind_of error.now) result }
+    ensures text { HasText result }
+{
+    if error.kind() == ErrorKind::OutOfMemory {
+        return CliFault::Memory;
+    }
+    match text_of(alloc, error) {
+        Err(_) => CliFault::Memory,
+        Ok(text) if error.use_stderr() => CliFault::Usage(text),
+        Ok(text) => CliFault::Help(text),
+    }
+}
+
+/// The text of an error. `clap` promises none, so where it is empty the examples stand for it.
+fn text_of(alloc: Global, error: &clap::Error) -> Result<String, AllocError>
+    ensures { IfOk result (λ text. string_bytes text ≢ []) }
+{
+    let text = error.to_string(alloc)?;
+    if text.is_empty() {
+        return String::from_str(alloc, EXAMPLES);
+    }
+    Ok(text)
+}

@@ -1,7 +1,0 @@
-use Rattle.std.proofs.Common.{take}
-use Rattle.std.specs.List.{All}
-use Rattle.roster_search.specs.Tables.{LeadsOn}
-use Rattle.roster_search.proofs.stand.areas_behind.Given as goal
-
-abbrev pub invariant-loop-place : goal.invariant-loop-place
-invariant-loop-place l = All (LeadsOn l.case l.at l.areas l.behind) (take l.place l.offers)
