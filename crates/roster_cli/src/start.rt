@@ -8,8 +8,8 @@ ghost use Rattle.roster_cli.specs.Start.{AnswersWords, Sends, TellsWords};
 
 use roster_commands::{refuse, refuse_output, run};
 use roster_joined::Joined;
-use roster_text::{TextFault, Watch, write_bytes};
 use roster_request::{CliFault, Request, request_of};
+use roster_text::{TextFault, Watch, write_bytes};
 use std::alloc::Global;
 use std::io::{BufWriter, ErrorKind, Read, Write};
 use std::rt::{Env, Files};

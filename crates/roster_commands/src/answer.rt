@@ -8,8 +8,8 @@ use crate::commands::report;
 use crate::fault::Fault;
 use crate::lines::tell;
 use crate::reading::read_instance;
-use roster_text::{Watch, read_all};
 use roster_request::{Command, Request};
+use roster_text::{Watch, read_all};
 use std::alloc::Global;
 use std::io::{Read, Write};
 

@@ -16,8 +16,8 @@ use crate::improve::improve;
 use crate::reading::Instance;
 use roster_case::{Case, Roster, costs};
 use roster_reports::{write_costs, write_sizes, write_weeks};
-use roster_text::Watch;
 use roster_request::Command;
+use roster_text::Watch;
 use std::alloc::Global;
 use std::io::Write;
 

@@ -463,12 +463,7 @@ fn set_run(
     };
     let after = step.0.code(&at.ranges) as usize;
     let end = after + labels.len();
-    set_all(
-        labels,
-        &day.later[after..end],
-        offer.price + step.1,
-        NO_ROW,
-    );
+    set_all(labels, &day.later[after..end], offer.price + step.1, NO_ROW);
     numbers.fill(place as u8);
     true
 }
