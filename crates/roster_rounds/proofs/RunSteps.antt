@@ -20,7 +20,7 @@ use Rattle.roster_rounds.proofs.Sent.{BreaksAmong-after, BreaksAmong-front, Brea
 -- ---- a run, a round at a time
 
 -- what follows a round
-after : Meaning → BestRows → ℕ → ℕ → Rows → Bool → List Entry
+following : Meaning → BestRows → ℕ → ℕ → Rows → Bool → List Entry
 following c best k m r true = entry settled r ∷ []
 following c best k m r false = entries_from c best (k + 1) m (round c best r)
 

@@ -10,7 +10,7 @@ at_first : {A : Type 0} (cost : A → ℕ) (x : A) (xs : List A) → All (λ y. 
 at_first cost x xs h = record { before = []; after = xs; split = refl; dearer = All-nil (λ y. cost x < cost y); least = h }
 
 -- the answer stands after a dearer one
-after : {A : Type 0} (cost : A → ℕ) (x y : A) (xs : List A) → cost y < cost x → IsFirstLeast cost xs y → IsFirstLeast cost (x ∷ xs) y
+following : {A : Type 0} (cost : A → ℕ) (x y : A) (xs : List A) → cost y < cost x → IsFirstLeast cost xs y → IsFirstLeast cost (x ∷ xs) y
 following cost x y xs h f = record {
   before = x ∷ f.before;
   after = f.after;
