@@ -39,7 +39,7 @@ pub fn choices(held: &Held, nurse: usize, day: u16, from: u16) -> ArrayVec<Offer
     ensures few { length result.items ≤ 65 }
 {
     // The roster keeps the hard rules: so the present choice is one of those that are open.
-    let _ = held.roster();
+    held.keeps_rules();
     if day / 7 < from {
         return present_choice(held, nurse, day);
     }
@@ -52,7 +52,7 @@ fn present_choice(held: &Held, nurse: usize, day: u16) -> ArrayVec<Offer, 65>
     requires day { day < day_count held.now.case }
     ensures offer { result.items ≡ offer_of held.now.case held.now.roster nurse day (choice_on (row_of held.now.roster nurse) day) ∷ [] }
 {
-    let _ = held.roster();
+    held.keeps_rules();
     let without = lacking_without(held, nurse, day);
     let choice = held.row(nurse)[day as usize];
     let lack = lacking_by(held, nurse, day, choice, without);

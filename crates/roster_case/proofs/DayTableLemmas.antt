@@ -12,8 +12,8 @@ use Rattle.roster_instance.specs.Counting.{one_if}
 use Rattle.roster_instance.specs.Limits.{most_nurses}
 use Rattle.roster_instance.specs.Meaning.{Meaning, need, optimum, shift_at, shift_count, skill_at, skill_count}
 use Rattle.roster_instance.specs.Rosters.{Row, Rows, choice_on, cover, is_choice_of, row_of}
-use Rattle.roster_rules.specs.Covers.{AreCovers}
-use Rattle.roster_case.specs.DayTables.{HasPlace, IsCounted, IsTable, number_at}
+use Rattle.roster_rules.specs.Covers.{AreCovers, IsTable, number_at}
+use Rattle.roster_case.specs.DayTables.{HasPlace, IsCounted}
 use Rattle.roster_laws.specs.OneRow.{others}
 use Rattle.roster_laws.specs.Staffing.{lacking, with_choice}
 use Rattle.roster_laws.proofs.Lacking.{lacking-work}

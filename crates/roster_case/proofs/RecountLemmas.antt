@@ -6,8 +6,7 @@ use Rattle.roster_instance.specs.declared.choice.Choice.{Choice}
 use Rattle.roster_instance.specs.Counting.{sum_below}
 use Rattle.roster_instance.specs.Meaning.{Meaning, optimum}
 use Rattle.roster_instance.specs.Rosters.{Row, Rows, choice_on, cover, row_of, with_row}
-use Rattle.roster_rules.specs.Covers.{AreCovers}
-use Rattle.roster_case.specs.DayTables.{IsTable, number_at}
+use Rattle.roster_rules.specs.Covers.{AreCovers, IsTable, number_at}
 use Rattle.roster_laws.specs.OneRow.{others}
 use Rattle.roster_laws.specs.Staffing.{lacking, with_choice}
 use Rattle.roster_case.proofs.DayTableLemmas.{cover-parts}

@@ -97,6 +97,14 @@ impl Held {
         &self.roster
     }
 
+    /// A law: the roster fits the case and keeps the hard rules.
+    pub fn keeps_rules(&self)
+        ensures fits { fits_case self.now.case self.now.roster ≡ true }
+        ensures keeps { keeps_hard self.now.case self.now.roster ≡ true }
+    {
+        self.roster();
+    }
+
     /// The choices of a nurse, one for each day.
     pub fn row(&self, nurse: usize) -> &[Choice]
         ensures row { result.now ≡ row_of self.now.roster nurse }

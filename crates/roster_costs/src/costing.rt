@@ -7,9 +7,11 @@ ghost use Rattle.roster_rules.specs.Penalties.{costs_of, nurse_cost, total_cost}
 ghost use Rattle.roster_rules.specs.Room.{most_staffing, penalty_room};
 ghost use Rattle.roster_instance.specs.Rosters.{fits_case};
 
+use crate::requests::{off_request_cost, wish_cost};
 use crate::runs::{free_run_cost, shift_run_cost, working_run_cost};
 use crate::staffing::staffing_cost;
-use crate::weekends::{off_request_cost, split_cost, totals_cost, weekends_cost, wish_cost};
+use crate::totals::totals_cost;
+use crate::weekends::{split_cost, weekends_cost};
 use roster_instance::{Case, Choice, Roster};
 use roster_rules::Costs;
 

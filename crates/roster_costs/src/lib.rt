@@ -7,8 +7,10 @@
 
 mod costing;
 mod hard;
+mod requests;
 mod runs;
 mod staffing;
+mod totals;
 mod weekends;
 
 pub use costing::{costs, nurse_cost};

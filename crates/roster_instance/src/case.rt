@@ -20,7 +20,7 @@ use crate::fault::CaseFault;
 use crate::history::past_of;
 use crate::rules::{Border, ContractRules, DayRequests, Limits, Past};
 use crate::scenario::Scenario;
-use crate::sizes::{greatest_cap, state_count};
+use crate::sizes::{contract_of, greatest_cap, state_count};
 use crate::table::Table;
 use crate::week::{Week, weeks_of};
 use roster_bundle::{Bundle, Nurse};
@@ -301,10 +301,7 @@ impl Case {
         ensures rules { result ≡ contract_of self.now nurse }
         ensures small { HasSmallRules result }
     {
-        match self.scenario.contract_rules.get(self.contract(nurse)) {
-            Some(rules) => *rules,
-            None => ContractRules::default(),
-        }
+        contract_of(&self.scenario, nurse)
     }
 
     /// A nurse's skills, in the order of the nurse's line, at most 8.

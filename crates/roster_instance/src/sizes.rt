@@ -23,7 +23,8 @@ pub(crate) fn state_count(scenario: &Scenario, nurse: usize) -> u128
     shifts * run * shift_run * assignments * weekends
 }
 
-fn contract_of(scenario: &Scenario, nurse: usize) -> ContractRules
+/// The rules of a nurse's contract.
+pub(crate) fn contract_of(scenario: &Scenario, nurse: usize) -> ContractRules
     ensures { result ≡ contract_of (case_of scenario.now [] []) nurse }
 {
     let contract = match scenario.nurse_rules.get(nurse) {

@@ -5,7 +5,7 @@ use Rattle.roster_instance.specs.Days.{Days, split_weekends}
 use Rattle.roster_instance.specs.Meaning.{Meaning, contract_of, day_count, nurse_count, shift_count, skill_count}
 use Rattle.roster_rules.specs.Penalties.{breaks_off_request, meets_wishes, costs_of, free_run_cost, off_request_cost, over_nurses, penalty, run_cost_of_shift, shift_run_cost, split_cost, staffing_cost, staffing_cost_of_day, staffing_cost_of_place, totals_cost, weekends_cost, wish_cost, working_run_cost}
 use Rattle.roster_rules.specs.Weights.{staffing_weight, working_run_weight, shift_run_weight, free_run_weight, off_request_weight, split_weight, assignment_weight, weekend_weight, wish_weight}
-use Rattle.roster_instance.specs.Rosters.{Rows, days_of_nurse}
+use Rattle.roster_instance.specs.Rosters.{Rows, cover, days_of_nurse}
 
 abbrev pub IsFive : ℕ → Type 0
 IsFive n = n % 5 ≡ 0
@@ -54,7 +54,7 @@ by_weekend n = omega arith
 
 module _ (c : Meaning) where
   staffing_is : (r : Rows) → IsFive (staffing_cost c r)
-  staffing_is r = sum_is (day_count c) (staffing_cost_of_day c r) (λ d. sum_is (shift_count c) _ (λ s. sum_is (skill_count c) (staffing_cost_of_place c r d s) (λ k. by_staffing _)))
+  staffing_is r = sum_is (day_count c) (staffing_cost_of_day c r) (λ d. sum_is (shift_count c) _ (λ s. sum_is (skill_count c) (staffing_cost_of_place c d (cover r d) s) (λ k. by_staffing _)))
 
   runs_are : (n : ℕ) (days : Days) → IsFive (working_run_cost c n days + shift_run_cost c n days)
   runs_are n days = plus (working_run_cost c n days) (shift_run_cost c n days) (by_working_run _) (sum_is (shift_count c) (run_cost_of_shift c n days) (λ s. by_shift_run _))

@@ -7,10 +7,10 @@ use Rattle.roster_instance.specs.declared.choice.Skill.{Skill}
 use Rattle.roster_instance.specs.Counting.{all_below, one_if, sum_below}
 use Rattle.roster_instance.specs.Meaning.{Meaning, day_count, minimum, optimum, shift_count, skill_count}
 use Rattle.roster_instance.specs.Rosters.{Rows, cover}
-use Rattle.roster_rules.specs.Penalties.{staffing_cost}
+use Rattle.roster_rules.specs.Penalties.{staffing_cost, staffing_cost_by}
 use Rattle.roster_rules.specs.Weights.{staffing_weight}
 use Rattle.roster_rules.proofs.RunSums.{sum_same}
-use Rattle.roster_laws.specs.Staffing.{lacking, meets, staffing_cost_by, with_choice}
+use Rattle.roster_laws.specs.Staffing.{lacking, meets, with_choice}
 use Rattle.roster_laws.proofs.Below.{sum_at}
 
 sum_changed : (m n : ℕ) (f g : ℕ → ℕ) → n < m → ((k : ℕ) → (k ≡ n → ⊥) → f k ≡ g k) → sum_below m f + g n ≡ sum_below m g + f n

@@ -7,8 +7,8 @@ use Rattle.roster_instance.specs.Meaning.{Meaning, day_count, nurse_at, nurse_co
 use Rattle.roster_instance.specs.Rosters.{Row, Rows, choice_on, cover, days_of_nurse, row_of, with_row}
 use Rattle.roster_rules.specs.AllowedRows.{keeps_frozen_day}
 use Rattle.roster_rules.specs.HardRules.{breaks_succession, is_able, keeps_skills, keeps_successions}
-use Rattle.roster_rules.specs.Penalties.{nurse_cost, request_cost_on}
-use Rattle.roster_laws.specs.Staffing.{meets, staffing_cost_by, with_choice}
+use Rattle.roster_rules.specs.Penalties.{nurse_cost, request_cost_on, staffing_cost_by}
+use Rattle.roster_laws.specs.Staffing.{meets, with_choice}
 
 -- ---- the penalty
 

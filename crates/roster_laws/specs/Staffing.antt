@@ -1,19 +1,14 @@
 -- The staffing of a day, by how many nurses work each shift with each skill.
-use Rattle.std.specs.Prelude.{ℕ, ◌+◌, ◌-◌, ◌*◌, Bool, not, nat_lt}
+use Rattle.std.specs.Prelude.{ℕ, ◌+◌, ◌-◌, Bool, not, nat_lt}
 use Rattle.roster_instance.specs.declared.choice.Choice.{Choice}
 use Rattle.roster_instance.specs.declared.choice.Choice.TheVariants.{Work}
 use Rattle.roster_instance.specs.Choices.{same_choice}
 use Rattle.roster_instance.specs.Counting.{all_below, one_if, sum_below}
-use Rattle.roster_instance.specs.Meaning.{Meaning, minimum, optimum, shift_at, shift_count, skill_at, skill_count}
-use Rattle.roster_rules.specs.Weights.{staffing_weight}
+use Rattle.roster_instance.specs.Meaning.{Meaning, minimum, shift_at, shift_count, skill_at, skill_count}
 
 -- one nurse more, with this choice
 abbrev pub with_choice : (ℕ → ℕ → ℕ) → Choice → ℕ → ℕ → ℕ
 with_choice have choice s k = have s k + one_if (same_choice choice (Work (shift_at s) (skill_at k)))
-
--- what the missing nurses of a day cost, and whether no minimum is missed
-abbrev pub staffing_cost_by : Meaning → ℕ → (ℕ → ℕ → ℕ) → ℕ
-staffing_cost_by c d have = sum_below (shift_count c) (λ s. sum_below (skill_count c) (λ k. staffing_weight * (optimum c d s k - have s k)))
 
 -- no minimum of the day is missed
 abbrev pub meets : Meaning → ℕ → (ℕ → ℕ → ℕ) → Bool

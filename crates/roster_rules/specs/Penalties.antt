@@ -14,11 +14,16 @@ use Rattle.roster_rules.specs.Weights.{staffing_weight, working_run_weight, shif
 
 -- ---- staffing: points for each nurse missing to the optimum of a day, shift and skill
 
-abbrev pub staffing_cost_of_place : Meaning → Rows → ℕ → ℕ → ℕ → ℕ
-staffing_cost_of_place c r d s k = staffing_weight * (optimum c d s k - cover r d s k)
+-- where so many nurses have each shift and skill of a day: at a place, and on the whole day
+abbrev pub staffing_cost_of_place : Meaning → ℕ → (ℕ → ℕ → ℕ) → ℕ → ℕ → ℕ
+staffing_cost_of_place c d have s k = staffing_weight * (optimum c d s k - have s k)
 
+abbrev pub staffing_cost_by : Meaning → ℕ → (ℕ → ℕ → ℕ) → ℕ
+staffing_cost_by c d have = sum_below (shift_count c) (λ s. sum_below (skill_count c) (staffing_cost_of_place c d have s))
+
+-- a day of a roster
 abbrev pub staffing_cost_of_day : Meaning → Rows → ℕ → ℕ
-staffing_cost_of_day c r d = sum_below (shift_count c) (λ s. sum_below (skill_count c) (staffing_cost_of_place c r d s))
+staffing_cost_of_day c r d = staffing_cost_by c d (cover r d)
 
 -- S1: all days together
 abbrev pub staffing_cost : Meaning → Rows → ℕ

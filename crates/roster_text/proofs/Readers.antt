@@ -81,6 +81,10 @@ nothing_spelled : (front : List Seen) → Spelled [] front → front ≡ []
 nothing_spelled [] s = refl
 nothing_spelled (t ∷ ts) s = absurd s
 
+pub nothing_due : (done due : List Pattern) (p : Pattern) → (let none : List Pattern = [] in none ≡ done ++ p ∷ due) → ⊥
+nothing_due [] due p e = cc
+nothing_due (d ∷ done) due p e = cc
+
 pub done_reader : {B : Type 0} (V : B → Type 0) (b : B) → V b → ((x : B) → V x → x ≡ b) → Reader V (λ _. []) (λ ts. Ok (b, ts))
 done_reader V b valid only = record {
   sound = λ ts rest x e. record { valid = subst V (same_value b x ts rest (Ok (b, ts)) refl e) valid; takes = record { front = []; split = same_rest b x ts rest (Ok (b, ts)) refl e; spelled = tt } };
@@ -89,10 +93,6 @@ done_reader V b valid only = record {
   stops = λ ts r left e. absurd cc;
   ends = λ x done due p front more v e s m. absurd (nothing_due done due p e);
 }
-  where
-    nothing_due : (done due : List Pattern) (p : Pattern) → (let none : List Pattern = [] in none ≡ done ++ p ∷ due) → ⊥
-    nothing_due [] due p e = cc
-    nothing_due (d ∷ done) due p e = cc
 
 -- ---- a field, and then the rest
 

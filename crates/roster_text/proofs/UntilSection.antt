@@ -16,7 +16,7 @@ use Rattle.roster_text.specs.Words.{keyword_text}
 use Rattle.roster_text.specs.Grammar.{Pattern, fixed, name, Fits, Spelled, label, is_name, lines_until}
 use Rattle.roster_text.specs.Reading.{Read, ◌>>=◌, begins_section, until_with, until_at}
 use Rattle.roster_text.proofs.Spelling.{spelled_append, parted, cut}
-use Rattle.roster_text.proofs.Readers.{Reader, Stops, Example, Takes, same_value, same_rest}
+use Rattle.roster_text.proofs.Readers.{Reader, Stops, Example, Takes, nothing_due, same_value, same_rest}
 use Rattle.roster_text.proofs.Several.{every}
 
 -- A line begins with a name, and after it something is due that is no `=`.
@@ -396,10 +396,6 @@ module _ {A : Type 0} (pat : A → List Pattern) (read : List Seen → Read A) (
       lone_stops t text ∙ ap (λ (q : Pattern). err_of (Due (label q), [])) same
   until_ends [] (d ∷ []) due p (t ∷ u ∷ us) more e s m = absurd s.1
   until_ends [] (d ∷ c ∷ done) due p front more e s m = absurd (let tails : [] ≡ done ++ p ∷ due = cc in nothing_due done due p tails)
-    where
-      nothing_due : (done due : List Pattern) (p : Pattern) → (let none : List Pattern = [] in none ≡ done ++ p ∷ due) → ⊥
-      nothing_due [] due p e = cc
-      nothing_due (d ∷ done) due p e = cc
   until_ends (a ∷ xs) done due p front more e s m =
       elim (cut (pat a) (all xs) done due p (sym (all_cons a xs) ∙ e)) [
         | inl c ↦

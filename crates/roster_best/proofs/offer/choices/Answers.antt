@@ -6,4 +6,4 @@ use Rattle.roster_best.proofs.offer.choices.Goals as goal
 pub returns-then-day-from-clause-offers : goal.returns-then-day-from-clause-offers
 returns-then-day-from-clause-offers c =
     c.present_choice.ensures.offer
-    ∙ sym (offers_frozen c.args.held.now.case c.args.from c.args.held.now.roster c.args.nurse c.args.day c.roster.ensures.fits c.roster.ensures.keeps c.requires.nurse c.requires.day (lt-ltb (c.args.day / 7) c.args.from c.if-day-from.true))
+    ∙ sym (offers_frozen c.args.held.now.case c.args.from c.args.held.now.roster c.args.nurse c.args.day c.keeps_rules.ensures.fits c.keeps_rules.ensures.keeps c.requires.nurse c.requires.day (lt-ltb (c.args.day / 7) c.args.from c.if-day-from.true))

@@ -13,5 +13,5 @@ returns c =
     record {
       offer = offer_alone k rows c.args.nurse c.args.day (slice_index_or c.row.result.now c.args.day Off) (choice_on (row_of rows c.args.nurse) c.args.day) c.new-offers.result.items c.push_some.new.offers.items c.offered.result
           c.push_some.ensures.items c.new-offers.ensures c.offered.ensures (ap (λ (row : List Choice). choice_on row c.args.day) c.row.ensures.row)
-          (present_open k 0 rows c.args.nurse c.args.day c.roster.ensures.fits c.roster.ensures.keeps c.requires.nurse c.requires.day);
+          (present_open k 0 rows c.args.nurse c.args.day c.keeps_rules.ensures.fits c.keeps_rules.ensures.keeps c.requires.nurse c.requires.day);
     }

@@ -4,7 +4,7 @@ use Rattle.roster_instance.specs.Counting.{sum_below}
 use Rattle.roster_instance.specs.Days.{shift_on}
 use Rattle.roster_rules.specs.Penalties.{breaks_off_request}
 use Rattle.roster_rules.specs.Weights.{off_request_weight}
-use Rattle.roster_costs.proofs.weekends.off_request_cost.Given as goal
+use Rattle.roster_costs.proofs.requests.off_request_cost.Given as goal
 
 abbrev pub invariant-loop-day : goal.invariant-loop-day
 invariant-loop-day l = record {
