@@ -17,7 +17,7 @@ use Rattle.roster_search.proofs.search.search_row.Goals.{After-index, After-of-r
 
 -- the best row, and it is low
 found : (c : After-of-ranges) → LowRow (best_over c.args.search.now.case.now c.args.search.now.nurse (offers_on c.args.search.now.offers.now))
-found c = low_over c.args.search.now.case.now c.args.search.now.nurse (offers_on c.args.search.now.offers.now) (λ day within. (c.requires.offers.each day within).of_case) c.keeps_limits.ensures.small c.keeps_limits.ensures.shifts c.keeps_limits.ensures.skills c.keeps_limits.ensures.weeks c.requires.some
+found c = low_over c.args.search.now.case.now c.args.search.now.nurse (offers_on c.args.search.now.offers.now) (λ day within. (c.requires.offers.each day within).of_case) c.keeps_limits.ensures.small c.keeps_limits.ensures.weeks c.requires.some
 
 pub label_days-requires-clause-stand : goal.label_days-requires-clause-stand
 label_days-requires-clause-stand c day within =
