@@ -1,6 +1,7 @@
 pub mod Cheapest
 pub mod RowsByStates
 pub mod RowCosts
+pub mod ByOffers
 pub mod Best
 pub mod LabelLaws
 pub mod CellLaws
@@ -16,3 +17,5 @@ pub mod GroupLaws
 pub mod DayLaws
 pub mod StretchLaws
 pub mod CountLaws
+pub mod SearchLaws
+pub mod LowRows
