@@ -50,7 +50,7 @@ pub fn best_row(
 {
     // The case has small numbers, and the roster keeps the hard rules: so each day has an offer, and there is a best row.
     held.case().keeps_limits();
-    let _ = held.roster();
+    held.keeps_rules();
     let table = offers_of_days(held, nurse, from);
     let Workspace {
         tables,
