@@ -5,10 +5,9 @@ ghost use Rattle.roster_instance.specs.Counting.{sum_below};
 ghost use Rattle.roster_instance.specs.Limits.{most_nurses};
 ghost use Rattle.roster_instance.specs.Meaning.{day_count, nurse_count};
 ghost use Rattle.roster_instance.specs.Rosters.{days_of_nurse, fits_case, is_row_of, with_row};
-ghost use Rattle.roster_rules.specs.Covers.{AreCovers};
+ghost use Rattle.roster_rules.specs.Covers.{AreCovers, number_at};
 ghost use Rattle.roster_rules.specs.Penalties.{nurse_cost};
 ghost use Rattle.roster_rules.specs.Room.{most_staffing};
-ghost use Rattle.roster_case.specs.DayTables.{number_at};
 ghost use Rattle.roster_case.specs.Held.{AreCounts};
 
 use crate::recount::recount;

@@ -4,10 +4,10 @@ ghost use Rattle.std.specs.Prelude.{◌≡◌, ◌+◌, ◌*◌, ◌<◌, ◌≤
 ghost use Rattle.roster_instance.specs.Counting.{one_if};
 ghost use Rattle.roster_instance.specs.Meaning.{day_count, nurse_count, optimum};
 ghost use Rattle.roster_instance.specs.Rosters.{fits_case, is_choice_of, is_row_of, with_row};
-ghost use Rattle.roster_rules.specs.Covers.{AreCovers};
+ghost use Rattle.roster_rules.specs.Covers.{AreCovers, IsTable, number_at};
 ghost use Rattle.roster_rules.specs.Penalties.{staffing_cost};
 ghost use Rattle.roster_rules.specs.Weights.{staffing_weight};
-ghost use Rattle.roster_case.specs.DayTables.{HasPlace, IsCounted, IsTable, number_at};
+ghost use Rattle.roster_case.specs.DayTables.{HasPlace, IsCounted};
 ghost use Rattle.roster_laws.specs.Staffing.{lacking, with_choice};
 
 use roster_costs::place;

@@ -1,16 +1,16 @@
 -- What a day lacks with one nurse more, and that a day which lacks none meets each number.
 use Rattle.std.proofs.Common.{◌≡◌, ◌∙◌, ◌+◌, ◌-◌, ◌*◌, ◌<◌, ◌≤◌, ◌&&◌, ◌==◌, ◌⊎◌, ℕ, zero, suc, Bool, true, false, not, inl, inr, ap, ap₂, arith, refl, sym, nat_lt}
 use Rattle.std.proofs.lemmas.Bool.{cases_lt, eq-eqb, ne_eqb, le-ltb, lt-ltb}
-use Rattle.roster_rules.specs.declared.Choice.TheVariants.{Off, Work}
-use Rattle.roster_rules.specs.declared.Shift.{Shift}
-use Rattle.roster_rules.specs.declared.Skill.{Skill}
-use Rattle.roster_rules.specs.Counting.{all_below, one_if, sum_below}
-use Rattle.roster_rules.specs.Meaning.{Meaning, day_count, minimum, optimum, shift_count, skill_count}
+use Rattle.roster_instance.specs.declared.choice.Choice.TheVariants.{Off, Work}
+use Rattle.roster_instance.specs.declared.choice.Shift.{Shift}
+use Rattle.roster_instance.specs.declared.choice.Skill.{Skill}
+use Rattle.roster_instance.specs.Counting.{all_below, one_if, sum_below}
+use Rattle.roster_instance.specs.Meaning.{Meaning, day_count, minimum, optimum, shift_count, skill_count}
 use Rattle.roster_instance.specs.Rosters.{Rows, cover}
-use Rattle.roster_rules.specs.Penalties.{staffing_cost}
+use Rattle.roster_rules.specs.Penalties.{staffing_cost, staffing_cost_by}
 use Rattle.roster_rules.specs.Weights.{staffing_weight}
 use Rattle.roster_rules.proofs.RunSums.{sum_same}
-use Rattle.roster_laws.specs.Staffing.{lacking, meets, staffing_cost_by, with_choice}
+use Rattle.roster_laws.specs.Staffing.{lacking, meets, with_choice}
 use Rattle.roster_laws.proofs.Below.{sum_at}
 
 sum_changed : (m n : ℕ) (f g : ℕ → ℕ) → n < m → ((k : ℕ) → (k ≡ n → ⊥) → f k ≡ g k) → sum_below m f + g n ≡ sum_below m g + f n

@@ -1,14 +1,14 @@
 -- A roster with one nurse's row replaced: what the other rows give, and what each day of the row adds.
 use Rattle.std.specs.Prelude.{ℕ, ◌+◌, Bool, not, ◌&&◌, ◌==◌, [], length, if◌then◌else◌}
-use Rattle.roster_instance.specs.declared.Choice.{Choice}
+use Rattle.roster_instance.specs.declared.choice.Choice.{Choice}
 use Rattle.roster_instance.specs.Choices.{days_of, shift_of}
 use Rattle.roster_instance.specs.Counting.{all_below, sum_below}
 use Rattle.roster_instance.specs.Meaning.{Meaning, day_count, nurse_at, nurse_count}
 use Rattle.roster_instance.specs.Rosters.{Row, Rows, choice_on, cover, days_of_nurse, row_of, with_row}
 use Rattle.roster_rules.specs.AllowedRows.{keeps_frozen_day}
 use Rattle.roster_rules.specs.HardRules.{breaks_succession, is_able, keeps_skills, keeps_successions}
-use Rattle.roster_rules.specs.Penalties.{nurse_cost, request_cost_on}
-use Rattle.roster_laws.specs.Staffing.{meets, staffing_cost_by, with_choice}
+use Rattle.roster_rules.specs.Penalties.{nurse_cost, request_cost_on, staffing_cost_by}
+use Rattle.roster_laws.specs.Staffing.{meets, with_choice}
 
 -- ---- the penalty
 
