@@ -3,3 +3,4 @@ mod RoundSteps
 mod OneRound
 mod RunSteps
 mod Counts
+mod PutsIn

@@ -2,8 +2,8 @@
 
 ghost use Rattle.std.specs.Prelude.{◌≡◌, ◌+◌, ◌<◌, ◌≤◌, true, not};
 ghost use Rattle.roster_bundle.specs.Limits.{greatest_u64};
-ghost use Rattle.roster_instance.specs.Meaning.{nurse_count};
-ghost use Rattle.roster_rules.specs.AllowedRows.{best_row};
+ghost use Rattle.roster_instance.specs.Meaning.{day_count, nurse_count};
+ghost use Rattle.roster_rules.specs.AllowedRows.{IsBestRow, best_row};
 ghost use Rattle.roster_rules.specs.Improver.{same_rows, step};
 ghost use Rattle.roster_rules.specs.Penalties.{penalty};
 ghost use Rattle.roster_laws.specs.FrozenDays.{FrozenDaysStay};
@@ -15,7 +15,8 @@ use roster_best::{Workspace, best_row};
 use roster_case::Held;
 use roster_state::Meter;
 
-/// Puts a nurse's best row from a week on in where the roster's penalty becomes strictly smaller, and else changes nothing.
+/// Puts a nurse's best row from a week on in where the roster's penalty becomes strictly smaller, and else changes nothing. That row
+/// stands in the workspace afterwards, put in or not.
 pub fn step(
     held: &mut Held,
     nurse: usize,
@@ -32,6 +33,8 @@ pub fn step(
     ensures before { result.before ≡ penalty held.old.case held.old.roster }
     ensures after { result.after ≡ penalty held.old.case held.new.roster }
     ensures changed { result.changed ≡ not (same_rows held.new.roster held.old.roster) }
+    ensures best { IsBestRow held.old.case from held.old.roster nurse workspace.new.row }
+    ensures each_day { meter.old + day_count held.old.case ≤ meter.new }
     ensures counted { meter.new ≤ meter.old + extension_count held.old.case nurse }
     ensures room { SameRoom workspace.old workspace.new }
     ensures fits { fits_space held.old.case workspace.new ≡ true }
