@@ -1,5 +1,5 @@
 -- The best row in a workspace: what the room is, that the row is low and allowed, and what its label says.
-use Rattle.std.proofs.Common.{◌≡◌, ◌∙◌, ◌+◌, ◌*◌, ◌<◌, ◌≤◌, ◌&&◌, ◌==◌, ℕ, true, ap, arith, refl, subst, sym, List, [], ◌∷◌, nat_le, Contains, Option, Some, None, IfSome}
+use Rattle.std.proofs.Common.{◌≡◌, ◌+◌, ◌*◌, ◌<◌, ◌≤◌, ◌&&◌, ◌==◌, ℕ, true, arith, refl, subst, sym, List, [], ◌∷◌, nat_le, Contains, Some}
 use Rattle.std.proofs.lemmas.Bool.{and_parts, eqb-true, leb-true}
 use Rattle.std.proofs.lemmas.List.Elements.{Contains-append_right}
 use Rattle.roster_instance.specs.Limits.{most_nurses, most_shifts, most_skills, most_weeks}
@@ -10,7 +10,7 @@ use Rattle.roster_instance.specs.Small.{HasSmallNumbers}
 use Rattle.roster_rules.specs.AllowedRows.{IsBestRow, penalty_with, row_keeps}
 use Rattle.roster_rules.specs.HardRules.{keeps_hard}
 use Rattle.roster_rules.specs.Penalties.{penalty}
-use Rattle.roster_rules.specs.Prefix.{Summary, due, summary_of}
+use Rattle.roster_rules.specs.Prefix.{due}
 use Rattle.roster_rules.specs.Room.{penalty_room}
 use Rattle.roster_rules.proofs.Bounds.{penalty-within}
 use Rattle.roster_rules.proofs.RowFits.{fits-with_row}
@@ -20,12 +20,8 @@ use Rattle.roster_laws.proofs.Allowed.{allowed_keeps}
 use Rattle.roster_laws.proofs.GreatestLemmas.{greatest_states}
 use Rattle.roster_search.specs.declared.offer.Offer.{Offer}
 use Rattle.roster_search.specs.Offers.{best_by_states, choices_of}
-use Rattle.roster_search.specs.Tables.{label_of, no_row}
-use Rattle.roster_search.proofs.Best.{best_some, is_best, penalty_is}
-use Rattle.roster_search.proofs.BestRoom.{cost_below}
-use Rattle.roster_search.proofs.ReadLaws.{LowRow, low_row}
-use Rattle.roster_best.specs.Workspaces.{Space, fits_space, onward}
-use Rattle.roster_best.proofs.SearchLaws.{onward-first}
+use Rattle.roster_search.proofs.Best.{is_best, penalty_is}
+use Rattle.roster_best.specs.Workspaces.{Space, fits_space}
 
 -- ---- the room of a workspace that fits
 
