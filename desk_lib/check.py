@@ -12,49 +12,54 @@ from desk_lib.texts import DeskError, Texts, shown
 BREACH = re.compile(r"H[234] week \d+ ")
 
 
-def out_of_place(words: Words, solutions: list[tuple[int, int]]) -> list[Finding]:
-    """Solutions whose number isn't that of their place, by the number of the week's word and that week."""
-    found, first = [], {}
-    for place, (at, week) in enumerate(solutions):
-        told = ""
-        if week in first:
-            told = f"; {words.place(first[week])} is of week {week}, too: the same solution may stand twice"
-        first.setdefault(week, at)
+def out_of_place(words: Words, parts: list[Part]) -> list[Finding]:
+    """The solutions that don't stand in the place of their week, and those that stand twice."""
+    found: list[Finding] = []
+    first: dict[int, Part] = {}
+    for place, part in enumerate(parts):
+        head = part[b"SOLUTION"]
+        if not head.lines:
+            continue
+        at, week = head.lines[0][0], head.count
         if week != place:
+            told = twice(words, first[week], part) if week in first else "; put the solutions in the order of the weeks"
             message = f"this solution is of week {week}, and stands in the place of week {place}{told}"
             found.append(Finding(words.offset(at), words.place(at), message))
+        first.setdefault(week, part)
     return found
 
 
-def weeks_of(parts: list[Part]) -> list[tuple[int, int]]:
-    """The number of the word that tells a solution's week, and the week, for each that tells one."""
-    heads = [part[b"SOLUTION"] for part in parts]
-    return [(head.lines[0][0], head.count) for head in heads if head.lines]
+def twice(words: Words, first: Part, second: Part) -> str:
+    """A clause for a second solution of a week."""
+    said = [[words.words[line[0]] + b" %d " % line[1] + words.words[line[2]] for line in part[b"ASSIGNMENTS"].lines] for part in (first, second) if b"ASSIGNMENTS" in part]
+    where = words.place(first[b"SOLUTION"].lines[0][0])
+    return f"; the same solution stands in {where}" if len(said) == 2 and said[0] == said[1] else f"; {where} is of that week, too"
 
 
 def refused_text(texts: Texts, line: str) -> list[Finding]:
     """What is wrong with a text that is refused with this line: what the program says, and all else that is found."""
-    causes, cleaned, all_read = hidden.causes(texts)
+    causes, cleaned, all_read, hiding = hidden.causes(texts)
     words = Words(texts, cleaned)
     recovery = Recovery(words)
     if all_read:
         recovery.check_order()
     found = names.findings_of(recovery)
-    found += out_of_place(words, weeks_of([it.sections for it in recovery.of_kind("solution")]))
-    hiding = {it.line_key() for it in causes}
+    found += out_of_place(words, [it.sections for it in recovery.of_kind("solution")])
+    hiding |= {it.line_key() for it in causes}
     found = causes + [it for it in found if it.place is None or it.line_key() not in hiding]
     found = sorted({it.lines()[0]: it for it in reversed(found)}.values(), key=lambda it: it.offset)
-    return with_program(texts, line, found)
+    return with_program(texts, line, found, hiding)
 
 
-def with_program(texts: Texts, line: str, found: list[Finding]) -> list[Finding]:
-    """The findings, of which one has the words of the program: the one on its line, or one more."""
+def with_program(texts: Texts, line: str, found: list[Finding], hiding: set[tuple[str, int]]) -> list[Finding]:
+    """The findings, of which one has the words of the program: the one on its line, or one more, unless that line has something
+    that hides."""
     own = of_program(texts, line)
     said = own.message
     same = next((it for it in found if it.place and it.line_key() == own.line_key()), None)
     if same is None:
-        told = next((it for it in found if it.message.startswith(said)), None)
-        return found if told else sorted([*found, own], key=lambda it: it.offset)
+        is_told = own.line_key() in hiding or any(it.message.startswith(said) for it in found)
+        return found if is_told else sorted([*found, own], key=lambda it: it.offset)
     if same.message.startswith(said):
         return found
     merged = Finding(same.offset, same.place, f"{said}: {same.message}")
@@ -98,7 +103,7 @@ def all_breaches(texts: Texts, line: str) -> list[Finding]:
     if not told or told[0] != line:
         raise DeskError(f"'roster cost' says '{line}', and the desk '{told[0] if told else 'nothing'}'; this is a fault of the desk", 3)
     places = Places(plan, bundle)
-    return out_of_place(words, weeks_of(bundle.solutions)) + [places.finding(it) for it in told]
+    return out_of_place(words, bundle.solutions) + [places.finding(it) for it in told]
 
 
 class Places:
@@ -136,7 +141,7 @@ def accepted(texts: Texts) -> tuple[list[Finding], Bundle]:
     """What is wrong with texts that the program takes: solutions in the place of another week."""
     words = Words(texts)
     bundle = read_bundle(words)
-    return out_of_place(words, weeks_of(bundle.solutions)), bundle
+    return out_of_place(words, bundle.solutions), bundle
 
 
 def check(roster: Program, texts: Texts) -> tuple[list[str], int]:

@@ -51,13 +51,27 @@ def texts_of(asked: argparse.Namespace) -> Texts:
     """The files that the command line names, or standard input."""
     by_kind = {kind: getattr(asked, kind) for kind in KINDS}
     if not any(by_kind.values()):
-        return Texts([read_file(it) for it in asked.files]) if asked.files else from_input()
+        return Texts(read_files([(it, "") for it in asked.files])) if asked.files else from_input()
     if asked.files:
         raise DeskError(f"{shown(asked.files[0])}: name all files by --sce, --his, --weeks and --sols, or none", 2)
     lacking = [f"--{kind}" for kind, names in by_kind.items() if not names]
     if lacking:
-        raise DeskError(f"{' and '.join(lacking)}: not given; --sce, --his, --weeks and --sols name all files together", 2)
-    return Texts([read_file(name, kind) for kind, names in by_kind.items() for name in names])
+        raise DeskError(f"without {' and without '.join(lacking)}: --sce, --his, --weeks and --sols name all files together", 2)
+    return Texts(read_files([(name, kind) for kind, names in by_kind.items() for name in names]))
+
+
+def read_files(named: list[tuple[str, str]]) -> list[Text]:
+    """The files of these names, each with the option that names it. Of those that can't be read all are told."""
+    found, failed = [], []
+    for name, kind in named:
+        try:
+            found.append(read_file(name, kind))
+        except DeskError as why:
+            failed.append((name, why))
+    if failed:
+        others = f"; nor can {' and '.join(shown(it) for it, _ in failed[1:])} be read" if failed[1:] else ""
+        raise DeskError(f"{failed[0][1]}{others}", 3)
+    return found
 
 
 def from_input() -> Texts:
@@ -76,7 +90,7 @@ def both_plans(roster: Program, texts: Texts, other: list[str] | None) -> list[t
         after = texts.before(found[0][1].solutions_offset(), [read_file(it) for it in other])
         found.append((after, program.taken(roster, after)))
     for it, plan in found:
-        for wrong in check.out_of_place(plan.words, check.weeks_of(plan.bundle.solutions)):
+        for wrong in check.out_of_place(plan.words, plan.bundle.solutions):
             program.warn(f"{wrong.place}: {wrong.message}")
     return found
 
@@ -156,9 +170,10 @@ def run_improve(asked: argparse.Namespace, roster: Program) -> int:
 
 def run_split(asked: argparse.Namespace, roster: Program) -> int:
     texts = texts_of(asked)
-    (_, plan), *_, (shown_texts, _) = both_plans(roster, texts, asked.other)
+    pairs = both_plans(roster, texts, asked.other)
+    plan, (chosen, _) = pairs[0][1], pairs[-1]
     before = texts.before(plan.solutions_offset(), [])
-    write(shown(it) for it in split.split(roster, shown_texts, before, plan.case.weeks, asked.prefix, asked.crlf))
+    write(shown(it) for it in split.split(roster, chosen, before, plan.case.weeks, asked.prefix, asked.crlf))
     return 0
 
 
@@ -272,10 +287,12 @@ def main(words: list[str]) -> int:
         return status
     except DeskError as why:
         return ended(str(why), why.status)
-    except (WriteFailed, OSError) as why:
-        # (a reader that has gone wants no more lines)
-        is_pipe = isinstance(why, BrokenPipeError) or isinstance(why.__cause__, BrokenPipeError)
-        return ended("" if is_pipe else f"write failed: {why.__cause__ or why}" if isinstance(why, WriteFailed) else str(why), 3)
+    except WriteFailed as why:
+        # (a reader that has gone wants no line)
+        reason = why.__cause__
+        return ended("" if isinstance(reason, BrokenPipeError) else f"write failed: {reason.strerror}", 3)
+    except BrokenPipeError:
+        return ended("", 3)
     except MemoryError:
         return ended("no memory", 4)
     except signals.Interrupted as end:

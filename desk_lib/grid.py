@@ -46,7 +46,8 @@ class Grid:
         lines = []
         for first in range(0, len(self.sheet.weeks), self.at_once):
             weeks = self.sheet.weeks[first : first + self.at_once]
-            lines += [*self.heads(weeks), *self.nurses(weeks), "", *self.covers(weeks), ""]
+            covers = self.covers(weeks)
+            lines += [*self.heads(weeks), *self.nurses(weeks), "", *covers, *[""] * bool(covers)]
         return lines + self.legend()
 
     def line(self, name: str, weeks: list[list[str]]) -> str:
@@ -96,8 +97,9 @@ class Grid:
         lines = [f"{'  '.join(shifts)}  . off"]
         if self.with_skills:
             lines.append("  ".join(f"{letter} {shown(it)}" for letter, it in zip(sheet.skill_letters, sheet.case.skills)))
-        lines.append("* changed   ! a request that isn't met   # both")
-        lines.append("below: nurses there, '-' fewer than the optimum, '!' fewer than the minimum; under them minimum-optimum")
+        lines.append("after a day: * changed, ! a request that isn't met, # both")
+        if sheet.places():
+            lines.append("by shift and skill: how many are there (- below the optimum, ! below the minimum), then minimum-optimum")
         return lines
 
 

@@ -49,12 +49,13 @@ def signs_in(text: Text) -> list[tuple[int, int, str]]:
     return found
 
 
-def causes(texts: Texts) -> tuple[list[Finding], bytes, bool]:
-    """What is found; the joined text with blanks in the place of it; and whether no file is unreadable as a whole.
+def causes(texts: Texts) -> tuple[list[Finding], bytes, bool, set[tuple[str, int]]]:
+    """What is found; the joined text with blanks in the place of it; whether no file is unreadable as a whole; and the lines with
+    something that hides.
 
     A sign that stands several times in a file is told once, with how many lines more have it.
     """
-    found, cleaned, all_read = [], bytearray(texts.joined), True
+    found, cleaned, all_read, hiding = [], bytearray(texts.joined), True, set()
     for start, text in zip(texts.starts, texts.texts):
         told = whole_file(text)
         if told:
@@ -62,11 +63,12 @@ def causes(texts: Texts) -> tuple[list[Finding], bytes, bool]:
             cleaned[start : start + len(text.data)] = b" " * len(text.data)
             all_read = False
             continue
-        kinds: dict[str, list[int]] = {}
+        kinds: dict[str, list[tuple[int, int]]] = {}
         for first, last, told in signs_in(text):
             cleaned[start + first : start + last] = b" " * (last - first)
-            kinds.setdefault(told, []).append(first)
-        for told, places in kinds.items():
-            lines = {text.data.count(b"\n", 0, it) for it in places[:1000]}
-            found.append(Finding(start + places[0], texts.place(start + places[0], 1), f"{told}{also(len(lines) - 1)}"))
-    return found, bytes(cleaned), all_read
+            kinds.setdefault(told, []).append((start + first, last - first))
+        for told, signs in kinds.items():
+            places = [texts.place(*it) for it in signs]
+            found.append(Finding(signs[0][0], places[0], f"{told}{also(len({it.line for it in places}) - 1)}"))
+            hiding.update((it.file, it.line) for it in places)
+    return found, bytes(cleaned), all_read, hiding

@@ -5,7 +5,7 @@ import time
 import typing
 
 from desk_lib.program import Program, costs_by
-from desk_lib.replacing import replace_all
+from desk_lib.replacing import Replacement, replace_all
 from desk_lib.signals import Interrupted, held_back
 from desk_lib.texts import DeskError, Text, Texts, shown
 
@@ -51,6 +51,9 @@ class Run:
         self.out, self.first_week, self.progress = out, first_week, progress
         self.total: int | None = None
         self.saved = ""
+        # what can't be replaced is told before the first round
+        with Replacement(out, b""):
+            pass
 
     def texts(self) -> Texts:
         return Texts([*self.before.texts, Text("the roster so far", self.solutions)])

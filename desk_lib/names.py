@@ -39,7 +39,7 @@ class Names:
                 first = self.recovery.words.place(found[word])
                 self.recovery.tell(at, f"the {what} '{shown(word)}' stands a second time; the first is in line {first.line}")
             found.setdefault(word, at)
-        return {*found}
+        return {*found, *self.recovery.broken[keyword]}
 
     def look_up(self, at: int, known: Known, what: str) -> None:
         """Notes a word that isn't among the known ones."""
@@ -79,7 +79,7 @@ class Names:
             self.check_scenario(name)
             if part[b"HISTORY"].count:
                 self.recovery.tell(at, f"the history is of week {part[b'HISTORY'].count}; give the one of week 0")
-        named = self.declared(part, b"NURSE_HISTORY", "nurse")
+        named = self.declared(part, b"NURSE_HISTORY", "line of the nurse")
         for at, _, _, last, *_ in self.lines(part, b"NURSE_HISTORY"):
             self.look_up(at, self.nurses, "nurse")
             self.look_up(last, {*self.shifts, NONE}, "shift")

@@ -47,7 +47,7 @@ class Program:
             try:
                 ran = subprocess.Popen([self.path, *words], stdin=given, stdout=output, stderr=subprocess.PIPE, start_new_session=True)
             except OSError as why:
-                raise DeskError(f"{self.path} can't be run: {why.strerror}; --roster names the program", 3) from None
+                raise DeskError(f"{shown(self.path)} can't be run: {why.strerror}; --roster names the program", 3) from None
             try:
                 for line in ran.stderr:
                     log.append(line.rstrip(b"\n"))
@@ -82,7 +82,7 @@ def find(path: str | None) -> Program:
     """The program: the one named, or that of this repository, which is built where it has to be."""
     path = path or os.environ.get(VARIABLE)
     if path:
-        return Program(os.path.realpath(path))
+        return Program(path)
     ran = subprocess.run([f"{TOP}/roster", "--version"], stdin=subprocess.DEVNULL, stdout=subprocess.PIPE)
     if ran.returncode:
         raise DeskError(f"'{TOP}/roster --version' ended with status {ran.returncode}; the README says how the program is built", 3)

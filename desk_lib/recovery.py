@@ -1,4 +1,5 @@
 """A second reading of refused texts, section by section and line by line, which goes on after a fault and tells each."""
+import collections
 import dataclasses
 
 from desk_lib import grammar
@@ -41,6 +42,8 @@ class Recovery:
         self.words, self.list = words, [*words.words]
         self.findings: list[Finding] = []
         self.parts: list[Found] = []
+        # (names that stand first in lines with another fault, by the keywords of their sections)
+        self.broken: dict[bytes, list[bytes]] = collections.defaultdict(list)
         heads = self.heads()
         for (at, keyword), (end, _) in zip(heads, [*heads[1:], (len(self.list), b"")]):
             self.take(keyword, self.section(keyword, at, end))
@@ -121,6 +124,7 @@ class Recovery:
                     self.tell(cursor.at, "the line has more words than a line of this section", stop - 1)
             except Fault as fault:
                 self.tell_fault(fault, stop)
+                self.broken[keyword].append(self.words.words[start])
         return section
 
     def after_count(self, at: int, end: int, section: Section) -> int:
@@ -147,7 +151,7 @@ class Recovery:
             return
         kind = next(it for it, sections in SECTIONS_OF.items() if keyword in sections)
         if not self.parts or self.parts[-1].kind != kind:
-            self.tell(section.at, f"{section.keyword} is a section of a {kind}, and stands in none")
+            self.tell(section.at, f"{section.keyword} is a section of {a(kind)}, and stands in none")
         elif keyword in self.parts[-1].sections:
             self.tell(section.at, f"{section.keyword} stands a second time in this {kind}")
         else:
@@ -172,7 +176,7 @@ class Recovery:
         kinds = [*PARTS.values()]
         for before, part in zip(self.parts, self.parts[1:]):
             if kinds.index(part.kind) < kinds.index(before.kind):
-                self.tell(part.at, f"a {part.kind} stands here, after a {before.kind}; {ORDER}")
+                self.tell(part.at, f"{a(part.kind)} stands here, after {a(before.kind)}; {ORDER}")
                 break
         for kind in ("scenario", "history"):
             found = self.of_kind(kind)
@@ -190,7 +194,7 @@ class Recovery:
             due = KINDS.get(text.kind, "")
             for it in within:
                 if due and it.kind != due:
-                    self.tell(it.at, f"--{text.kind} names this file, and it has a {it.kind}; that belongs to another option")
+                    self.tell(it.at, f"--{text.kind} names this file, and it has {a(it.kind)}; that belongs to another option")
 
     def check_weeks(self) -> None:
         """Tells where there aren't as many week data and solutions as the scenario says."""
@@ -199,6 +203,11 @@ class Recovery:
         data, solutions = len(self.of_kind("week data")), len(self.of_kind("solution"))
         if weeks and not data == solutions == weeks.count:
             self.tell(weeks.at + 2, f"WEEKS says {weeks.count}, and there are {data} week data and {solutions} solutions")
+
+
+def a(kind: str) -> str:
+    """A kind of part with its article."""
+    return kind if kind == "week data" else f"a {kind}"
 
 
 def said(fault: Fault, word: bytes | None) -> str:
