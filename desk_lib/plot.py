@@ -4,7 +4,7 @@ import re
 
 from desk_lib.texts import DeskError, shown
 
-WIDTH, HEIGHT, LEFT, RIGHT, TOP, BOTTOM = 720, 240, 56, 14, 16, 30
+WIDTH, HEIGHT, LEFT, RIGHT, TOP, BOTTOM = 720, 260, 56, 14, 24, 36
 LINE = re.compile(rb"(start|round|settled|stopped|kick|slice|\d+)(?: (.*))? (\d+)", re.S)
 
 
@@ -72,7 +72,7 @@ class Plot:
         for number, at in enumerate(ends, 1):
             found.append(f'<line class="round" x1="{self.x(at):.1f}" x2="{self.x(at):.1f}" y1="{TOP}" y2="{HEIGHT - BOTTOM}"/>')
             if number % every == 0:
-                found.append(f'<text class="turn" x="{self.x(at):.1f}" y="{HEIGHT - BOTTOM + 16}">{number}</text>')
+                found.append(f'<text class="turn" x="{self.x(at):.1f}" y="{HEIGHT - BOTTOM + 22}">{number}</text>')
         return found
 
     def floor_line(self) -> list[str]:
@@ -92,5 +92,5 @@ class Plot:
         dots = [f'<circle class="dot" cx="{self.x(at):.1f}" cy="{self.y(total):.1f}" r="4"/>' for at, total, _ in ends]
         names = [f'<text class="{kind}" x="{self.x(at):.1f}" y="{self.y(total) - 9:.1f}">{total}</text>' for at, total, kind in ends]
         parts = [*self.lines(), *self.rounds(), *self.floor_line(), f'<polyline class="run" points="{path}"/>', *dots, *names]
-        parts.append(f'<text class="turn" x="{LEFT - 8}" y="{HEIGHT - BOTTOM + 16}" text-anchor="end">round</text>')
+        parts.append(f'<text class="scale" x="{LEFT - 8}" y="{HEIGHT - BOTTOM + 22}">round</text>')
         return f'<svg viewBox="0 0 {WIDTH} {HEIGHT}" role="img" aria-label="{name}">{"".join(parts)}</svg>'
