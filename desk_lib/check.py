@@ -31,9 +31,17 @@ def out_of_place(words: Words, parts: list[Part]) -> list[Finding]:
 
 def twice(words: Words, first: Part, second: Part) -> str:
     """A clause for a second solution of a week."""
-    said = [[words.words[line[0]] + b" %d " % line[1] + words.words[line[2]] for line in part[b"ASSIGNMENTS"].lines] for part in (first, second) if b"ASSIGNMENTS" in part]
+    said = [
+        [words.words[line[0]] + b" %d " % line[1] + words.words[line[2]] for line in part[b"ASSIGNMENTS"].lines]
+        for part in (first, second)
+        if b"ASSIGNMENTS" in part
+    ]
     where = words.place(first[b"SOLUTION"].lines[0][0])
-    return f"; the same solution stands in {where}" if len(said) == 2 and said[0] == said[1] else f"; {where} is of that week, too"
+    return (
+        f"; the same solution stands in {where}"
+        if len(said) == 2 and said[0] == said[1]
+        else f"; {where} is of that week, too"
+    )
 
 
 def refused_text(texts: Texts, line: str) -> list[Finding]:
@@ -52,8 +60,8 @@ def refused_text(texts: Texts, line: str) -> list[Finding]:
 
 
 def with_program(texts: Texts, line: str, found: list[Finding], hiding: set[tuple[str, int]]) -> list[Finding]:
-    """The findings, of which one has the words of the program: the one on its line, or one more, unless that line has something
-    that hides."""
+    """The findings, of which one has the words of the program: the one on its line; or one more, unless something hides in
+    that line."""
     own = of_program(texts, line)
     said = own.message
     same = next((it for it in found if it.place and it.line_key() == own.line_key()), None)
@@ -89,7 +97,9 @@ def of_nurse(texts: Texts, line: str) -> Finding:
     if states:
         for first, *_ in read_bundle(words).scenario[b"NURSES"].lines:
             if shown(words.words[first]) == states[1]:
-                told = f"{line}; lower the greatest numbers of the contract or of a shift: docs/TUTORIAL.md, 'Longer horizons'"
+                told = (
+                    f"{line}; lower the greatest numbers of the contract or of a shift: docs/TUTORIAL.md, 'Longer horizons'"
+                )
                 return Finding(words.offset(first), words.place(first), told)
     return Finding(-1, None, line)
 
@@ -101,7 +111,9 @@ def all_breaches(texts: Texts, line: str) -> list[Finding]:
     plan = plan_of(words, bundle)
     told = breaches.all_breaches(plan)
     if not told or told[0] != line:
-        raise DeskError(f"'roster cost' says '{line}', and the desk '{told[0] if told else 'nothing'}'; this is a fault of the desk", 3)
+        raise DeskError(
+            f"'roster cost' says '{line}', and the desk '{told[0] if told else 'nothing'}'; this is a fault of the desk", 3
+        )
     places = Places(plan, bundle)
     return out_of_place(words, bundle.solutions) + [places.finding(it) for it in told]
 

@@ -56,7 +56,9 @@ def texts_of(asked: argparse.Namespace) -> Texts:
         raise DeskError(f"{shown(asked.files[0])}: name all files by --sce, --his, --weeks and --sols, or none", 2)
     lacking = [f"--{kind}" for kind, names in by_kind.items() if not names]
     if lacking:
-        raise DeskError(f"without {' and without '.join(lacking)}: --sce, --his, --weeks and --sols name all files together", 2)
+        raise DeskError(
+            f"without {' and without '.join(lacking)}: --sce, --his, --weeks and --sols name all files together", 2
+        )
     return Texts(read_files([(name, kind) for kind, names in by_kind.items() for name in names]))
 
 
@@ -204,12 +206,20 @@ def with_files(parser: argparse.ArgumentParser) -> None:
     files.add_argument("--sce", nargs=1, metavar="FILE", help="the scenario")
     files.add_argument("--his", nargs=1, metavar="FILE", help="the history")
     files.add_argument("--weeks", nargs="+", metavar="FILE", help="the week data, from the first week on")
-    files.add_argument("--sols", nargs="+", metavar="FILE", help="the solutions, from the first week on, in one file or in several")
+    files.add_argument(
+        "--sols", nargs="+", metavar="FILE", help="the solutions, from the first week on, in one file or in several"
+    )
     parser.add_argument("--roster", metavar="PROGRAM", help="the program roster, where it isn't that of this repository")
 
 
 def with_other(parser: argparse.ArgumentParser, told: str) -> None:
-    parser.add_argument("--with", dest="other", action="append", metavar="FILE", help=f"a second roster for the same texts, its solutions alone: {told}")
+    parser.add_argument(
+        "--with",
+        dest="other",
+        action="append",
+        metavar="FILE",
+        help=f"a second roster for the same texts, its solutions alone: {told}",
+    )
 
 
 def with_first_week(parser: argparse.ArgumentParser, told: str) -> None:
@@ -219,7 +229,9 @@ def with_first_week(parser: argparse.ArgumentParser, told: str) -> None:
 def command(commands: typing.Any, name: str, run: typing.Callable, told: str, more: str = "") -> argparse.ArgumentParser:
     """A command of the desk, with the files that it takes."""
     described = f"{told[0].upper()}{told[1:]}.{more}"
-    parser = commands.add_parser(name, help=told, description=described, epilog=FILES, formatter_class=Formatter, allow_abbrev=False)
+    parser = commands.add_parser(
+        name, help=told, description=described, epilog=FILES, formatter_class=Formatter, allow_abbrev=False
+    )
     parser.set_defaults(run=run)
     return parser
 
@@ -232,14 +244,36 @@ class Formatter(argparse.RawDescriptionHelpFormatter):
 
 
 def add_improve(commands: typing.Any) -> None:
-    parser = command(commands, "improve", run_improve, "makes rounds one at a time, and keeps the best roster so far in a file", IMPROVE)
-    parser.add_argument("--out", required=True, metavar="FILE", help="the file of the roster; replaced at once after each round")
-    parser.add_argument("--rounds", type=number_in(0, 1000), default=100, metavar="N", help="make at most so many rounds (100 if not given)")
+    parser = command(
+        commands, "improve", run_improve, "makes rounds one at a time, and keeps the best roster so far in a file", IMPROVE
+    )
+    parser.add_argument(
+        "--out", required=True, metavar="FILE", help="the file of the roster; replaced at once after each round"
+    )
+    parser.add_argument(
+        "--rounds", type=number_in(0, 1000), default=100, metavar="N", help="make at most so many rounds (100 if not given)"
+    )
     with_first_week(parser, "the days before week V stay as they are")
-    parser.add_argument("--bound", action="store_true", help="ask 'roster bound' for a floor first, and tell how much above it the roster is")
-    parser.add_argument("--polish", type=number_in(1, 10_000_000), metavar="N", help="then go on with 'roster polish', N searches in all")
-    parser.add_argument("--slice", type=number_in(1, 10_000_000), default=2000, metavar="M", help="searches of a slice of polish (2000 if not given)")
-    parser.add_argument("--seed", type=number_in(0, 999_999_999), default=1, metavar="S", help="the seed of the first slice; each further one has one more (1 if not given)")
+    parser.add_argument(
+        "--bound", action="store_true", help="ask 'roster bound' for a floor first, and tell how much above it the roster is"
+    )
+    parser.add_argument(
+        "--polish", type=number_in(1, 10_000_000), metavar="N", help="then go on with 'roster polish', N searches in all"
+    )
+    parser.add_argument(
+        "--slice",
+        type=number_in(1, 10_000_000),
+        default=2000,
+        metavar="M",
+        help="searches of a slice of polish (2000 if not given)",
+    )
+    parser.add_argument(
+        "--seed",
+        type=number_in(0, 999_999_999),
+        default=1,
+        metavar="S",
+        help="the seed of the first slice; each further one has one more (1 if not given)",
+    )
     parser.add_argument("--log", metavar="FILE", help="write the log to this file, too; 'page --log' draws it")
     with_files(parser)
 
@@ -247,7 +281,9 @@ def add_improve(commands: typing.Any) -> None:
 def parser_of() -> argparse.ArgumentParser:
     parser = Parser(prog="desk", description=ABOUT, epilog=FILES, formatter_class=Formatter, allow_abbrev=False)
     commands = parser.add_subparsers(title="commands", metavar="COMMAND", required=True)
-    with_files(command(commands, "check", run_check, "tells all that is wrong with the texts, each with its file, line and word"))
+    with_files(
+        command(commands, "check", run_check, "tells all that is wrong with the texts, each with its file, line and word")
+    )
     it = command(commands, "costs", run_costs, "tells what each nurse costs by rule, and S1 by shift and skill")
     with_other(it, "its costs come after those of the first, as before>after")
     with_files(it)
@@ -255,7 +291,9 @@ def parser_of() -> argparse.ArgumentParser:
     with_other(it, "it is shown, with what changed")
     with_first_week(it, "the weeks before V are frozen")
     it.add_argument("--skills", action="store_true", help="show the skill of each assignment, too")
-    it.add_argument("--width", type=number_in(20, 9999), metavar="COLUMNS", help="how wide it may be; else as wide as the terminal")
+    it.add_argument(
+        "--width", type=number_in(20, 9999), metavar="COLUMNS", help="how wide it may be; else as wide as the terminal"
+    )
     with_files(it)
     it = command(commands, "page", run_page, "writes the same as one HTML file to look at and to print")
     with_other(it, "it is shown, with what changed")

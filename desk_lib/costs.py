@@ -76,7 +76,13 @@ class Costing:
         """Stops where the program counts otherwise."""
         for rule, mine in self.totals_by_rule().items():
             if program.get(rule) != mine:
-                raise DeskError(f"{rule} is {mine} by the desk and {program.get(rule)} by 'roster cost'; nothing is shown. This is a fault of the desk", 3)
+                raise DeskError(
+                    (
+                        f"{rule} is {mine} by the desk and {program.get(rule)} by 'roster cost'; nothing is shown. This is a"
+                        " fault of the desk"
+                    ),
+                    3,
+                )
 
 
 def by_day(requests: set[tuple[int, int | None, int]]) -> Shifts:

@@ -9,7 +9,7 @@ from desk_lib.texts import Place, shown
 
 @dataclasses.dataclass(frozen=True)
 class Finding:
-    """A fault: the byte of the joined text at which it stands, or -1 where it is of no place; the place, and what is wrong."""
+    """A fault: the byte of the joined text where it stands, or -1 where it has no place; the place, and what is wrong."""
 
     offset: int
     place: Place | None

@@ -37,7 +37,12 @@ class Grid:
 
     def __init__(self, sheet: Sheet, columns: int, paint: Paint, with_skills: bool):
         self.sheet, self.paint, self.with_skills = sheet, paint, with_skills
-        numbers = [str(cover.have) + cover.mark() for week in sheet.weeks for at in sheet.places() for cover in sheet.covers(at, week)]
+        numbers = [
+            str(cover.have) + cover.mark()
+            for week in sheet.weeks
+            for at in sheet.places()
+            for cover in sheet.covers(at, week)
+        ]
         ranges = [span(cover) for week in sheet.weeks for at in sheet.places() for cover in sheet.covers(at, week)]
         self.day = 1 + max([2 + with_skills, *map(len, numbers), *map(len, ranges)])
         self.at_once = max(1, (columns - NAME) // (GAP + 7 * self.day))
@@ -65,7 +70,10 @@ class Grid:
 
     def nurses(self, weeks: range) -> list[str]:
         rows = zip(self.sheet.case.nurses, self.sheet.rows)
-        return [self.line(shown(nurse.name), [[self.cell(it) for it in row[7 * week : 7 * week + 7]] for week in weeks]) for nurse, row in rows]
+        return [
+            self.line(shown(nurse.name), [[self.cell(it) for it in row[7 * week : 7 * week + 7]] for week in weeks])
+            for nurse, row in rows
+        ]
 
     def cell(self, cell: Cell) -> str:
         """The shift's letter, that of the skill where it is asked for, and a mark."""
@@ -93,13 +101,18 @@ class Grid:
 
     def legend(self) -> list[str]:
         sheet = self.sheet
-        shifts = [f"{self.paint(letter, code)} {shown(it.name)}" for letter, code, it in zip(sheet.shift_letters, SHIFT_COLOURS, sheet.case.shifts)]
+        shifts = [
+            f"{self.paint(letter, code)} {shown(it.name)}"
+            for letter, code, it in zip(sheet.shift_letters, SHIFT_COLOURS, sheet.case.shifts)
+        ]
         lines = [f"{'  '.join(shifts)}  . off"]
         if self.with_skills:
             lines.append("  ".join(f"{letter} {shown(it)}" for letter, it in zip(sheet.skill_letters, sheet.case.skills)))
         lines.append("after a day: * changed, ! a request that isn't met, # both")
         if sheet.places():
-            lines.append("by shift and skill: how many are there (- below the optimum, ! below the minimum), then minimum-optimum")
+            lines.append(
+                "by shift and skill: how many are there (- below the optimum, ! below the minimum), then minimum-optimum"
+            )
         return lines
 
 

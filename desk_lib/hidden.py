@@ -10,10 +10,22 @@ SAVE_AS = "save it as UTF-8 without a byte order mark"
 QUOTES = b'"|\xe2\x80[\x98-\x9f]|\xc2\xab|\xc2\xbb'
 # What stands there, what is said of it, and whether it counts in texts that aren't UTF-8 alone.
 SIGNS = [
-    (rb"\xc2\xa0|\xe2\x80\xaf|\xe2\x80\x87", "a no-break space, which is part of a word and divides none; put a blank in its place", False),
+    (
+        rb"\xc2\xa0|\xe2\x80\xaf|\xe2\x80\x87",
+        "a no-break space, which is part of a word and divides none; put a blank in its place",
+        False,
+    ),
     (rb"\xa0", "a no-break space (byte A0), which is part of a word and divides none; put a blank in its place", True),
-    (rb"\xe2\x80[\x80-\x86\x88-\x8b]|\xe3\x80\x80|\xef\xbb\xbf", "a space that is part of a word and divides none; put a blank in its place", False),
-    (rb"(?:(?<=[ \t\r\n(),=])|^)(?:" + QUOTES + rb")|(?:" + QUOTES + rb")(?=[ \t\r\n(),=]|$)", "a quote, which is part of the word; take the quotes away", False),
+    (
+        rb"\xe2\x80[\x80-\x86\x88-\x8b]|\xe3\x80\x80|\xef\xbb\xbf",
+        "a space that is part of a word and divides none; put a blank in its place",
+        False,
+    ),
+    (
+        rb"(?:(?<=[ \t\r\n(),=])|^)(?:" + QUOTES + rb")|(?:" + QUOTES + rb")(?=[ \t\r\n(),=]|$)",
+        "a quote, which is part of the word; take the quotes away",
+        False,
+    ),
     (rb";", "a semicolon, which is part of a word and divides none; put a blank in its place", False),
 ]
 
@@ -45,13 +57,15 @@ def signs_in(text: Text) -> list[tuple[int, int, str]]:
     plain = is_utf8(text.data)
     for pattern, told, is_of_bytes in SIGNS:
         if not (is_of_bytes and plain):
-            found += [(it.start(), it.end(), told) for it in re.finditer(pattern, text.data) if it.start() or it[0] != UTF8_MARK]
+            found += [
+                (it.start(), it.end(), told) for it in re.finditer(pattern, text.data) if it.start() or it[0] != UTF8_MARK
+            ]
     return found
 
 
 def causes(texts: Texts) -> tuple[list[Finding], bytes, bool, set[tuple[str, int]]]:
-    """What is found; the joined text with blanks in the place of it; whether no file is unreadable as a whole; and the lines with
-    something that hides.
+    """What is found; the joined text with blanks in the place of it; whether every file can be read as a whole; and the
+    lines in which something hides.
 
     A sign that stands several times in a file is told once, with how many lines more have it.
     """

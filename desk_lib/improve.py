@@ -1,4 +1,4 @@
-"""The command `improve`: rounds one at a time, the file replaced after each; then, where it is asked for, slices of `polish`."""
+"""The command `improve`: rounds one at a time, the file replaced after each; then slices of `polish`, if asked for."""
 import contextlib
 import sys
 import time
@@ -45,7 +45,9 @@ class Progress:
 class Run:
     """A run of the improver, whose roster is always in the file."""
 
-    def __init__(self, roster: Program, before: Texts, solutions: bytes, out: str, first_week: list[str], progress: Progress):
+    def __init__(
+        self, roster: Program, before: Texts, solutions: bytes, out: str, first_week: list[str], progress: Progress
+    ):
         """`before` has all texts but the solutions; `first_week` are the words of --from, if it was given."""
         self.roster, self.before, self.solutions = roster, before, solutions
         self.out, self.first_week, self.progress = out, first_week, progress
@@ -62,7 +64,13 @@ class Run:
         """Replaces the file, once the roster has been read back and costs what the log says."""
         told = costs_by(self.roster, Texts([*self.before.texts, Text(self.out, solutions)]))["total"]
         if told != total:
-            raise DeskError(f"the log says {total}, and 'roster cost' {told}; {shown(self.out)} isn't replaced. This is a fault of the desk", 3)
+            raise DeskError(
+                (
+                    f"the log says {total}, and 'roster cost' {told}; {shown(self.out)} isn't replaced. This is a fault of"
+                    " the desk"
+                ),
+                3,
+            )
         with held_back():
             replace_all(self.roster, self.before, solutions, [(self.out, solutions)])
             self.solutions, self.total, self.saved = solutions, total, what
@@ -80,7 +88,9 @@ class Run:
 
     def round(self, number: int, count: int) -> bytes:
         """Makes one round, or none; returns the last line of its log."""
-        answer = self.roster.ask(["improve", "--rounds", str(count), *self.first_week], self.texts(), lambda it: self.tell(it, number))
+        answer = self.roster.ask(
+            ["improve", "--rounds", str(count), *self.first_week], self.texts(), lambda it: self.tell(it, number)
+        )
         total = number_of(answer.log[-1])
         self.save(answer.output, total, f"round {number}" if count else "no round")
         return answer.log[-1]
@@ -149,7 +159,11 @@ def finish(run: Run, work: typing.Callable[[], None]) -> None:
         work()
     except Interrupted as end:
         run.progress.end()
-        told = f"{shown(run.out)} has the roster after {run.saved}, which costs {run.total}" if run.saved else f"no round was over, and {shown(run.out)} is as it was"
+        told = (
+            f"{shown(run.out)} has the roster after {run.saved}, which costs {run.total}"
+            if run.saved
+            else f"no round was over, and {shown(run.out)} is as it was"
+        )
         raise DeskError(f"interrupted; {told}", end.status) from None
     finally:
         with contextlib.suppress(OSError):

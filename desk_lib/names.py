@@ -1,4 +1,4 @@
-"""What is wrong with the names of refused texts: unknown ones with the nearest known, repeated ones, those of another scenario."""
+"""What is wrong with the names of refused texts: unknown ones, repeated ones, those of another scenario."""
 import collections
 import collections.abc
 
@@ -72,7 +72,9 @@ class Names:
     def check_scenario(self, at: int) -> None:
         """Tells of a part of another scenario."""
         if self.name and self.words[at] != self.name[0]:
-            self.recovery.tell(at, f"this is of the scenario '{shown(self.words[at])}', and the scenario given is '{shown(self.name[0])}'")
+            self.recovery.tell(
+                at, f"this is of the scenario '{shown(self.words[at])}', and the scenario given is '{shown(self.name[0])}'"
+            )
 
     def of_history(self, part: Part) -> None:
         for at, name in self.lines(part, b"HISTORY"):
@@ -86,11 +88,14 @@ class Names:
         lacking = sorted(shown(it) for it in self.nurses - named)
         if lacking and b"NURSE_HISTORY" in part:
             more = f" and {len(lacking) - 5} more" if len(lacking) > 5 else ""
-            told = f"NURSE_HISTORY has {len(part[b'NURSE_HISTORY'].lines)} lines, and the scenario {len(self.nurses)} nurses; none for {', '.join(lacking[:5])}{more}"
+            told = (
+                f"NURSE_HISTORY has {len(part[b'NURSE_HISTORY'].lines)} lines, and the scenario {len(self.nurses)} nurses;"
+                f" none for {', '.join(lacking[:5])}{more}"
+            )
             self.recovery.tell(part[b"NURSE_HISTORY"].at, told)
 
     def of_week(self, part: Part) -> None:
-        for at, in self.lines(part, b"WEEK_DATA"):
+        for (at,) in self.lines(part, b"WEEK_DATA"):
             self.check_scenario(at)
         seen = {}
         for shift, skill, _ in self.lines(part, b"REQUIREMENTS"):
@@ -98,7 +103,9 @@ class Names:
             self.look_up(skill, self.skills, "skill")
             both = self.words[shift], self.words[skill]
             if both in seen:
-                told = f"{shown(both[0])} {shown(both[1])} has a second line in this week; the first is line {seen[both].line}"
+                told = (
+                    f"{shown(both[0])} {shown(both[1])} has a second line in this week; the first is line {seen[both].line}"
+                )
                 self.recovery.tell(shift, told, skill)
             seen.setdefault(both, self.recovery.words.place(shift))
         for keyword in (b"SHIFT_OFF_REQUESTS", b"SHIFT_ON_REQUESTS"):

@@ -40,6 +40,12 @@ def number(now: int, before: int | None = None) -> str:
     return f'<span class="was{" more" if before < now else ""}">{before} →</span>{now}'
 
 
+def number_cell(now: int, before: int | None) -> str:
+    """A number in a cell; a 0 that was one before in grey."""
+    grey = "" if now or before else ' class="zero"'
+    return f"<td{grey}>{number(now, before)}</td>"
+
+
 class Page:
     """The page of a sheet."""
 
@@ -88,23 +94,34 @@ class Page:
         was = lambda rule: f"<small>was {old[rule]}</small>" if old and old[rule] != now[rule] else ""
         cards = [f'<li class="total"><span>penalty</span><b>{now["total"]}</b>{was("total")}</li>']
         if self.floor is not None:
-            cards.append(f"<li><span>floor of all rosters</span><b>{self.floor}</b><small>{now['total'] - self.floor} above it</small></li>")
+            cards.append(
+                f"<li><span>floor of all rosters</span><b>{self.floor}</b><small>{now['total'] - self.floor} above"
+                " it</small></li>"
+            )
         cards += [f"<li><span>{rule} {MEANING[rule]}</span><b>{now[rule]}</b>{was(rule)}</li>" for rule in MEANING]
         return f'<ul class="cards">{"".join(cards)}</ul>'
 
     # ---- the grid
 
     def grid(self) -> str:
-        blocks = [self.block(self.sheet.weeks[first : first + AT_ONCE]) for first in range(0, len(self.sheet.weeks), AT_ONCE)]
+        blocks = [
+            self.block(self.sheet.weeks[first : first + AT_ONCE]) for first in range(0, len(self.sheet.weeks), AT_ONCE)
+        ]
         return "\n".join(['<section id="grid">', "<h2>Grid</h2>", self.legend(), *blocks, "</section>"])
 
     def legend(self) -> str:
         sheet = self.sheet
-        items = [f'<span class="key s{at}">{letter}</span>{escaped(it.name)}' for at, (letter, it) in enumerate(zip(sheet.shift_letters, self.case.shifts))]
+        items = [
+            f'<span class="key s{at}">{letter}</span>{escaped(it.name)}'
+            for at, (letter, it) in enumerate(zip(sheet.shift_letters, self.case.shifts))
+        ]
         items.append('<span class="key off">·</span>off')
-        items += [f'<span class="key">{letter}</span>{escaped(it)}' for letter, it in zip(sheet.skill_letters, self.case.skills)]
+        items += [
+            f'<span class="key">{letter}</span>{escaped(it)}' for letter, it in zip(sheet.skill_letters, self.case.skills)
+        ]
         if self.before:
-            items.append('<span class="key changed">‹E</span>changed, it was E before')
+            first = sheet.shift_letters[0]
+            items.append(f'<span class="key changed">‹{first}</span>changed, it was {first} before')
         items.append('<span class="key request">!</span>a request that isn’t met')
         if sheet.first_week:
             items.append('<span class="key frozen"></span>frozen week')
@@ -113,8 +130,13 @@ class Page:
     def block(self, weeks: range) -> str:
         """A table of some weeks: their heads, the nurses, and the cover."""
         told = f"Weeks {weeks[0]} to {weeks[-1]}" if len(weeks) > 1 else f"Week {weeks[0]}"
-        heads = "".join(f'<th class="week" colspan="7" scope="colgroup">Week {it}{" (frozen)" if it < self.sheet.first_week else ""}</th>' for it in weeks)
-        days = "".join(f'<th scope="col"{self.classes(7 * week + day)}>{name.decode()[:2]}</th>' for week in weeks for day, name in enumerate(DAYS))
+        frozen = {it: " (frozen)" if it < self.sheet.first_week else "" for it in weeks}
+        heads = "".join(f'<th class="week" colspan="7" scope="colgroup">Week {it}{frozen[it]}</th>' for it in weeks)
+        days = "".join(
+            f'<th scope="col"{self.classes(7 * week + day)}>{name.decode()[:2]}</th>'
+            for week in weeks
+            for day, name in enumerate(DAYS)
+        )
         lines = [
             f'<div class="scroll" tabindex="0" role="region" aria-label="{told}">',
             f'<table class="grid"><caption>{told}</caption>',
@@ -146,7 +168,8 @@ class Page:
         classes += ["changed"] * cell.is_changed + ["request"] * is_wrong
         below = (f"‹{self.letter(cell.before)}" if cell.is_changed else "") + (" !" if is_wrong else "")
         skill = f"<i>{self.sheet.skill_letters[cell.choice[1]]}</i>" if cell.choice else ""
-        return f'<span class="{" ".join(classes)}">{self.letter(cell.choice)}{skill}{f"<small>{below.strip()}</small>" if below else ""}</span>'
+        small = f"<small>{below.strip()}</small>" if below else ""
+        return f'<span class="{" ".join(classes)}">{self.letter(cell.choice)}{skill}{small}</span>'
 
     def letter(self, choice: Choice) -> str:
         return "·" if choice is None else self.sheet.shift_letters[choice[0]]
@@ -155,7 +178,9 @@ class Page:
         """A line of the cover of a shift and skill."""
         shift, skill = at
         cells = "".join(
-            f"<td{self.classes(7 * week + day, *low(it))}>{cover_text(it)}</td>" for week in weeks for day, it in enumerate(self.sheet.covers(at, week))
+            f"<td{self.classes(7 * week + day, *low(it))}>{cover_text(it)}</td>"
+            for week in weeks
+            for day, it in enumerate(self.sheet.covers(at, week))
         )
         name = f'<span class="key s{shift}">{self.sheet.shift_letters[shift]}</span>{escaped(self.case.skills[skill])}'
         return f'<tr><th scope="row" title="{escaped(self.sheet.place_name(at))}">{name}</th>{cells}</tr>'
@@ -167,7 +192,7 @@ class Page:
         most = max([1, *(sum(it.values()) for it in self.costing.of_nurses)])
         rows = [self.nurse_costs(number, most) for number in range(len(self.case.nurses))]
         now, old = self.costing.totals_by_rule(), self.before and self.before.totals_by_rule()
-        sums = "".join(f"<td>{number(now[rule], old and old[rule])}</td>" for rule in RULES)
+        sums = "".join(number_cell(now[rule], old and old[rule]) for rule in RULES)
         whole = number(sum(now[it] for it in RULES), old and sum(old[it] for it in RULES))
         return f"""<section id="nurses">
 <h2>Costs by nurse</h2>
@@ -181,7 +206,7 @@ class Page:
 
     def nurse_costs(self, at: int, most: int) -> str:
         costs, old = self.costing.of_nurses[at], self.before and self.before.of_nurses[at]
-        cells = "".join(f'<td{zero(costs[rule], old and old[rule])}>{number(costs[rule], old and old[rule])}</td>' for rule in RULES)
+        cells = "".join(number_cell(costs[rule], old and old[rule]) for rule in RULES)
         total, name = sum(costs.values()), escaped(self.case.nurses[at].name)
         bar = f'<td class="bar"><span style="width:{100 * total // most}%"></span></td>'
         whole = number(total, old and sum(old.values()))
@@ -189,15 +214,14 @@ class Page:
 
     def staffing(self) -> str:
         """S1 by shift and skill."""
-        case, places, old = self.case, self.costing.of_places, self.before and self.before.of_places
+        case, both = self.case, (self.costing, self.before or self.costing)
         heads = "".join(f'<th scope="col">{escaped(it)}</th>' for it in case.skills)
         rows = []
         for shift, it in enumerate(case.shifts):
-            ats = [(shift, skill) for skill in range(len(case.skills))]
-            cells = "".join(f'<td{zero(places.get(at, 0), old and old.get(at, 0))}>{number(places.get(at, 0), old and old.get(at, 0))}</td>' for at in ats)
-            whole = number(sum(places.get(at, 0) for at in ats), old and sum(old.get(at, 0) for at in ats))
+            now, old = ([by.of_places.get((shift, at), 0) for at in range(len(case.skills))] for by in both)
+            cells = "".join(map(number_cell, now, old))
             key = f'<span class="key s{shift}">{self.sheet.shift_letters[shift]}</span> {escaped(it.name)}'
-            rows.append(f'<tr><th scope="row">{key}</th>{cells}<td class="sum">{whole}</td></tr>')
+            rows.append(f'<tr><th scope="row">{key}</th>{cells}<td class="sum">{number(sum(now), sum(old))}</td></tr>')
         return f"""<section id="staffing">
 <h2>Staffing: S1 by shift and skill</h2>
 <div class="scroll" tabindex="0" role="region" aria-label="Staffing">
@@ -212,7 +236,9 @@ class Page:
     def plot(self) -> str:
         if not self.log:
             return ""
-        return f'<section id="log">\n<h2>The run</h2>\n<div class="plot">{Plot(self.log, self.floor).svg()}</div>\n</section>'
+        return (
+            f'<section id="log">\n<h2>The run</h2>\n<div class="plot">{Plot(self.log, self.floor).svg()}</div>\n</section>'
+        )
 
     def foot(self) -> str:
         return """<footer>Made by desk. Each total is that of the program roster; the costs by nurse add up to it.</footer>
@@ -222,10 +248,6 @@ class Page:
 
 def plural(count: int, what: str) -> str:
     return f"{count} {what}{'' if count == 1 else 's'}"
-
-
-def zero(now: int, before: int | None) -> str:
-    return ' class="zero"' if not now and not before else ""
 
 
 def low(cover: Cover) -> list[str]:

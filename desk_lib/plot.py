@@ -24,7 +24,10 @@ def points_in(log: bytes, name: str) -> list[Point]:
         if not told and line.startswith((b"desk: ", b"roster: ")):
             continue
         if not told:
-            raise DeskError(f"{shown(name)}:{number}: no line of a log: '{shown(line[:40])}'; --log wants what improve wrote on standard error")
+            raise DeskError(
+                f"{shown(name)}:{number}: no line of a log: '{shown(line[:40])}'; --log wants what improve wrote on standard"
+                " error"
+            )
         found.append(Point(told[1].decode(), int(told[3])))
     if not found:
         raise DeskError(f"{shown(name)}: the log is empty; --log wants what improve wrote on standard error")
@@ -70,7 +73,9 @@ class Plot:
         every = max(1, len(ends) // 20)
         found = []
         for number, at in enumerate(ends, 1):
-            found.append(f'<line class="round" x1="{self.x(at):.1f}" x2="{self.x(at):.1f}" y1="{TOP}" y2="{HEIGHT - BOTTOM}"/>')
+            found.append(
+                f'<line class="round" x1="{self.x(at):.1f}" x2="{self.x(at):.1f}" y1="{TOP}" y2="{HEIGHT - BOTTOM}"/>'
+            )
             if number % every == 0:
                 found.append(f'<text class="turn" x="{self.x(at):.1f}" y="{HEIGHT - BOTTOM + 22}">{number}</text>')
         return found
@@ -90,7 +95,17 @@ class Plot:
         name = f"The penalty falls from {first} to {last}" + ("" if self.floor is None else f"; the floor is {self.floor}")
         ends = [(0, first, "first"), (len(self.points) - 1, last, "last")]
         dots = [f'<circle class="dot" cx="{self.x(at):.1f}" cy="{self.y(total):.1f}" r="4"/>' for at, total, _ in ends]
-        names = [f'<text class="{kind}" x="{self.x(at):.1f}" y="{self.y(total) - 9:.1f}">{total}</text>' for at, total, kind in ends]
-        parts = [*self.lines(), *self.rounds(), *self.floor_line(), f'<polyline class="run" points="{path}"/>', *dots, *names]
+        names = [
+            f'<text class="{kind}" x="{self.x(at):.1f}" y="{self.y(total) - 9:.1f}">{total}</text>'
+            for at, total, kind in ends
+        ]
+        parts = [
+            *self.lines(),
+            *self.rounds(),
+            *self.floor_line(),
+            f'<polyline class="run" points="{path}"/>',
+            *dots,
+            *names,
+        ]
         parts.append(f'<text class="scale" x="{LEFT - 8}" y="{HEIGHT - BOTTOM + 22}">round</text>')
         return f'<svg viewBox="0 0 {WIDTH} {HEIGHT}" role="img" aria-label="{name}">{"".join(parts)}</svg>'

@@ -45,7 +45,9 @@ class Program:
             given.seek(0)
             log = []
             try:
-                ran = subprocess.Popen([self.path, *words], stdin=given, stdout=output, stderr=subprocess.PIPE, start_new_session=True)
+                ran = subprocess.Popen(
+                    [self.path, *words], stdin=given, stdout=output, stderr=subprocess.PIPE, start_new_session=True
+                )
             except OSError as why:
                 raise DeskError(f"{shown(self.path)} can't be run: {why.strerror}; --roster names the program", 3) from None
             try:
@@ -68,7 +70,10 @@ class Program:
         if answer.status == 2:
             raise DeskError(f"roster doesn't know 'roster {' '.join(words)}'; build it anew, or see 'roster --help'", 2)
         if answer.status:
-            raise DeskError(f"{located(answer.last(), texts)}; 'desk check' with these files tells all that is wrong", max(answer.status, 1))
+            raise DeskError(
+                f"{located(answer.last(), texts)}; 'desk check' with these files tells all that is wrong",
+                max(answer.status, 1),
+            )
         return answer
 
 
@@ -85,7 +90,9 @@ def find(path: str | None) -> Program:
         return Program(path)
     ran = subprocess.run([f"{TOP}/roster", "--version"], stdin=subprocess.DEVNULL, stdout=subprocess.PIPE)
     if ran.returncode:
-        raise DeskError(f"'{TOP}/roster --version' ended with status {ran.returncode}; the README says how the program is built", 3)
+        raise DeskError(
+            f"'{TOP}/roster --version' ended with status {ran.returncode}; the README says how the program is built", 3
+        )
     return Program(f"{TOP}/crates/roster/out/roster")
 
 
@@ -101,7 +108,9 @@ def plan_in(texts: Texts) -> Plan:
     try:
         return plan_of(words, read_bundle(words))
     except (Fault, KeyError) as why:
-        raise DeskError(f"roster takes these texts and the desk can't read them ({why}); this is a fault of the desk", 3) from None
+        raise DeskError(
+            f"roster takes these texts and the desk can't read them ({why}); this is a fault of the desk", 3
+        ) from None
 
 
 def costs_by(program: Program, texts: Texts) -> dict[str, int]:

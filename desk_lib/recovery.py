@@ -165,7 +165,10 @@ class Recovery:
             if lacking:
                 self.tell(part.at, f"this {part.kind} has no section {' and no '.join(lacking)}")
             elif [it for it in part.sections if it in due] != due:
-                self.tell(part.at, f"the sections of this {part.kind} stand in another order than {', '.join(it.decode() for it in due)}")
+                self.tell(
+                    part.at,
+                    f"the sections of this {part.kind} stand in another order than {', '.join(it.decode() for it in due)}",
+                )
 
     def of_kind(self, kind: str) -> list[Found]:
         return [it for it in self.parts if it.kind == kind]
@@ -194,7 +197,9 @@ class Recovery:
             due = KINDS.get(text.kind, "")
             for it in within:
                 if due and it.kind != due:
-                    self.tell(it.at, f"--{text.kind} names this file, and it has {a(it.kind)}; that belongs to another option")
+                    self.tell(
+                        it.at, f"--{text.kind} names this file, and it has {a(it.kind)}; that belongs to another option"
+                    )
 
     def check_weeks(self) -> None:
         """Tells where there aren't as many week data and solutions as the scenario says."""
@@ -215,6 +220,6 @@ def said(fault: Fault, word: bytes | None) -> str:
     here = f"'{shown(word)}' stands" if word is not None else "the line ends"
     if fault.is_range:
         return f"the number '{shown(word)}' is out of range"
-    due = fault.due if fault.due.isupper() else f"'{fault.due}'" if fault.due in "=(),"  else f"a {fault.due}"
+    due = fault.due if fault.due.isupper() else f"'{fault.due}'" if fault.due in "=()," else f"a {fault.due}"
     like = nearest(word or b"", grammar.DAYS + grammar.LONG_DAYS) if fault.due == "day" else ""
     return f"{due} is due, and {here} here{like}"

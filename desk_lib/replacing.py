@@ -69,14 +69,16 @@ class Replacement:
 
 
 def replace_all(roster: Program, texts: Texts, solutions: bytes, files: list[tuple[str, bytes]]) -> None:
-    """Writes files that hold the solutions, which the program wrote for the texts, and puts them in their places together, once
-    the program has read them back to the same bytes."""
+    """Writes files that hold the solutions, which the program wrote for the texts. Each is put in its place, one after the
+    other, once the program has read all of them back to the same bytes."""
     with contextlib.ExitStack() as stack:
         new = [stack.enter_context(Replacement(name, data)) for name, data in files]
         back = Texts([*texts.texts, *(Text(it.name, it.read()) for it in new)])
         answer = roster.ask(["show"], back)
         if answer.output != solutions:
-            raise DeskError(f"{shown(files[0][0])}: read back it is another roster; nothing is replaced. This is a fault of the desk", 3)
+            raise DeskError(
+                f"{shown(files[0][0])}: read back it is another roster; nothing is replaced. This is a fault of the desk", 3
+            )
         for it in new:
             it.put()
 
@@ -85,5 +87,3 @@ def replace_text(name: str, data: bytes) -> None:
     """Writes a file that is no roster."""
     with Replacement(name, data) as new:
         new.put()
-
-

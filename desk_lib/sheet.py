@@ -49,7 +49,9 @@ class Sheet:
         self.weeks, self.first_week = range(self.case.weeks), first_week
         self.shift_letters = letters([it.name for it in self.case.shifts])
         self.skill_letters = [it.lower() for it in letters(self.case.skills)]
-        self.rows = [[self.cell(number, day, before) for day in range(costing.plan.days)] for number in range(len(self.case.nurses))]
+        self.rows = [
+            [self.cell(number, day, before) for day in range(costing.plan.days)] for number in range(len(self.case.nurses))
+        ]
 
     def cell(self, number: int, day: int, before: Roster | None) -> Cell:
         row = self.costing.plan.roster[number]

@@ -43,7 +43,11 @@ def place_rows(costing: Costing, before: Costing | None) -> list[list[str]]:
     rows = [["S1", *(shown(case.skills[it]) for it in skills), "sum"]]
     for shift in sorted({shift for shift, _ in case.needs}):
         row = [shown(case.shifts[shift].name)]
-        pairs = [(before and before.of_places[shift, it], costing.of_places[shift, it]) for it in skills if (shift, it) in case.needs]
+        pairs = [
+            (before and before.of_places[shift, it], costing.of_places[shift, it])
+            for it in skills
+            if (shift, it) in case.needs
+        ]
         told = {it: changed(*pair) for it, pair in zip([it for it in skills if (shift, it) in case.needs], pairs)}
         sums = [sum(it) for it in zip(*pairs)] if before else [None, sum(after for _, after in pairs)]
         rows.append([*row, *(told.get(it, "") for it in skills), changed(*sums)])

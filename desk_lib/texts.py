@@ -68,7 +68,9 @@ class Place:
     def lines(self) -> list[str]:
         """The line's text, and a line that marks the word below it."""
         before, word = self.text[: self.column], self.text[self.column : self.column + self.length]
-        before, word, after = (shown(it.replace(b"\t", b" ")) for it in (before, word, self.text[self.column + self.length :]))
+        before, word, after = (
+            shown(it.replace(b"\t", b" ")) for it in (before, word, self.text[self.column + self.length :])
+        )
         if columns(before) > 60:
             before = "…" + before[-50:]
         mark = " " * columns(before) + "^" * max(1, columns(word))
@@ -92,7 +94,11 @@ class Texts:
         if self.is_stream:
             kept = [Text(self.texts[0].name, self.joined[:offset])]
         else:
-            kept = [Text(it.name, it.data[: max(0, offset - start)], it.kind) for it, start in zip(self.texts, self.starts) if start < offset]
+            kept = [
+                Text(it.name, it.data[: max(0, offset - start)], it.kind)
+                for it, start in zip(self.texts, self.starts)
+                if start < offset
+            ]
         return Texts(kept + more)
 
     def index(self, offset: int) -> int:
