@@ -1,0 +1,16 @@
+"""The planner's desk: what `./desk` does around the program `roster`.
+
+| Module | What it holds |
+|---|---|
+| command_line | the commands and their options |
+| texts | the files, and the places in them: file, line, word |
+| grammar | words, sections and parts of the texts |
+| model | the case and the roster of texts that the program takes |
+| program | how the program `roster` is found and called |
+| costs, breaches | what each nurse costs by rule, and where a hard rule is broken |
+| check, hidden, recovery, names | all that is wrong with texts |
+| sheet, grid, page, plot | a roster to look at, on a terminal and in a browser |
+| improve, split, replacing | rosters that are written |
+
+Every roster and every total is the program's. What is counted here is compared with the program before it is shown.
+"""

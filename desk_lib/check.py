@@ -1,0 +1,181 @@
+"""The command `check`: all that is wrong with texts, each with its file, line and word."""
+import re
+
+from desk_lib import breaches, hidden, names, program
+from desk_lib.findings import Finding
+from desk_lib.grammar import Bundle, Fault, Part, Words, read_bundle
+from desk_lib.model import DAYS, Plan, plan_of
+from desk_lib.program import Answer, Program
+from desk_lib.recovery import Recovery
+from desk_lib.texts import DeskError, Texts, shown
+
+BREACH = re.compile(r"H[234] week \d+ ")
+
+
+def out_of_place(words: Words, parts: list[Part]) -> list[Finding]:
+    """The solutions that don't stand in the place of their week, and those that stand twice."""
+    found: list[Finding] = []
+    first: dict[int, Part] = {}
+    for place, part in enumerate(parts):
+        head = part[b"SOLUTION"]
+        if not head.lines:
+            continue
+        at, week = head.lines[0][0], head.count
+        if week != place:
+            told = twice(words, first[week], part) if week in first else "; put the solutions in the order of the weeks"
+            message = f"this solution is of week {week}, and stands in the place of week {place}{told}"
+            found.append(Finding(words.offset(at), words.place(at), message))
+        first.setdefault(week, part)
+    return found
+
+
+def twice(words: Words, first: Part, second: Part) -> str:
+    """A clause for a second solution of a week."""
+    said = [
+        [words.words[line[0]] + b" %d " % line[1] + words.words[line[2]] for line in part[b"ASSIGNMENTS"].lines]
+        for part in (first, second)
+        if b"ASSIGNMENTS" in part
+    ]
+    where = words.place(first[b"SOLUTION"].lines[0][0])
+    return (
+        f"; the same solution stands in {where}"
+        if len(said) == 2 and said[0] == said[1]
+        else f"; {where} is of that week, too"
+    )
+
+
+def refused_text(texts: Texts, line: str) -> list[Finding]:
+    """What is wrong with a text that is refused with this line: what the program says, and all else that is found."""
+    causes, cleaned, all_read, hiding = hidden.causes(texts)
+    words = Words(texts, cleaned)
+    recovery = Recovery(words)
+    if all_read:
+        recovery.check_order()
+    found = names.findings_of(recovery)
+    found += out_of_place(words, [it.sections for it in recovery.of_kind("solution")])
+    hiding |= {it.line_key() for it in causes}
+    found = causes + [it for it in found if it.place is None or it.line_key() not in hiding]
+    found = sorted({it.lines()[0]: it for it in reversed(found)}.values(), key=lambda it: it.offset)
+    return with_program(texts, line, found, hiding)
+
+
+def with_program(texts: Texts, line: str, found: list[Finding], hiding: set[tuple[str, int]]) -> list[Finding]:
+    """The findings, of which one has the words of the program: the one on its line; or one more, unless something hides in
+    that line."""
+    own = of_program(texts, line)
+    said = own.message
+    same = next((it for it in found if it.place and it.line_key() == own.line_key()), None)
+    if same is None:
+        is_told = own.line_key() in hiding or any(it.message.startswith(said) for it in found)
+        return found if is_told else sorted([*found, own], key=lambda it: it.offset)
+    if same.message.startswith(said):
+        return found
+    merged = Finding(same.offset, same.place, f"{said}: {same.message}")
+    return [merged if it is same else it for it in found]
+
+
+def of_program(texts: Texts, line: str) -> Finding:
+    """The fault that the program tells, at its word where that can be found."""
+    told = re.fullmatch(r"line (\d+): (.*)", line, re.S)
+    if not told:
+        return of_nurse(texts, line)
+    offset = texts.line_start(int(told[1]))
+    place, words = texts.place(offset), Words(texts)
+    try:
+        read_bundle(words)
+    except Fault as fault:
+        mine = words.place(fault.at)
+        if fault.told() == told[2] and (mine.file, mine.line) == (place.file, place.line):
+            offset, place = words.offset(fault.at), mine
+    return Finding(offset, place, told[2])
+
+
+def of_nurse(texts: Texts, line: str) -> Finding:
+    """A fault that isn't of a line: where it names a nurse, at the line of the nurse in the scenario."""
+    states = re.fullmatch(r"too many states for (.*)", line, re.S)
+    words = Words(texts)
+    if states:
+        for first, *_ in read_bundle(words).scenario[b"NURSES"].lines:
+            if shown(words.words[first]) == states[1]:
+                told = (
+                    f"{line}; lower the greatest numbers of the contract or of a shift: docs/TUTORIAL.md, 'Longer horizons'"
+                )
+                return Finding(words.offset(first), words.place(first), told)
+    return Finding(-1, None, line)
+
+
+def all_breaches(texts: Texts, line: str) -> list[Finding]:
+    """Every breach of H2 to H4, of which the program's is the first; solutions in a wrong place before them."""
+    words = Words(texts)
+    bundle = read_bundle(words)
+    plan = plan_of(words, bundle)
+    told = breaches.all_breaches(plan)
+    if not told or told[0] != line:
+        raise DeskError(
+            f"'roster cost' says '{line}', and the desk '{told[0] if told else 'nothing'}'; this is a fault of the desk", 3
+        )
+    places = Places(plan, bundle)
+    return out_of_place(words, bundle.solutions) + [places.finding(it) for it in told]
+
+
+class Places:
+    """Finds the words at which a roster breaks a rule."""
+
+    def __init__(self, plan: Plan, bundle: Bundle):
+        self.words = plan.words
+        named = self.words.words
+        self.needs = {
+            (week, shown(named[shift]), shown(named[skill])): shift
+            for week, part in enumerate(bundle.weeks)
+            for shift, skill, _ in part[b"REQUIREMENTS"].lines
+        }
+        self.assignments = {
+            (week, shown(named[nurse]), day): nurse
+            for week, part in enumerate(bundle.solutions)
+            for nurse, day, *_ in part[b"ASSIGNMENTS"].lines
+        }
+
+    def finding(self, breach: str) -> Finding:
+        rule, _, week, day, *who = breach.split(" ")
+        weekday = DAYS.index(day.encode())
+        if rule == "H2":
+            # after the shift and the skill stand seven pairs of five words each
+            first = self.needs[int(week), who[0], who[1].rstrip(":")] + 2 + 5 * weekday
+            last = first + 4
+        else:
+            first = last = self.assignments[int(week), " ".join(who), weekday] + (2 if rule == "H3" else 3)
+        offset = self.words.offset(first)
+        length = self.words.offset(last) + len(self.words.words[last]) - offset
+        return Finding(offset, self.words.texts.place(offset, length), breach)
+
+
+def accepted(texts: Texts) -> tuple[list[Finding], Bundle]:
+    """What is wrong with texts that the program takes: solutions in the place of another week."""
+    words = Words(texts)
+    bundle = read_bundle(words)
+    return out_of_place(words, bundle.solutions), bundle
+
+
+def check(roster: Program, texts: Texts) -> tuple[list[str], int]:
+    """What is told of the texts, and the status."""
+    answer = roster.call(["cost"], texts.joined)
+    line = answer.last()
+    if answer.status == 0:
+        found, _ = accepted(texts)
+    elif answer.status != 1:
+        raise DeskError(f"'roster cost' says: {line}", answer.status)
+    else:
+        found = all_breaches(texts, line) if BREACH.match(line) else refused_text(texts, line)
+    told = [line for it in found for line in it.lines()]
+    return [*told, summary(texts, answer, len(found))], answer.status or int(bool(found))
+
+
+def summary(texts: Texts, answer: Answer, count: int) -> str:
+    """The last line: how much is wrong, and what the program says by itself."""
+    files = "1 file" if len(texts.texts) == 1 else f"{len(texts.texts)} files"
+    if answer.status:
+        said = f"'roster cost' says: {program.located(answer.last(), texts)}"
+    else:
+        said = f"'roster cost' takes them: {answer.output.decode().splitlines()[-1]}"
+    faults = "nothing is wrong" if not count else "1 fault" if count == 1 else f"{count} faults"
+    return f"{files}, {faults}; {said}"

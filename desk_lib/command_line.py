@@ -1,0 +1,350 @@
+"""The desk's command line: its commands, their options, and how errors are told."""
+import argparse
+import os
+import sys
+import typing
+
+from desk_lib import check, grid, improve, page, plot, program, replacing, signals, split, tables
+from desk_lib.costs import Costing
+from desk_lib.model import Plan
+from desk_lib.program import Program
+from desk_lib.sheet import Sheet
+from desk_lib.texts import KINDS, DeskError, Text, Texts, read_file, shown
+
+ABOUT = """\
+Looks at rosters, and makes better ones, with the program `roster`.
+
+Every roster and every total comes from `roster`, which is proved; the desk calls it, and adds nothing to what
+is proved. What the desk counts itself, as the costs by nurse, it compares with `roster cost`, and it stops where
+they differ. It writes no roster that `roster` didn't write and read back."""
+FILES = """\
+The files stand in the program's order (scenario, history, week data, solutions), or are named by --sce, --his,
+--weeks and --sols; without a file, standard input is read. --roster PROGRAM, or the variable DESK_ROSTER, names
+another program than the one of this repository. The status is that of roster: 0 for done, 1 for a refused input,
+2 for a wrong command line, 3 for a failed read or write, and 4 for too little memory."""
+
+IMPROVE = """
+
+After each round the file is replaced at once, so that Ctrl-C leaves the roster of the last whole round. At the end
+it has the very bytes of one run of 'roster improve'. With --polish it goes on by slices of 'roster polish', and
+keeps each that is cheaper. The log goes to standard error; on a terminal it is one line that changes."""
+
+
+class WriteFailed(Exception):
+    """Standard output could not be written."""
+
+
+def write(lines: typing.Iterable[str]) -> None:
+    """Writes lines to standard output, in UTF-8 whatever the terminal says."""
+    try:
+        for line in lines:
+            sys.stdout.buffer.write(line.encode() + b"\n")
+        sys.stdout.buffer.flush()
+    except OSError as why:
+        raise WriteFailed from why
+
+
+# ---- what a command works on
+
+
+def texts_of(asked: argparse.Namespace) -> Texts:
+    """The files that the command line names, or standard input."""
+    by_kind = {kind: getattr(asked, kind) for kind in KINDS}
+    if not any(by_kind.values()):
+        return Texts(read_files([(it, "") for it in asked.files])) if asked.files else from_input()
+    if asked.files:
+        raise DeskError(f"{shown(asked.files[0])}: name all files by --sce, --his, --weeks and --sols, or none", 2)
+    lacking = [f"--{kind}" for kind, names in by_kind.items() if not names]
+    if lacking:
+        raise DeskError(
+            f"without {' and without '.join(lacking)}: --sce, --his, --weeks and --sols name all files together", 2
+        )
+    return Texts(read_files([(name, kind) for kind, names in by_kind.items() for name in names]))
+
+
+def read_files(named: list[tuple[str, str]]) -> list[Text]:
+    """The files of these names, each with the option that names it. Of those that can't be read all are told."""
+    found, failed = [], []
+    for name, kind in named:
+        try:
+            found.append(read_file(name, kind))
+        except DeskError as why:
+            failed.append((name, why))
+    if failed:
+        others = f"; nor can {' and '.join(shown(it) for it, _ in failed[1:])} be read" if failed[1:] else ""
+        raise DeskError(f"{failed[0][1]}{others}", 3)
+    return found
+
+
+def from_input() -> Texts:
+    try:
+        return Texts([Text("standard input", sys.stdin.buffer.read())], is_stream=True)
+    except (OSError, AttributeError) as why:
+        raise DeskError("standard input: read failed; name the files", 3) from why
+
+
+def both_plans(roster: Program, texts: Texts, other: list[str] | None) -> list[tuple[Texts, Plan]]:
+    """The texts with their plan; and before them, where a second roster is given, those with that roster.
+
+    The last is the one to show."""
+    found = [(texts, program.taken(roster, texts))]
+    if other:
+        after = texts.before(found[0][1].solutions_offset(), [read_file(it) for it in other])
+        found.append((after, program.taken(roster, after)))
+    for it, plan in found:
+        for wrong in check.out_of_place(plan.words, plan.bundle.solutions):
+            program.warn(f"{wrong.place}: {wrong.message}")
+    return found
+
+
+def costings(roster: Program, pairs: list[tuple[Texts, Plan]]) -> list[Costing]:
+    """The costs of plans, compared with the program's."""
+    found = []
+    for texts, plan in pairs:
+        totals = program.costs_by(roster, texts)
+        found.append(Costing(plan))
+        found[-1].compare(totals)
+    return found
+
+
+# ---- the commands
+
+
+def run_check(asked: argparse.Namespace, roster: Program) -> int:
+    lines, status = check.check(roster, texts_of(asked))
+    write(lines)
+    return status
+
+
+def run_costs(asked: argparse.Namespace, roster: Program) -> int:
+    *before, costing = costings(roster, both_plans(roster, texts_of(asked), asked.other))
+    write(tables.cost_lines(costing, before[0] if before else None))
+    return 0
+
+
+def sheet_of(asked: argparse.Namespace, roster: Program) -> tuple[Sheet, Costing | None, Texts]:
+    """What a grid shows: the roster, or the second one with its changes."""
+    pairs = both_plans(roster, texts_of(asked), asked.other)
+    *before, costing = costings(roster, pairs)
+    old = before[0] if before else None
+    return Sheet(costing, old and old.plan.roster, asked.first_week), old, pairs[-1][0]
+
+
+def run_grid(asked: argparse.Namespace, roster: Program) -> int:
+    sheet, _, _ = sheet_of(asked, roster)
+    write(grid.grid_lines(sheet, asked.skills, asked.width))
+    return 0
+
+
+def run_page(asked: argparse.Namespace, roster: Program) -> int:
+    log = plot.points_in(read_file(asked.log).data, asked.log) if asked.log else []
+    sheet, before, texts = sheet_of(asked, roster)
+    floor = improve.floor_of(roster, texts, first_week_words(asked)) if asked.bound else None
+    text = page.Page(sheet, before, log, floor).text()
+    if asked.out:
+        replacing.replace_text(asked.out, text.encode())
+    else:
+        write([text.rstrip("\n")])
+    return 0
+
+
+def first_week_words(asked: argparse.Namespace) -> list[str]:
+    return ["--from", str(asked.first_week)] if asked.first_week else []
+
+
+def run_improve(asked: argparse.Namespace, roster: Program) -> int:
+    texts = texts_of(asked)
+    plan = program.taken(roster, texts)
+    before, words = texts.before(plan.solutions_offset(), []), first_week_words(asked)
+    progress = improve.Progress(improve.log_file(asked.log))
+    run = improve.Run(roster, before, texts.joined[plan.solutions_offset() :], asked.out, words, progress)
+
+    def work() -> None:
+        if asked.bound:
+            progress.floor = improve.floor_of(roster, texts, words)
+        run.rounds(asked.rounds)
+        if asked.polish:
+            run.polish(asked.polish, asked.slice, asked.seed)
+
+    improve.finish(run, work)
+    return 0
+
+
+def run_split(asked: argparse.Namespace, roster: Program) -> int:
+    texts = texts_of(asked)
+    pairs = both_plans(roster, texts, asked.other)
+    plan, (chosen, _) = pairs[0][1], pairs[-1]
+    before = texts.before(plan.solutions_offset(), [])
+    write(shown(it) for it in split.split(roster, chosen, before, plan.case.weeks, asked.prefix, asked.crlf))
+    return 0
+
+
+# ---- the words of the command line
+
+
+def number_in(least: int, greatest: int) -> typing.Callable[[str], int]:
+    """Reads a number of a range."""
+
+    def number(word: str) -> int:
+        if not (word.isascii() and word.isdigit() and len(word) < 10 and least <= int(word) <= greatest):
+            raise argparse.ArgumentTypeError(f"'{shown(word)}' is no number from {least} to {greatest}")
+        return int(word)
+
+    return number
+
+
+class Parser(argparse.ArgumentParser):
+    """Tells what is wrong in one line."""
+
+    def error(self, message: str) -> typing.NoReturn:
+        raise DeskError(f"{shown(message)}; '{self.prog} --help' shows how", 2)
+
+
+def with_files(parser: argparse.ArgumentParser) -> None:
+    files = parser.add_argument_group("the files", "in the program's order, or by four options in any order")
+    files.add_argument("files", nargs="*", metavar="FILE", help="scenario, history, week data and solutions, in this order")
+    files.add_argument("--sce", nargs=1, metavar="FILE", help="the scenario")
+    files.add_argument("--his", nargs=1, metavar="FILE", help="the history")
+    files.add_argument("--weeks", nargs="+", metavar="FILE", help="the week data, from the first week on")
+    files.add_argument(
+        "--sols", nargs="+", metavar="FILE", help="the solutions, from the first week on, in one file or in several"
+    )
+    parser.add_argument("--roster", metavar="PROGRAM", help="the program roster, where it isn't that of this repository")
+
+
+def with_other(parser: argparse.ArgumentParser, told: str) -> None:
+    parser.add_argument(
+        "--with",
+        dest="other",
+        action="append",
+        metavar="FILE",
+        help=f"a second roster for the same texts, its solutions alone: {told}",
+    )
+
+
+def with_first_week(parser: argparse.ArgumentParser, told: str) -> None:
+    parser.add_argument("--from", dest="first_week", type=number_in(0, 52), default=0, metavar="V", help=told)
+
+
+def command(commands: typing.Any, name: str, run: typing.Callable, told: str, more: str = "") -> argparse.ArgumentParser:
+    """A command of the desk, with the files that it takes."""
+    described = f"{told[0].upper()}{told[1:]}.{more}"
+    parser = commands.add_parser(
+        name, help=told, description=described, epilog=FILES, formatter_class=Formatter, allow_abbrev=False
+    )
+    parser.set_defaults(run=run)
+    return parser
+
+
+class Formatter(argparse.RawDescriptionHelpFormatter):
+    """Help in the lines in which it is written, 110 letters wide wherever it is read."""
+
+    def __init__(self, prog: str):
+        super().__init__(prog, max_help_position=24, width=110)
+
+
+def add_improve(commands: typing.Any) -> None:
+    parser = command(
+        commands, "improve", run_improve, "makes rounds one at a time, and keeps the best roster so far in a file", IMPROVE
+    )
+    parser.add_argument(
+        "--out", required=True, metavar="FILE", help="the file of the roster; replaced at once after each round"
+    )
+    parser.add_argument(
+        "--rounds", type=number_in(0, 1000), default=100, metavar="N", help="make at most so many rounds (100 if not given)"
+    )
+    with_first_week(parser, "the days before week V stay as they are")
+    parser.add_argument(
+        "--bound", action="store_true", help="ask 'roster bound' for a floor first, and tell how much above it the roster is"
+    )
+    parser.add_argument(
+        "--polish", type=number_in(1, 10_000_000), metavar="N", help="then go on with 'roster polish', N searches in all"
+    )
+    parser.add_argument(
+        "--slice",
+        type=number_in(1, 10_000_000),
+        default=2000,
+        metavar="M",
+        help="searches of a slice of polish (2000 if not given)",
+    )
+    parser.add_argument(
+        "--seed",
+        type=number_in(0, 999_999_999),
+        default=1,
+        metavar="S",
+        help="the seed of the first slice; each further one has one more (1 if not given)",
+    )
+    parser.add_argument("--log", metavar="FILE", help="write the log to this file, too; 'page --log' draws it")
+    with_files(parser)
+
+
+def parser_of() -> argparse.ArgumentParser:
+    parser = Parser(prog="desk", description=ABOUT, epilog=FILES, formatter_class=Formatter, allow_abbrev=False)
+    commands = parser.add_subparsers(title="commands", metavar="COMMAND", required=True)
+    with_files(
+        command(commands, "check", run_check, "tells all that is wrong with the texts, each with its file, line and word")
+    )
+    it = command(commands, "costs", run_costs, "tells what each nurse costs by rule, and S1 by shift and skill")
+    with_other(it, "its costs come after those of the first, as before>after")
+    with_files(it)
+    it = command(commands, "grid", run_grid, "shows nurses by days on a terminal, and the cover of each day")
+    with_other(it, "it is shown, with what changed")
+    with_first_week(it, "the weeks before V are frozen")
+    it.add_argument("--skills", action="store_true", help="show the skill of each assignment, too")
+    it.add_argument(
+        "--width", type=number_in(20, 9999), metavar="COLUMNS", help="how wide it may be; else as wide as the terminal"
+    )
+    with_files(it)
+    it = command(commands, "page", run_page, "writes the same as one HTML file to look at and to print")
+    with_other(it, "it is shown, with what changed")
+    with_first_week(it, "the weeks before V are frozen")
+    it.add_argument("--log", metavar="FILE", help="the log of improve: its penalty is drawn")
+    it.add_argument("--bound", action="store_true", help="ask 'roster bound' for a floor, and show it")
+    it.add_argument("--out", metavar="FILE", help="the file to write; else standard output")
+    with_files(it)
+    add_improve(commands)
+    it = command(commands, "split", run_split, "writes a solution file for each week: PREFIX-0.txt, PREFIX-1.txt and so on")
+    it.add_argument("prefix", metavar="PREFIX", help="how the names of the files begin, such as Sol-n030w4")
+    it.add_argument("--crlf", action="store_true", help="end lines with CR LF")
+    with_other(it, "its weeks are written")
+    with_files(it)
+    return parser
+
+
+def run(words: list[str]) -> int:
+    asked = parser_of().parse_args(words)
+    return asked.run(asked, program.find(asked.roster))
+
+
+def main(words: list[str]) -> int:
+    """The desk with these words; returns the status."""
+    signals.take()
+    try:
+        status = run(words)
+        sys.stdout.flush()
+        return status
+    except DeskError as why:
+        return ended(str(why), why.status)
+    except WriteFailed as why:
+        # (a reader that has gone wants no line)
+        reason = why.__cause__
+        return ended("" if isinstance(reason, BrokenPipeError) else f"write failed: {reason.strerror}", 3)
+    except BrokenPipeError:
+        return ended("", 3)
+    except MemoryError:
+        return ended("no memory", 4)
+    except signals.Interrupted as end:
+        return ended("interrupted", end.status)
+
+
+def ended(line: str, status: int) -> int:
+    """Tells why the desk ends, where there is something to tell, and gives Python nothing to write afterwards."""
+    try:
+        if line:
+            print(f"desk: {line}", file=sys.stderr, flush=True)
+    except OSError:
+        pass
+    nothing = os.open(os.devnull, os.O_WRONLY)
+    for stream in (1, 2):
+        os.dup2(nothing, stream)
+    return status

@@ -1,0 +1,44 @@
+"""What is wrong with texts: a place and a sentence for each, and the words that are nearest to an unknown one."""
+import collections.abc
+import dataclasses
+import difflib
+import functools
+
+from desk_lib.texts import Place, shown
+
+
+@dataclasses.dataclass(frozen=True)
+class Finding:
+    """A fault: the byte of the joined text where it stands, or -1 where it has no place; the place, and what is wrong."""
+
+    offset: int
+    place: Place | None
+    message: str
+
+    def lines(self) -> list[str]:
+        """The lines that tell it."""
+        if self.place is None:
+            return [self.message]
+        head = f"{self.place}: {self.message}"
+        return [head, *self.place.lines()] if self.place.text.strip() else [head]
+
+    def line_key(self) -> tuple[str, int] | None:
+        return self.place and (self.place.file, self.place.line)
+
+
+@functools.lru_cache(maxsize=10_000)
+def nearest_names(word: bytes, known: frozenset[bytes] | tuple[bytes, ...]) -> list[str]:
+    """The known words most like this one, at most three, capitals and small letters being the same."""
+    folded = {shown(it).casefold(): shown(it) for it in sorted(known, reverse=True)}
+    return [folded[it] for it in difflib.get_close_matches(shown(word).casefold(), [*folded], n=3, cutoff=0.6)]
+
+
+def nearest(word: bytes, known: collections.abc.Iterable[bytes]) -> str:
+    """A clause that names the known words like this one, if there are any."""
+    found = nearest_names(word, frozenset(known))
+    return f"; nearest: {', '.join(found)}" if found else ""
+
+
+def also(count: int) -> str:
+    """A clause for the other places of a fault that is told once."""
+    return "" if not count else " (so does 1 more line)" if count == 1 else f" (so do {count} more lines)"

@@ -1,0 +1,88 @@
+"""What can't be seen in an editor and keeps the program from reading a text, or stands there as part of a word."""
+import re
+
+from desk_lib.findings import Finding, also
+from desk_lib.texts import Text, Texts
+
+UTF8_MARK = b"\xef\xbb\xbf"
+UTF16_MARKS = (b"\xff\xfe", b"\xfe\xff")
+SAVE_AS = "save it as UTF-8 without a byte order mark"
+QUOTES = b'"|\xe2\x80[\x98-\x9f]|\xc2\xab|\xc2\xbb'
+# What stands there, what is said of it, and whether it counts in texts that aren't UTF-8 alone.
+SIGNS = [
+    (
+        rb"\xc2\xa0|\xe2\x80\xaf|\xe2\x80\x87",
+        "a no-break space, which is part of a word and divides none; put a blank in its place",
+        False,
+    ),
+    (rb"\xa0", "a no-break space (byte A0), which is part of a word and divides none; put a blank in its place", True),
+    (
+        rb"\xe2\x80[\x80-\x86\x88-\x8b]|\xe3\x80\x80|\xef\xbb\xbf",
+        "a space that is part of a word and divides none; put a blank in its place",
+        False,
+    ),
+    (
+        rb"(?:(?<=[ \t\r\n(),=])|^)(?:" + QUOTES + rb")|(?:" + QUOTES + rb")(?=[ \t\r\n(),=]|$)",
+        "a quote, which is part of the word; take the quotes away",
+        False,
+    ),
+    (rb";", "a semicolon, which is part of a word and divides none; put a blank in its place", False),
+]
+
+
+def is_utf8(data: bytes) -> bool:
+    try:
+        data.decode()
+        return True
+    except UnicodeDecodeError:
+        return False
+
+
+def whole_file(text: Text) -> str:
+    """What is wrong with all of a file, if anything."""
+    if not text.data:
+        return "the file is empty (0 bytes)"
+    if not text.data.strip():
+        return "the file has blanks and line ends alone"
+    if text.data.startswith(UTF16_MARKS) or text.data.count(b"\0") * 4 > len(text.data):
+        return f"the file is UTF-16, of two bytes a letter; {SAVE_AS}"
+    return ""
+
+
+def signs_in(text: Text) -> list[tuple[int, int, str]]:
+    """The signs of a file: from which byte, to which, and what is said."""
+    found = []
+    if text.data.startswith(UTF8_MARK):
+        found.append((0, 3, f"the file begins with a byte order mark (bytes EF BB BF), which can't be seen; {SAVE_AS}"))
+    plain = is_utf8(text.data)
+    for pattern, told, is_of_bytes in SIGNS:
+        if not (is_of_bytes and plain):
+            found += [
+                (it.start(), it.end(), told) for it in re.finditer(pattern, text.data) if it.start() or it[0] != UTF8_MARK
+            ]
+    return found
+
+
+def causes(texts: Texts) -> tuple[list[Finding], bytes, bool, set[tuple[str, int]]]:
+    """What is found; the joined text with blanks in the place of it; whether every file can be read as a whole; and the
+    lines in which something hides.
+
+    A sign that stands several times in a file is told once, with how many lines more have it.
+    """
+    found, cleaned, all_read, hiding = [], bytearray(texts.joined), True, set()
+    for start, text in zip(texts.starts, texts.texts):
+        told = whole_file(text)
+        if told:
+            found.append(Finding(start, texts.place(start), told))
+            cleaned[start : start + len(text.data)] = b" " * len(text.data)
+            all_read = False
+            continue
+        kinds: dict[str, list[tuple[int, int]]] = {}
+        for first, last, told in signs_in(text):
+            cleaned[start + first : start + last] = b" " * (last - first)
+            kinds.setdefault(told, []).append((start + first, last - first))
+        for told, signs in kinds.items():
+            places = [texts.place(*it) for it in signs]
+            found.append(Finding(signs[0][0], places[0], f"{told}{also(len({it.line for it in places}) - 1)}"))
+            hiding.update((it.file, it.line) for it in places)
+    return found, bytes(cleaned), all_read, hiding

@@ -1,0 +1,117 @@
+"""The case and the roster of texts that the program takes. Names are bytes, as they stand there."""
+import dataclasses
+
+from reckoning import Case, History, Limits, Nurse, Shift
+
+from desk_lib.grammar import ANY, DAYS, Bundle, Part, Words
+
+# A row has for each day the shift and the skill, or None; a roster has a row for each nurse.
+Choice = tuple[int, int] | None
+Row = list[Choice]
+Roster = list[Row]
+
+
+@dataclasses.dataclass
+class Plan:
+    """What texts say: the case, its roster, and what of the texts has to be found again."""
+
+    case: Case
+    roster: Roster
+    words: Words
+    bundle: Bundle
+
+    @property
+    def days(self) -> int:
+        return 7 * self.case.weeks
+
+    def solutions_offset(self) -> int:
+        """The byte at which the first solution begins."""
+        return self.words.offset(self.bundle.solutions[0][b"SOLUTION"].at)
+
+
+class Names:
+    """The numbers of shifts, skills, contracts and nurses by the words that name them."""
+
+    def __init__(self, words: list[bytes], scenario: Part):
+        def numbers(keyword: bytes) -> dict[bytes, int]:
+            return {words[line[0]]: number for number, line in enumerate(scenario[keyword].lines)}
+
+        self.words = words
+        self.skills, self.shifts = numbers(b"SKILLS"), numbers(b"SHIFT_TYPES")
+        self.contracts, self.nurses = numbers(b"CONTRACTS"), numbers(b"NURSES")
+
+    def skill(self, at: int) -> int:
+        return self.skills[self.words[at]]
+
+    def shift(self, at: int) -> int | None:
+        """The shift that a word names; None for 'Any' and 'None'."""
+        return self.shifts.get(self.words[at])
+
+    def nurse(self, at: int) -> int:
+        return self.nurses[self.words[at]]
+
+
+def nurses_of(names: Names, bundle: Bundle) -> list[Nurse]:
+    """The nurses in their order, each with the line of the history."""
+    histories = {}
+    for first, assignments, weekends, last, *runs in bundle.history[b"NURSE_HISTORY"].lines:
+        histories[names.nurse(first)] = History(assignments, weekends, names.shift(last), *runs)
+    found = []
+    for number, (first, contract, skills) in enumerate(bundle.scenario[b"NURSES"].lines):
+        has = [names.skill(it) for it in skills]
+        found.append(Nurse(names.words[first], names.contracts[names.words[contract]], has, histories[number]))
+    return found
+
+
+def needs_of(names: Names, weeks: list[Part]) -> dict[tuple[int, int], list[Limits]]:
+    """For each shift and skill that a week needs, the minimum and the optimum of each day."""
+    needs: dict[tuple[int, int], list[Limits]] = {}
+    for week, part in enumerate(weeks):
+        for shift, skill, pairs in part[b"REQUIREMENTS"].lines:
+            days = needs.setdefault((names.shift(shift), names.skill(skill)), [Limits(0, 0)] * (7 * len(weeks)))
+            days[7 * week : 7 * week + 7] = pairs
+    return dict(sorted(needs.items()))
+
+
+def requests_of(names: Names, weeks: list[Part], keyword: bytes) -> set[tuple[int, int | None, int]]:
+    """The requests of all weeks: the nurse, the shift or None for any, and the day."""
+    found = set()
+    for week, part in enumerate(weeks):
+        for nurse, shift, day in part[keyword].lines if keyword in part else []:
+            found.add((names.nurse(nurse), None if names.words[shift] == ANY else names.shift(shift), 7 * week + day))
+    return found
+
+
+def roster_of(names: Names, solutions: list[Part]) -> Roster:
+    roster: Roster = [[None] * (7 * len(solutions)) for _ in names.nurses]
+    for week, part in enumerate(solutions):
+        for nurse, day, shift, skill in part[b"ASSIGNMENTS"].lines:
+            roster[names.nurse(nurse)][7 * week + day] = names.shift(shift), names.skill(skill)
+    return roster
+
+
+def plan_of(words: Words, bundle: Bundle) -> Plan:
+    """The plan of a bundle, in which the program finds no fault of names."""
+    scenario, names = bundle.scenario, Names(words.words, bundle.scenario)
+    word = words.words
+    case = Case(
+        name=word[scenario[b"SCENARIO"].lines[0][0]],
+        weeks=scenario[b"WEEKS"].count,
+        shifts=[Shift(word[first], limits) for first, limits in scenario[b"SHIFT_TYPES"].lines],
+        skills=[word[first] for first, in scenario[b"SKILLS"].lines],
+        forbidden={
+            (names.shift(first), names.shift(it))
+            for first, others in scenario[b"FORBIDDEN_SHIFT_TYPES_SUCCESSIONS"].lines
+            for it in others
+        },
+        contracts=[contract for _, contract in scenario[b"CONTRACTS"].lines],
+        nurses=nurses_of(names, bundle),
+        needs=needs_of(names, bundle.weeks),
+        requests=requests_of(names, bundle.weeks, b"SHIFT_OFF_REQUESTS"),
+        wishes=requests_of(names, bundle.weeks, b"SHIFT_ON_REQUESTS"),
+    )
+    return Plan(case, roster_of(names, bundle.solutions), words, bundle)
+
+
+def day_name(day: int) -> str:
+    return DAYS[day % 7].decode()

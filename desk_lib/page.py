@@ -1,0 +1,261 @@
+"""The command `page`: a roster as one HTML file, which needs nothing from elsewhere."""
+import html
+import os
+
+from desk_lib.costs import RULES, Costing
+from desk_lib.grammar import DAYS
+from desk_lib.model import Choice
+from desk_lib.plot import Plot, Point
+from desk_lib.sheet import Cell, Cover, Sheet
+from desk_lib.texts import shown
+
+# Weeks side by side in one table.
+AT_ONCE = 4
+MEANING = {
+    "S1": "staffing",
+    "S2": "work in a row",
+    "S3": "days off in a row",
+    "S4": "off requests",
+    "S5": "whole weekends",
+    "S6": "assignments",
+    "S7": "worked weekends",
+    "S8": "wishes to work",
+}
+
+
+def escaped(name: bytes | str) -> str:
+    """A name as it can stand anywhere in the page."""
+    return html.escape(shown(name))
+
+
+def style() -> str:
+    with open(f"{os.path.dirname(os.path.realpath(__file__))}/page.css", encoding="utf-8") as file:
+        return file.read()
+
+
+def number(now: int, before: int | None = None) -> str:
+    """A number, in front of it what it was before where that was another one."""
+    if before in (None, now):
+        return str(now)
+    return f'<span class="was{" more" if before < now else ""}">{before} →</span>{now}'
+
+
+def number_cell(now: int, before: int | None) -> str:
+    """A number in a cell; a 0 that was one before in grey."""
+    grey = "" if now or before else ' class="zero"'
+    return f"<td{grey}>{number(now, before)}</td>"
+
+
+class Page:
+    """The page of a sheet."""
+
+    def __init__(self, sheet: Sheet, before: Costing | None, log: list[Point], floor: int | None):
+        self.sheet, self.case, self.costing, self.before = sheet, sheet.case, sheet.costing, before
+        self.log, self.floor = log, floor
+
+    def text(self) -> str:
+        parts = [self.head(), "<main>", self.grid(), self.costs(), self.staffing(), self.plot(), "</main>", self.foot()]
+        return "\n".join(it for it in parts if it) + "\n"
+
+    # ---- above
+
+    def head(self) -> str:
+        name, case = escaped(self.case.name), self.case
+        links = [("grid", "Grid"), ("nurses", "Costs by nurse"), ("staffing", "Staffing")]
+        links += [("log", "The run")] if self.log else []
+        nav = "".join(f'<a href="#{at}">{told}</a>' for at, told in links)
+        frozen = f", weeks before {self.sheet.first_week} frozen" if self.sheet.first_week else ""
+        return f"""<!doctype html>
+<html lang="en">
+<head>
+<meta charset="utf-8">
+<meta name="viewport" content="width=device-width, initial-scale=1">
+<title>Roster {name}</title>
+<style>
+{style()}</style>
+</head>
+<body>
+<header>
+<h1>Roster {name}</h1>
+<p>{plural(case.weeks, 'week')}, {plural(len(case.nurses), 'nurse')}{frozen}{self.told_changes()}</p>
+<nav aria-label="Parts of this page">{nav}</nav>
+{self.cards()}
+</header>"""
+
+    def told_changes(self) -> str:
+        if not self.before:
+            return ""
+        count = sum(cell.is_changed for row in self.sheet.rows for cell in row)
+        return f", {plural(count, 'day')} changed" if count else ", no day changed"
+
+    def cards(self) -> str:
+        """The total, the floor, and the rules, each with its penalty."""
+        now, old = self.costing.totals_by_rule(), self.before and self.before.totals_by_rule()
+        was = lambda rule: f"<small>was {old[rule]}</small>" if old and old[rule] != now[rule] else ""
+        cards = [f'<li class="total"><span>penalty</span><b>{now["total"]}</b>{was("total")}</li>']
+        if self.floor is not None:
+            cards.append(
+                f"<li><span>floor of all rosters</span><b>{self.floor}</b><small>{now['total'] - self.floor} above"
+                " it</small></li>"
+            )
+        cards += [f"<li><span>{rule} {MEANING[rule]}</span><b>{now[rule]}</b>{was(rule)}</li>" for rule in MEANING]
+        return f'<ul class="cards">{"".join(cards)}</ul>'
+
+    # ---- the grid
+
+    def grid(self) -> str:
+        blocks = [
+            self.block(self.sheet.weeks[first : first + AT_ONCE]) for first in range(0, len(self.sheet.weeks), AT_ONCE)
+        ]
+        return "\n".join(['<section id="grid">', "<h2>Grid</h2>", self.legend(), *blocks, "</section>"])
+
+    def legend(self) -> str:
+        sheet = self.sheet
+        items = [
+            f'<span class="key s{at}">{letter}</span>{escaped(it.name)}'
+            for at, (letter, it) in enumerate(zip(sheet.shift_letters, self.case.shifts))
+        ]
+        items.append('<span class="key off">·</span>off')
+        items += [
+            f'<span class="key">{letter}</span>{escaped(it)}' for letter, it in zip(sheet.skill_letters, self.case.skills)
+        ]
+        if self.before:
+            first = sheet.shift_letters[0]
+            items.append(f'<span class="key changed">‹{first}</span>changed, it was {first} before')
+        items.append('<span class="key request">!</span>a request that isn’t met')
+        if sheet.first_week:
+            items.append('<span class="key frozen"></span>frozen week')
+        return f'<ul class="legend">{"".join(f"<li>{it}</li>" for it in items)}</ul>'
+
+    def block(self, weeks: range) -> str:
+        """A table of some weeks: their heads, the nurses, and the cover."""
+        told = f"Weeks {weeks[0]} to {weeks[-1]}" if len(weeks) > 1 else f"Week {weeks[0]}"
+        frozen = {it: " (frozen)" if it < self.sheet.first_week else "" for it in weeks}
+        heads = "".join(f'<th class="week" colspan="7" scope="colgroup">Week {it}{frozen[it]}</th>' for it in weeks)
+        days = "".join(
+            f'<th scope="col"{self.classes(7 * week + day)}>{name.decode()[:2]}</th>'
+            for week in weeks
+            for day, name in enumerate(DAYS)
+        )
+        lines = [
+            f'<div class="scroll" tabindex="0" role="region" aria-label="{told}">',
+            f'<table class="grid"><caption>{told}</caption>',
+            f'<thead><tr><th></th>{heads}</tr><tr><th scope="col">nurse</th>{days}</tr></thead>',
+            '<tbody class="nurses">',
+            *(self.nurse(number, weeks) for number in range(len(self.case.nurses))),
+            '</tbody><tbody class="cover">',
+            *(self.cover(at, weeks) for at in self.sheet.places()),
+            "</tbody></table></div>",
+        ]
+        return "\n".join(lines)
+
+    def classes(self, day: int, *more: str) -> str:
+        """The classes of a day's cell."""
+        found = ["monday"] * (day % 7 == 0) + ["weekend"] * (day % 7 > 4) + ["frozen"] * (day // 7 < self.sheet.first_week)
+        found += more
+        return f' class="{" ".join(found)}"' if found else ""
+
+    def nurse(self, number: int, weeks: range) -> str:
+        name = escaped(self.case.nurses[number].name)
+        days = range(7 * weeks[0], 7 * weeks[-1] + 7)
+        cells = "".join(f"<td{self.classes(day)}>{self.cell(self.sheet.rows[number][day])}</td>" for day in days)
+        return f'<tr><th scope="row" title="{name}">{name}</th>{cells}</tr>'
+
+    def cell(self, cell: Cell) -> str:
+        """A day: the shift's letter and the skill's, below it what it was and whether a request isn't met."""
+        is_wrong = cell.breaks_request or cell.misses_wish
+        classes = ["cell", "off" if cell.choice is None else f"s{cell.choice[0]}"]
+        classes += ["changed"] * cell.is_changed + ["request"] * is_wrong
+        below = (f"‹{self.letter(cell.before)}" if cell.is_changed else "") + (" !" if is_wrong else "")
+        skill = f"<i>{self.sheet.skill_letters[cell.choice[1]]}</i>" if cell.choice else ""
+        small = f"<small>{below.strip()}</small>" if below else ""
+        return f'<span class="{" ".join(classes)}">{self.letter(cell.choice)}{skill}{small}</span>'
+
+    def letter(self, choice: Choice) -> str:
+        return "·" if choice is None else self.sheet.shift_letters[choice[0]]
+
+    def cover(self, at: tuple[int, int], weeks: range) -> str:
+        """A line of the cover of a shift and skill."""
+        shift, skill = at
+        cells = "".join(
+            f"<td{self.classes(7 * week + day, *low(it))}>{cover_text(it)}</td>"
+            for week in weeks
+            for day, it in enumerate(self.sheet.covers(at, week))
+        )
+        name = f'<span class="key s{shift}">{self.sheet.shift_letters[shift]}</span>{escaped(self.case.skills[skill])}'
+        return f'<tr><th scope="row" title="{escaped(self.sheet.place_name(at))}">{name}</th>{cells}</tr>'
+
+    # ---- numbers
+
+    def costs(self) -> str:
+        heads = "".join(f'<th scope="col" title="{MEANING[rule]}">{rule}</th>' for rule in RULES)
+        most = max([1, *(sum(it.values()) for it in self.costing.of_nurses)])
+        rows = [self.nurse_costs(number, most) for number in range(len(self.case.nurses))]
+        now, old = self.costing.totals_by_rule(), self.before and self.before.totals_by_rule()
+        sums = "".join(number_cell(now[rule], old and old[rule]) for rule in RULES)
+        whole = number(sum(now[it] for it in RULES), old and sum(old[it] for it in RULES))
+        return f"""<section id="nurses">
+<h2>Costs by nurse</h2>
+<div class="scroll" tabindex="0" role="region" aria-label="Costs by nurse">
+<table class="numbers"><thead><tr><th scope="col">nurse</th>{heads}<th scope="col">sum</th><th></th></tr></thead>
+<tbody>
+{chr(10).join(rows)}
+</tbody>
+<tfoot><tr><th scope="row">all nurses</th>{sums}<td class="sum">{whole}</td><td></td></tr></tfoot></table></div>
+</section>"""
+
+    def nurse_costs(self, at: int, most: int) -> str:
+        costs, old = self.costing.of_nurses[at], self.before and self.before.of_nurses[at]
+        cells = "".join(number_cell(costs[rule], old and old[rule]) for rule in RULES)
+        total, name = sum(costs.values()), escaped(self.case.nurses[at].name)
+        bar = f'<td class="bar"><span style="width:{100 * total // most}%"></span></td>'
+        whole = number(total, old and sum(old.values()))
+        return f'<tr><th scope="row" title="{name}">{name}</th>{cells}<td class="sum">{whole}</td>{bar}</tr>'
+
+    def staffing(self) -> str:
+        """S1 by shift and skill."""
+        case, both = self.case, (self.costing, self.before or self.costing)
+        heads = "".join(f'<th scope="col">{escaped(it)}</th>' for it in case.skills)
+        rows = []
+        for shift, it in enumerate(case.shifts):
+            now, old = ([by.of_places.get((shift, at), 0) for at in range(len(case.skills))] for by in both)
+            cells = "".join(map(number_cell, now, old))
+            key = f'<span class="key s{shift}">{self.sheet.shift_letters[shift]}</span> {escaped(it.name)}'
+            rows.append(f'<tr><th scope="row">{key}</th>{cells}<td class="sum">{number(sum(now), sum(old))}</td></tr>')
+        return f"""<section id="staffing">
+<h2>Staffing: S1 by shift and skill</h2>
+<div class="scroll" tabindex="0" role="region" aria-label="Staffing">
+<table class="numbers"><thead><tr><th scope="col">shift</th>{heads}<th scope="col">sum</th></tr></thead>
+<tbody>
+{chr(10).join(rows)}
+</tbody></table></div>
+</section>"""
+
+    # ---- the run
+
+    def plot(self) -> str:
+        if not self.log:
+            return ""
+        return (
+            f'<section id="log">\n<h2>The run</h2>\n<div class="plot">{Plot(self.log, self.floor).svg()}</div>\n</section>'
+        )
+
+    def foot(self) -> str:
+        return """<footer>Made by desk. Each total is that of the program roster; the costs by nurse add up to it.</footer>
+</body>
+</html>"""
+
+
+def plural(count: int, what: str) -> str:
+    return f"{count} {what}{'' if count == 1 else 's'}"
+
+
+def low(cover: Cover) -> list[str]:
+    return {"!": ["bad"], "-": ["low"]}.get(cover.mark(), [])
+
+
+def cover_text(cover: Cover) -> str:
+    """How many are there, below it the minimum and the optimum; nothing where none is needed nor there."""
+    if not (cover.have or cover.least or cover.optimum):
+        return ""
+    return f"{cover.have}{cover.mark().replace('-', '−')}<small>{cover.least}–{cover.optimum}</small>"

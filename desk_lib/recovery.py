@@ -1,0 +1,225 @@
+"""A second reading of refused texts, section by section and line by line, which goes on after a fault and tells each."""
+import collections
+import dataclasses
+
+from desk_lib import grammar
+from desk_lib.findings import Finding, nearest, nearest_names
+from desk_lib.grammar import PARTS, READERS, SECTIONS_OF, Cursor, Fault, Part, Section, Words
+from desk_lib.texts import KINDS, shown
+
+ORDER = "the order is scenario, history, week data, solutions; or name the files by --sce, --his, --weeks and --sols"
+# Sections of one line each for what they count, with what reads a line; a count stands after '='.
+LINES = {
+    b"SKILLS": grammar.skill_line,
+    b"SHIFT_TYPES": grammar.shift_line,
+    b"FORBIDDEN_SHIFT_TYPES_SUCCESSIONS": grammar.succession_line,
+    b"CONTRACTS": grammar.contract_line,
+    b"NURSES": grammar.nurse_line,
+    b"NURSE_HISTORY": grammar.history_line,
+    b"REQUIREMENTS": grammar.need_line,
+    b"SHIFT_OFF_REQUESTS": grammar.request_line,
+    b"SHIFT_ON_REQUESTS": grammar.request_line,
+    b"ASSIGNMENTS": grammar.assignment_line,
+}
+UNCOUNTED = {b"FORBIDDEN_SHIFT_TYPES_SUCCESSIONS", b"NURSE_HISTORY", b"REQUIREMENTS"}
+ALONE = {b"HISTORY", b"WEEK_DATA", b"SOLUTION", *UNCOUNTED}
+
+
+@dataclasses.dataclass
+class Found:
+    """A part that was found, with the number of its first word."""
+
+    kind: str
+    at: int
+    sections: Part
+
+
+class Recovery:
+    """The parts of texts, as far as they can be read, and what is wrong with them."""
+
+    def __init__(self, words: Words):
+        # (a keyword that is misspelt is read as the one that is meant)
+        self.words, self.list = words, [*words.words]
+        self.findings: list[Finding] = []
+        self.parts: list[Found] = []
+        # (names that stand first in lines with another fault, by the keywords of their sections)
+        self.broken: dict[bytes, list[bytes]] = collections.defaultdict(list)
+        heads = self.heads()
+        for (at, keyword), (end, _) in zip(heads, [*heads[1:], (len(self.list), b"")]):
+            self.take(keyword, self.section(keyword, at, end))
+        self.check_parts()
+
+    def tell(self, at: int, message: str, last: int | None = None) -> None:
+        """Notes a fault of the word of this number, or of all words from it to the last."""
+        offset, place = self.words.offset(at), self.words.place(at)
+        if last is not None and last < len(self.list):
+            length = self.words.offset(last) + len(self.words.words[last]) - offset
+            place = dataclasses.replace(place, length=length)
+        self.findings.append(Finding(offset, place, message))
+
+    def tell_fault(self, fault: Fault, end: int) -> None:
+        """Notes a fault of grammar in words that end there: at the last of them where one more is due."""
+        is_inside = fault.at < end
+        self.tell(fault.at if is_inside else end - 1, said(fault, self.words.words[fault.at] if is_inside else None))
+
+    # ---- sections
+
+    def begins_line(self, at: int) -> bool:
+        if at == 0:
+            return True
+        before = self.words.offset(at - 1) + len(self.list[at - 1])
+        return b"\n" in self.words.data[before : self.words.offset(at)]
+
+    def heads(self) -> list[tuple[int, bytes]]:
+        """The words that begin sections, with the keyword that each is or is meant to be."""
+        found = []
+        for at, word in enumerate(self.words.words):
+            if word in ALONE and self.begins_line(at):
+                found.append((at, word))
+            elif word == b"=" and at and self.begins_line(at - 1):
+                keyword = self.list[at - 1]
+                if keyword not in READERS:
+                    self.tell(at - 1, f"no section is named '{shown(keyword)}'{nearest(keyword, READERS)}")
+                    keyword = next((it.encode() for it in nearest_names(keyword, frozenset(READERS))), keyword)
+                    self.list[at - 1] = keyword
+                if keyword in READERS:
+                    found.append((at - 1, keyword))
+        return found
+
+    def section(self, keyword: bytes, at: int, end: int) -> Section:
+        """The section from one word to another; where it can't be read as a whole, line by line."""
+        cursor, section = Cursor(self.list, at, end), Section(keyword.decode(), at)
+        try:
+            self.as_whole(keyword, cursor, section)
+            if cursor.at == end:
+                return section
+            fault = Fault(cursor.at, "next section")
+        except Fault as told:
+            fault = told
+        if keyword in LINES:
+            return self.by_lines(keyword, at, end, Section(keyword.decode(), at))
+        self.tell_fault(fault, end)
+        return section
+
+    def as_whole(self, keyword: bytes, cursor: Cursor, section: Section) -> None:
+        if keyword not in UNCOUNTED:
+            return READERS[keyword](cursor, section)
+        cursor.at += 1
+        while cursor.peek() is not None:
+            section.lines.append(LINES[keyword](cursor))
+
+    def by_lines(self, keyword: bytes, at: int, end: int, section: Section) -> Section:
+        """The lines of a section, each by itself. A count is compared with how many there are."""
+        first = at + 1 if keyword in UNCOUNTED else self.after_count(at, end, section)
+        lines = self.lines(first, end)
+        if keyword not in UNCOUNTED and section.count != len(lines) and first > at + 2:
+            follow = "1 line follows" if len(lines) == 1 else f"{len(lines)} lines follow"
+            self.tell(at + 2, f"{section.keyword} says {section.count}, and {follow} it")
+        for start, stop in lines:
+            cursor = Cursor(self.list, start, stop)
+            try:
+                line = LINES[keyword](cursor)
+                section.lines.append(line)
+                if cursor.at < stop:
+                    self.tell(cursor.at, "the line has more words than a line of this section", stop - 1)
+            except Fault as fault:
+                self.tell_fault(fault, stop)
+                self.broken[keyword].append(self.words.words[start])
+        return section
+
+    def after_count(self, at: int, end: int, section: Section) -> int:
+        """The number of the word after the count of a section, which is read."""
+        cursor = Cursor(self.list, at + 1, end)
+        try:
+            cursor.word("=")
+            section.count = cursor.number(grammar.COUNT)
+        except Fault as fault:
+            self.tell_fault(fault, end)
+        return cursor.at
+
+    def lines(self, first: int, end: int) -> list[tuple[int, int]]:
+        """The lines of these words: from which word, and to which."""
+        starts = [it for it in range(first, end) if it == first or self.begins_line(it)]
+        return list(zip(starts, [*starts[1:], end])) if first < end else []
+
+    # ---- parts
+
+    def take(self, keyword: bytes, section: Section) -> None:
+        """Adds a section to the part to which it belongs."""
+        if keyword in PARTS:
+            self.parts.append(Found(PARTS[keyword], section.at, {keyword: section}))
+            return
+        kind = next(it for it, sections in SECTIONS_OF.items() if keyword in sections)
+        if not self.parts or self.parts[-1].kind != kind:
+            self.tell(section.at, f"{section.keyword} is a section of {a(kind)}, and stands in none")
+        elif keyword in self.parts[-1].sections:
+            self.tell(section.at, f"{section.keyword} stands a second time in this {kind}")
+        else:
+            self.parts[-1].sections[keyword] = section
+
+    def check_parts(self) -> None:
+        """Tells of sections that parts lack or have in another order."""
+        for part in self.parts:
+            due = [it for it in SECTIONS_OF[part.kind] if it != b"SHIFT_ON_REQUESTS"]
+            lacking = [it.decode() for it in due if it not in part.sections]
+            if lacking:
+                self.tell(part.at, f"this {part.kind} has no section {' and no '.join(lacking)}")
+            elif [it for it in part.sections if it in due] != due:
+                self.tell(
+                    part.at,
+                    f"the sections of this {part.kind} stand in another order than {', '.join(it.decode() for it in due)}",
+                )
+
+    def of_kind(self, kind: str) -> list[Found]:
+        return [it for it in self.parts if it.kind == kind]
+
+    def check_order(self) -> None:
+        """Tells of files under a wrong option, of parts in a wrong order, and of how many there are."""
+        self.check_options()
+        kinds = [*PARTS.values()]
+        for before, part in zip(self.parts, self.parts[1:]):
+            if kinds.index(part.kind) < kinds.index(before.kind):
+                self.tell(part.at, f"{a(part.kind)} stands here, after {a(before.kind)}; {ORDER}")
+                break
+        for kind in ("scenario", "history"):
+            found = self.of_kind(kind)
+            if not found:
+                self.findings.append(Finding(-1, None, f"no {kind} is among the files; give one"))
+            for it in found[1:]:
+                self.tell(it.at, f"a second {kind} stands here; give one alone")
+        self.check_weeks()
+
+    def check_options(self) -> None:
+        """Tells of files that aren't what their option says."""
+        texts = self.words.texts
+        for start, end, text in zip(texts.starts, texts.starts[1:], texts.texts):
+            within = [it for it in self.parts if start <= self.words.offset(it.at) < end]
+            due = KINDS.get(text.kind, "")
+            for it in within:
+                if due and it.kind != due:
+                    self.tell(
+                        it.at, f"--{text.kind} names this file, and it has {a(it.kind)}; that belongs to another option"
+                    )
+
+    def check_weeks(self) -> None:
+        """Tells where there aren't as many week data and solutions as the scenario says."""
+        scenario = self.of_kind("scenario")
+        weeks = scenario[0].sections.get(b"WEEKS") if scenario else None
+        data, solutions = len(self.of_kind("week data")), len(self.of_kind("solution"))
+        if weeks and not data == solutions == weeks.count:
+            self.tell(weeks.at + 2, f"WEEKS says {weeks.count}, and there are {data} week data and {solutions} solutions")
+
+
+def a(kind: str) -> str:
+    """A kind of part with its article."""
+    return kind if kind == "week data" else f"a {kind}"
+
+
+def said(fault: Fault, word: bytes | None) -> str:
+    """A fault of grammar in words: what is due, and what stands in its place."""
+    here = f"'{shown(word)}' stands" if word is not None else "the line ends"
+    if fault.is_range:
+        return f"the number '{shown(word)}' is out of range"
+    due = fault.due if fault.due.isupper() else f"'{fault.due}'" if fault.due in "=()," else f"a {fault.due}"
+    like = nearest(word or b"", grammar.DAYS + grammar.LONG_DAYS) if fault.due == "day" else ""
+    return f"{due} is due, and {here} here{like}"

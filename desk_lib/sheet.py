@@ -1,0 +1,73 @@
+"""What a grid shows of a roster, on a terminal and on a page: the days of each nurse, and the cover of each day."""
+import dataclasses
+
+from desk_lib.costs import Costing
+from desk_lib.model import Choice, Roster
+from desk_lib.texts import shown
+
+SPARE = "0123456789"
+
+
+@dataclasses.dataclass(frozen=True)
+class Cell:
+    """A day of a nurse: the choice, whether it is another than before, and what of the requests it doesn't meet."""
+
+    choice: Choice
+    before: Choice
+    is_changed: bool
+    breaks_request: bool
+    misses_wish: bool
+
+
+@dataclasses.dataclass(frozen=True)
+class Cover:
+    """How many nurses a day has on a shift with a skill, the minimum and the optimum."""
+
+    have: int
+    least: int
+    optimum: int
+
+    def mark(self) -> str:
+        """'!' below the minimum, '-' below the optimum."""
+        return "!" if self.have < self.least else "-" if self.have < self.optimum else ""
+
+
+def letters(names: list[bytes]) -> list[str]:
+    """A letter for each name, each another: its first one, or the first that is left, or a digit."""
+    taken: list[str] = []
+    for name in map(shown, names):
+        wanted = [it.upper() for it in name if it.isascii() and it.isalnum()] + [*SPARE]
+        taken.append(next(it for it in wanted if it not in taken))
+    return taken
+
+
+class Sheet:
+    """A roster to be shown, compared with another one where that is given. Weeks before `first_week` are frozen."""
+
+    def __init__(self, costing: Costing, before: Roster | None, first_week: int):
+        self.costing, self.case = costing, costing.case
+        self.weeks, self.first_week = range(self.case.weeks), first_week
+        self.shift_letters = letters([it.name for it in self.case.shifts])
+        self.skill_letters = [it.lower() for it in letters(self.case.skills)]
+        self.rows = [
+            [self.cell(number, day, before) for day in range(costing.plan.days)] for number in range(len(self.case.nurses))
+        ]
+
+    def cell(self, number: int, day: int, before: Roster | None) -> Cell:
+        row = self.costing.plan.roster[number]
+        old = before[number][day] if before else row[day]
+        asked, missed = self.costing.breaks_request(number, day, row), self.costing.misses_wish(number, day, row)
+        return Cell(row[day], old, old != row[day], asked, missed)
+
+    def covers(self, at: tuple[int, int], week: int) -> list[Cover]:
+        """The cover of a shift and skill on the days of a week."""
+        days = range(7 * week, 7 * week + 7)
+        needs, covers = self.case.needs[at], self.costing.covers
+        return [Cover(covers[day][at], needs[day].least, needs[day].greatest) for day in days]
+
+    def places(self) -> list[tuple[int, int]]:
+        """The shifts and skills of which some day needs one."""
+        return [at for at, needs in self.case.needs.items() if any(map(any, needs))]
+
+    def place_name(self, at: tuple[int, int]) -> str:
+        return f"{shown(self.case.shifts[at[0]].name)} {shown(self.case.skills[at[1]])}"

@@ -1,0 +1,148 @@
+"""The files of a bundle as they were given, and places in them."""
+import bisect
+import dataclasses
+import os
+import re
+import unicodedata
+
+# What a file is, by the option that names it.
+KINDS = {"sce": "scenario", "his": "history", "weeks": "week data", "sols": "solution"}
+
+
+class DeskError(Exception):
+    """Why a command can't go on: a line that says what to do, and the status to end with."""
+
+    def __init__(self, message: str, status: int = 1):
+        super().__init__(message)
+        self.status = status
+
+
+def is_shown(letter: str) -> bool:
+    """Whether a letter may be shown as it is: a control character may not, nor one that can't be seen."""
+    return letter.isprintable() and unicodedata.category(letter) not in ("Cf", "Co")
+
+
+def shown(word: bytes | str) -> str:
+    """A word as it can be shown anywhere: bytes that are no UTF-8, and letters that can't be seen, by their numbers."""
+    word = os.fsencode(word) if isinstance(word, str) else word
+    letters = word.decode("utf-8", "backslashreplace")
+    return "".join(it if is_shown(it) else it.encode("unicode_escape").decode() for it in letters)
+
+
+def columns(text: str) -> int:
+    """How many columns of a terminal the text takes."""
+    return sum(0 if unicodedata.combining(it) else 2 if unicodedata.east_asian_width(it) in "WF" else 1 for it in text)
+
+
+def cut(text: str, width: int) -> str:
+    """The text in so many columns: filled up with blanks, or cut with a mark at its end."""
+    if columns(text) > width:
+        while columns(text) > width - 1:
+            text = text[:-1]
+        text += "…"
+    return text + " " * (width - columns(text))
+
+
+@dataclasses.dataclass(frozen=True)
+class Text:
+    """A file: the name by which it was given, its bytes, and the option that named it, if one did."""
+
+    name: str
+    data: bytes
+    kind: str = ""
+
+
+@dataclasses.dataclass(frozen=True)
+class Place:
+    """A word in a file. Lines count from 1, and columns by bytes from 0. At a file's end the word has no length."""
+
+    file: str
+    line: int
+    text: bytes
+    column: int = 0
+    length: int = 0
+
+    def __str__(self) -> str:
+        return f"{shown(self.file)}:{self.line}"
+
+    def lines(self) -> list[str]:
+        """The line's text, and a line that marks the word below it."""
+        before, word = self.text[: self.column], self.text[self.column : self.column + self.length]
+        before, word, after = (
+            shown(it.replace(b"\t", b" ")) for it in (before, word, self.text[self.column + self.length :])
+        )
+        if columns(before) > 60:
+            before = "…" + before[-50:]
+        mark = " " * columns(before) + "^" * max(1, columns(word))
+        return [f"    {(before + word + after)[:150]}".rstrip(), f"    {mark[:150]}"]
+
+
+class Texts:
+    """The files of a bundle, joined as the program reads them: with one line end more after each file."""
+
+    def __init__(self, texts: list[Text], is_stream: bool = False):
+        self.texts, self.is_stream = texts, is_stream
+        self.lines: dict[int, list[int]] = {}
+        parts = [it.data + (b"" if is_stream else b"\n") for it in texts]
+        self.joined = b"".join(parts)
+        self.starts = [0]
+        for part in parts:
+            self.starts.append(self.starts[-1] + len(part))
+
+    def before(self, offset: int, more: list[Text]) -> "Texts":
+        """The texts up to a byte, and other files after them."""
+        if self.is_stream:
+            kept = [Text(self.texts[0].name, self.joined[:offset])]
+        else:
+            kept = [
+                Text(it.name, it.data[: max(0, offset - start)], it.kind)
+                for it, start in zip(self.texts, self.starts)
+                if start < offset
+            ]
+        return Texts(kept + more)
+
+    def index(self, offset: int) -> int:
+        """The number of the file in which a byte stands; the last one's at the end."""
+        return min(bisect.bisect_right(self.starts, offset) - 1, len(self.texts) - 1)
+
+    def place(self, offset: int, length: int = 0) -> Place:
+        """Where a byte of the joined text stands. The end of everything is the end of the last line that has a word."""
+        text = self.texts[self.index(offset)]
+        at = offset - self.starts[self.index(offset)]
+        if at >= len(text.data):
+            at = len(text.data.rstrip(b" \t\r\n"))
+        starts = self.line_starts(self.index(offset))
+        number = bisect.bisect_right(starts, at)
+        first, last = starts[number - 1], starts[number] if number < len(starts) else len(text.data)
+        return Place(text.name, number, text.data[first:last].rstrip(b"\r\n"), at - first, length)
+
+    def line_starts(self, index: int) -> list[int]:
+        """The bytes of a file at which its lines begin."""
+        if index not in self.lines:
+            self.lines[index] = [0, *(it.end() for it in re.finditer(rb"\n", self.texts[index].data))]
+        return self.lines[index]
+
+    def line_start(self, number: int) -> int:
+        """The byte at which a line of the joined text begins, as the program counts lines."""
+        at = 0
+        for start, text in zip(self.starts, self.texts):
+            lines = text.data.count(b"\n") + 1
+            if number <= lines:
+                at = start
+                break
+            number -= lines
+        else:
+            return len(self.joined)
+        for _ in range(number - 1):
+            at = self.joined.index(b"\n", at) + 1
+        return at
+
+
+def read_file(name: str, kind: str = "") -> Text:
+    """The file of this name."""
+    try:
+        with open(name, "rb") as file:
+            return Text(name, file.read(), kind)
+    except (OSError, ValueError) as why:
+        reason = getattr(why, "strerror", None) or str(why)
+        raise DeskError(f"{shown(name)}: read failed: {reason}; give the name of a file that can be read", 3) from None
