@@ -1,0 +1,35 @@
+# Made by tools/pages from the program's help.
+
+function __roster_begins
+    test (count (commandline -opc)) -eq 1
+end
+
+function __roster_is
+    set -l words (commandline -opc)
+    test (count $words) -gt 1; and contains -- $words[2] $argv
+end
+
+complete -c roster -f
+complete -c roster -n __roster_begins -a show -d 'Write the rosters as they stand, in one tidy form'
+complete -c roster -n __roster_begins -a cost -d 'Write what the roster costs, rule by rule'
+complete -c roster -n __roster_begins -a sizes -d 'Write how much the search for each nurse takes'
+complete -c roster -n __roster_begins -a best -d 'Put a nurse\'s best row into the rosters, and write them'
+complete -c roster -n __roster_begins -a improve -d 'Make the rosters cheaper, nurse by nurse, and write them'
+complete -c roster -n __roster_begins -a help -d 'Print this message or the help of the given subcommand(s)'
+complete -c roster -n __roster_begins -s h -l help -d 'Print help'
+complete -c roster -n __roster_begins -s V -l version -d 'Print version'
+complete -c roster -n '__roster_is show' -F
+complete -c roster -n '__roster_is show' -s h -l help -d 'Print help'
+complete -c roster -n '__roster_is cost' -F
+complete -c roster -n '__roster_is cost' -s h -l help -d 'Print help'
+complete -c roster -n '__roster_is sizes' -F
+complete -c roster -n '__roster_is sizes' -s h -l help -d 'Print help'
+complete -c roster -n '__roster_is best' -F
+complete -c roster -n '__roster_is best' -l nurse -x -d 'The nurse of this name in the scenario, letter for letter'
+complete -c roster -n '__roster_is best' -l from -x -d 'The first week that may change, 0 to 52: the weeks before it stay as they stand [default: 0]'
+complete -c roster -n '__roster_is best' -s h -l help -d 'Print help'
+complete -c roster -n '__roster_is improve' -F
+complete -c roster -n '__roster_is improve' -l rounds -x -d 'The run makes so many rounds at most, 0 to 1000 [default: 100]'
+complete -c roster -n '__roster_is improve' -l from -x -d 'The first week that may change, 0 to 52: the weeks before it stay as they stand [default: 0]'
+complete -c roster -n '__roster_is improve' -s h -l help -d 'Print help'
+complete -c roster -n '__roster_is help' -a 'show cost sizes best improve help'
