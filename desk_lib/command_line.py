@@ -1,5 +1,6 @@
 """The desk's command line: its commands, their options, and how errors are told."""
 import argparse
+import errno
 import os
 import sys
 import typing
@@ -37,6 +38,8 @@ class WriteFailed(Exception):
 def write(lines: typing.Iterable[str]) -> None:
     """Writes lines to standard output, in UTF-8 whatever the terminal says."""
     try:
+        if sys.stdout is None:
+            raise OSError(errno.EBADF, os.strerror(errno.EBADF))
         for line in lines:
             sys.stdout.buffer.write(line.encode() + b"\n")
         sys.stdout.buffer.flush()
@@ -156,6 +159,8 @@ def run_improve(asked: argparse.Namespace, roster: Program) -> int:
     texts = texts_of(asked)
     plan = program.taken(roster, texts)
     before, words = texts.before(plan.solutions_offset(), []), first_week_words(asked)
+    if asked.polish:
+        roster.must_know("polish")
     progress = improve.Progress(improve.log_file(asked.log))
     run = improve.Run(roster, before, texts.joined[plan.solutions_offset() :], asked.out, words, progress)
 
@@ -318,11 +323,10 @@ def run(words: list[str]) -> int:
 
 def main(words: list[str]) -> int:
     """The desk with these words; returns the status."""
+    fill_streams()
     signals.take()
     try:
-        status = run(words)
-        sys.stdout.flush()
-        return status
+        return run(words)
     except DeskError as why:
         return ended(str(why), why.status)
     except WriteFailed as why:
@@ -331,10 +335,22 @@ def main(words: list[str]) -> int:
         return ended("" if isinstance(reason, BrokenPipeError) else f"write failed: {reason.strerror}", 3)
     except BrokenPipeError:
         return ended("", 3)
+    except OSError as why:
+        return ended(f"write failed: {why.strerror}", 3)
     except MemoryError:
         return ended("no memory", 4)
     except signals.Interrupted as end:
         return ended("interrupted", end.status)
+
+
+def fill_streams() -> None:
+    """Puts something in the place of streams that are closed, so that no file gets their number."""
+    for stream in (0, 1, 2):
+        try:
+            os.fstat(stream)
+        except OSError:
+            os.open(os.devnull, os.O_RDWR)
+    sys.stderr = sys.stderr or open(os.devnull, "w", encoding="utf-8")
 
 
 def ended(line: str, status: int) -> int:

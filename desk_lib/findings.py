@@ -23,7 +23,7 @@ class Finding:
         return [head, *self.place.lines()] if self.place.text.strip() else [head]
 
     def line_key(self) -> tuple[str, int] | None:
-        return self.place and (self.place.file, self.place.line)
+        return (self.place.file, self.place.line) if self.place else None
 
 
 @functools.lru_cache(maxsize=10_000)

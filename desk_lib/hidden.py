@@ -69,7 +69,9 @@ def causes(texts: Texts) -> tuple[list[Finding], bytes, bool, set[tuple[str, int
 
     A sign that stands several times in a file is told once, with how many lines more have it.
     """
-    found, cleaned, all_read, hiding = [], bytearray(texts.joined), True, set()
+    found: list[Finding] = []
+    hiding: set[tuple[str, int]] = set()
+    cleaned, all_read = bytearray(texts.joined), True
     for start, text in zip(texts.starts, texts.texts):
         told = whole_file(text)
         if told:

@@ -16,10 +16,11 @@ class Progress:
     def __init__(self, log: typing.BinaryIO | None):
         self.log, self.is_terminal = log, sys.stderr.isatty()
         self.floor: int | None = None
-        self.began = time.monotonic()
+        self.began, self.last = time.monotonic(), b""
 
     def line(self, line: bytes) -> None:
         """A line of the log, as it comes."""
+        self.last = line
         if self.log:
             self.log.write(line + b"\n")
             self.log.flush()
@@ -35,10 +36,10 @@ class Progress:
             sys.stderr.write(f"\r{text}\x1b[K")
             sys.stderr.flush()
 
-    def end(self) -> None:
-        """Leaves the line that changes as it stands."""
+    def end(self, told: str = "") -> None:
+        """Leaves the line that changes as it stands; after it comes this one."""
         if self.is_terminal:
-            sys.stderr.write("\n")
+            sys.stderr.write(f"\n{told}\n" if told else "\n")
             sys.stderr.flush()
 
 
@@ -51,7 +52,7 @@ class Run:
         """`before` has all texts but the solutions; `first_week` are the words of --from, if it was given."""
         self.roster, self.before, self.solutions = roster, before, solutions
         self.out, self.first_week, self.progress = out, first_week, progress
-        self.total: int | None = None
+        self.total = 0
         self.saved = ""
         # what can't be replaced is told before the first round
         with Replacement(out, b""):
@@ -169,4 +170,4 @@ def finish(run: Run, work: typing.Callable[[], None]) -> None:
         with contextlib.suppress(OSError):
             if run.progress.log:
                 run.progress.log.close()
-    run.progress.end()
+    run.progress.end(f"{shown(run.out)}: {shown(run.progress.last)}")

@@ -29,7 +29,7 @@ class Plan:
         return self.words.offset(self.bundle.solutions[0][b"SOLUTION"].at)
 
 
-class Names:
+class Numbers:
     """The numbers of shifts, skills, contracts and nurses by the words that name them."""
 
     def __init__(self, words: list[bytes], scenario: Part):
@@ -51,7 +51,7 @@ class Names:
         return self.nurses[self.words[at]]
 
 
-def nurses_of(names: Names, bundle: Bundle) -> list[Nurse]:
+def nurses_of(names: Numbers, bundle: Bundle) -> list[Nurse]:
     """The nurses in their order, each with the line of the history."""
     histories = {}
     for first, assignments, weekends, last, *runs in bundle.history[b"NURSE_HISTORY"].lines:
@@ -63,7 +63,7 @@ def nurses_of(names: Names, bundle: Bundle) -> list[Nurse]:
     return found
 
 
-def needs_of(names: Names, weeks: list[Part]) -> dict[tuple[int, int], list[Limits]]:
+def needs_of(names: Numbers, weeks: list[Part]) -> dict[tuple[int, int], list[Limits]]:
     """For each shift and skill that a week needs, the minimum and the optimum of each day."""
     needs: dict[tuple[int, int], list[Limits]] = {}
     for week, part in enumerate(weeks):
@@ -73,7 +73,7 @@ def needs_of(names: Names, weeks: list[Part]) -> dict[tuple[int, int], list[Limi
     return dict(sorted(needs.items()))
 
 
-def requests_of(names: Names, weeks: list[Part], keyword: bytes) -> set[tuple[int, int | None, int]]:
+def requests_of(names: Numbers, weeks: list[Part], keyword: bytes) -> set[tuple[int, int | None, int]]:
     """The requests of all weeks: the nurse, the shift or None for any, and the day."""
     found = set()
     for week, part in enumerate(weeks):
@@ -82,7 +82,7 @@ def requests_of(names: Names, weeks: list[Part], keyword: bytes) -> set[tuple[in
     return found
 
 
-def roster_of(names: Names, solutions: list[Part]) -> Roster:
+def roster_of(names: Numbers, solutions: list[Part]) -> Roster:
     roster: Roster = [[None] * (7 * len(solutions)) for _ in names.nurses]
     for week, part in enumerate(solutions):
         for nurse, day, shift, skill in part[b"ASSIGNMENTS"].lines:
@@ -92,7 +92,7 @@ def roster_of(names: Names, solutions: list[Part]) -> Roster:
 
 def plan_of(words: Words, bundle: Bundle) -> Plan:
     """The plan of a bundle, in which the program finds no fault of names."""
-    scenario, names = bundle.scenario, Names(words.words, bundle.scenario)
+    scenario, names = bundle.scenario, Numbers(words.words, bundle.scenario)
     word = words.words
     case = Case(
         name=word[scenario[b"SCENARIO"].lines[0][0]],

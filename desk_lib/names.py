@@ -5,7 +5,7 @@ import collections.abc
 from desk_lib.findings import Finding, also, nearest
 from desk_lib.grammar import ANY, DAYS, NONE, Part
 from desk_lib.recovery import Found, Recovery
-from desk_lib.texts import shown
+from desk_lib.texts import Place, shown
 
 Known = collections.abc.Collection[bytes]
 
@@ -97,7 +97,7 @@ class Names:
     def of_week(self, part: Part) -> None:
         for (at,) in self.lines(part, b"WEEK_DATA"):
             self.check_scenario(at)
-        seen = {}
+        seen: dict[tuple[bytes, bytes], Place] = {}
         for shift, skill, _ in self.lines(part, b"REQUIREMENTS"):
             self.look_up(shift, self.shifts, "shift")
             self.look_up(skill, self.skills, "skill")

@@ -68,13 +68,23 @@ class Program:
         """As `call`, and a refusal is an error that names the file."""
         answer = self.call(words, texts.joined, on_line)
         if answer.status == 2:
-            raise DeskError(f"roster doesn't know 'roster {' '.join(words)}'; build it anew, or see 'roster --help'", 2)
+            raise unknown(" ".join(words))
         if answer.status:
             raise DeskError(
                 f"{located(answer.last(), texts)}; 'desk check' with these files tells all that is wrong",
                 max(answer.status, 1),
             )
         return answer
+
+    def must_know(self, command: str) -> None:
+        """Stops where the program doesn't know a command."""
+        if self.call([command, "--help"], b"").status:
+            raise unknown(command)
+
+
+def unknown(command: str) -> DeskError:
+    told = f"the program doesn't know 'roster {command}'; build a newer one, or leave that option out"
+    return DeskError(f"{told} ('roster --help' lists its commands)", 2)
 
 
 def located(line: str, texts: Texts) -> str:

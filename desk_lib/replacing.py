@@ -5,6 +5,7 @@ import stat
 import tempfile
 
 from desk_lib.program import Program
+from desk_lib.signals import held_back
 from desk_lib.texts import DeskError, Text, Texts, shown
 
 
@@ -22,13 +23,8 @@ class Replacement:
 
     def __enter__(self) -> "Replacement":
         try:
-            mode = self.mode()
-            handle, self.beside = tempfile.mkstemp(prefix=".desk-", dir=os.path.dirname(self.path))
-            with open(handle, "wb") as file:
-                file.write(self.data)
-                os.fchmod(file.fileno(), mode)
-                file.flush()
-                os.fsync(file.fileno())
+            with held_back():
+                self.write()
         except OSError as why:
             self.__exit__()
             raise failed(self.name, why) from None
@@ -41,6 +37,16 @@ class Replacement:
         if self.beside:
             with contextlib.suppress(OSError):
                 os.unlink(self.beside)
+
+    def write(self) -> None:
+        """Writes the new file beside."""
+        mode = self.mode()
+        handle, self.beside = tempfile.mkstemp(prefix=".desk-", dir=os.path.dirname(self.path))
+        with open(handle, "wb") as file:
+            file.write(self.data)
+            os.fchmod(file.fileno(), mode)
+            file.flush()
+            os.fsync(file.fileno())
 
     def mode(self) -> int:
         """The mode of the file that is there, or that of a new one."""

@@ -67,10 +67,9 @@ class Place:
 
     def lines(self) -> list[str]:
         """The line's text, and a line that marks the word below it."""
-        before, word = self.text[: self.column], self.text[self.column : self.column + self.length]
-        before, word, after = (
-            shown(it.replace(b"\t", b" ")) for it in (before, word, self.text[self.column + self.length :])
-        )
+        end = self.column + self.length
+        parts = self.text[: self.column], self.text[self.column : end], self.text[end:]
+        before, word, after = (shown(it.replace(b"\t", b" ")) for it in parts)
         if columns(before) > 60:
             before = "…" + before[-50:]
         mark = " " * columns(before) + "^" * max(1, columns(word))
