@@ -9,6 +9,7 @@ The numbers are those of mini's own lines, also after other changes. A change is
     a line `TEXT` after the last
     the first 36 lines alone
     lines 30 to 37 stand 16 times           one copy of all of them after the other
+    398 nurses more                         each as Bob, of the names N1, N2, and so on
     the text ends after `TEXT` of line 34
     each line ends with CR LF
     the scenario's name has 70,000 letters
@@ -61,6 +62,13 @@ class Mini:
         one = [line for it in range(int(first), int(last) + 1) for line in self.at(it)]
         self.at(last).extend(one * (int(number) - 1))
 
+    def more_nurses(self, number):
+        (count, *_), names = self.at(19), [f"N{it}" for it in range(1, int(number) + 1)]
+        self.replace(19, f"NURSES = {int(count.split()[-1]) + len(names)}")
+        for of_bob in (21, 28):
+            rest = self.at(of_bob)[0].partition(" ")[2]
+            self.lines[of_bob] += [f"{name} {rest}" for name in names]
+
     def cut(self, text, number):
         line, self.is_cut = self.at(number), True
         if text not in line[0]:
@@ -95,6 +103,7 @@ CHANGES = [
     (rf"a line {TEXT} after the last", Mini.append),
     (r"the first (\d+) lines alone", Mini.alone),
     (r"lines (\d+) to (\d+) stand (\d+) times", Mini.copies),
+    (r"(\d+) nurses more", Mini.more_nurses),
     (rf"the text ends after {TEXT} of line (\d+)", Mini.cut),
     (r"each line ends with CR LF", Mini.by_cr_lf),
     (r"the scenario's name has ([\d,]+) letters", Mini.name_at_length),

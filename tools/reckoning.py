@@ -46,32 +46,44 @@ def violations(days, before, limits):
 
 def total_cost(contract, total, weekends):
     """What the totals of a nurse cost: assignments and worked weekends."""
+    return sum(total_costs(contract, total, weekends).values())
+
+
+def total_costs(contract, total, weekends):
     lacking = max(0, contract.assignments.least - total) + max(0, total - contract.assignments.greatest)
-    return 20 * lacking + 30 * max(0, weekends - contract.weekends)
+    return {"S6": 20 * lacking, "S7": 30 * max(0, weekends - contract.weekends)}
 
 
-def own_cost(case, nurse, shifts):
-    """What the days of a nurse cost by themselves: runs, weekends and totals."""
+def own_costs(case, nurse, shifts):
+    """What the days of a nurse cost by themselves, by rule: runs, weekends and totals."""
     contract, history = case.contracts[nurse.contract], nurse.history
     worked = [shift is not None for shift in shifts]
     is_after_work = history.last is not None
-    cost = 30 * violations(worked, history.working if is_after_work else 0, contract.working)
-    cost += 30 * violations([not it for it in worked], 0 if is_after_work else history.off, contract.off)
+    costs = {"S2": 30 * violations(worked, history.working if is_after_work else 0, contract.working)}
+    costs["S3"] = 30 * violations([not it for it in worked], 0 if is_after_work else history.off, contract.off)
     for number, shift in enumerate(case.shifts):
         before = history.of_last if history.last == number else 0
-        cost += 15 * violations([it == number for it in shifts], before, shift.limits)
+        costs["S2"] += 15 * violations([it == number for it in shifts], before, shift.limits)
     weekends = list(zip(worked[SATURDAY::7], worked[SUNDAY::7]))
-    if contract.whole_weekends:
-        cost += 30 * sum(saturday != sunday for saturday, sunday in weekends)
-    return cost + total_cost(contract, history.assignments + sum(worked), history.weekends + sum(map(any, weekends)))
+    costs["S5"] = 30 * contract.whole_weekends * sum(saturday != sunday for saturday, sunday in weekends)
+    return costs | total_costs(contract, history.assignments + sum(worked), history.weekends + sum(map(any, weekends)))
 
 
-def request_cost(case, number, day, choice):
-    """The off requests of the nurse of this number against a choice, and the wishes that it doesn't meet."""
+def own_cost(case, nurse, shifts):
+    """What the days of a nurse cost by themselves, together."""
+    return sum(own_costs(case, nurse, shifts).values())
+
+
+def request_costs(case, number, day, choice):
+    """The off requests of the nurse of this number against a choice, and the wishes that it doesn't meet, by rule."""
     asked = choice and any((number, shift, day) in case.requests for shift in (choice[0], None))
     wished = [shift for shift in (None, *range(len(case.shifts))) if (number, shift, day) in case.wishes]
     met = all(choice and shift in (choice[0], None) for shift in wished)
-    return (10 if asked else 0) + (0 if met else 10)
+    return {"S4": 10 if asked else 0, "S8": 0 if met else 10}
+
+
+def request_cost(case, number, day, choice):
+    return sum(request_costs(case, number, day, choice).values())
 
 
 def cover(day_of_all):
@@ -86,13 +98,20 @@ def meets_minimums(case, day, covers):
     return all(covers[at] >= need[day].least for at, need in case.needs.items())
 
 
+def costs(case, roster):
+    """What each rule costs, by its name, in the order of their numbers."""
+    found = dict.fromkeys((f"S{it}" for it in range(1, 9)), 0)
+    found["S1"] = sum(staffing(case, day, cover(row[day] for row in roster)) for day in days_of(case))
+    for number, (nurse, row) in enumerate(zip(case.nurses, roster)):
+        parts = [own_costs(case, nurse, shifts_of(row)), *(request_costs(case, number, day, row[day]) for day in days_of(case))]
+        for rule, cost in (it for part in parts for it in part.items()):
+            found[rule] += cost
+    return found
+
+
 def penalty(case, roster):
     """The penalty of a roster."""
-    cost = sum(staffing(case, day, cover(row[day] for row in roster)) for day in days_of(case))
-    for number, (nurse, row) in enumerate(zip(case.nurses, roster)):
-        cost += own_cost(case, nurse, shifts_of(row))
-        cost += sum(request_cost(case, number, day, row[day]) for day in days_of(case))
-    return cost
+    return sum(costs(case, roster).values())
 
 
 # ---- the best row
@@ -199,6 +218,12 @@ def solutions(case, roster):
     return "\n".join(texts)
 
 
+def cost_lines(case, roster):
+    """What 'cost' answers."""
+    found = costs(case, roster)
+    return "".join(f"{rule} {cost}\n" for rule, cost in [*found.items(), ("total", sum(found.values()))])
+
+
 def best(case, roster, number, row):
     """What 'best' answers where this is the best row."""
     after = with_row(roster, number, row)
@@ -299,7 +324,8 @@ def read(text):
                 asked.add((nurse_of[nurse], shift_of.get(shift), 7 * week + DAYS.index(day[:3])))
     roster = [[None] * (7 * case.weeks) for _ in nurses]
     for week in range(case.weeks):
-        for _ in range(words.number("SOLUTION", str(week), case.name, "ASSIGNMENTS", "=")):
+        words.next("SOLUTION")  # the week's number, which nothing depends on
+        for _ in range(words.number(case.name, "ASSIGNMENTS", "=")):
             nurse, day, shift, skill = words.names(4)
             roster[nurse_of[nurse]][7 * week + DAYS.index(day[:3])] = shift_of[shift], case.skills.index(skill)
     return case._replace(nurses=nurses, needs=needs, requests=requests, wishes=wishes), roster
