@@ -1,3 +1,4 @@
 pub mod Sums
 pub mod Floors
 pub mod Duality
+pub mod Among

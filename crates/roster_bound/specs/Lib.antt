@@ -1,1 +1,3 @@
 pub mod Worths
+pub mod Tables
+pub mod Days

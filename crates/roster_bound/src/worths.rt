@@ -1,0 +1,79 @@
+//! What each place pays to a nurse that works there.
+
+ghost use Rattle.std.specs.Prelude.{◌≡◌, ◌*◌, ◌<◌, ◌≤◌, IfOk, length, replicate};
+ghost use Rattle.roster_instance.specs.Limits.{most_days};
+ghost use Rattle.roster_instance.specs.Meaning.{day_count};
+ghost use Rattle.roster_bound.specs.Tables.{worths_of};
+ghost use Rattle.roster_bound.specs.Worths.{AreWorths, most_worth};
+
+use roster_rules::{Case, Shift, Skill};
+use std::alloc::{AllocError, Global};
+use std::marker::Model;
+
+/// The most that a place pays, in points.
+pub const MOST_WORTH: u16 = 1000;
+
+/// How many parts of a point a worth is held in.
+pub(crate) const PARTS: u32 = 256;
+
+/// The points that each place, a day, a shift and a skill, pays to a nurse that works there. They are held in 256ths of a point, 64 for
+/// each day, and rounded to the nearest point for use.
+pub struct Worths {
+    pub(crate) days: u16,
+    pub(crate) fine: Vec<u32>,
+}
+
+// By hand, so that who drops the worths has one call to prove.
+impl Drop for Worths {
+    fn drop(self) {
+        let Worths { days: _, fine: _ } = self;
+    }
+}
+
+impl Model for Worths {
+    ghost use Rattle.roster_bound.specs.Tables.{AreHeld, WorthTable};
+
+    ghost Value = { WorthTable };
+
+    ghost view = { λ w. record { days = w.days; fine = w.fine.items } };
+
+    ghost invariant = { λ w. AreHeld w.days w.fine.items };
+}
+
+impl Worths {
+    /// The same worth for each place of a case, by one growth.
+    ///
+    /// # Errors
+    ///
+    /// The growth was refused.
+    pub fn even(alloc: Global, case: &Case, worth: u16) -> Result<Worths, AllocError>
+        requires { worth ≤ most_worth }
+        ensures days { IfOk result (λ worths. worths.days ≡ day_count case.now) }
+        ensures fine { IfOk result (λ worths. worths.fine ≡ replicate (64 * day_count case.now) (256 * worth)) }
+    {
+        let days = case.days();
+        Ok(Worths {
+            days,
+            fine: vec![in alloc; PARTS * worth as u32; 64 * days as usize]?,
+        })
+    }
+
+    /// What a place pays, in points.
+    pub fn at(&self, day: u16, shift: Shift, skill: Skill) -> u16
+        requires day { day < self.now.days }
+        requires shift { shift.0 < 8 }
+        requires skill { skill.0 < 8 }
+        ensures worth { result ≡ worths_of self.now day shift.0 skill.0 }
+        ensures within { result ≤ most_worth }
+    {
+        let fine = self.fine[64 * day as usize + 8 * shift.0 as usize + skill.0 as usize];
+        ((fine + PARTS / 2) / PARTS) as u16
+    }
+
+    /// A law: no place pays more than the most.
+    pub fn keep_most(&self)
+        ensures { AreWorths (worths_of self.now) }
+    {
+        let _ = &self.fine;
+    }
+}
