@@ -2,6 +2,7 @@
 #![tactic(auto)]
 
 mod laws;
+mod moves;
 mod offers;
 mod places;
 mod worths;
