@@ -1,6 +1,7 @@
 pub mod Cheapest
 pub mod RowsByStates
 pub mod RowCosts
+pub mod ByOffers
 pub mod Best
 pub mod LabelLaws
 pub mod CellLaws

@@ -18,8 +18,8 @@ mod stand;
 pub use day::{OpenDay, SearchDay};
 pub use labels::{NO_ROW, label_day, label_end};
 pub use laws::{
-    best_row_is_found_by_states, cheapest_row_is_found_by_states, offers_are_few,
-    one_offer_for_each_shift_is_enough,
+    best_row_is_found_by_states, cheapest_offered_row_is_found, cheapest_row_is_found_by_states,
+    offers_are_few, one_offer_for_each_shift_is_enough,
 };
 pub use offer::Offer;
 pub use pointers::Pointers;
