@@ -26,7 +26,7 @@ use Rattle.roster_laws.proofs.SameRows.{same_choice_self}
 use Rattle.roster_laws.proofs.Keeps.{keeps_hard-parts}
 use Rattle.roster_laws.proofs.OneRow.{penalty-parts}
 use Rattle.roster_bound.specs.Worths.{AreWorths, IsLowerBound, PlaceWorths, bound_by, can_work, earned, floors_together, most_worth, own_rows, place_floor, places_floor, price_by, rounded_up, row_cost_by, row_floor}
-use Rattle.roster_bound.proofs.Floors.{least_below, place_least}
+use Rattle.roster_bound.proofs.LeastCosts.{least_below, place_least}
 use Rattle.roster_bound.proofs.Sums.{count_by_place, over_places, places_both, places_le, places_none, sum_le, sum_of_one, sum_same_number}
 
 -- ---- what one nurse earns

@@ -1,5 +1,5 @@
 -- A run that raises a floor: the lines so far are sent.
-use Rattle.std.proofs.Common.{◌≡◌, ◌∙◌, ◌+◌, ◌<◌, ◌≤◌, ℕ, All, List, [], ◌∷◌, ◌++◌, Option, ap, append_assoc, append-nil, arith, flat_map, length, refl, subst, sym, zero-add}
+use Rattle.std.proofs.Common.{◌≡◌, ◌∙◌, ◌+◌, ◌<◌, ◌≤◌, ℕ, All, List, [], ◌∷◌, ◌++◌, Option, ap, append_assoc, append-nil, arith, codes, flat_map, length, refl, subst, sym, zero-add}
 use Rattle.std.proofs.lemmas.List.Concat.{flat_map-append}
 use Rattle.std.proofs.lemmas.List.Elements.{All-append, All-cons, All-nil}
 use Rattle.roster_text.specs.declared.fault.WriteFault.{WriteFault}
@@ -7,6 +7,8 @@ use Rattle.roster_text.specs.Io.{BreaksIn, Sends, StopsAt, Watched, saturated, s
 use Rattle.roster_text.proofs.Texts.{Sends-append, StopsAt-after}
 use Rattle.roster_instance.specs.Meaning.{Meaning}
 use Rattle.roster_instance.specs.Rosters.{Rows}
+use Rattle.roster_rules.specs.Penalties.{penalty}
+use Rattle.roster_rounds.specs.RunLogs.{line}
 use Rattle.roster_rounds.specs.declared.outcome.LogFault.TheVariants.{LogFailed}
 use Rattle.roster_bound.specs.Floors.{FloorLine, FloorLogStops, IsFloorLog, RaisesFloor, Rises, floor_line, floor_text, last_line, no_line}
 use Rattle.roster_bound.specs.Worths.{IsLowerBound}
@@ -30,13 +32,14 @@ pub record Going {W : Type 0} (contents : W → Option (List ℕ)) (c : Meaning)
   pub best_is : best ≡ (last_line no_line lines).bound
 
 module _ {W : Type 0} (contents : W → Option (List ℕ)) (c : Meaning) (from : ℕ) (given : Rows) (old : Watched W) where
-  nothing_more : (text : List ℕ) → text ≡ text ++ []
-  nothing_more text = sym (append-nil text)
+  first_line : List ℕ
+  first_line = line (codes "start") (penalty c given)
 
   text_more : (xs : List FloorLine) (x : FloorLine) → floor_text c given xs ++ floor_line x ≡ floor_text c given (xs ++ x ∷ [])
+  unfolding first_line
   text_more xs x =
-      append_assoc (floor_text c given []) (flat_map floor_line xs) (floor_line x)
-      ∙ ap (λ text. floor_text c given [] ++ text) (ap (λ text. flat_map floor_line xs ++ text) (sym (append-nil (floor_line x))) ∙ sym (flat_map-append floor_line xs (x ∷ [])))
+      append_assoc first_line (flat_map floor_line xs) (floor_line x)
+      ∙ ap (λ text. first_line ++ text) (ap (λ text. flat_map floor_line xs ++ text) (sym (append-nil (floor_line x))) ∙ sym (flat_map-append floor_line xs (x ∷ [])))
 
   pub Going-start : (new : Watched W) (sent : ℕ) → Sends contents old new 0 sent (floor_text c given []) → Going contents c from given old new 0 sent 0
   Going-start new sent p = record {

@@ -1,4 +1,5 @@
 pub mod Sums
-pub mod Floors
+pub mod LeastCosts
 pub mod Duality
 pub mod Among
+pub mod FloorLogs

@@ -1,26 +1,21 @@
 -- What a nurse is offered on each day by worths.
-use Rattle.std.specs.Prelude.{ℕ, Bool, ◌&&◌, List, filter, map}
+use Rattle.std.specs.Prelude.{ℕ, Bool, ◌&&◌, List}
 use Rattle.roster_instance.specs.declared.Choice.{Choice}
-use Rattle.roster_instance.specs.Choices.{all_choices}
 use Rattle.roster_instance.specs.Meaning.{Meaning, nurse_at}
 use Rattle.roster_instance.specs.Rosters.{Rows}
 use Rattle.roster_rules.specs.AllowedRows.{keeps_frozen_day}
 use Rattle.roster_rules.specs.HardRules.{is_able}
 use Rattle.roster_search.specs.declared.Offer.{Offer}
-use Rattle.roster_search.specs.Offers.{cheapest_by_shift}
+use Rattle.roster_search.specs.Offers.{cheapest_by_shift, offers_by}
 use Rattle.roster_bound.specs.Worths.{PlaceWorths, price_by}
 
 -- the nurse has the skill, and on a frozen day it is the given choice
 abbrev pub can_do : Meaning → ℕ → Rows → (n d : ℕ) → Choice → Bool
 can_do c from given n d choice = is_able (nurse_at c n).skills choice && keeps_frozen_day from given n d choice
 
--- a choice with its price
-abbrev pub offer_by : Meaning → PlaceWorths → (n d : ℕ) → Choice → Offer
-offer_by c w n d choice = record { choice = choice; price = price_by c w n d choice }
-
--- all that the nurse can do on a day
+-- all that the nurse can do on a day, with its price
 abbrev pub offers_by_worth : Meaning → ℕ → Rows → PlaceWorths → (n d : ℕ) → List Offer
-offers_by_worth c from given w n d = map (offer_by c w n d) (filter (can_do c from given n d) (all_choices c))
+offers_by_worth c from given w n d = offers_by c (can_do c from given n) (price_by c w n) d
 
 -- for each shift the cheapest alone
 abbrev pub shift_offers_by_worth : Meaning → ℕ → Rows → PlaceWorths → (n d : ℕ) → List Offer

@@ -75,23 +75,32 @@ pub(crate) fn count_row(row: &[Choice], cover: &mut [u16])
     }
 }
 
-/// How a run of rounds goes on: the greatest sum of floors so far, the length of a step in 1024ths of the gap, and for how many rounds
+/// How a run of rounds goes on: whether it has begun, the greatest sum of floors so far, the length of a step in 1024ths of the gap, and for how many rounds
 /// there was no greater sum.
 #[derive(Clone, Copy)]
 pub(crate) struct Pace {
-    pub(crate) greatest: u64,
-    pub(crate) length: u64,
-    pub(crate) stale: u8,
+    begun: bool,
+    greatest: u64,
+    length: u64,
+    stale: u8,
 }
 
 impl Pace {
     /// Before the first round.
     pub(crate) fn new() -> Pace {
         Pace {
+            begun: false,
             greatest: 0,
             length: 1024,
             stale: 0,
         }
+    }
+
+    /// Whether this is the first round, whose worths are no part of the others'.
+    pub(crate) fn is_first(&mut self) -> bool {
+        let first = !self.begun;
+        self.begun = true;
+        first
     }
 
     /// Whether these floors are the greatest so far.

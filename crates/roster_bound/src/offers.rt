@@ -8,9 +8,10 @@ ghost use Rattle.roster_instance.specs.Rosters.{is_choice_of};
 ghost use Rattle.roster_rules.specs.AllowedRows.{keeps_frozen_day};
 ghost use Rattle.roster_rules.specs.Penalties.{request_cost_on};
 ghost use Rattle.roster_rules.specs.Weights.{off_request_weight, wish_weight};
-ghost use Rattle.roster_bound.specs.Days.{can_do, offer_by, offers_by_worth};
+ghost use Rattle.roster_bound.specs.Days.{can_do, offers_by_worth};
+ghost use Rattle.roster_search.specs.Offers.{offer_at};
 ghost use Rattle.roster_bound.specs.Tables.{worths_of};
-ghost use Rattle.roster_bound.specs.Worths.{earned, most_worth};
+ghost use Rattle.roster_bound.specs.Worths.{earned, most_worth, price_by};
 
 use crate::worths::{MOST_WORTH, Worths};
 use arrayvec::ArrayVec;
@@ -68,7 +69,7 @@ fn offered(terms: &Terms<'_>, nurse: usize, day: u16, choice: Choice, asked: u32
     requires choice { is_choice_of terms.now.case.now choice ≡ true }
     requires asked { asked ≡ request_cost_on terms.now.case.now nurse day (shift_of choice) }
     requires within { asked ≤ off_request_weight + wish_weight }
-    ensures { result ≡ (if can_do terms.now.case.now terms.now.from terms.now.given.now nurse day choice then Some (offer_by terms.now.case.now (worths_of terms.now.worths.now) nurse day choice) else None) }
+    ensures { result ≡ (if can_do terms.now.case.now terms.now.from terms.now.given.now nurse day choice then Some (offer_at (price_by terms.now.case.now (worths_of terms.now.worths.now) nurse) day choice) else None) }
 {
     let able = is_able(terms.case.skills_of(nurse), choice);
     let kept = keeps_frozen_day(terms, nurse, day, choice);

@@ -14,6 +14,7 @@ mod offer;
 mod pointers;
 mod read;
 mod stand;
+mod tables;
 
 pub use day::{OpenDay, SearchDay};
 pub use labels::{NO_ROW, label_day, label_end};
@@ -25,3 +26,4 @@ pub use offer::Offer;
 pub use pointers::Pointers;
 pub use read::read_day;
 pub use stand::areas_after;
+pub use tables::Tables;
