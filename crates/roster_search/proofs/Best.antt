@@ -1,12 +1,10 @@
 -- The best row of a nurse is the one that the search from state to state gives.
-use Rattle.std.proofs.Common.{◌≡◌, ◌∙◌, ◌+◌, ◌<◌, ◌&&◌, ℕ, Bool, true, false, ap, arith, refl, sym, List, [], length, Option, Some, None, IsSome, if◌then◌else◌}
+use Rattle.std.proofs.Common.{◌≡◌, ◌∙◌, ◌+◌, ◌<◌, ◌&&◌, ℕ, true, ap, arith, refl, sym, List, [], length, Option, Some, None, IsSome}
 use Rattle.std.specs.Prelude.{option_map}
 use Rattle.std.proofs.lemmas.Bool.{true≢false}
-use Rattle.roster_rules.specs.Choices.{all_choices, all_rows, days_of}
 use Rattle.roster_rules.specs.HardRules.{keeps_hard}
-use Rattle.roster_rules.specs.Meaning.{Meaning, day_count, nurse_count}
-use Rattle.roster_rules.specs.Penalties.{own_cost}
-use Rattle.roster_rules.specs.Prefix.{due, summary_of}
+use Rattle.roster_rules.specs.Meaning.{Meaning, nurse_count}
+use Rattle.roster_rules.specs.Prefix.{due}
 use Rattle.roster_rules.specs.Rosters.{Row, Rows, fits_case, with_row}
 use Rattle.roster_rules.specs.AllowedRows.{IsBestRow, allowed_rows, best_row, keeps_frozen_days, penalty_with}
 use Rattle.roster_rules.proofs.FirstLeast.{found}
@@ -14,14 +12,11 @@ use Rattle.roster_rules.proofs.RosterFacts.{has_row}
 use Rattle.roster_laws.specs.OneRow.{is_offered, is_offered_row, price, rest_of}
 use Rattle.roster_laws.proofs.Keeps.{allowed-with_row}
 use Rattle.roster_laws.proofs.OneRow.{penalty-with_row}
-use Rattle.roster_state.specs.Step.{end_cost_of}
 use Rattle.roster_laws.proofs.Allowed.{best_exists}
 use Rattle.roster_search.specs.declared.offer.Offer.{Offer}
-use Rattle.roster_search.specs.Cheapest.{Priced, cheapest, plus, raised, with_cost}
-use Rattle.roster_search.specs.ByStates.{cost_from, rows_from}
-use Rattle.roster_search.specs.Offers.{best_by_states, choices_of, offer_of, offer_step}
-use Rattle.roster_search.proofs.Cheapest.{cheapest-first_least, cheapest_raised, cost-raised, cost_or, plus_twice, raised_twice, thing_or}
-use Rattle.roster_search.proofs.RowsByStates.{best_of_kept, cheapest_row, rows-all_rows, rows_agree}
+use Rattle.roster_search.specs.Cheapest.{Priced, raised}
+use Rattle.roster_search.specs.Offers.{best_by_states, choices_of}
+use Rattle.roster_search.proofs.Cheapest.{cost_or, thing_or}
 use Rattle.roster_search.proofs.ByOffers.{found_by_offers}
 
 module _ (c : Meaning) (from : ℕ) (r : Rows) (fits : fits_case c r ≡ true) (keeps : keeps_hard c r ≡ true) (n : ℕ) (inside : n < nurse_count c) where

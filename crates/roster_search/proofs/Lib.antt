@@ -17,3 +17,5 @@ pub mod GroupLaws
 pub mod DayLaws
 pub mod StretchLaws
 pub mod CountLaws
+pub mod SearchLaws
+pub mod LowRows

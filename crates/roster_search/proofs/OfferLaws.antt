@@ -113,16 +113,16 @@ module _ (c : Meaning) (n : ℕ) (offered : ℕ → Choice → Bool) (price : �
         ap (λ m. m * length own) (length-range_with_len 0 (shift_count c)),
       )
 
-module _ (c : Meaning) (from : ℕ) (r : Rows) (n d : ℕ) where
-  -- an offered choice has one of the nurse's skills
-  able : (day : ℕ) (x : Choice) → is_offered c from r n day x ≡ true → is_able (nurse_at c n).skills x ≡ true
-  able day x e =
-      let own : Bool = is_able (nurse_at c n).skills x in
-      let met : Bool = meets c day (with_choice (others r n day) x) in
-      (and_parts own met (and_parts (own && met) (keeps_frozen_day from r n day x) e).0).0
+-- an offered choice is one that the nurse is able to do
+offered_able : (c : Meaning) (from : ℕ) (r : Rows) (n d : ℕ) (x : Choice) → is_offered c from r n d x ≡ true → is_able (nurse_at c n).skills x ≡ true
+offered_able c from r n d x e =
+    let able : Bool = is_able (nurse_at c n).skills x in
+    let met : Bool = meets c d (with_choice (others r n d) x) in
+    (and_parts able met (and_parts (able && met) (keeps_frozen_day from r n d x) e).0).0
 
+module _ (c : Meaning) (from : ℕ) (r : Rows) (n d : ℕ) where
   pub offers_few : length (offers_of c from r n d) ≤ choice_count c n
-  offers_few = offers_few_of c n (is_offered c from r n) (price c r n) able d
+  offers_few = offers_few_of c n (is_offered c from r n) (price c r n) (offered_able c from r n) d
 
   module _ (small : HasSmallNumbers c) (shifts : shift_count c ≤ most_shifts) (skills : skill_count c ≤ most_skills) where
     staffing_within : (have : ℕ → ℕ → ℕ) → staffing_cost_by c d have ≤ most_shifts * most_skills * staffing_weight * most_small

@@ -46,7 +46,7 @@ module _ (c : Meaning) (n : ℕ) (offered : ℕ → Choice → Bool) (price : �
   abbrev pub choice_step : Steps Summary Choice
   choice_step d s x = if offered d x then offer_step c n d s (offer_at price d x) else None
 
-  -- what the first days of a row owe, and what a whole row costs its nurse at these prices
+  -- what the first days of a row owe, and what a whole row costs its nurse and the staffing
   abbrev pub owed : Row → ℕ
   owed row = due c n (days_of row) + row_prices row
 

@@ -7,15 +7,18 @@
 //! labels and pointers, and `read_day` the choices of the best row by these pointers.
 #![tactic(auto)]
 
+mod by_shift;
 mod day;
 mod labels;
 mod laws;
 mod offer;
 mod pointers;
 mod read;
+mod search;
 mod stand;
 mod tables;
 
+pub use by_shift::cheapest_by_shift;
 pub use day::{OpenDay, SearchDay};
 pub use labels::{NO_ROW, label_day, label_end};
 pub use laws::{
@@ -25,5 +28,6 @@ pub use laws::{
 pub use offer::Offer;
 pub use pointers::Pointers;
 pub use read::read_day;
+pub use search::{MOST_DAYS, RowSearch, search_row};
 pub use stand::areas_after;
 pub use tables::Tables;
