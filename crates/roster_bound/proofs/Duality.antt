@@ -167,7 +167,7 @@ module _ (c : Meaning) (from : ℕ) (given : Rows) (w : PlaceWorths) (are : AreW
     frozen_kept : keeps_frozen_days c from given n (row_of r n) ≡ true
     frozen_kept = all_true (day_count c) (λ d. keeps_frozen_day from given n d (choice_on (row_of r n) d)) (λ d h. keeps_given from given n d (choice_on (row_of r n) d) (stays n d h))
 
-    worked : can_work c from given n (row_of r n) ≡ true
+    pub worked : can_work c from given n (row_of r n) ≡ true
     worked =
         let skills : Bool = keeps_skills c n (row_of r n) (day_count c) in
         let successions : Bool = keeps_successions c n (days_of_nurse r n) (day_count c) in

@@ -23,6 +23,11 @@ rises_more : (before : FloorLine) (xs : List FloorLine) (x : FloorLine) → Rise
 rises_more before [] x rises later more = (later, more, tt)
 rises_more before (y ∷ xs) x rises later more = (rises.0, rises.1, rises_more y xs x rises.2 later more)
 
+-- ---- the first line
+
+pub first_text : (c : Meaning) (given : Rows) (total : ℕ) → total ≡ penalty c given → line (codes "start") total ≡ floor_text c given []
+first_text c given total e = ap (line (codes "start")) e ∙ sym (append-nil (line (codes "start") (penalty c given)))
+
 -- ---- the rounds made so far
 
 pub record Going {W : Type 0} (contents : W → Option (List ℕ)) (c : Meaning) (from : ℕ) (given : Rows) (old mid : Watched W) (made sent best : ℕ) : Type 0 where

@@ -12,9 +12,9 @@ pub record FitsRows (c : Meaning) (w : RowSpace) : Type 0 where
   pub row : length w.row.items ≡ day_count c
   pub cover : length w.cover.items ≡ 64 * day_count c
 
--- and a worth and a direction for each of these
+-- and a worth and two covers for each of these places
 pub record FitsFloor (c : Meaning) (w : FloorWorkspace) : Type 0 where
   pub rows : FitsRows c w.rows
   pub worths : w.worths.days ≡ day_count c
-  pub best : w.best.days ≡ day_count c
-  pub directions : length w.directions.items ≡ 64 * day_count c
+  pub wanted : length w.covers.wanted.items ≡ 64 * day_count c
+  pub had : length w.covers.had.items ≡ 64 * day_count c

@@ -15,7 +15,7 @@ mod rounds;
 mod workspace;
 mod worths;
 
-pub use floors::{Reached, lower_bound, row_floor};
+pub use floors::{lower_bound, row_floor};
 pub use laws::{bounds_are_rounded_up, no_roster_is_below_the_bound};
 pub use offers::{Terms, choices};
 pub use places::places_floor;

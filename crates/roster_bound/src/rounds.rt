@@ -1,6 +1,6 @@
 //! Rounds of floors.
 
-ghost use Rattle.std.specs.Prelude.{◌≡◌, ◌+◌, ◌*◌, ◌≤◌, IfErr, IfOk};
+ghost use Rattle.std.specs.Prelude.{◌≡◌, ◌+◌, ◌*◌, ◌<◌, ◌≤◌, IfErr, IfOk};
 ghost use Rattle.roster_instance.specs.Meaning.{nurse_count};
 ghost use Rattle.roster_rules.specs.Penalties.{penalty};
 ghost use Rattle.roster_laws.specs.Greatest.{greatest_extension_count};
@@ -9,8 +9,8 @@ ghost use Rattle.roster_bound.specs.Floors.{FloorLogStops, RaisesFloor};
 ghost use Rattle.roster_bound.specs.Workspaces.{FitsFloor};
 ghost use Rattle.roster_bound.specs.Worths.{IsLowerBound};
 
-use crate::floors::{lower_bound, most_earned};
-use crate::moves::{Pace, turn};
+use crate::floors::lower_bound;
+use crate::moves::{farthest, learn, most_step};
 use crate::offers::Terms;
 use crate::workspace::FloorWorkspace;
 use roster_case::{Case, Held};
@@ -43,31 +43,36 @@ pub fn raise_floor<W: Write>(
     ensures counted { meter.new ≤ meter.old + extensions_in held.now.case rounds }
     ensures fits { FitsFloor held.now.case workspace.new }
 {
-    workspace.begin(held.case());
-    let mut pace = Pace::new();
+    let case = held.case();
+    workspace.begin();
+    workspace.worths.set_all(case, FIRST);
     let mut best = 0;
     let mut sent = log_word(log, 0, b"start", held.total())?;
     for rounds_before in 0..rounds {
-        let bound = make_round(held, from, &mut pace, workspace, meter);
-        if best < bound {
-            best = bound;
-            sent = log_round(log, sent, rounds_before + 1, bound)?;
+        let bound = make_round(held, from, workspace, meter);
+        move_worths(case, rounds_before, rounds, workspace);
+        if bound <= best {
+            continue;
         }
+        best = bound;
+        sent = log_round(log, sent, rounds_before + 1, bound)?;
     }
     Ok(best)
 }
 
-/// The floor by the worths of the round. The worths are then those of the next.
-fn make_round(
-    held: &Held,
-    from: u16,
-    pace: &mut Pace,
-    workspace: &mut FloorWorkspace,
-    meter: &mut Meter,
-) -> u64
+/// What each place that asks for nurses pays in the first round: as much as a missing nurse costs. Its floor is good at once, but steps
+/// from there hardly move.
+const FIRST: u16 = 30;
+
+/// What it pays in the second, from which the worths move.
+const SECOND: u16 = 15;
+
+/// The floor by the worths. Their rows are counted.
+fn make_round(held: &Held, from: u16, workspace: &mut FloorWorkspace, meter: &mut Meter) -> u64
     requires fits { FitsFloor held.now.case workspace.old }
     requires room { meter.old + nurse_count held.now.case * greatest_extension_count held.now.case ≤ 18446744073709551615 }
     ensures below { IsLowerBound held.now.case from held.now.roster result }
+    ensures within { result ≤ penalty held.now.case held.now.roster }
     ensures counted { meter.new ≤ meter.old + nurse_count held.now.case * greatest_extension_count held.now.case }
     ensures fits { FitsFloor held.now.case workspace.new }
 {
@@ -77,41 +82,24 @@ fn make_round(
         given: held.roster(),
         from,
     };
-    let reached = lower_bound(&terms, &mut workspace.rows, meter);
-    let whole = held.total() + most_earned(held.case());
-    move_worths(held.case(), whole, reached.floors, pace, workspace);
-    reached.bound
+    lower_bound(&terms, &mut workspace.rows, meter)
 }
 
-/// Moves the worths after a round with these floors, which are to come to the whole.
-fn move_worths(
-    case: &Case,
-    whole: u64,
-    floors: u64,
-    pace: &mut Pace,
-    workspace: &mut FloorWorkspace,
-)
-    requires { FitsFloor case.now workspace.old }
+/// Moves the worths after a round, so many of all having been made before it.
+fn move_worths(case: &Case, made: u16, rounds: u16, workspace: &mut FloorWorkspace)
+    requires made { made < rounds }
+    requires fits { FitsFloor case.now workspace.old }
     ensures { FitsFloor case.now workspace.new }
 {
     let FloorWorkspace {
         rows,
         worths,
-        best,
-        directions,
+        covers,
     } = workspace;
-    if pace.is_first() {
-        worths.take_from(best);
+    if made == 0 {
+        worths.set_all(case, SECOND);
         return;
     }
-    if pace.rises(floors) {
-        best.take_from(worths);
-    }
-    let norm = turn(case, worths, &rows.cover, directions);
-    if pace.goes_back() {
-        worths.take_from(best);
-    }
-    if norm > 0 {
-        worths.move_along(directions, pace.scale(whole, norm));
-    }
+    learn(case, worths, &rows.cover, covers);
+    worths.follow(covers, most_step(made + 1, rounds), farthest(covers));
 }

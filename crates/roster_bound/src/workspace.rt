@@ -4,10 +4,10 @@ ghost use Rattle.std.specs.Prelude.{◌≡◌, ◌*◌, IfOk, length};
 ghost use Rattle.roster_instance.specs.Meaning.{day_count};
 ghost use Rattle.roster_bound.specs.Workspaces.{FitsFloor, FitsRows};
 
+use crate::moves::Covers;
 use crate::worths::Worths;
 use roster_best::{BestFault, greatest_states};
 use roster_case::{Case, Choice};
-use roster_rules::weights::STAFFING;
 use roster_search::Tables;
 use std::alloc::Global;
 
@@ -30,14 +30,12 @@ impl Drop for RowSpace {
     }
 }
 
-/// What a run that raises a floor writes into: what its searches do, the worths of the round, the best so far, and the direction in
-/// which each worth moves. For each day that is 64 times 14 bytes beside the tables of a search: at most 330 kB. One serves one run
-/// after another.
+/// What a run that raises a floor writes into: what its searches do, the worths, and the covers by which they move. For each day that
+/// is 64 times 14 bytes beside the tables of a search and a row: 326 kB at most. One serves one run after another.
 pub struct FloorWorkspace {
     pub(crate) rows: RowSpace,
     pub(crate) worths: Worths,
-    pub(crate) best: Worths,
-    pub(crate) directions: Vec<i32>,
+    pub(crate) covers: Covers,
 }
 
 // By hand, so that who drops it has one call to prove.
@@ -46,8 +44,7 @@ impl Drop for FloorWorkspace {
         let FloorWorkspace {
             rows: _,
             worths: _,
-            best: _,
-            directions: _,
+            covers: _,
         } = self;
     }
 }
@@ -58,7 +55,7 @@ impl RowSpace {
     /// # Errors
     ///
     /// A growth was refused.
-    fn for_case(alloc: Global, case: &Case) -> Result<RowSpace, BestFault>
+    pub fn for_case(alloc: Global, case: &Case) -> Result<RowSpace, BestFault>
         ensures { IfOk result (FitsRows case.now) }
     {
         let states = greatest_states(case) as usize;
@@ -94,27 +91,26 @@ impl FloorWorkspace {
         let places = 64 * case.days() as usize;
         Ok(FloorWorkspace {
             rows: RowSpace::for_case(alloc, case)?,
-            worths: Worths::even(alloc, case, FIRST)?,
-            best: Worths::even(alloc, case, BEGIN)?,
-            directions: vec![in alloc; 0; places]?,
+            worths: Worths::even(alloc, case, 0)?,
+            covers: Covers {
+                wanted: vec![in alloc; 0; places]?,
+                had: vec![in alloc; 0; places]?,
+            },
         })
     }
 
-    /// Begins anew: the worths of the first round, those of the second as the best, and no directions.
-    pub(crate) fn begin(&mut self, case: &Case)
-        requires { FitsFloor case.now self.old }
-        ensures { FitsFloor case.now self.new }
+    /// Begins anew, as if no round had been made.
+    pub(crate) fn begin(&mut self)
+        ensures rows { self.new.rows ≡ self.old.rows }
+        ensures worths { self.new.worths ≡ self.old.worths }
+        ensures wanted { length self.new.covers.wanted.items ≡ length self.old.covers.wanted.items }
+        ensures had { length self.new.covers.had.items ≡ length self.old.covers.had.items }
     {
-        self.worths.set_all(FIRST);
-        self.best.set_all(BEGIN);
-        for place in 0..self.directions.len() {
-            self.directions[place] = 0;
+        for place in 0..self.covers.wanted.len() {
+            self.covers.wanted[place] = 0;
+        }
+        for place in 0..self.covers.had.len() {
+            self.covers.had[place] = 0;
         }
     }
 }
-
-/// What each place pays in the first round: a missing nurse. Its floor is good at once, but steps from there hardly move.
-const FIRST: u16 = STAFFING as u16;
-
-/// What each place pays in the second round, from which the worths move.
-const BEGIN: u16 = 15;

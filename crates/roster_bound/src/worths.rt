@@ -6,7 +6,7 @@ ghost use Rattle.roster_instance.specs.Meaning.{day_count};
 ghost use Rattle.roster_bound.specs.Tables.{most_fine, worths_of};
 ghost use Rattle.roster_bound.specs.Worths.{AreWorths, most_worth};
 
-use roster_rules::weights::STAFFING;
+use crate::moves::Covers;
 use roster_rules::{Case, Shift, Skill};
 use std::alloc::{AllocError, Global};
 use std::marker::Model;
@@ -71,33 +71,31 @@ impl Worths {
         ((fine + PARTS / 2) / PARTS) as u16
     }
 
-    /// Gives each place the same worth.
-    pub fn set_all(&mut self, worth: u16)
-        requires { worth ≤ most_worth }
+    /// Gives each place that asks for nurses the same worth, and none to the others.
+    pub(crate) fn set_all(&mut self, case: &Case, worth: u16)
+        requires worth { worth ≤ most_worth }
+        requires days { self.old.days ≡ day_count case.now }
         ensures { self.new.days ≡ self.old.days }
     {
         for place in 0..self.fine.len() {
-            self.fine[place] = PARTS * worth as u32;
+            let asks = asks_for_nurses(case, place);
+            self.fine[place] = if asks { PARTS * worth as u32 } else { 0 };
         }
     }
 
-    /// Takes the worths of another table for as many days.
-    pub fn take_from(&mut self, other: &Worths)
-        requires { other.now.days ≡ self.old.days }
+    /// Moves each worth towards what is wanted at its place, by its share of a step: the whole step where wanted and had are so far
+    /// apart.
+    pub(crate) fn follow(&mut self, covers: &Covers, step: u32, far: u32)
+        requires wanted { length covers.now.wanted.items ≡ 64 * self.old.days }
+        requires had { length covers.now.had.items ≡ 64 * self.old.days }
+        requires far { 0 < far }
         ensures { self.new.days ≡ self.old.days }
     {
         for place in 0..self.fine.len() {
-            self.fine[place] = other.fine[place];
-        }
-    }
-
-    /// Moves each worth along its direction, so many 65,536ths of it, between nothing and the most.
-    pub fn move_along(&mut self, directions: &[i32], scale: u64)
-        requires { length directions.now ≡ 64 * self.old.days }
-        ensures { self.new.days ≡ self.old.days }
-    {
-        for place in 0..self.fine.len() {
-            self.fine[place] = moved(self.fine[place], directions[place], scale);
+            let (wanted, had) = (covers.wanted[place], covers.had[place]);
+            let apart = wanted.abs_diff(had) as u64;
+            let share = (apart * step as u64 / far as u64).min(step as u64) as u32;
+            self.fine[place] = moved(self.fine[place], wanted, had, share);
         }
     }
 
@@ -109,25 +107,29 @@ impl Worths {
     }
 }
 
-/// A worth in 256ths of a point, moved along a direction. One that would pass the points of a missing nurse stops there: at just this
-/// worth a place costs the same with any number of nurses between its minimum and its optimum.
-fn moved(fine: u32, direction: i32, scale: u64) -> u32
+/// Whether the minimum or the optimum of a place is above 0.
+fn asks_for_nurses(case: &Case, place: usize) -> bool
+    requires { place < 64 * day_count case.now }
+{
+    case.keeps_limits();
+    let (day, shift, skill) = (place / 64, place % 64 / 8, place % 8);
+    let need = case.need(day as u16, Shift(shift as u8), Skill(skill as u8));
+    need.least > 0 || need.greatest > 0
+}
+
+/// A worth in 256ths of a point, moved by a share: up where nurses are wanted, and by one more down where there are too many.
+fn moved(fine: u32, wanted: u32, had: u32, share: u32) -> u32
     requires { fine ≤ most_fine }
     ensures { result ≤ most_fine }
 {
-    let size = direction.unsigned_abs() as u64;
-    let step = (size.saturating_mul(scale) >> 16).min(MOST_FINE as u64) as u32;
-    let next = if direction < 0 {
-        fine.saturating_sub(step)
+    if had < wanted {
+        fine.saturating_add(share).min(MOST_FINE)
+    } else if wanted < had {
+        fine.saturating_sub(share.saturating_add(1))
     } else {
-        fine.saturating_add(step).min(MOST_FINE)
-    };
-    let passes = (fine < EVEN && EVEN < next) || (next < EVEN && EVEN < fine);
-    if passes { EVEN } else { next }
+        fine
+    }
 }
 
 /// The most in 256ths of a point.
 const MOST_FINE: u32 = 256_000;
-
-/// What a missing nurse costs, in 256ths of a point.
-const EVEN: u32 = PARTS * STAFFING;
