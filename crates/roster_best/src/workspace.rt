@@ -114,7 +114,7 @@ impl Workspace {
 }
 
 /// The number of states of the nurse who has the most.
-fn greatest_states(case: &Case) -> u32
+pub fn greatest_states(case: &Case) -> u32
     ensures greatest { result ≡ greatest_state_count case.now }
     ensures within { result ≤ most_states }
 {

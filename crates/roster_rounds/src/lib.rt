@@ -12,6 +12,7 @@ mod room;
 mod rounds;
 
 pub use headline::each_row_put_in_is_best;
+pub use log::{log_round, log_word};
 pub use nurse::step;
 pub use outcome::{LogFault, Outcome, Step};
 pub use room::most_extensions;
