@@ -2,12 +2,15 @@
 import re
 
 from desk_lib.findings import Finding, also
+from desk_lib.grammar import WORD
 from desk_lib.texts import Text, Texts
 
 UTF8_MARK = b"\xef\xbb\xbf"
 UTF16_MARKS = (b"\xff\xfe", b"\xfe\xff")
 SAVE_AS = "save it as UTF-8 without a byte order mark"
 QUOTES = b'"|\xe2\x80[\x98-\x9f]|\xc2\xab|\xc2\xbb'
+SEPARATORS = [bytes([it]) for it in b" \t\r\n(),="]
+REST = re.compile(rb"[^ \t\r\n(),=]*")
 # What stands there, what is said of it, and whether it counts in texts that aren't UTF-8 alone.
 SIGNS = [
     (
@@ -49,8 +52,20 @@ def whole_file(text: Text) -> str:
     return ""
 
 
-def signs_in(text: Text) -> list[tuple[int, int, str]]:
-    """The signs of a file: from which byte, to which, and what is said."""
+def names_in(data: bytes) -> set[bytes]:
+    """The words that stand in the scenario and after it: what hides in one of them is part of a name."""
+    head, _, rest = data.partition(b"HISTORY")
+    return {*WORD.findall(head)} & {*WORD.findall(rest)}
+
+
+def word_at(data: bytes, at: int) -> bytes:
+    """The word to which a byte belongs, as far as it is within a thousand bytes."""
+    before = max(data.rfind(it, max(0, at - 1000), at) for it in SEPARATORS)
+    return data[max(before + 1, at - 1000) : REST.match(data, at, at + 1000).end()]
+
+
+def signs_in(text: Text, names: set[bytes]) -> list[tuple[int, int, str]]:
+    """The signs of a file that aren't part of names: from which byte, to which, and what is said."""
     found = []
     if text.data.startswith(UTF8_MARK):
         found.append((0, 3, f"the file begins with a byte order mark (bytes EF BB BF), which can't be seen; {SAVE_AS}"))
@@ -60,7 +75,7 @@ def signs_in(text: Text) -> list[tuple[int, int, str]]:
             found += [
                 (it.start(), it.end(), told) for it in re.finditer(pattern, text.data) if it.start() or it[0] != UTF8_MARK
             ]
-    return found
+    return [it for it in found if word_at(text.data, it[0]) not in names]
 
 
 def causes(texts: Texts) -> tuple[list[Finding], bytes, bool, set[tuple[str, int]]]:
@@ -71,6 +86,7 @@ def causes(texts: Texts) -> tuple[list[Finding], bytes, bool, set[tuple[str, int
     """
     found: list[Finding] = []
     hiding: set[tuple[str, int]] = set()
+    names = names_in(texts.joined)
     cleaned, all_read = bytearray(texts.joined), True
     for start, text in zip(texts.starts, texts.texts):
         told = whole_file(text)
@@ -80,7 +96,7 @@ def causes(texts: Texts) -> tuple[list[Finding], bytes, bool, set[tuple[str, int
             all_read = False
             continue
         kinds: dict[str, list[tuple[int, int]]] = {}
-        for first, last, told in signs_in(text):
+        for first, last, told in signs_in(text, names):
             cleaned[start + first : start + last] = b" " * (last - first)
             kinds.setdefault(told, []).append((start + first, last - first))
         for told, signs in kinds.items():
