@@ -1,9 +1,8 @@
 //! From the bytes of a bundle to the weeks of a better roster.
 
-ghost use Rattle.std.specs.Prelude.{◌≡◌, true, IfOk, OnOk};
-ghost use Rattle.roster_case.specs.HardRules.{keeps_hard};
-ghost use Rattle.roster_case.specs.Penalties.{penalty};
-ghost use Rattle.roster_case.specs.Rosters.{fits_case};
+ghost use Rattle.std.specs.Prelude.{◌≡◌, true, IfOk};
+ghost use Rattle.roster_instance.specs.Rosters.{fits_case};
+ghost use Rattle.roster_rules.specs.Penalties.{penalty};
 
 use crate::stop::Stop;
 use roster_best::{Workspace, best_row, most_steps};
