@@ -3,7 +3,9 @@
 
 use crate::texts::MINI;
 use roster_case::{Case, Roster, costs};
-use roster_text::{parse_bundle, tokens};
+use roster_rounds::Outcome;
+use roster_text::{TextFault, Watch, parse_bundle, tokens};
+use roster_use::{Stop, write_better_weeks};
 use std::alloc::Global;
 use std::test::Fail;
 
@@ -19,5 +21,33 @@ fn total_of(alloc: Global, source: &[u8]) -> Result<u64, Fail> {
 #[test]
 fn totals_from_bytes(rt: HostRuntime) -> Result<(), Fail> {
     assert_eq!(rt; total_of(rt.alloc(), MINI.as_bytes())?, 470);
+    Ok(())
+}
+
+#[test]
+fn better_weeks_from_bytes(rt: HostRuntime) -> Result<(), Fail> {
+    let alloc = rt.alloc();
+    let mut input = Watch::new(MINI.as_bytes());
+    let mut output = Watch::new(Vec::new(alloc));
+    let mut log = Watch::new(Vec::new(alloc));
+    let ended = write_better_weeks(alloc, 3, &mut input, &mut output, &mut log);
+    let wanted = Outcome {
+        settled: true,
+        rounds: 2,
+        changes: 1,
+        total: 0,
+    };
+    assert!(rt; ended == Ok(wanted));
+    let weeks = "SOLUTION\n0 mini\n\nASSIGNMENTS = 7\n\
+        Ann Mon Early Nurse\nAnn Wed Early Nurse\nAnn Thu Early Nurse\nAnn Fri Early Nurse\n\
+        Bob Tue Early Nurse\nBob Sat Early Nurse\nBob Sun Early Nurse\n";
+    assert!(rt; output.into_inner().as_slice() == weeks.as_bytes());
+    let lines = "start 20\n1 Ann 0\nround 1 0\nround 2 0\nsettled 0\n";
+    assert!(rt; log.into_inner().as_slice() == lines.as_bytes());
+    let mut nothing = Watch::new(b"".as_slice());
+    let mut output = Watch::new(Vec::new(alloc));
+    let mut log = Watch::new(Vec::new(alloc));
+    let ended = write_better_weeks(alloc, 3, &mut nothing, &mut output, &mut log);
+    assert!(rt; matches!(ended, Err(Stop::Text(TextFault::Expected { line: 1, .. }))));
     Ok(())
 }
