@@ -141,9 +141,14 @@ def number_of(line: bytes) -> int:
     return int(line.split(b" ")[-1])
 
 
-def floor_of(roster: Program, texts: Texts, first_week: list[str]) -> int:
+def floor_of(roster: Program, texts: Texts, first_week: list[str], progress: Progress | None = None) -> int:
     """What no roster that keeps the hard rules and the frozen days is below, as `bound` says."""
-    output = roster.ask(["bound", *first_week], texts).output
+
+    def tell(line: bytes) -> None:
+        if progress and line.startswith(b"round "):
+            progress.show("a floor is looked for", number_of(line))
+
+    output = roster.ask(["bound", *first_week], texts, tell).output
     return number_of(next(it for it in output.splitlines() if it.startswith(b"bound ")))
 
 
