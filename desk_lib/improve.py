@@ -37,10 +37,12 @@ class Progress:
             sys.stderr.flush()
 
     def end(self, told: str = "") -> None:
-        """Leaves the line that changes as it stands; after it comes this one."""
+        """Leaves the line that changes as it stands. What the run came to follows on a terminal, and where there is a floor."""
         if self.is_terminal:
             sys.stderr.write(f"\n{told}\n" if told else "\n")
-            sys.stderr.flush()
+        elif told and self.floor is not None:
+            sys.stderr.write(f"desk: {told}\n")
+        sys.stderr.flush()
 
 
 class Run:
@@ -175,4 +177,6 @@ def finish(run: Run, work: typing.Callable[[], None]) -> None:
         with contextlib.suppress(OSError):
             if run.progress.log:
                 run.progress.log.close()
-    run.progress.end(f"{shown(run.out)}: {shown(run.progress.last)}")
+    floor = run.progress.floor
+    above = "" if floor is None else f", {run.total - floor} above the floor {floor}"
+    run.progress.end(f"{shown(run.out)}: {shown(run.progress.last)}{above}")
