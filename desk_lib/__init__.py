@@ -7,10 +7,10 @@
 | grammar | words, sections and parts of the texts |
 | model | the case and the roster of texts that the program takes |
 | program | how the program `roster` is found and called |
-| costs, breaches | what each nurse costs by rule, and where a hard rule is broken |
-| check, hidden, recovery, names | all that is wrong with texts |
+| costs, tables, breaches | what each nurse costs by rule, and where a hard rule is broken |
+| check, findings, hidden, recovery, names | all that is wrong with texts |
 | sheet, grid, page, plot | a roster to look at, on a terminal and in a browser |
-| improve, split, replacing | rosters that are written |
+| improve, split, replacing, signals | rosters that are written, and what ends that early |
 
 Every roster and every total is the program's. What is counted here is compared with the program before it is shown.
 """

@@ -55,8 +55,11 @@ def refused_text(texts: Texts, line: str) -> list[Finding]:
     found += out_of_place(words, [it.sections for it in recovery.of_kind("solution")])
     hiding |= {it.line_key() for it in causes}
     found = causes + [it for it in found if it.place is None or it.line_key() not in hiding]
-    found = sorted({it.lines()[0]: it for it in reversed(found)}.values(), key=lambda it: it.offset)
-    return with_program(texts, line, found, hiding)
+    found = sorted({(it.line_key(), it.message): it for it in reversed(found)}.values(), key=lambda it: it.offset)
+    found = with_program(texts, line, found, hiding)
+    if recovery.left_out:
+        found.append(Finding(len(texts.joined), None, f"{recovery.left_out} faults more aren't shown; mend these first"))
+    return found
 
 
 def with_program(texts: Texts, line: str, found: list[Finding], hiding: set[tuple[str, int]]) -> list[Finding]:

@@ -166,7 +166,7 @@ def run_improve(asked: argparse.Namespace, roster: Program) -> int:
 
     def work() -> None:
         if asked.bound:
-            progress.floor = improve.floor_of(roster, texts, words)
+            progress.floor = improve.floor_of(roster, texts, words, progress)
         run.rounds(asked.rounds)
         if asked.polish:
             run.polish(asked.polish, asked.slice, asked.seed)

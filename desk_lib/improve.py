@@ -37,10 +37,12 @@ class Progress:
             sys.stderr.flush()
 
     def end(self, told: str = "") -> None:
-        """Leaves the line that changes as it stands; after it comes this one."""
+        """Leaves the line that changes as it stands. What the run came to follows on a terminal, and where there is a floor."""
         if self.is_terminal:
             sys.stderr.write(f"\n{told}\n" if told else "\n")
-            sys.stderr.flush()
+        elif told and self.floor is not None:
+            sys.stderr.write(f"desk: {told}\n")
+        sys.stderr.flush()
 
 
 class Run:
@@ -141,9 +143,14 @@ def number_of(line: bytes) -> int:
     return int(line.split(b" ")[-1])
 
 
-def floor_of(roster: Program, texts: Texts, first_week: list[str]) -> int:
+def floor_of(roster: Program, texts: Texts, first_week: list[str], progress: Progress | None = None) -> int:
     """What no roster that keeps the hard rules and the frozen days is below, as `bound` says."""
-    output = roster.ask(["bound", *first_week], texts).output
+
+    def tell(line: bytes) -> None:
+        if progress and line.startswith(b"round "):
+            progress.show("a floor is looked for", number_of(line))
+
+    output = roster.ask(["bound", *first_week], texts, tell).output
     return number_of(next(it for it in output.splitlines() if it.startswith(b"bound ")))
 
 
@@ -170,4 +177,6 @@ def finish(run: Run, work: typing.Callable[[], None]) -> None:
         with contextlib.suppress(OSError):
             if run.progress.log:
                 run.progress.log.close()
-    run.progress.end(f"{shown(run.out)}: {shown(run.progress.last)}")
+    floor = run.progress.floor
+    above = "" if floor is None else f", {run.total - floor} above the floor {floor}"
+    run.progress.end(f"{shown(run.out)}: {shown(run.progress.last)}{above}")

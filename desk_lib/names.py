@@ -7,6 +7,8 @@ from desk_lib.grammar import ANY, DAYS, NONE, Part
 from desk_lib.recovery import Found, Recovery
 from desk_lib.texts import Place, shown
 
+# For so many unknown words the nearest known ones are looked for.
+NEAREST = 200
 Known = collections.abc.Collection[bytes]
 
 
@@ -44,8 +46,10 @@ class Names:
     def look_up(self, at: int, known: Known, what: str) -> None:
         """Notes a word that isn't among the known ones."""
         if self.words[at] not in known:
-            places, _ = self.unknown.setdefault((what, self.words[at]), ([], nearest(self.words[at], known)))
-            places.append(at)
+            key = what, self.words[at]
+            if key not in self.unknown:
+                self.unknown[key] = [], nearest(self.words[at], known) if len(self.unknown) < NEAREST else ""
+            self.unknown[key][0].append(at)
 
     def tell_unknown(self) -> None:
         for (what, word), (places, like) in self.unknown.items():

@@ -21,6 +21,8 @@ LINES = {
     b"SHIFT_ON_REQUESTS": grammar.request_line,
     b"ASSIGNMENTS": grammar.assignment_line,
 }
+# So many faults are told, and for the first of them a keyword is looked for that a word may be meant to be.
+MOST, MEANT = 10_000, 1_000
 UNCOUNTED = {b"FORBIDDEN_SHIFT_TYPES_SUCCESSIONS", b"NURSE_HISTORY", b"REQUIREMENTS"}
 ALONE = {b"HISTORY", b"WEEK_DATA", b"SOLUTION", *UNCOUNTED}
 
@@ -41,6 +43,7 @@ class Recovery:
         # (a keyword that is misspelt is read as the one that is meant)
         self.words, self.list = words, [*words.words]
         self.findings: list[Finding] = []
+        self.left_out = 0
         self.parts: list[Found] = []
         # (names that stand first in lines with another fault, by the keywords of their sections)
         self.broken: dict[bytes, list[bytes]] = collections.defaultdict(list)
@@ -51,6 +54,9 @@ class Recovery:
 
     def tell(self, at: int, message: str, last: int | None = None) -> None:
         """Notes a fault of the word of this number, or of all words from it to the last."""
+        if len(self.findings) >= MOST:
+            self.left_out += 1
+            return
         offset, place = self.words.offset(at), self.words.place(at)
         if last is not None and last < len(self.list):
             length = self.words.offset(last) + len(self.words.words[last]) - offset
@@ -79,12 +85,16 @@ class Recovery:
             elif word == b"=" and at and self.begins_line(at - 1):
                 keyword = self.list[at - 1]
                 if keyword not in READERS:
-                    self.tell(at - 1, f"no section is named '{shown(keyword)}'{nearest(keyword, READERS)}")
-                    keyword = next((it.encode() for it in nearest_names(keyword, frozenset(READERS))), keyword)
-                    self.list[at - 1] = keyword
+                    keyword = self.list[at - 1] = self.meant(at - 1, keyword)
                 if keyword in READERS:
                     found.append((at - 1, keyword))
         return found
+
+    def meant(self, at: int, word: bytes) -> bytes:
+        """The keyword that an unknown one is meant to be, or that word itself. Tells of it."""
+        near = nearest_names(word, frozenset(READERS)) if len(self.findings) < MEANT else []
+        self.tell(at, f"no section is named '{shown(word)}'{f'; nearest: {near[0]}' if near else ''}")
+        return near[0].encode() if near else word
 
     def section(self, keyword: bytes, at: int, end: int) -> Section:
         """The section from one word to another; where it can't be read as a whole, line by line."""

@@ -8,6 +8,9 @@ import unicodedata
 # What a file is, by the option that names it.
 KINDS = {"sce": "scenario", "his": "history", "weeks": "week data", "sols": "solution"}
 
+# So many bytes of a line are kept before a word and after it.
+AROUND = 400
+
 
 class DeskError(Exception):
     """Why a command can't go on: a line that says what to do, and the status to end with."""
@@ -54,7 +57,8 @@ class Text:
 
 @dataclasses.dataclass(frozen=True)
 class Place:
-    """A word in a file. Lines count from 1, and columns by bytes from 0. At a file's end the word has no length."""
+    """A word in a file, with the line's text around it. Lines count from 1, and columns, in that text, by bytes from 0. At a
+    file's end the word has no length."""
 
     file: str
     line: int
@@ -112,7 +116,9 @@ class Texts:
             at = len(text.data.rstrip(b" \t\r\n"))
         starts = self.line_starts(self.index(offset))
         number = bisect.bisect_right(starts, at)
-        first, last = starts[number - 1], starts[number] if number < len(starts) else len(text.data)
+        last = starts[number] if number < len(starts) else len(text.data)
+        # (a line may be as long as the file)
+        first, last = max(starts[number - 1], at - AROUND), min(last, at + length + AROUND)
         return Place(text.name, number, text.data[first:last].rstrip(b"\r\n"), at - first, length)
 
     def line_starts(self, index: int) -> list[int]:
