@@ -64,10 +64,11 @@ class Runner:
         output, log = (written(file, begin(room)) for file, room in rooms.items())
         return Answer(status, output, log)
 
-    def measure(self, words):
-        """The answer of the program, with the time and the memory that it took."""
+    def measure(self, words, space=None):
+        """The answer of the program, with the time and the memory that it took. With a space it may map so many kB, used or not."""
         (path,) = self.named([b""])
-        answer = self.run([TIME, "-q", "-f", "%U %S %M", "-o", path, *words])
+        limited = ["/bin/sh", "-c", f'ulimit -v {space}; exec "$@"', "sh"] if space else []
+        answer = self.run([TIME, "-q", "-f", "%U %S %M", "-o", path, *limited, *words])
         user, system, kilobytes = written(self.files[0], 0).split()
         answer.seconds, answer.kilobytes = float(user) + float(system), int(kilobytes)
         return answer

@@ -247,6 +247,8 @@ fn rosters_after_a_log_that_fails(rt: HostRuntime) -> Result<(), Fail> {
             let ended = improve(&mut held, 100, 0, &mut workspace, &mut meter, &mut log);
             assert!(rt; ended == Err(LogFault::LogFailed { sent }), "{sent}");
             assert!(rt; fill(log.into_inner().written(), RUN_LOG, sent), "{sent}");
+            // The line of the start goes out before the first search.
+            assert!(rt; (meter.count() > 0) == (sent > 9), "{sent}");
             assert!(rt; held.total() == total, "{sent}");
             assert!(rt; held.roster().row(0) == row_of(ann).as_slice(), "{sent}");
             assert!(rt; held.roster().row(1) == row_of(bob).as_slice(), "{sent}");

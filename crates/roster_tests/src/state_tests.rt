@@ -84,7 +84,12 @@ fn numbers_of_states(rt: HostRuntime) -> Result<(), Fail> {
     let ranges = Ranges::of(&case, nurse);
     assert!(rt; ranges.product() == 1296);
     assert!(rt; State::from_code(&ranges, 1296).is_none());
-    let last = State::from_code(&ranges, 1295);
-    assert!(rt; last.is_some_and(|it| it.fits(&ranges) && it.code(&ranges) == 1295));
+    for code in 0..1296 {
+        let state = State::from_code(&ranges, code);
+        assert!(rt;
+            state.is_some_and(|it| it.fits(&ranges) && it.code(&ranges) == code),
+            "{code}"
+        );
+    }
     Ok(())
 }
