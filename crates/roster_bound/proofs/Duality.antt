@@ -20,7 +20,8 @@ use Rattle.roster_laws.specs.Staffing.{meets}
 use Rattle.roster_laws.proofs.AllRows.{row_is_member}
 use Rattle.roster_laws.proofs.Allowed.{member_is_kept}
 use Rattle.roster_laws.specs.FrozenDays.{FrozenDaysStay}
-use Rattle.roster_laws.proofs.Below.{all_elim, all_true, sum_both}
+use Rattle.roster_rules.proofs.RunBounds.{sum_both}
+use Rattle.roster_laws.proofs.Below.{all_elim, all_true}
 use Rattle.roster_laws.proofs.Fives.{penalty_is}
 use Rattle.roster_laws.proofs.SameRows.{same_choice_self}
 use Rattle.roster_laws.proofs.Keeps.{keeps_hard-parts}
