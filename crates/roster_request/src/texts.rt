@@ -147,24 +147,24 @@ texts are read from standard input.";
 pub(crate) const BOUND: &str = "Write a bound below which no roster costs";
 
 pub(crate) const BOUND_HELP: &str =
-    "How good a roster can get: two lines are written, what the roster costs, and a
+    "How good a roster can get. Two lines are written, what the roster costs, and a
 number that no roster costs less than, however it is made:
-  roster 1250
-  bound 740
-So at most the difference can still be saved. The bound holds for all rosters of
+  roster 3150
+  bound 720
+So at most the difference can still be saved. The bound is for all rosters of
 the instance that keep the hard rules. There may be none that costs so little.
 
 The hard rules are asked first, as for 'roster cost'. To standard error goes a
 log, each line as soon as it is known:
-  start 1250    what the roster costs
-  round 1 590   the bound after round 1
-  round 4 615   rounds 2 and 3 found no greater one
-A round takes each nurse once, as long as a round of 'roster improve' does. More
-rounds never make the bound smaller, and mostly greater. With --rounds 0 none is
-made, and the bound is 0.
+  start 3150    what the roster costs
+  round 1 720   the bound that round 1 found. A round that finds no greater one
+                has no line.
+A round takes each nurse once, as a round of 'roster improve' does. More rounds
+mostly find a greater bound, but not always. With --rounds 0 the bound is 0.
 
-With --from V the weeks 0 to V - 1 are frozen: the bound holds for the rosters
-in which each nurse's days in them are as they stand.
+With --from V the weeks 0 to V - 1 are frozen: the bound is for those rosters in
+which each nurse's days in them are as they stand. Where V is above the last
+week, there is no other such roster.
 
 What isn't promised: how near the bound is to the cheapest roster; how long the
 run takes. For its memory and the greatest number of steps for a nurse see
@@ -172,8 +172,8 @@ run takes. For its memory and the greatest number of steps for a nurse see
 
 Examples:
   roster bound examples/ward.txt
-  roster bound --rounds 300 better.txt
-  roster bound --from 2 examples/ward.txt
+  roster bound --rounds 300 examples/ward.txt
+  roster bound --rounds 1 --from 2 examples/ward.txt
 
 The files are read one after another, in the order given. Without a file, the
 texts are read from standard input.";
