@@ -7,7 +7,7 @@ use Rattle.roster_case.specs.Faults.{first_fault}
 use Rattle.roster_case.specs.declared.CaseFault.{CaseFault}
 use Rattle.roster_case.specs.declared.CaseFault.TheVariants as case
 use Rattle.roster_case.specs.declared.HardFault.{HardFault}
-pub use Rattle.roster_reports.specs.Lines.{AreNamesOf, Text, case_line, hard_line, memory_line, nurse_of, report_line, sizes_line, text_line}
+pub use Rattle.roster_reports.specs.Lines.{AreNamesOf, Text, bound_text, case_line, hard_line, memory_line, nurse_of, report_line, sizes_line, text_line}
 unfoldable pub use Rattle.roster_reports.specs.Lines.{costs_text, sizes_text}
 use Rattle.roster_commands.specs.declared.fault.Fault.{Fault}
 use Rattle.roster_commands.specs.declared.fault.Fault.TheVariants as fault
