@@ -9,7 +9,7 @@ use Rattle.std.proofs.lemmas.List.Elements.{All-head, All-tail}
 use Rattle.std.specs.Vec.{with_items}
 use Rattle.std.proofs.lemmas.List.{append-nil, get_or_default, map-append, take_more_set, with_items_is}
 use Rattle.std.proofs.lemmas.Nat.{mul-le}
-use Rattle.roster_instance.specs.declared.Choice.{Choice}
+use Rattle.roster_instance.specs.declared.choice.Choice.{Choice}
 use Rattle.roster_instance.specs.Meaning.{Meaning, day_count, nurse_count, shift_count, skill_count}
 use Rattle.roster_bundle.proofs.Ranges.{range_with_len_more}
 use Rattle.roster_instance.specs.Limits.{most_shifts, most_skills}
@@ -20,10 +20,10 @@ use Rattle.roster_instance.specs.Rosters.{Row, Rows}
 use Rattle.roster_rules.specs.Prefix.{Summary, summary_of}
 use Rattle.roster_laws.specs.Greatest.{extension_count, greatest_state_count}
 use Rattle.roster_instance.specs.Choices.{shift_of}
-use Rattle.roster_state.specs.declared.Area.{Area}
+use Rattle.roster_state.specs.declared.area.Area.{Area}
 use Rattle.roster_state.specs.Codes.{Sizes, code_of, product, sizes_of}
 use Rattle.roster_state.specs.Step.{step_of}
-use Rattle.roster_search.specs.declared.Offer.{Offer}
+use Rattle.roster_search.specs.declared.offer.Offer.{Offer}
 use Rattle.roster_search.specs.ByStates.{best_after}
 use Rattle.roster_search.specs.Cheapest.{Priced, cheaper, cheapest, raised}
 use Rattle.roster_search.proofs.Cheapest.{thing_or}

@@ -3,13 +3,13 @@ use Rattle.std.specs.Prelude.{◌≡◌, ℕ, ◌+◌, ◌-◌, ◌*◌, ◌<◌
 use Rattle.arrayvec.specs.ArrayVec.{ArrayVec}
 use Rattle.roster_instance.specs.Meaning.{Meaning, day_count}
 use Rattle.roster_instance.specs.Rosters.{Row, Rows}
-use Rattle.roster_rules.specs.Counting.{sum_below}
+use Rattle.roster_instance.specs.Counting.{sum_below}
 use Rattle.roster_rules.specs.Prefix.{Summary, summary_of}
-use Rattle.roster_state.specs.declared.Area.{Area}
+use Rattle.roster_state.specs.declared.area.Area.{Area}
 use Rattle.roster_state.specs.Codes.{product, sizes_of}
 use Rattle.roster_laws.specs.Greatest.{greatest_state_count}
-use Rattle.roster_search.specs.declared.Offer.{Offer}
-use Rattle.roster_search.specs.declared.SearchDay.{SearchDay}
+use Rattle.roster_search.specs.declared.offer.Offer.{Offer}
+use Rattle.roster_search.specs.declared.day.SearchDay.{SearchDay}
 use Rattle.roster_search.specs.Counts.{states_on}
 use Rattle.roster_search.specs.Offers.{best_of_offers, shift_offers}
 use Rattle.roster_search.specs.Tables.{ArePointers, BestOnward, LeadsOn, Stands}

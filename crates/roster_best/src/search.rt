@@ -1,18 +1,19 @@
 //! The best row of a nurse.
 
 ghost use Rattle.std.specs.Prelude.{◌≡◌, ◌+◌, ◌*◌, ◌<◌, ◌≤◌, ℕ, true, [], All, IfSome, IsSome, List, Some, length, take};
+ghost use Rattle.roster_bundle.specs.Limits.{greatest_u64};
 ghost use Rattle.roster_instance.specs.Meaning.{day_count, nurse_count};
 ghost use Rattle.roster_instance.specs.Sizes.{choice_count};
 ghost use Rattle.roster_rules.specs.AllowedRows.{IsBestRow, penalty_with, row_keeps};
 ghost use Rattle.roster_laws.specs.Greatest.{extension_count};
-ghost use Rattle.roster_rules.specs.Counting.{sum_below};
+ghost use Rattle.roster_instance.specs.Counting.{sum_below};
 ghost use Rattle.roster_rules.specs.Prefix.{summary_of};
 ghost use Rattle.roster_state.specs.Codes.{product, sizes_of};
 ghost use Rattle.roster_search.specs.Counts.{states_on};
 ghost use Rattle.roster_search.specs.Offers.{best_by_states, choices_of, shift_offers};
 ghost use Rattle.roster_lanes.specs.Lanes.{SameOutside};
 ghost use Rattle.roster_search.specs.Tables.{AreLabels, ArePointers, Around, BeginsWith, IsDayOf, LeadsOn, Stands, best_on, no_row};
-ghost use Rattle.roster_search.specs.declared.Offer.{Offer};
+ghost use Rattle.roster_search.specs.declared.offer.Offer.{Offer};
 ghost use Rattle.roster_best.specs.Workspaces.{AreOffers, AreasLead, CountsStanding, PointersFrom, SameRoom, SomeStands, areas_on, fits_space, onward, steps_on};
 
 use crate::by_shift::choices_by_shift;
@@ -45,7 +46,7 @@ pub fn best_row(
 ) -> Best
     requires nurse { nurse < nurse_count held.now.case }
     requires fits { fits_space held.now.case workspace.old ≡ true }
-    requires room { meter.old + extension_count held.now.case nurse ≤ 18446744073709551615 }
+    requires room { meter.old + extension_count held.now.case nurse ≤ greatest_u64 }
 
     // The row, and the roster's penalty with it.
     ensures best { IsBestRow held.now.case from held.now.roster nurse workspace.new.row }
@@ -171,7 +172,7 @@ fn label_days(
     requires labels_room { product search.now.ranges ≤ length labels.old.items }
     requires same_room { length later.old.items ≡ length labels.old.items }
     requires pointers_room { day_count search.now.held.now.case * product search.now.ranges ≤ length pointers.old }
-    requires room { meter.old + extension_count search.now.held.now.case search.now.nurse ≤ 18446744073709551615 }
+    requires room { meter.old + extension_count search.now.held.now.case search.now.nurse ≤ greatest_u64 }
     ensures labels { AreLabels search.now.held.now.case search.now.nurse (areas_on search.now.areas.now 0) (onward search.now.held.now.case search.now.from search.now.held.now.roster search.now.nurse 0) later.new.items }
     ensures pointers { PointersFrom search.now.held.now.case search.now.from search.now.held.now.roster search.now.nurse search.now.areas.now 0 pointers.new }
     ensures lengths { (length labels.new.items ≡ length labels.old.items) × (length later.new.items ≡ length later.old.items) × (length pointers.new ≡ length pointers.old) }
@@ -214,7 +215,7 @@ fn label_before(
     requires all { product at.now.ranges ≤ length later.now }
     requires labels_room { product at.now.ranges ≤ length labels.old }
     requires pointers_room { day_count search.now.held.now.case * product at.now.ranges ≤ length pointers.old }
-    requires room { meter.old + product at.now.ranges * choice_count search.now.held.now.case at.now.nurse ≤ 18446744073709551615 }
+    requires room { meter.old + product at.now.ranges * choice_count search.now.held.now.case at.now.nurse ≤ greatest_u64 }
     requires offers { AreOffers search.now.held.now.case search.now.from search.now.held.now.roster at.now.nurse search.now.offers.now }
     ensures labels { AreLabels search.now.held.now.case at.now.nurse rest.here (best_on search.now.held.now.case at.now (shift_offers search.now.held.now.case search.now.from search.now.held.now.roster at.now.nurse at.now.day) rest.best) labels.new }
     ensures pointers { ArePointers search.now.held.now.case at.now rest.here (shift_offers search.now.held.now.case search.now.from search.now.held.now.roster at.now.nurse at.now.day) rest.best (at.now.day * product at.now.ranges) pointers.new }

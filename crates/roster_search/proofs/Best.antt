@@ -2,12 +2,12 @@
 use Rattle.std.proofs.Common.{◌≡◌, ◌∙◌, ◌+◌, ◌<◌, ◌&&◌, ℕ, Bool, true, false, ap, arith, refl, sym, List, [], length, Option, Some, None, IsSome, if◌then◌else◌}
 use Rattle.std.specs.Prelude.{option_map}
 use Rattle.std.proofs.lemmas.Bool.{true≢false}
-use Rattle.roster_rules.specs.Choices.{all_choices, all_rows, days_of}
+use Rattle.roster_instance.specs.Choices.{all_choices, all_rows, days_of}
 use Rattle.roster_rules.specs.HardRules.{keeps_hard}
-use Rattle.roster_rules.specs.Meaning.{Meaning, day_count, nurse_count}
+use Rattle.roster_instance.specs.Meaning.{Meaning, day_count, nurse_count}
 use Rattle.roster_rules.specs.Penalties.{own_cost}
 use Rattle.roster_rules.specs.Prefix.{due, summary_of}
-use Rattle.roster_rules.specs.Rosters.{Row, Rows, fits_case, with_row}
+use Rattle.roster_instance.specs.Rosters.{Row, Rows, fits_case, with_row}
 use Rattle.roster_rules.specs.AllowedRows.{IsBestRow, allowed_rows, best_row, keeps_frozen_days, penalty_with}
 use Rattle.roster_rules.proofs.FirstLeast.{found}
 use Rattle.roster_rules.proofs.RosterFacts.{has_row}

@@ -4,14 +4,14 @@ use Rattle.std.specs.List.{list_all}
 use Rattle.std.proofs.lemmas.Bool.{and_parts, eqb-true}
 use Rattle.std.proofs.lemmas.List.{length-map}
 use Rattle.std.proofs.lemmas.List.Elements.{Contains-append_right}
-use Rattle.roster_rules.specs.Choices.{days_of, shift_of}
+use Rattle.roster_instance.specs.Choices.{days_of, shift_of}
 use Rattle.roster_rules.specs.HardRules.{keeps_hard}
-use Rattle.roster_rules.specs.Limits.{most_days, most_shifts, most_skills, most_weeks}
-use Rattle.roster_rules.specs.Meaning.{Meaning, day_count, nurse_count, shift_count, skill_count, week_count}
+use Rattle.roster_instance.specs.Limits.{most_days, most_shifts, most_skills, most_weeks}
+use Rattle.roster_instance.specs.Meaning.{Meaning, day_count, nurse_count, shift_count, skill_count, week_count}
 use Rattle.roster_rules.specs.Penalties.{own_cost}
-use Rattle.roster_rules.specs.Rosters.{Row, Rows, fits_case, is_choice_of, is_row_of, with_row}
+use Rattle.roster_instance.specs.Rosters.{Row, Rows, fits_case, is_choice_of, is_row_of, with_row}
 use Rattle.roster_rules.specs.AllowedRows.{allowed_rows}
-use Rattle.roster_rules.specs.Small.{HasSmallNumbers}
+use Rattle.roster_instance.specs.Small.{HasSmallNumbers}
 use Rattle.roster_rules.proofs.Bounds.{both_run_costs-within, request_cost-within, shift_run_cost-within, split_cost-within, staffing_cost-within, totals_cost-within, weekends_cost-within}
 use Rattle.roster_rules.proofs.RosterFacts.{has_row}
 use Rattle.roster_laws.proofs.OneRow.{penalty-with_row, prices-with_row}

@@ -3,12 +3,12 @@
 ghost use Rattle.std.specs.Prelude.{◌≡◌, ◌+◌, ◌<◌, ◌≤◌, ℕ, true, false, [], ◌∷◌, All, Contains, List, IsSome, Some, length};
 ghost use Rattle.roster_rules.specs.AllowedRows.{IsBestRow, is_frozen, penalty_with};
 ghost use Rattle.roster_rules.specs.HardRules.{keeps_hard};
-ghost use Rattle.roster_rules.specs.Limits.{most_shifts, most_skills, most_weeks};
-ghost use Rattle.roster_rules.specs.Meaning.{Meaning, day_count, nurse_count, shift_count, skill_count, week_count};
+ghost use Rattle.roster_instance.specs.Limits.{most_shifts, most_skills, most_weeks};
+ghost use Rattle.roster_instance.specs.Meaning.{Meaning, day_count, nurse_count, shift_count, skill_count, week_count};
 ghost use Rattle.roster_rules.specs.Prefix.{Summary, due};
-ghost use Rattle.roster_rules.specs.Rosters.{Rows, choice_on, fits_case, row_of};
-ghost use Rattle.roster_rules.specs.Sizes.{choice_count};
-ghost use Rattle.roster_rules.specs.Small.{HasSmallNumbers};
+ghost use Rattle.roster_instance.specs.Rosters.{Rows, choice_on, fits_case, row_of};
+ghost use Rattle.roster_instance.specs.Sizes.{choice_count};
+ghost use Rattle.roster_instance.specs.Small.{HasSmallNumbers};
 ghost use Rattle.roster_laws.specs.OneRow.{rest_of};
 ghost use Rattle.roster_search.specs.ByStates.{Steps, best_from, cost_from, rows_from};
 ghost use Rattle.roster_search.specs.Cheapest.{cheapest, with_cost};

@@ -11,7 +11,7 @@ use Rattle.roster_state.specs.Codes.{code_of, product, sizes_of}
 use Rattle.roster_search.specs.Offers.{best_by_states, choices_of, offers_of}
 use Rattle.roster_search.specs.Tables.{Stands, no_row}
 use Rattle.roster_search.specs.Cheapest.{Priced}
-use Rattle.roster_search.specs.declared.Offer.{Offer}
+use Rattle.roster_search.specs.declared.offer.Offer.{Offer}
 use Rattle.roster_laws.specs.Greatest.{greatest_state_count}
 use Rattle.roster_search.proofs.Best.{is_best, penalty_is}
 use Rattle.roster_search.proofs.ByShift.{by_shift_some}

@@ -1,5 +1,5 @@
 use Rattle.std.proofs.Common.{◌≡◌, ◌+◌, ℕ, List, Some, length}
-use Rattle.roster_search.specs.declared.Offer.{Offer}
+use Rattle.roster_search.specs.declared.offer.Offer.{Offer}
 use Rattle.roster_search.specs.Offers.{best_by_states}
 use Rattle.roster_search.specs.Tables.{Stands}
 use Rattle.roster_best.specs.Workspaces.{areas_on, onward}
