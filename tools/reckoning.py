@@ -1,4 +1,5 @@
-"""A reckoning of the soft rules by code of its own: what a roster costs, a nurse's best row, and a run of the improver.
+"""A reckoning of the soft rules by code of its own: what a roster costs, a nurse's best row, a run of
+the improver, and a floor under all rosters.
 
 The rules are those of docs/RULES.md, in their words and not in the program's. A choice is None, or a shift and a skill; a row
 has one for each day, and a roster has a row for each nurse. Shifts, skills, contracts and nurses are numbers.
@@ -171,15 +172,15 @@ def one_day_more(case, contract, state, shift, day):
     return cost, (shift, run, of_shift, total + works, weekends)
 
 
-def best_row(case, roster, number, first_week=0):
-    """The first of the cheapest rows of a nurse that keep the hard rules and the days before a week. Of all beginnings of rows that leave the same state, the
-    cheapest is kept, of equally cheap ones the first."""
+def cheapest_row(case, number, all_offers):
+    """What the first of the cheapest rows of a nurse costs by these offers, and the row. Of all beginnings of rows that leave the
+    same state, the cheapest is kept, of equally cheap ones the first."""
     nurse = case.nurses[number]
     contract, past = case.contracts[nurse.contract], nurse.history
     run = past.off if past.last is None else past.working
     of_last = 0 if past.last is None else past.of_last
     kept = {(past.last, run, of_last, past.assignments, past.weekends): (0, ())}
-    for day, offers in enumerate(offers_of(case, roster, number, first_week)):
+    for day, offers in enumerate(all_offers):
         # of the choices of one shift only the first of the cheapest can be in the best row
         of_shifts = {}
         for place, (choice, price) in enumerate(offers):
@@ -194,11 +195,49 @@ def best_row(case, roster, number, first_week=0):
                     found[after] = min(found.get(after, label), label)
         kept = found
     ends = [(cost + total_cost(contract, *state[3:]), row) for state, (cost, row) in kept.items()]
-    return [offers[place][0] for offers, place in zip(offers_of(case, roster, number, first_week), min(ends)[1])]
+    cost, row = min(ends)
+    return cost, [offers[place][0] for offers, place in zip(all_offers, row)]
+
+
+def best_row(case, roster, number, first_week=0):
+    """The first of the cheapest rows of a nurse that keep the hard rules and the days before a week."""
+    return cheapest_row(case, number, offers_of(case, roster, number, first_week))[1]
 
 
 def with_row(roster, number, row):
     return [*roster[:number], row, *roster[number + 1 :]]
+
+
+# ---- a floor under all rosters
+
+
+def first_worths(case):
+    """What a nurse at work is paid in the first round, by shift and skill, on each day: 30 where any are asked for."""
+    return {at: [30 if max(need) else 0 for need in of_days] for at, of_days in case.needs.items()}
+
+
+def place_floor(need, worth):
+    """The least that a shift, a skill and a day cost with the minimum or more: for the nurses that are missing and for the pay."""
+    return min(30 * max(0, need.greatest - nurses) + worth * nurses for nurses in range(need.least, max(need) + 1))
+
+
+def nurse_floor(case, roster, number, worths, first_week=0):
+    """The least that a nurse costs less the pay, over all rows with her skills and without a forbidden succession. On the days before
+    a week she does what the roster says."""
+    skills = sorted(case.nurses[number].skills)
+    choices = [None, *((shift, skill) for shift in range(len(case.shifts)) for skill in skills)]
+    pay = lambda day, choice: worths[choice][day] if choice in worths else 0
+    price = lambda day, choice: request_cost(case, number, day, choice) - pay(day, choice)
+    free = lambda day: choices if day // 7 >= first_week else [roster[number][day]]
+    return cheapest_row(case, number, [[(it, price(day, it)) for it in free(day)] for day in days_of(case)])[0]
+
+
+def floor(case, roster, worths, first_week=0):
+    """No roster costs less that keeps the hard rules and the days before a week, as each penalty is a multiple of 5: what is paid to
+    the nurses is what they get."""
+    places = sum(place_floor(need, worth) for at in case.needs for need, worth in zip(case.needs[at], worths[at]))
+    nurses = sum(nurse_floor(case, roster, number, worths, first_week) for number in range(len(case.nurses)))
+    return 5 * -(-max(0, places + nurses) // 5)
 
 
 # ---- what the commands answer: the output and the log
@@ -248,6 +287,13 @@ def improve(case, roster, rounds, first_week=0):
             break
     log.append(f"{'stopped' if changed else 'settled'} {total}")
     return solutions(case, roster), "".join(f"{it}\n" for it in log)
+
+
+def bound(case, roster, rounds, first_week=0):
+    """What 'bound' answers with no round or with one. How the worths go on after that is the program's own affair."""
+    reached = floor(case, roster, first_worths(case), first_week) if rounds else 0
+    log = [f"start {penalty(case, roster)}", *([f"round 1 {reached}"] if reached else [])]
+    return f"roster {penalty(case, roster)}\nbound {reached}\n", "".join(f"{it}\n" for it in log)
 
 
 # ---- texts of which nothing is refused

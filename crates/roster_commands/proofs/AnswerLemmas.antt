@@ -1,7 +1,8 @@
 -- Which fault a failing reader or writer gives, and what a bundle means.
-use Rattle.std.proofs.Common.{◌≡◌, ◌∙◌, ◌∷◌, [], ◌<◌, Err, List, Option, None, Some, Result, Ok, ap, ap₂, length, lit<, refl, subst, sym, true≢false, is_some, true}
-use Rattle.std.specs.Prelude.{Contains, IfErr, IfSome, IsErrOf, OnOk}
+use Rattle.std.proofs.Common.{◌≡◌, ◌∙◌, ◌∷◌, [], ◌<◌, ℕ, arith, Err, List, Option, None, Some, Result, Ok, ap, ap₂, length, lit<, refl, subst, sym, true≢false, is_some, true}
+use Rattle.std.specs.Prelude.{Contains, IfErr, IfSome, IsErrOf, OnOk, string_bytes}
 use Rattle.std.proofs.lemmas.List.{length-map}
+use Rattle.std.proofs.lemmas.List.Elements.{All-nil}
 use Rattle.roster_text.specs.Grammar.{Spells}
 use Rattle.roster_text.specs.Io.{IsReadFault, Writes, counted, is_read_failure}
 use Rattle.roster_bundle.specs.Limits.{most_bytes}
@@ -18,12 +19,16 @@ use Rattle.roster_instance.specs.declared.fault.CaseFault.{CaseFault}
 use Rattle.roster_instance.specs.declared.fault.CaseFault.TheVariants as case
 use Rattle.roster_case.proofs.Sections.{IsFirst-after}
 use Rattle.roster_rules.specs.declared.fault.HardFault.{HardFault}
-use Rattle.roster_commands.specs.Answer.{Answers, Ends, Input, IsOutcomeOf, IsUnheld, IsUnread, Leaves, LeavesLog, Outcome, Output, Report, Says, StopsOutput, StopsReading, Untouched, answered, outcome_of, plain, report_of}
-use Rattle.roster_commands.specs.Lines.{Text, status_of}
+use Rattle.roster_commands.specs.Answer.{Answers, Ends, Input, IsAnswer, IsOutcomeOf, IsReportOf, IsUnheld, IsUnread, IsBoundReport, Leaves, LeavesLog, Outcome, Output, Report, Reports, Says, StopsOutput, StopsReading, Untouched, best_report, bound_report, cost_report, improve_report, outcome_of, plain, roster_of}
+use Rattle.roster_commands.specs.Lines.{Text, sizes_text, status_of}
 use Rattle.roster_commands.specs.declared.fault.Fault.{Fault}
 use Rattle.roster_commands.specs.declared.fault.Fault.TheVariants as fault
 use Rattle.roster_commands.specs.declared.reading.Instance.{Instance}
 use Rattle.roster_request.specs.declared.request.Command.{Command}
+use Rattle.roster_request.specs.declared.request.Command.TheVariants as command
+use Rattle.roster_instance.specs.Rosters.{Rows}
+use Rattle.roster_case.specs.Shown.{weeks_text}
+use Rattle.roster_bound.specs.Worths.{IsLowerBound}
 
 -- ---- a bundle
 
@@ -79,10 +84,30 @@ module _ {R : Type 0} (A : Type 0) (input : Input R) where
 
 -- ---- the bytes are refused by every command
 
+-- no floor found is a report of `bound`
+pub no_floor : (rounds from : ℕ) (c : Meaning) (r : Rows) → IsBoundReport rounds from c r (bound_report [] c r)
+no_floor rounds from c r = record {
+  lines = [];
+  is_log = record { floors = All-nil (λ x. IsLowerBound c from r x.bound); rises = tt; within = omega arith };
+  below = λ other fits keeps stays. omega arith;
+  is = refl;
+}
+
+-- each command has a report
+some_report : (command : Command) (c : Meaning) (r : Rows) → (p : Report) × IsReportOf command c r p
+some_report command.Show c r = (plain (weeks_text c r), refl)
+some_report command.Cost c r = (cost_report c r, refl)
+some_report command.Sizes c r = (plain (sizes_text c), refl)
+some_report (command.Best nurse from) c r = (best_report (string_bytes nurse) from c r, refl)
+some_report (command.Improve rounds from) c r = (improve_report rounds from c r, refl)
+some_report (command.Bound rounds from) c r = (bound_report [] c r, no_floor rounds from c r)
+
 pub refused_reading : {W L : Type 0} (output : Output W) (log : Output L) (command : Command) (source : Text) (f : Fault) → StopsReading source f → Untouched output → Untouched log
     → Answers output log command source (Some f)
 refused_reading output log command source (fault.Text f) h o l = (h, o, l)
-refused_reading output log command source (fault.Case f nurse) h o l = record { bundle = h.bundle; spelled = h.spelled; ends = h.refused; left = o; logged = l }
+refused_reading output log command source (fault.Case f nurse) h o l =
+    let some = some_report command (meaning_of source h.bundle) (roster_of source h.bundle) in
+    record { bundle = h.bundle; spelled = h.spelled; report = some.0; is = some.1; ends = h.refused; left = o; logged = l }
 refused_reading output log command source (fault.Hard f names) h o l = absurd h
 refused_reading output log command source (fault.Nurse name) h o l = absurd h
 refused_reading output log command source fault.Memory h o l = absurd h
@@ -92,25 +117,24 @@ refused_reading output log command source fault.Log h o l = absurd h
 -- ---- an instance, once it is read
 
 module _ {W L : Type 0} (output : Output W) (log : Output L) (command : Command) (source : Text) (i : Instance) (says : Says source i) where
-  report_meant : report_of command i.case i.roster ≡ answered command source i.bundle
-  report_meant = ap₂ (report_of command) says.case (says.roster ∙ ap (λ m. rows_of source m i.bundle) says.case)
+  report_meant : (p : Report) → IsReportOf command i.case i.roster p → IsAnswer command source i.bundle p
+  report_meant p is =
+      let roster = says.roster ∙ ap (λ m. rows_of source m i.bundle) says.case in
+      subst (λ m. IsReportOf command m (roster_of source i.bundle) p) says.case (subst (λ r. IsReportOf command i.case r p) roster is)
 
-  as_taken : (outcome : Outcome) → IsOutcomeOf (answered command source i.bundle) source i.bundle outcome → Leaves output (answered command source i.bundle).output outcome
-      → LeavesLog log (answered command source i.bundle).log outcome → Answers output log command source outcome
-  as_taken None h o l = record { bundle = i.bundle; spelled = says.spelled; ends = record { taken = says.taken; ends = h }; left = o; logged = l }
-  as_taken (Some (fault.Text f)) h o l = absurd h
-  as_taken (Some (fault.Case f nurse)) h o l = absurd h
-  as_taken (Some (fault.Hard f names)) h o l = record { bundle = i.bundle; spelled = says.spelled; ends = record { taken = says.taken; ends = h }; left = o; logged = l }
-  as_taken (Some (fault.Nurse name)) h o l = record { bundle = i.bundle; spelled = says.spelled; ends = record { taken = says.taken; ends = h }; left = o; logged = l }
-  as_taken (Some fault.Memory) h o l = record { bundle = i.bundle; spelled = says.spelled; ends = record { taken = says.taken; ends = h }; left = o; logged = l }
-  as_taken (Some fault.Output) h o l = record { bundle = i.bundle; spelled = says.spelled; ends = record { taken = says.taken; ends = h }; left = o; logged = l }
-  as_taken (Some fault.Log) h o l = record { bundle = i.bundle; spelled = says.spelled; ends = record { taken = says.taken; ends = h }; left = o; logged = l }
+  module _ (p : Report) (is : IsAnswer command source i.bundle p) where
+    as_taken : (outcome : Outcome) → IsOutcomeOf p source i.bundle outcome → Leaves output p.output outcome → LeavesLog log p.log outcome → Answers output log command source outcome
+    as_taken None h o l = record { bundle = i.bundle; spelled = says.spelled; report = p; is = is; ends = record { taken = says.taken; ends = h }; left = o; logged = l }
+    as_taken (Some (fault.Text f)) h o l = absurd h
+    as_taken (Some (fault.Case f nurse)) h o l = absurd h
+    as_taken (Some (fault.Hard f names)) h o l = record { bundle = i.bundle; spelled = says.spelled; report = p; is = is; ends = record { taken = says.taken; ends = h }; left = o; logged = l }
+    as_taken (Some (fault.Nurse name)) h o l = record { bundle = i.bundle; spelled = says.spelled; report = p; is = is; ends = record { taken = says.taken; ends = h }; left = o; logged = l }
+    as_taken (Some fault.Memory) h o l = record { bundle = i.bundle; spelled = says.spelled; report = p; is = is; ends = record { taken = says.taken; ends = h }; left = o; logged = l }
+    as_taken (Some fault.Output) h o l = record { bundle = i.bundle; spelled = says.spelled; report = p; is = is; ends = record { taken = says.taken; ends = h }; left = o; logged = l }
+    as_taken (Some fault.Log) h o l = record { bundle = i.bundle; spelled = says.spelled; report = p; is = is; ends = record { taken = says.taken; ends = h }; left = o; logged = l }
 
-  pub answers : (outcome : Outcome) → Ends output (report_of command i.case i.roster) source i.bundle outcome → LeavesLog log (report_of command i.case i.roster).log outcome
-      → Answers output log command source outcome
-  answers outcome e l =
-      as_taken outcome (subst (λ p. IsOutcomeOf p source i.bundle outcome) report_meant e.ends) (subst (λ (p : Report). Leaves output p.output outcome) report_meant e.left)
-      (subst (λ (p : Report). LeavesLog log p.log outcome) report_meant l)
+  pub answers : (outcome : Outcome) → Reports output log (IsReportOf command i.case i.roster) source i.bundle outcome → Answers output log command source outcome
+  answers outcome h = as_taken h.report (report_meant h.report h.is) outcome h.ends.ends h.ends.left h.logged
 
 -- ---- a command for an instance
 

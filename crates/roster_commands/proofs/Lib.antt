@@ -1,3 +1,4 @@
 pub mod AnswerLemmas
 pub mod RunLemmas
 pub mod BestLemmas
+pub mod BoundLemmas

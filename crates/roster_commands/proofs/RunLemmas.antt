@@ -63,12 +63,12 @@ module _ {R W L : Type 0} (input : Input R) (output : Output W) (log : Output L)
   cause fault.Memory (inl h) = absurd h.0
   cause fault.Memory (inr h) = of_none (λ e. cc) h.read.failures h.answers.left
   cause fault.Output (inl h) = absurd h.0
-  cause fault.Output (inr h) = of_output refl h.read.failures h.answers.left.stops.failures (λ silent. subst (Logged log) (silent _ _) h.answers.logged)
+  cause fault.Output (inr h) = of_output refl h.read.failures h.answers.left.stops.failures (λ silent. subst (Logged log) (silent _ _ _ h.answers.is) h.answers.logged)
   cause fault.Log (inl h) = absurd h.0
-  cause fault.Log (inr h) = of_log refl h.read.failures h.answers.left (λ silent. subst (StopsLog log) (silent _ _) h.answers.logged) (log_failed _ h.answers.logged)
+  cause fault.Log (inr h) = of_log refl h.read.failures h.answers.left (λ silent. subst (StopsLog log) (silent _ _ _ h.answers.is) h.answers.logged) (log_failed _ h.answers.logged)
 
   pub silent_done : ReadsAndAnswers input output log command None → IsSilent command → Untouched log
-  silent_done done silent = subst (Logged log) (silent _ _) done.answers.logged
+  silent_done done silent = subst (Logged log) (silent _ _ _ done.answers.is) done.answers.logged
 
 module _ {R W L : Type 0} (input : Input R) (output : Output W) (log : Output L) (command : Command) (status : ℕ)
     (done : status ≡ 0 → ReadsAndAnswers input output log command None) (stops : (status ≡ 0 → ⊥) → StopsRun input output log command status) where

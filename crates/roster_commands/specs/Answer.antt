@@ -24,7 +24,9 @@ use Rattle.roster_instance.specs.declared.fault.CaseFault.TheVariants.{Memory}
 use Rattle.roster_rules.specs.declared.fault.HardFault.{HardFault}
 use Rattle.roster_rules.specs.Improver.{log_of, run}
 use Rattle.roster_rounds.specs.RunLogs.{text_of}
-use Rattle.roster_commands.specs.Lines.{IsFirstBreach, Text, best_log, costs_text, fault_line, nurse_of, output_line, sizes_text, status_of}
+use Rattle.roster_bound.specs.Floors.{FloorLine, IsFloorLog, floor_text, last_line, no_line}
+use Rattle.roster_bound.specs.Worths.{IsLowerBound}
+use Rattle.roster_commands.specs.Lines.{IsFirstBreach, Text, best_log, bound_text, costs_text, fault_line, nurse_of, output_line, sizes_text, status_of}
 use Rattle.roster_commands.specs.declared.fault.Fault.{Fault}
 use Rattle.roster_commands.specs.declared.fault.Fault.TheVariants as fault
 use Rattle.roster_commands.specs.declared.reading.Instance.{Instance}
@@ -181,17 +183,30 @@ abbrev pub improve_report : (rounds from : ℕ) → Meaning → Rows → Report
 improve_report rounds from c r =
     record (plain (weeks_text c (improved c rounds from r))) { is_held = true; broken = hard_faults c r; log = Some (run_log c rounds from r) }
 
--- what each command asks of a case and its roster, and writes for them
-abbrev pub report_of : Command → Meaning → Rows → Report
-report_of command.Show c r = plain (weeks_text c r)
-report_of command.Cost c r = cost_report c r
-report_of command.Sizes c r = plain (sizes_text c)
-report_of (command.Best nurse from) c r = best_report (string_bytes nurse) from c r
-report_of (command.Improve rounds from) c r = improve_report rounds from c r
+-- what the roster costs, and the last of the floors that some rounds reached, each with its round; 0 where there is none
+abbrev pub bound_report : List FloorLine → Meaning → Rows → Report
+bound_report lines c r =
+    record (plain (bound_text (penalty c r) (last_line no_line lines).bound)) { is_held = true; broken = hard_faults c r; log = Some (floor_text c r lines) }
+
+-- it is of floors under each roster that keeps the hard rules and the days before a week; how high they are isn't said
+pub record IsBoundReport (rounds from : ℕ) (c : Meaning) (r : Rows) (p : Report) : Type 0 where
+  pub lines : List FloorLine
+  pub is_log : IsFloorLog c from r rounds lines
+  pub below : IsLowerBound c from r (last_line no_line lines).bound
+  pub is : p ≡ bound_report lines c r
+
+-- it is what a command asks of a case and its roster, and writes for them
+abbrev pub IsReportOf : Command → Meaning → Rows → Report → Type 0
+IsReportOf command.Show c r p = p ≡ plain (weeks_text c r)
+IsReportOf command.Cost c r p = p ≡ cost_report c r
+IsReportOf command.Sizes c r p = p ≡ plain (sizes_text c)
+IsReportOf (command.Best nurse from) c r p = p ≡ best_report (string_bytes nurse) from c r
+IsReportOf (command.Improve rounds from) c r p = p ≡ improve_report rounds from c r
+IsReportOf (command.Bound rounds from) c r p = IsBoundReport rounds from c r p
 
 -- a command that tells nothing of its work
 abbrev pub IsSilent : Command → Type 0
-IsSilent command = (c : Meaning) (r : Rows) → (report_of command c r).log ≡ None
+IsSilent command = (c : Meaning) (r : Rows) (p : Report) → IsReportOf command c r p → p.log ≡ None
 
 -- nothing is refused
 pub record IsAllowed (p : Report) : Type 0 where
@@ -214,6 +229,13 @@ pub record Ends {W : Type 0} (output : Output W) (p : Report) (bytes : Text) (b 
   pub ends : IsOutcomeOf p bytes b outcome
   pub left : Leaves output p.output outcome
 
+-- a command of such reports ends so for a case and its roster: there is one of which it leaves so much of its text and of its log
+pub record Reports {W L : Type 0} (output : Output W) (log : Output L) (is_report : Report → Type 0) (bytes : Text) (b : Bundle) (outcome : Outcome) : Type 0 where
+  pub report : Report
+  pub is : is_report report
+  pub ends : Ends output report bytes b outcome
+  pub logged : LeavesLog log report.log outcome
+
 -- why a text was not all written, and what was written
 abbrev pub StopsOutput : {W : Type 0} → (W → Option (List ℕ)) → Watched W → Watched W → Text → Fault → Type 0
 StopsOutput contents old new text fault.Output = Stops contents old new text
@@ -223,6 +245,16 @@ StopsOutput contents old new text _ = ⊥
 abbrev pub StopsSearch : {L : Type 0} → (L → Option (List ℕ)) → Watched L → Watched L → Text → Fault → Type 0
 StopsSearch contents old new told fault.Log = Stops contents old new told
 StopsSearch contents old new told _ = ⊥
+
+-- the same of rounds that raise a floor
+pub record StopsAmongFloors {L : Type 0} (contents : L → Option (List ℕ)) (c : Meaning) (from : ℕ) (r : Rows) (rounds : ℕ) (old new : Watched L) : Type 0 where
+  pub lines : List FloorLine
+  pub is_log : IsFloorLog c from r rounds lines
+  pub stops : Stops contents old new (floor_text c r lines)
+
+abbrev pub StopsFloors : {L : Type 0} → (L → Option (List ℕ)) → Meaning → (from : ℕ) → Rows → (rounds : ℕ) → Watched L → Watched L → Fault → Type 0
+StopsFloors contents c from r rounds old new fault.Log = StopsAmongFloors contents c from r rounds old new
+StopsFloors contents c from r rounds old new _ = ⊥
 
 -- why a roster is not held: for the first of these breaches, or for want of memory where there is none
 abbrev pub IsUnheld : Text → Bundle → List HardFault → Fault → Type 0
@@ -235,24 +267,24 @@ IsUnheld bytes b broken f = IsFirstBreach bytes b broken f
 abbrev pub roster_of : Text → Bundle → Rows
 roster_of bytes b = rows_of bytes (meaning_of bytes b) b
 
--- what a command asks of it and writes for it
-abbrev pub answered : Command → Text → Bundle → Report
-answered command bytes b = report_of command (meaning_of bytes b) (roster_of bytes b)
+-- it is what a command asks of it and writes for it
+abbrev pub IsAnswer : Command → Text → Bundle → Report → Type 0
+IsAnswer command bytes b p = IsReportOf command (meaning_of bytes b) (roster_of bytes b) p
 
 -- the first fault of its case and its solutions, want of memory aside, with the name of the nurse of which it speaks
 pub record IsRefusedFor (bytes : Text) (b : Bundle) (f : CaseFault) (nurse : Text) : Type 0 where
   pub first : f ≢ Memory → first_fault (all_faults bytes b) ≡ Some f
   pub nurse_is : nurse ≡ nurse_of bytes b f
 
--- its case and its roster are taken, and the command ends so for them
-pub record IsTaken (command : Command) (bytes : Text) (b : Bundle) (outcome : Outcome) : Type 0 where
+-- its case and its roster are taken, and a command of this report ends so for them
+pub record IsTaken (p : Report) (bytes : Text) (b : Bundle) (outcome : Outcome) : Type 0 where
   pub taken : all_faults bytes b ≡ []
-  pub ends : IsOutcomeOf (answered command bytes b) bytes b outcome
+  pub ends : IsOutcomeOf p bytes b outcome
 
--- how a command ends for it
-abbrev pub IsOutcomeFor : Command → Text → Bundle → Outcome → Type 0
-IsOutcomeFor command bytes b (Some (fault.Case f nurse)) = IsRefusedFor bytes b f nurse.now
-IsOutcomeFor command bytes b outcome = IsTaken command bytes b outcome
+-- how such a command ends for it
+abbrev pub IsOutcomeFor : Report → Text → Bundle → Outcome → Type 0
+IsOutcomeFor p bytes b (Some (fault.Case f nurse)) = IsRefusedFor bytes b f nurse.now
+IsOutcomeFor p bytes b outcome = IsTaken p bytes b outcome
 
 -- ---- a command, from the bytes
 
@@ -260,9 +292,11 @@ IsOutcomeFor command bytes b outcome = IsTaken command bytes b outcome
 pub record AnswersBundle {W L : Type 0} (output : Output W) (log : Output L) (command : Command) (bytes : Text) (outcome : Outcome) : Type 0 where
   pub bundle : Bundle
   pub spelled : SpellsBundle bytes bundle
-  pub ends : IsOutcomeFor command bytes bundle outcome
-  pub left : Leaves output (answered command bytes bundle).output outcome
-  pub logged : LeavesLog log (answered command bytes bundle).log outcome
+  pub report : Report
+  pub is : IsAnswer command bytes bundle report
+  pub ends : IsOutcomeFor report bytes bundle outcome
+  pub left : Leaves output report.output outcome
+  pub logged : LeavesLog log report.log outcome
 
 -- the command ends so for the bytes
 abbrev pub Answers : {W L : Type 0} → Output W → Output L → Command → Text → Outcome → Type 0

@@ -6,10 +6,11 @@ ghost use Rattle.roster_rules.specs.HardRules.{hard_faults};
 ghost use Rattle.roster_rules.specs.Penalties.{costs_of};
 ghost use Rattle.roster_instance.specs.Rosters.{fits_case};
 ghost use Rattle.roster_case.specs.Shown.{weeks_text};
-ghost use Rattle.roster_commands.specs.Answer.{Ends, LeavesLog, StopsOutput, cost_report, outcome_of, report_of};
+ghost use Rattle.roster_commands.specs.Answer.{Ends, IsReportOf, Reports, StopsOutput, cost_report, outcome_of};
 ghost use Rattle.roster_commands.specs.Lines.{costs_text, sizes_text};
 
 use crate::best::best;
+use crate::bound::bound;
 use crate::fault::Fault;
 use crate::held::hold;
 use crate::improve::improve;
@@ -32,8 +33,7 @@ pub(crate) fn report<'a, Out: Write, Log: Write>(
     log: &mut Watch<Log>,
 ) -> Result<(), Fault<'a>>
     requires { fits_case instance.case instance.roster ≡ true }
-    ensures ends { Ends (record { contents = Out.contents; before = output.old; after = output.new }) (report_of command.now instance.case instance.roster) source.now instance.bundle (outcome_of result) }
-    ensures logged { LeavesLog (record { contents = Log.contents; before = log.old; after = log.new }) (report_of command.now instance.case instance.roster).log (outcome_of result) }
+    ensures { Reports (record { contents = Out.contents; before = output.old; after = output.new }) (record { contents = Log.contents; before = log.old; after = log.new }) (IsReportOf command.now instance.case instance.roster) source.now instance.bundle (outcome_of result) }
 {
     match command {
         Command::Show => show(&instance.case, &instance.roster, output),
@@ -52,6 +52,9 @@ pub(crate) fn report<'a, Out: Write, Log: Write>(
         }
         Command::Improve { rounds, from } => {
             improve(alloc, *rounds, *from, source, instance, output, log)
+        }
+        Command::Bound { rounds, from } => {
+            bound(alloc, *rounds, *from, source, instance, output, log)
         }
     }
 }

@@ -8,6 +8,7 @@
 
 mod answer;
 mod best;
+mod bound;
 mod commands;
 mod fault;
 mod held;

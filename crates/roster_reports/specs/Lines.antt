@@ -92,6 +92,10 @@ costs_text k =
     ++ report_line (codes "S5") k.s5 ++ report_line (codes "S6") k.s6 ++ report_line (codes "S7") k.s7 ++ report_line (codes "S8") k.s8
     ++ report_line (codes "total") (total_cost k)
 
+-- the report of a bound: what the roster costs, and what no roster costs less than
+abbrev pub bound_text : ℕ → ℕ → Text
+bound_text total bound = report_line (codes "roster") total ++ report_line (codes "bound") bound
+
 -- a name and the sizes of a search of so many states, days and choices a day: its states, labels in two tables, pointers, and
 -- steps at most
 abbrev pub search_line : Text → ℕ → ℕ → ℕ → Text

@@ -4,12 +4,14 @@
 //! beginning where a write fails (`ok`, `err`); `nurse_of` and `names_of` promise the names of which a fault speaks.
 #![tactic(auto)]
 
+mod bound;
 mod cost;
 mod faults;
 mod names;
 mod sizes;
 mod weeks;
 
+pub use bound::write_bound;
 pub use cost::write_costs;
 pub use faults::{write_case_line, write_hard_line, write_no_memory, write_text_line};
 pub use names::{BreachNames, names_of, nurse_of};

@@ -1,6 +1,6 @@
 -- That each number of a command line without a fault is one of its range: along clap's walk over the words each use of the
 -- argument keeps to its rule, and where there is none, the default does.
-use Rattle.std.proofs.Common.{arith, ◌≡◌, ◌<◌, ◌≤◌, ◌^◌, ◌∙◌, ◌+◌, ◌&&◌, ◌||◌, ◌⊎◌, inl, inr, ℕ, pos, zero, suc, get_or, Bool, cond, true, false, refl, sym, ap, ap₂, subst, List, [], ◌∷◌, ◌++◌, length, drop, Option, Some, None, is_some, codes, true≢false}
+use Rattle.std.proofs.Common.{◌≡◌, ◌<◌, ◌≤◌, ◌^◌, ◌∙◌, ◌+◌, ◌&&◌, ◌||◌, ◌⊎◌, inl, inr, ℕ, pos, zero, suc, get_or, Bool, cond, true, false, refl, sym, ap, ap₂, subst, List, [], ◌∷◌, ◌++◌, length, drop, Option, Some, None, is_some, codes, true≢false}
 use Rattle.std.specs.Prelude.{IsSomeAnd, Ok, Result, encode_utf8, find, min, option_map, option_and_then, slice_get, ⊤}
 use Rattle.std.specs.List.{fold}
 use Rattle.std.specs.Option.{option_map_or}
@@ -30,7 +30,7 @@ use Rattle.clap.specs.Words.{ReadsOne, fault_of, one_text, rows_of, subcommand_o
 use Rattle.clap.proofs.WalkLemmas.{one_text-rows}
 use Rattle.clap.proofs.CallerReads.{signed_reads}
 use Rattle.roster_request.specs.Limits.{most_from, most_rounds}
-use Rattle.roster_request.specs.CommandLine.{HasFrom, HasNumber, HasRounds, IsNumberOf, Meets, program, rounds_rule}
+use Rattle.roster_request.specs.CommandLine.{HasFrom, HasNumber, HasRounds, IsNumberOf, IsOneOf, Meets, program, rounds_rule, with_from, with_rounds}
 
 -- ---- lists
 
@@ -368,6 +368,9 @@ best = get_or subs 3 help_shape
 abbrev improve : Shape
 improve = get_or subs 4 help_shape
 
+abbrev bound : Shape
+bound = get_or subs 5 help_shape
+
 -- an argument that is a number, as clap completes its rule
 abbrev number : Text → ℕ → Text → Rule
 number name most default = record (get_or improve.rules 0 rounds_rule) { id = name; long = Some name; parser = Some (parser.Signed (pos 0) (pos most)); defaults = default ∷ [] }
@@ -465,24 +468,38 @@ module _ (name : Text) (most : ℕ) (default : Text) (self : bytes_eq name name 
 
 -- ---- the command that was met
 
-module _ (command : Text) (has : List Row → Type 0) where
+or_true : (b : Bool) → (b || true) ≡ true
+or_true true = refl
+or_true false = refl
+
+is_one_of : List Text → Text → Bool
+is_one_of [] name = false
+is_one_of (first ∷ rest) name = bytes_eq name first || is_one_of rest name
+
+one_of_list : (names : List Text) (name : Text) → IsOneOf names name → is_one_of names name ≡ true
+unfolding is_one_of
+one_of_list [] name one = absurd one
+one_of_list (first ∷ rest) name (inl same) = ap (λ b. b || is_one_of rest name) ((bytes_eq-Decides name first).1 same)
+one_of_list (first ∷ rest) name (inr later) = ap (λ b. bytes_eq name first || b) (one_of_list rest name later) ∙ or_true (bytes_eq name first)
+
+module _ (commands : List Text) (has : List Row → Type 0) where
   abbrev HasAt : Shape → Type 0
-  HasAt s = (words : List Text) → level_fault s [] nothing_held words false [] ≡ [] → s.name ≡ command → has (rows_after s.rules [] words)
+  HasAt s = (words : List Text) → level_fault s [] nothing_held words false [] ≡ [] → IsOneOf commands s.name → has (rows_after s.rules [] words)
 
-  another : (s : Shape) → bytes_eq s.name command ≡ false → HasAt s
-  another s other words none e = absurd (true≢false (sym ((bytes_eq-Decides s.name command).1 e) ∙ other))
+  another : (s : Shape) → is_one_of commands s.name ≡ false → HasAt s
+  another s other words none e = absurd (true≢false (sym (one_of_list commands s.name e) ∙ other))
 
-  entered_meets : Each HasAt subs → (stop : Option (Text × List Text)) → entered_fault (built program) stop ≡ [] → Meets command has (entered (built program) stop)
+  entered_meets : Each HasAt subs → (stop : Option (Text × List Text)) → entered_fault (built program) stop ≡ [] → Meets commands has (entered (built program) stop)
   entered_meets each None e = tt
   entered_meets each (Some p) e =
       go (find (λ (s : Shape). answers_to p.0 (label_of s)) subs) (λ s found. found_has HasAt (λ (s : Shape). answers_to p.0 (label_of s)) subs each s found) e
     where
       go : (o : Option Shape) → ((s : Shape) → o ≡ Some s → HasAt s) → option_map_or (λ (s : Shape). level_fault s [] nothing_held p.1 false []) o [] ≡ []
-          → Meets command has (option_map (λ (s : Shape). rows_at s p.1) o)
+          → Meets commands has (option_map (λ (s : Shape). rows_at s p.1) o)
       go None all none = tt
       go (Some s) all none = all s refl p.1 none
 
-  words_meet : Each HasAt subs → (words : List Text) → fault_of program words ≡ [] → Meets command has (subcommand_of program words)
+  words_meet : Each HasAt subs → (words : List Text) → fault_of program words ≡ [] → Meets commands has (subcommand_of program words)
   words_meet each words none =
       let top = (built program).top in
       let names = names_of (built program) in
@@ -492,44 +509,45 @@ module _ (command : Text) (has : List Row → Type 0) where
       let below = both_none (entered_fault (built program) stop) _ first.1 in
       entered_meets each stop below.0
 
-another_in : (command : Text) (has : List Row → Type 0) (k : ℕ) → bytes_eq (get_or subs k help_shape).name command ≡ false → HasAt command has (get_or subs k help_shape)
-another_in command has k other = another command has (get_or subs k help_shape) other
+another_in : (commands : List Text) (has : List Row → Type 0) (k : ℕ) → is_one_of commands (get_or subs k help_shape).name ≡ false → HasAt commands has (get_or subs k help_shape)
+another_in commands has k other = another commands has (get_or subs k help_shape) other
 
--- where words without a fault name this command, it has its number
-pub meets_rounds : (words : List Text) → fault_of program words ≡ [] → Meets (codes "improve") HasRounds (subcommand_of program words)
-unfolding Among
+-- the rounds of a command whose own argument they are
+rounds_at : (s : Shape) → Each (IsOnly rounds) s.rules → Among rounds s.rules → HasAt with_rounds HasRounds s
+rounds_at s only among words none one = level_number (codes "rounds") most_rounds (codes "100") refl refl s only among words none
+
+-- the first week of a command, after its own argument
+from_at : (s : Shape) → Each (IsOnly from) s.rules → Among from s.rules → HasAt with_from HasFrom s
+from_at s only among words none one = level_number (codes "from") most_from (codes "0") refl refl s only among words none
+
+-- where words without a fault name a command with this number, it has it
+pub meets_rounds : (words : List Text) → fault_of program words ≡ [] → Meets with_rounds HasRounds (subcommand_of program words)
+unfolding Among is_one_of
 meets_rounds =
-    let no = another_in (codes "improve") HasRounds in
-    let here : HasAt (codes "improve") HasRounds improve = λ words none e.
-    level_number (codes "rounds") most_rounds (codes "100") refl refl improve ((λ f. refl), ((λ f. absurd (true≢false (sym f))), ((λ f. absurd (true≢false (sym f))), ((λ f. absurd (true≢false (sym f))), tt)))) (inl refl) words none in
-    words_meet (codes "improve") HasRounds (no 0 refl, (no 1 refl, (no 2 refl, (no 3 refl, (here, (no 5 refl, tt))))))
+    let no = another_in with_rounds HasRounds in
+    let improve_has = rounds_at improve ((λ f. refl), ((λ f. absurd (true≢false (sym f))), ((λ f. absurd (true≢false (sym f))), ((λ f. absurd (true≢false (sym f))), tt)))) (inl refl) in
+    let bound_has = rounds_at bound ((λ f. refl), ((λ f. absurd (true≢false (sym f))), ((λ f. absurd (true≢false (sym f))), ((λ f. absurd (true≢false (sym f))), tt)))) (inl refl) in
+    words_meet with_rounds HasRounds (no 0 refl, (no 1 refl, (no 2 refl, (no 3 refl, (improve_has, (bound_has, (no 6 refl, tt)))))))
 
-pub improve_meets_from : (words : List Text) → fault_of program words ≡ [] → Meets (codes "improve") HasFrom (subcommand_of program words)
-unfolding Among
-improve_meets_from =
-    let no = another_in (codes "improve") HasFrom in
-    let here : HasAt (codes "improve") HasFrom improve = λ words none e.
-    level_number (codes "from") most_from (codes "0") refl refl improve ((λ f. absurd (true≢false (sym f))), ((λ f. refl), ((λ f. absurd (true≢false (sym f))), ((λ f. absurd (true≢false (sym f))), tt)))) (inr (inl refl)) words none in
-    words_meet (codes "improve") HasFrom (no 0 refl, (no 1 refl, (no 2 refl, (no 3 refl, (here, (no 5 refl, tt))))))
-
-pub best_meets_from : (words : List Text) → fault_of program words ≡ [] → Meets (codes "best") HasFrom (subcommand_of program words)
-unfolding Among
-best_meets_from =
-    let no = another_in (codes "best") HasFrom in
-    let here : HasAt (codes "best") HasFrom best = λ words none e.
-    level_number (codes "from") most_from (codes "0") refl refl best ((λ f. absurd (true≢false (sym f))), ((λ f. refl), ((λ f. absurd (true≢false (sym f))), ((λ f. absurd (true≢false (sym f))), tt)))) (inr (inl refl)) words none in
-    words_meet (codes "best") HasFrom (no 0 refl, (no 1 refl, (no 2 refl, (here, (no 4 refl, (no 5 refl, tt))))))
+pub meets_from : (words : List Text) → fault_of program words ≡ [] → Meets with_from HasFrom (subcommand_of program words)
+unfolding Among is_one_of
+meets_from =
+    let no = another_in with_from HasFrom in
+    let best_has = from_at best ((λ f. absurd (true≢false (sym f))), ((λ f. refl), ((λ f. absurd (true≢false (sym f))), ((λ f. absurd (true≢false (sym f))), tt)))) (inr (inl refl)) in
+    let improve_has = from_at improve ((λ f. absurd (true≢false (sym f))), ((λ f. refl), ((λ f. absurd (true≢false (sym f))), ((λ f. absurd (true≢false (sym f))), tt)))) (inr (inl refl)) in
+    let bound_has = from_at bound ((λ f. absurd (true≢false (sym f))), ((λ f. refl), ((λ f. absurd (true≢false (sym f))), ((λ f. absurd (true≢false (sym f))), tt)))) (inr (inl refl)) in
+    words_meet with_from HasFrom (no 0 refl, (no 1 refl, (no 2 refl, (best_has, (improve_has, (bound_has, (no 6 refl, tt)))))))
 
 -- ---- the number
 
--- what a getter reads at a type of 16 bits of such matches: a number of the range
-pub number_read : {F : Type 0} (name : Text) (most : ℕ) → most < 2 ^ 16 → (found : Found) (gives : Text → Result ℕ F → Type 0) → ((t : Text) (r : Result ℕ F) → gives t r → ParsesUnsigned 16 10 t r)
+-- what a getter reads at a type of 32 bits of such matches: a number of the range
+pub number_read : {F : Type 0} (name : Text) (most : ℕ) → most < 2 ^ 32 → (found : Found) (gives : Text → Result ℕ F → Type 0) → ((t : Text) (r : Result ℕ F) → gives t r → ParsesUnsigned 32 10 t r)
     → HasNumber name most (rows_of found) → (o : Option ℕ) → ((t : Text) → one_text found name ≡ Some t → ReadsOne gives t o)
     → IsSomeAnd o (λ n. IsNumberOf name n (rows_of found) × (n ≤ most))
 number_read {F} name most few found gives parses has o reads =
     let text = without_minus has.text in
     let one = reads text (one_text-rows found name ∙ has.read) in
-    let got = signed_reads F gives 16 0 most has.text o one parses few has.within in
+    let got = signed_reads F gives 32 0 most has.text o one parses few has.within in
     let read = parses text (Ok got.0) (subst (λ (x : Option ℕ). ReadsOne gives text x) got.1 one) in
     subst (λ (x : Option ℕ). IsSomeAnd x (λ n. IsNumberOf name n (rows_of found) × (n ≤ most))) (sym got.1)
-    (record { text = text; read = has.read; numeral = read.0.0; fits = subst (λ m. m < 2 ^ 16) (sym read.1) read.0.1; value = read.1 }, got.3)
+    (record { text = text; read = has.read; numeral = read.0.0; fits = subst (λ m. m < 2 ^ 32) (sym read.1) read.0.1; value = read.1 }, got.3)

@@ -32,25 +32,23 @@ nurse_rule = record (new_rule (codes "nurse")) {
   required = true;
 }
 
--- how many rounds a run may make; where it isn't given, 100
-abbrev pub rounds_rule : Rule
-rounds_rule = record (new_rule (codes "rounds")) {
-  long = Some (codes "rounds");
+-- a number from 0 to the greatest, and what it is where it isn't given
+abbrev pub number_rule : Text → ℕ → Text → Rule
+number_rule name most default = record (new_rule name) {
+  long = Some name;
   action = Some action.Set;
   value_names = 1;
-  parser = Some (parser.Signed (pos 0) (pos most_rounds));
-  defaults = codes "100" ∷ [];
+  parser = Some (parser.Signed (pos 0) (pos most));
+  defaults = default ∷ [];
 }
 
--- the first week that may change; where it isn't given, 0
+-- how many rounds a run may make
+abbrev pub rounds_rule : Rule
+rounds_rule = number_rule (codes "rounds") most_rounds (codes "100")
+
+-- the first week that may change
 abbrev pub from_rule : Rule
-from_rule = record (new_rule (codes "from")) {
-  long = Some (codes "from");
-  action = Some action.Set;
-  value_names = 1;
-  parser = Some (parser.Signed (pos 0) (pos most_from));
-  defaults = codes "0" ∷ [];
-}
+from_rule = number_rule (codes "from") most_from (codes "0")
 
 -- a command that reads files
 abbrev pub command_of : Text → App
@@ -71,7 +69,8 @@ bare = record {
 abbrev pub commands : List Shape
 commands =
     (command_of (codes "show")).top ∷ (command_of (codes "cost")).top ∷ (command_of (codes "sizes")).top
-    ∷ (own_command_of (nurse_rule ∷ from_rule ∷ []) (codes "best")).top ∷ (own_command_of (rounds_rule ∷ from_rule ∷ []) (codes "improve")).top ∷ []
+    ∷ (own_command_of (nurse_rule ∷ from_rule ∷ []) (codes "best")).top ∷ (own_command_of (rounds_rule ∷ from_rule ∷ []) (codes "improve")).top
+    ∷ (own_command_of (rounds_rule ∷ from_rule ∷ []) (codes "bound")).top ∷ []
 
 -- the program's definition for clap
 abbrev pub program : App
@@ -84,6 +83,7 @@ name_of command.Cost = codes "cost"
 name_of command.Sizes = codes "sizes"
 name_of (command.Best nurse from) = codes "best"
 name_of (command.Improve rounds from) = codes "improve"
+name_of (command.Bound rounds from) = codes "bound"
 
 -- it is the name of one of these commands
 abbrev pub IsNameOf : List Shape → Text → Type 0
@@ -107,33 +107,47 @@ HasRounds rows = HasNumber (codes "rounds") most_rounds rows
 abbrev pub HasFrom : List Row → Type 0
 HasFrom rows = HasNumber (codes "from") most_from rows
 
--- where this command was met, its matches have the number
-abbrev pub Meets : Text → (List Row → Type 0) → Option (Text × List Row) → Type 0
-Meets command has None = Unit {0}
-Meets command has (Some met) = met.0 ≡ command → has met.1
+-- it is one of these names
+abbrev pub IsOneOf : List Text → Text → Type 0
+IsOneOf [] name = ⊥
+IsOneOf (first ∷ rest) name = (name ≡ first) ⊎ IsOneOf rest name
+
+-- the commands that make rounds, and those that leave some weeks as they are
+abbrev pub with_rounds : List Text
+with_rounds = codes "improve" ∷ codes "bound" ∷ []
+
+abbrev pub with_from : List Text
+with_from = codes "best" ∷ with_rounds
+
+-- where one of these commands was met, its matches have the number
+abbrev pub Meets : List Text → (List Row → Type 0) → Option (Text × List Row) → Type 0
+Meets names has None = Unit {0}
+Meets names has (Some met) = IsOneOf names met.0 → has met.1
 
 -- the files among the matches of a command
 abbrev pub files_in : List Row → List Text
 files_in rows = unwrap_or (all_of (codes "FILE") rows) []
 
--- it is the number, of 16 bits, of the text that clap reads for an argument of this name: the text given, or else its rule's default
+-- it is the number, of 32 bits, of the text that clap reads for an argument of this name: the text given, or else its rule's default
 pub record IsNumberOf (name : Text) (number : ℕ) (rows : List Row) : Type 0 where
   pub text : Text
   pub read : one_of name rows ≡ Some text
   pub numeral : IsNumeral 10 (without_leading_plus text)
-  pub fits : number < 2 ^ 16
+  pub fits : number < 2 ^ 32
   pub value : number ≡ digits_value 10 (without_leading_plus text)
 
 -- the command's own arguments are those among its matches
 abbrev pub HasArguments : Command → List Row → Type 0
 HasArguments (command.Best nurse from) rows = (first_of (codes "nurse") rows ≡ Some (string_bytes nurse)) × IsNumberOf (codes "from") from rows
 HasArguments (command.Improve rounds from) rows = IsNumberOf (codes "rounds") rounds rows × IsNumberOf (codes "from") from rows
+HasArguments (command.Bound rounds from) rows = IsNumberOf (codes "rounds") rounds rows × IsNumberOf (codes "from") from rows
 HasArguments _ rows = Unit {0}
 
 -- the rounds of a command that has some are within their limit, and its first week within that of weeks
 abbrev pub IsInRange : Command → Type 0
 IsInRange (command.Best nurse from) = from ≤ most_from
 IsInRange (command.Improve rounds from) = (rounds ≤ most_rounds) × (from ≤ most_from)
+IsInRange (command.Bound rounds from) = (rounds ≤ most_rounds) × (from ≤ most_from)
 IsInRange _ = Unit {0}
 
 -- the command that was met, by its name and its matches, is that of the request, with its arguments and its files

@@ -2,11 +2,11 @@
 
 ghost use Rattle.std.specs.Prelude.{◌≡◌, [], ◌∷◌, IfOk, false};
 ghost use Rattle.clap.specs.Words.{app_of, rule_of, with_subcommand};
-ghost use Rattle.roster_request.specs.CommandLine.{command_of, files_rule, from_rule, nurse_rule, own_command_of, program, rounds_rule};
+ghost use Rattle.roster_request.specs.CommandLine.{command_of, files_rule, from_rule, number_rule, nurse_rule, own_command_of, program};
 
 use crate::texts::{
-    ABOUT, BEST, BEST_HELP, COST, COST_HELP, EXAMPLES, FIRST_WEEK, IMPROVE, IMPROVE_HELP,
-    NURSE_NAME, ROUND_COUNT, SHOW, SHOW_HELP, SIZES, SIZES_HELP, TEXTS,
+    ABOUT, BEST, BEST_HELP, BOUND, BOUND_HELP, COST, COST_HELP, EXAMPLES, FIRST_WEEK, IMPROVE,
+    IMPROVE_HELP, NURSE_NAME, ROUND_COUNT, SHOW, SHOW_HELP, SIZES, SIZES_HELP, TEXTS,
 };
 use clap::{Arg, ArgAction, Command, value_parser};
 use std::alloc::{AllocError, Global};
@@ -17,17 +17,34 @@ pub(crate) const FILES: &str = "FILE";
 /// The name by which the nurse of a command is asked for.
 pub(crate) const NURSE: &str = "nurse";
 
-/// The name by which the rounds of a command are asked for.
-pub(crate) const ROUNDS: &str = "rounds";
+/// A number that a command may be given: by the option `name`, from 0 to `most`, and `default` where it isn't given. The help calls it
+/// `value`, and says `help` about it.
+#[derive(Clone, Copy)]
+pub(crate) struct NumberOption {
+    pub(crate) name: &'static str,
+    pub(crate) value: &'static str,
+    pub(crate) most: u32,
+    pub(crate) default: &'static str,
+    pub(crate) help: &'static str,
+}
 
-/// The name by which the first week that may change is asked for.
-pub(crate) const FROM: &str = "from";
+/// How many rounds a run may make.
+pub(crate) const ROUNDS: NumberOption = NumberOption {
+    name: "rounds",
+    value: "N",
+    most: 1000,
+    default: "100",
+    help: ROUND_COUNT,
+};
 
-/// The most rounds that a run may be asked for.
-const MOST_ROUNDS: i64 = 1000;
-
-/// The greatest first week that may change: as many weeks as the longest case has.
-const MOST_FROM: i64 = 52;
+/// The first week that may change, up to as many weeks as the longest case has.
+pub(crate) const FROM: NumberOption = NumberOption {
+    name: "from",
+    value: "V",
+    most: 52,
+    default: "0",
+    help: FIRST_WEEK,
+};
 
 /// The command line of the program.
 pub(crate) fn program<'a>(alloc: Global) -> Result<Command<'a>, AllocError>
@@ -43,8 +60,13 @@ pub(crate) fn program<'a>(alloc: Global) -> Result<Command<'a>, AllocError>
     let with_cost = with_files_command(alloc, with_show, "cost", COST, COST_HELP)?;
     let with_sizes = with_files_command(alloc, with_cost, "sizes", SIZES, SIZES_HELP)?;
     let best = own_command(alloc, "best", BEST, BEST_HELP, nurse_arg(alloc))?;
-    let improve = own_command(alloc, "improve", IMPROVE, IMPROVE_HELP, rounds_arg(alloc))?;
-    with_sizes.subcommand(best)?.subcommand(improve)
+    let rounds = number_arg(alloc, ROUNDS);
+    let improve = own_command(alloc, "improve", IMPROVE, IMPROVE_HELP, rounds)?;
+    let bound = own_command(alloc, "bound", BOUND, BOUND_HELP, number_arg(alloc, ROUNDS))?;
+    with_sizes
+        .subcommand(best)?
+        .subcommand(improve)?
+        .subcommand(bound)
 }
 
 /// A program with one more command that reads files.
@@ -90,7 +112,7 @@ fn own_command<'a>(
         .about(about)
         .after_help(help)
         .arg(own)?
-        .arg(from_arg(alloc))?
+        .arg(number_arg(alloc, FROM))?
         .arg(files_arg(alloc))
 }
 
@@ -118,30 +140,16 @@ fn nurse_arg<'a>(alloc: Global) -> Arg<'a>
         .help(NURSE_NAME)
 }
 
-/// How many rounds a run may make. Where it isn't given, 100.
-fn rounds_arg<'a>(alloc: Global) -> Arg<'a>
-    ensures rule { rule_of result ≡ rounds_rule }
+/// A number that may be left out.
+fn number_arg<'a>(alloc: Global, option: NumberOption) -> Arg<'a>
+    ensures rule { rule_of result ≡ number_rule option.name.now option.most option.default.now }
     ensures local { result.global ≡ false }
 {
-    Arg::new(alloc, ROUNDS)
-        .long("rounds")
-        .value_name("N")
+    Arg::new(alloc, option.name)
+        .long(option.name)
+        .value_name(option.value)
         .action(ArgAction::Set)
-        .value_parser(value_parser!(u16).range(0..=MOST_ROUNDS))
-        .default_value("100")
-        .help(ROUND_COUNT)
-}
-
-/// The first week that may change. Where it isn't given, 0.
-fn from_arg<'a>(alloc: Global) -> Arg<'a>
-    ensures rule { rule_of result ≡ from_rule }
-    ensures local { result.global ≡ false }
-{
-    Arg::new(alloc, FROM)
-        .long("from")
-        .value_name("V")
-        .action(ArgAction::Set)
-        .value_parser(value_parser!(u16).range(0..=MOST_FROM))
-        .default_value("0")
-        .help(FIRST_WEEK)
+        .value_parser(value_parser!(u32).range(0..=option.most as i64))
+        .default_value(option.default)
+        .help(option.help)
 }

@@ -19,6 +19,9 @@ pub enum Command {
     /// Writes the solutions after a run of the improver of at most so many rounds. The weeks before week `from`
     /// stay as they are.
     Improve { rounds: u16, from: u16 },
+    /// Writes a number that no roster costs less than: none that keeps the hard rules and the weeks before week `from` as they stand.
+    /// It is the best that so many rounds find.
+    Bound { rounds: u16, from: u16 },
 }
 
 /// A command with the files that it reads, in order. With none it reads standard input.

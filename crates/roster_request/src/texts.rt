@@ -2,7 +2,8 @@
 
 pub(crate) const ABOUT: &str =
     "Reads the texts of a nurse rostering instance, and writes its rosters, what they cost, how \
-    much a search takes, the rosters with the best row of a nurse, or better rosters.";
+    much a search takes, the rosters with the best row of a nurse, better rosters, or what no \
+    roster costs less than.";
 
 pub(crate) const TEXTS: &str =
     "The texts of the instance: the scenario, the history, and then the weeks and the rosters, in \
@@ -143,11 +144,46 @@ Examples:
 The files are read one after another, in the order given. Without a file, the
 texts are read from standard input.";
 
+pub(crate) const BOUND: &str = "Write a bound below which no roster costs";
+
+pub(crate) const BOUND_HELP: &str =
+    "How good a roster can get. Two lines are written, what the roster costs, and a
+number that no roster costs less than, however it is made:
+  roster 3150
+  bound 720
+So at most the difference can still be saved. The bound is for all rosters of
+the instance that keep the hard rules. There may be none that costs so little.
+
+The hard rules are asked first, as for 'roster cost'. To standard error goes a
+log, each line as soon as it is known:
+  start 3150    what the roster costs
+  round 1 720   the bound that round 1 found. A round that finds no greater one
+                has no line.
+A round takes each nurse once, as a round of 'roster improve' does. More rounds
+mostly find a greater bound, but not always. With --rounds 0 the bound is 0.
+
+With --from V the weeks 0 to V - 1 are frozen: the bound is for those rosters in
+which each nurse's days in them are as they stand. Where V is above the last
+week, there is no other such roster.
+
+What isn't promised: how near the bound is to the cheapest roster; how long the
+run takes. For its memory and the greatest number of steps for a nurse see
+'roster sizes'.
+
+Examples:
+  roster bound examples/ward.txt
+  roster bound --rounds 300 examples/ward.txt
+  roster bound --rounds 1 --from 2 examples/ward.txt
+
+The files are read one after another, in the order given. Without a file, the
+texts are read from standard input.";
+
 pub(crate) const EXAMPLES: &str = "Examples:
   roster show examples/mini.txt
   roster cost examples/mini.txt
   roster sizes examples/mini.txt
   roster best --nurse Ann examples/mini.txt
   roster improve examples/ward.txt
+  roster bound examples/ward.txt
 
 'roster COMMAND --help' says more about a command.";

@@ -2,10 +2,10 @@
 
 ghost use Rattle.std.specs.Prelude.{◌≡◌, ◌≢◌, ◌≤◌, [], Some, codes, IfOk, IfErr, OnOk, IsSomeAnd, is_some, true, map, string_bytes};
 ghost use Rattle.clap.specs.Words.{fault_of, first_of, found_of, kind_of, rows_of, subcommand_rows_of};
-ghost use Rattle.roster_request.specs.CommandLine.{HasArguments, HasFrom, HasNurse, HasRounds, HasText, IsAsked, IsAskedIn, IsInRange, IsNameOf, IsNumberOf, Meets, Refuses, TellsKind, commands, files_in, name_of, program};
+ghost use Rattle.roster_request.specs.CommandLine.{HasArguments, HasFrom, HasNumber, HasNurse, HasRounds, HasText, IsAsked, IsAskedIn, IsInRange, IsNameOf, IsNumberOf, IsOneOf, Meets, Refuses, TellsKind, commands, files_in, name_of, program, with_from, with_rounds};
 ghost use Rattle.roster_request.specs.Limits.{most_from, most_rounds};
 
-use crate::program::{FILES, FROM, NURSE, ROUNDS, program};
+use crate::program::{FILES, FROM, NURSE, NumberOption, ROUNDS, program};
 use crate::request::{CliFault, Command, Request};
 use crate::texts::EXAMPLES;
 use clap::ArgMatches;
@@ -32,9 +32,8 @@ pub fn request_of<S: AsStr>(alloc: Global, words: &[S]) -> Result<Request, CliFa
 fn request_in(alloc: Global, matches: &ArgMatches<'_>) -> Result<Request, CliFault>
     requires met { IsSomeAnd (subcommand_rows_of matches.now) (λ met. IsNameOf commands met.0) }
     requires nurse { HasNurse (subcommand_rows_of matches.now) }
-    requires rounds { Meets (codes "improve") HasRounds (subcommand_rows_of matches.now) }
-    requires best_from { Meets (codes "best") HasFrom (subcommand_rows_of matches.now) }
-    requires improve_from { Meets (codes "improve") HasFrom (subcommand_rows_of matches.now) }
+    requires rounds { Meets with_rounds HasRounds (subcommand_rows_of matches.now) }
+    requires from { Meets with_from HasFrom (subcommand_rows_of matches.now) }
     ensures request { IfOk result (IsAskedIn (subcommand_rows_of matches.now)) }
     ensures range { IfOk result (λ r. IsInRange r.command) }
     ensures memory { IfErr result (λ e. e ≡ CliFault.Memory) }
@@ -52,9 +51,8 @@ fn request_in(alloc: Global, matches: &ArgMatches<'_>) -> Result<Request, CliFau
 fn command_in(alloc: Global, name: &str, given: &ArgMatches<'_>) -> Result<Command, AllocError>
     requires name { IsNameOf commands name.now }
     requires nurse { name.now ≡ codes "best" → is_some (first_of (codes "nurse") (rows_of (found_of given.now))) ≡ true }
-    requires rounds { name.now ≡ codes "improve" → HasRounds (rows_of (found_of given.now)) }
-    requires best_from { name.now ≡ codes "best" → HasFrom (rows_of (found_of given.now)) }
-    requires improve_from { name.now ≡ codes "improve" → HasFrom (rows_of (found_of given.now)) }
+    requires rounds { IsOneOf with_rounds name.now → HasRounds (rows_of (found_of given.now)) }
+    requires from { IsOneOf with_from name.now → HasFrom (rows_of (found_of given.now)) }
     ensures name { IfOk result (λ command. name_of command ≡ name.now) }
     ensures arguments { IfOk result (λ command. HasArguments command (rows_of (found_of given.now))) }
     ensures range { IfOk result IsInRange }
@@ -68,6 +66,10 @@ fn command_in(alloc: Global, name: &str, given: &ArgMatches<'_>) -> Result<Comma
             from: from_of(given),
         }),
         "improve" => Ok(Command::Improve {
+            rounds: rounds_of(given),
+            from: from_of(given),
+        }),
+        "bound" => Ok(Command::Bound {
             rounds: rounds_of(given),
             from: from_of(given),
         }),
@@ -86,28 +88,34 @@ fn nurse_of(alloc: Global, given: &ArgMatches<'_>) -> Result<String, AllocError>
     String::from_str(alloc, nurse)
 }
 
-/// The number of rounds, which `clap` has read in its range, or has by its default.
+/// The number of rounds.
 fn rounds_of(given: &ArgMatches<'_>) -> u16
     requires { HasRounds (rows_of (found_of given.now)) }
     ensures rounds { IsNumberOf (codes "rounds") result (rows_of (found_of given.now)) }
     ensures range { result ≤ most_rounds }
 {
-    let Some(rounds) = given.get_one::<u16>(ROUNDS) else {
-        unreachable!()
-    };
-    rounds
+    number_of(given, ROUNDS) as u16
 }
 
-/// The first week that may change, which `clap` has read in its range, or has by its default.
+/// The first week that may change.
 fn from_of(given: &ArgMatches<'_>) -> u16
     requires { HasFrom (rows_of (found_of given.now)) }
     ensures from { IsNumberOf (codes "from") result (rows_of (found_of given.now)) }
     ensures range { result ≤ most_from }
 {
-    let Some(from) = given.get_one::<u16>(FROM) else {
+    number_of(given, FROM) as u16
+}
+
+/// The number of an option, which `clap` has read in its range, or has by its default.
+fn number_of(given: &ArgMatches<'_>, option: NumberOption) -> u32
+    requires { HasNumber option.name.now option.most (rows_of (found_of given.now)) }
+    ensures number { IsNumberOf option.name.now result (rows_of (found_of given.now)) }
+    ensures range { result ≤ option.most }
+{
+    let Some(number) = given.get_one::<u32>(option.name) else {
         unreachable!()
     };
-    from
+    number
 }
 
 fn files_of(alloc: Global, given: &ArgMatches<'_>) -> Result<Vec<String>, AllocError>

@@ -34,7 +34,7 @@ const IMPROVED: &str =
 const RUN_LOG: &str =
     "start 470\n1 Ann 180\n1 Bob 20\nround 1 20\n2 Ann 0\nround 2 0\nround 3 0\nsettled 0\n";
 
-const ANSWERS: [Answer; 5] = [
+const ANSWERS: [Answer; 6] = [
     Answer {
         name: "show",
         output: SHOWN,
@@ -60,9 +60,14 @@ const ANSWERS: [Answer; 5] = [
         output: IMPROVED,
         log: RUN_LOG,
     },
+    Answer {
+        name: "bound",
+        output: "roster 470\nbound 0\n",
+        log: "start 470\n",
+    },
 ];
 
-/// The command of a name: `best` is for Ann, and `improve` makes 100 rounds at most.
+/// The command of a name: `best` is for Ann, `improve` makes 100 rounds at most, and `bound` makes one.
 fn command_of(alloc: Global, name: &str) -> Result<Command, AllocError> {
     Ok(match name {
         "show" => Command::Show,
@@ -72,6 +77,7 @@ fn command_of(alloc: Global, name: &str) -> Result<Command, AllocError> {
             nurse: String::from_str(alloc, "Ann")?,
             from: 0,
         },
+        "bound" => Command::Bound { rounds: 1, from: 0 },
         _ => Command::Improve {
             rounds: 100,
             from: 0,
@@ -218,6 +224,31 @@ fn a_log_that_fails_after_each_byte(rt: HostRuntime) -> Result<(), Fail> {
     Ok(())
 }
 
+#[test]
+fn a_log_of_a_floor_that_fails_after_each_byte(rt: HostRuntime) -> Result<(), Fail> {
+    let alloc = rt.alloc();
+    // Three nurses are wanted each day, and there are two.
+    let three = "(0,3) (0,3) (0,3) (0,3) (0,3) (0,3) (0,3)";
+    let text = changed(
+        alloc,
+        &[("(0,1) (0,1) (0,1) (0,1) (0,1) (0,1) (0,1)", three)],
+    )?;
+    let (output, told) = ("roster 890\nbound 310\n", "start 890\nround 1 310\n");
+    for at_end in [AtEnd::Fail, AtEnd::TakeNothing] {
+        for log in 0..told.len() {
+            let room = Room {
+                output: 200,
+                log,
+                at_end,
+            };
+            let end = (3, "", told);
+            assert!(rt; ends(alloc, "bound", text.as_bytes(), room, end)?, "{log}");
+        }
+    }
+    assert!(rt; ends(alloc, "bound", text.as_bytes(), AMPLE, (0, output, told))?);
+    Ok(())
+}
+
 /// After how many bytes a log may fail (the first and the last number), and the total and the weeks of Ann and Bob that a run
 /// over mini leaves then.
 type Left = (usize, usize, u64, &'static [u8; 7], &'static [u8; 7]);
@@ -262,7 +293,7 @@ fn a_refusal_whose_line_fails_after_each_byte(rt: HostRuntime) -> Result<(), Fai
     let alloc = rt.alloc();
     let text = changed(alloc, &[("Early Nurse (0,1)", "Early Nurse (1,1)")])?;
     let told = "H2 week 0 Mon Early Nurse: 0 of 1\n";
-    for name in ["cost", "best", "improve"] {
+    for name in ["cost", "best", "improve", "bound"] {
         for log in 0..told.len() + 1 {
             let room = Room { log, ..AMPLE };
             assert!(rt;

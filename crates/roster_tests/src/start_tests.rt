@@ -290,6 +290,14 @@ fn asks_for_run(alloc: Global, words: &[&str], (rounds, from): (u16, u16), files
         && given.iter().map(|it| it.as_str()).eq(files.iter().copied())
 }
 
+/// Whether the words ask for a bound by so many rounds from a week on.
+fn asks_for_bound(alloc: Global, words: &[&str], (rounds, from): (u16, u16)) -> bool {
+    let Ok(request) = request_of(alloc, words) else {
+        return false;
+    };
+    matches!(request.command, Command::Bound { rounds: some, from: first } if some == rounds && first == from)
+}
+
 #[test]
 fn requests_of_words(rt: HostRuntime) {
     let words = ["roster", "improve", "--rounds", "5", "a.txt"];
@@ -300,6 +308,9 @@ fn requests_of_words(rt: HostRuntime) {
     ];
     assert!(rt; asks_for_run(rt.alloc(), &frozen, (5, 52), &["a.txt"]));
     assert!(rt; asks_for_run(rt.alloc(), &frozen[..4], (100, 52), &[]));
+    let words = ["roster", "bound", "--rounds", "7", "--from", "3"];
+    assert!(rt; asks_for_bound(rt.alloc(), &words, (7, 3)));
+    assert!(rt; asks_for_bound(rt.alloc(), &words[..2], (100, 0)));
     let too_late = request_of(rt.alloc(), &["roster", "improve", "--from", "53"]);
     assert!(rt; matches!(too_late, Err(CliFault::Usage(_))));
     let above = request_of(rt.alloc(), &["roster", "improve", "--rounds", "1001"]);

@@ -1,32 +1,55 @@
-use Rattle.std.proofs.Common.{◌≡◌, ◌∙◌, ap, subst, sym}
-use Rattle.roster_commands.specs.Answer.{Ends, LeavesLog, Output, Report, best_report, improve_report, outcome_of, report_of}
+use Rattle.std.proofs.Common.{◌≡◌, ◌∙◌, ap, refl, subst, sym}
+use Rattle.roster_case.specs.Shown.{weeks_text}
+use Rattle.roster_commands.specs.Answer.{Ends, IsReportOf, LeavesLog, Output, Report, Reports, best_report, cost_report, improve_report, outcome_of, plain}
+use Rattle.roster_commands.specs.Lines.{sizes_text}
+use Rattle.roster_commands.proofs.AnswerLemmas.{plain_ends, silent_log}
 use Rattle.roster_commands.proofs.commands.report.Given as given
 use Rattle.roster_commands.proofs.commands.report.Goals as goal
-use Rattle.roster_commands.proofs.commands.report.Goals.{After-best, After-improve}
 
-is_best : (g : given.Over) (c : After-best g) → best_report c.as_bytes.result.now c.in-Best.from c.args.instance.case c.args.instance.roster ≡ report_of c.args.command.now c.args.instance.case c.args.instance.roster
-is_best g c =
-    ap (λ name. best_report name c.in-Best.from c.args.instance.case c.args.instance.roster) c.as_bytes.ensures.value ∙ ap (λ x. report_of x c.args.instance.case c.args.instance.roster) (sym c.in-Best.is)
+pub returns-in-Show : goal.returns-in-Show
+returns-in-Show g c =
+    let output : Output g.row.Out.Denot = record { contents = g.Out.Write.contents; before = c.args.output.now; after = c.show.new.output } in
+    let log : Output g.row.Log.Denot = record { contents = g.Log.Write.contents; before = c.args.log.now; after = c.args.log.now } in
+    let p = plain (weeks_text c.args.instance.case c.args.instance.roster) in
+    let e = plain_ends output (weeks_text c.args.instance.case c.args.instance.roster) c.args.source.now c.args.instance.bundle c.show.result c.show.ensures.ok c.show.ensures.err in
+    record { report = p; is = subst (λ x. IsReportOf x c.args.instance.case c.args.instance.roster p) (sym c.in-Show.is) refl; ends = e; logged = silent_log output log p c.args.source.now c.args.instance.bundle (outcome_of c.show.result) refl e refl }
 
-pub returns-in-Best-clause-ends : goal.returns-in-Best-clause-ends
-returns-in-Best-clause-ends g c =
-    let output : Output g.row.Out.Denot = record { contents = g.Out.Write.contents; before = c.args.output.now; after = c.best.new.output } in
-    subst (λ p. Ends output p c.args.source.now c.args.instance.bundle (outcome_of c.best.result)) (is_best g c) c.best.ensures.ends
+pub returns-in-Cost : goal.returns-in-Cost
+returns-in-Cost g c =
+    let output : Output g.row.Out.Denot = record { contents = g.Out.Write.contents; before = c.args.output.now; after = c.cost.new.output } in
+    let log : Output g.row.Log.Denot = record { contents = g.Log.Write.contents; before = c.args.log.now; after = c.args.log.now } in
+    let p = cost_report c.args.instance.case c.args.instance.roster in
+    record { report = p; is = subst (λ x. IsReportOf x c.args.instance.case c.args.instance.roster p) (sym c.in-Cost.is) refl; ends = c.cost.ensures.ends; logged = silent_log output log p c.args.source.now c.args.instance.bundle (outcome_of c.cost.result) refl c.cost.ensures.ends refl }
 
-pub returns-in-Best-clause-logged : goal.returns-in-Best-clause-logged
-returns-in-Best-clause-logged g c =
-    let log : Output g.row.Log.Denot = record { contents = g.Log.Write.contents; before = c.args.log.now; after = c.best.new.log } in
-    subst (λ (p : Report). LeavesLog log p.log (outcome_of c.best.result)) (is_best g c) c.best.ensures.logged
+pub returns-in-Sizes : goal.returns-in-Sizes
+returns-in-Sizes g c =
+    let output : Output g.row.Out.Denot = record { contents = g.Out.Write.contents; before = c.args.output.now; after = c.sizes.new.output } in
+    let log : Output g.row.Log.Denot = record { contents = g.Log.Write.contents; before = c.args.log.now; after = c.args.log.now } in
+    let p = plain (sizes_text c.args.instance.case) in
+    let e = plain_ends output (sizes_text c.args.instance.case) c.args.source.now c.args.instance.bundle c.sizes.result c.sizes.ensures.ok c.sizes.ensures.err in
+    record { report = p; is = subst (λ x. IsReportOf x c.args.instance.case c.args.instance.roster p) (sym c.in-Sizes.is) refl; ends = e; logged = silent_log output log p c.args.source.now c.args.instance.bundle (outcome_of c.sizes.result) refl e refl }
 
-is_improve : (g : given.Over) (c : After-improve g) → improve_report c.in-Improve.rounds c.in-Improve.from c.args.instance.case c.args.instance.roster ≡ report_of c.args.command.now c.args.instance.case c.args.instance.roster
-is_improve g c = ap (λ x. report_of x c.args.instance.case c.args.instance.roster) (sym c.in-Improve.is)
+pub returns-in-Best : goal.returns-in-Best
+returns-in-Best g c =
+    let p = best_report c.as_bytes.result.now c.in-Best.from c.args.instance.case c.args.instance.roster in
+    record {
+      report = p;
+      is = subst (λ x. IsReportOf x c.args.instance.case c.args.instance.roster p) (sym c.in-Best.is) (ap (λ name. best_report name c.in-Best.from c.args.instance.case c.args.instance.roster) c.as_bytes.ensures.value);
+      ends = c.best.ensures.ends;
+      logged = c.best.ensures.logged;
+    }
 
-pub returns-clause-ends : goal.returns-clause-ends
-returns-clause-ends g c =
-    let output : Output g.row.Out.Denot = record { contents = g.Out.Write.contents; before = c.args.output.now; after = c.improve.new.output } in
-    subst (λ p. Ends output p c.args.source.now c.args.instance.bundle (outcome_of c.improve.result)) (is_improve g c) c.improve.ensures.ends
+pub returns-in-Improve : goal.returns-in-Improve
+returns-in-Improve g c =
+    let p = improve_report c.in-Improve.rounds c.in-Improve.from c.args.instance.case c.args.instance.roster in
+    record {
+      report = p;
+      is = subst (λ x. IsReportOf x c.args.instance.case c.args.instance.roster p) (sym c.in-Improve.is) refl;
+      ends = c.improve.ensures.ends;
+      logged = c.improve.ensures.logged;
+    }
 
-pub returns-clause-logged : goal.returns-clause-logged
-returns-clause-logged g c =
-    let log : Output g.row.Log.Denot = record { contents = g.Log.Write.contents; before = c.args.log.now; after = c.improve.new.log } in
-    subst (λ (p : Report). LeavesLog log p.log (outcome_of c.improve.result)) (is_improve g c) c.improve.ensures.logged
+pub returns : goal.returns
+returns g c =
+    let made = c.bound.ensures in
+    record { report = made.report; is = subst (λ x. IsReportOf x c.args.instance.case c.args.instance.roster made.report) (sym c.in-Bound.is) made.is; ends = made.ends; logged = made.logged }

@@ -22,9 +22,12 @@ returns c =
     let with_cost = c.in_ok-with_cost.ensures ∙ ap (with_command (codes "cost")) with_show in
     let with_sizes = c.in_ok-with_sizes.ensures ∙ ap (with_command (codes "sizes")) with_cost in
     let best_is = c.in_ok-best.ensures ∙ ap (λ (r : Rule). own_command_of (r ∷ from_rule ∷ []) (codes "best")) c.nurse_arg.ensures.rule in
-    let improve_is = c.in_ok-improve.ensures ∙ ap (λ (r : Rule). own_command_of (r ∷ from_rule ∷ []) (codes "improve")) c.rounds_arg.ensures.rule in
+    let improve_is = c.in_ok-improve.ensures ∙ ap (λ (r : Rule). own_command_of (r ∷ from_rule ∷ []) (codes "improve")) c.number_arg-rounds.ensures.rule in
+    let bound_is = c.in_ok-bound.ensures ∙ ap (λ (r : Rule). own_command_of (r ∷ from_rule ∷ []) (codes "bound")) c.number_arg.ensures.rule in
     let best_local = no_globals _ _ _ _ (ap (λ (a : App). a.top.is_plain) best_is) in
     let improve_local = no_globals _ _ _ _ (ap (λ (a : App). a.top.is_plain) improve_is) in
+    let bound_local = no_globals _ _ _ _ (ap (λ (a : App). a.top.is_plain) bound_is) in
     let with_best = c.in_ok-subcommand.ensures.shape best_local ∙ ap₂ (λ (a b : App). with_subcommand a b.top) with_sizes best_is in
-    IfOk-weaker c.subcommand-2.result _ _ (λ made h. h.shape improve_local ∙ ap₂ (λ (a b : App). with_subcommand a b.top) with_best improve_is)
-    c.subcommand-2.ensures
+    let with_improve = c.in_ok-subcommand-2.ensures.shape improve_local ∙ ap₂ (λ (a b : App). with_subcommand a b.top) with_best improve_is in
+    IfOk-weaker c.subcommand-3.result _ _ (λ made h. h.shape bound_local ∙ ap₂ (λ (a b : App). with_subcommand a b.top) with_improve bound_is)
+    c.subcommand-3.ensures

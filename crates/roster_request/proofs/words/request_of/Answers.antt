@@ -1,9 +1,9 @@
-use Rattle.std.proofs.Common.{◌≡◌, ◌∙◌, ap, codes, map, refl, subst, sym, true, Result, Ok, Err}
-use Rattle.std.specs.Prelude.{IsSomeAnd, OnOk}
+use Rattle.std.proofs.Common.{◌≡◌, ◌∙◌, ap, map, refl, subst, sym, true, Result, Ok, Err}
+use Rattle.std.specs.Prelude.{IfOk, IsSomeAnd, OnOk}
 use Rattle.clap.specs.Words.{App, HasKind, fault_of, is_simple, is_simple_and_free, kind_of, subcommand_of, takes}
-use Rattle.roster_request.specs.CommandLine.{HasFrom, HasNurse, HasRounds, IsNameOf, Meets, commands, program}
+use Rattle.roster_request.specs.CommandLine.{HasFrom, HasNurse, HasRounds, IsAskedIn, IsNameOf, Meets, commands, program, with_from, with_rounds}
 use Rattle.roster_request.proofs.CommandLineLemmas.{meets_command, refuses}
-use Rattle.roster_request.proofs.NumberLemmas.{best_meets_from, improve_meets_from, meets_rounds}
+use Rattle.roster_request.proofs.NumberLemmas.{meets_from, meets_rounds}
 use Rattle.roster_request.proofs.NurseLemmas.{meets_nurse}
 use Rattle.roster_request.proofs.words.request_of.Goals as goal
 
@@ -29,21 +29,14 @@ request_in-requires-clause-rounds g c =
     let words = map g.S.AsStr.text c.args.words.now in
     let none = c.in-Ok.ensures.kinds (ap is_simple_and_free c.in_ok-program.ensures ∙ free) in
     let met = (c.in-Ok.ensures.matches (ap is_simple c.in_ok-program.ensures ∙ simple)).1 ∙ ap (λ (a : App). subcommand_of a words) c.in_ok-program.ensures in
-    subst (Meets (codes "improve") HasRounds) (sym met) (meets_rounds words (ap (λ (a : App). fault_of a words) (sym c.in_ok-program.ensures) ∙ none))
+    subst (Meets with_rounds HasRounds) (sym met) (meets_rounds words (ap (λ (a : App). fault_of a words) (sym c.in_ok-program.ensures) ∙ none))
 
-pub request_in-requires-clause-best_from : goal.request_in-requires-clause-best_from
-request_in-requires-clause-best_from g c =
+pub request_in-requires-clause-from : goal.request_in-requires-clause-from
+request_in-requires-clause-from g c =
     let words = map g.S.AsStr.text c.args.words.now in
     let none = c.in-Ok.ensures.kinds (ap is_simple_and_free c.in_ok-program.ensures ∙ free) in
     let met = (c.in-Ok.ensures.matches (ap is_simple c.in_ok-program.ensures ∙ simple)).1 ∙ ap (λ (a : App). subcommand_of a words) c.in_ok-program.ensures in
-    subst (Meets (codes "best") HasFrom) (sym met) (best_meets_from words (ap (λ (a : App). fault_of a words) (sym c.in_ok-program.ensures) ∙ none))
-
-pub request_in-requires-clause-improve_from : goal.request_in-requires-clause-improve_from
-request_in-requires-clause-improve_from g c =
-    let words = map g.S.AsStr.text c.args.words.now in
-    let none = c.in-Ok.ensures.kinds (ap is_simple_and_free c.in_ok-program.ensures ∙ free) in
-    let met = (c.in-Ok.ensures.matches (ap is_simple c.in_ok-program.ensures ∙ simple)).1 ∙ ap (λ (a : App). subcommand_of a words) c.in_ok-program.ensures in
-    subst (Meets (codes "improve") HasFrom) (sym met) (improve_meets_from words (ap (λ (a : App). fault_of a words) (sym c.in_ok-program.ensures) ∙ none))
+    subst (Meets with_from HasFrom) (sym met) (meets_from words (ap (λ (a : App). fault_of a words) (sym c.in_ok-program.ensures) ∙ none))
 
 pub request_in-requires-clause-nurse : goal.request_in-requires-clause-nurse
 request_in-requires-clause-nurse g c =
@@ -51,6 +44,12 @@ request_in-requires-clause-nurse g c =
     let none = c.in-Ok.ensures.kinds (ap is_simple_and_free c.in_ok-program.ensures ∙ free) in
     let met = (c.in-Ok.ensures.matches (ap is_simple c.in_ok-program.ensures ∙ simple)).1 ∙ ap (λ (a : App). subcommand_of a words) c.in_ok-program.ensures in
     subst HasNurse (sym met) (meets_nurse words (ap (λ (a : App). fault_of a words) (sym c.in_ok-program.ensures) ∙ none))
+
+pub returns-in-Ok-clause-request : goal.returns-in-Ok-clause-request
+returns-in-Ok-clause-request g c =
+    let words = map g.S.AsStr.text c.args.words.now in
+    let met = (c.in-Ok.ensures.matches (ap is_simple c.in_ok-program.ensures ∙ simple)).1 ∙ ap (λ (a : App). subcommand_of a words) c.in_ok-program.ensures in
+    subst (λ rows. IfOk c.request_in.result (IsAskedIn rows)) met c.request_in.ensures.request
 
 pub returns-in-Ok-clause-faultless : goal.returns-in-Ok-clause-faultless
 returns-in-Ok-clause-faultless g c =

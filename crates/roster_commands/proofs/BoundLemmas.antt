@@ -1,0 +1,76 @@
+-- How `bound` ends: whatever floors were found, they are floors.
+use Rattle.std.proofs.Common.{◌≡◌, ◌∙◌, ◌++◌, [], ◌∷◌, ◌≤◌, ℕ, All, Err, List, Ok, Option, Result, Some, ap, arith, codes, refl, subst, sym, true}
+use Rattle.std.specs.Prelude.{IfErr, OnOk, decimal}
+use Rattle.std.proofs.lemmas.List.Elements.{All-head, All-tail}
+use Rattle.roster_text.specs.Io.{Stops, Watched, Writes}
+use Rattle.roster_bundle.specs.declared.bundle.Bundle.{Bundle}
+use Rattle.roster_rules.specs.HardRules.{hard_faults}
+use Rattle.roster_instance.specs.Meaning.{Meaning}
+use Rattle.roster_rules.specs.Penalties.{penalty}
+use Rattle.roster_instance.specs.Rosters.{Rows}
+use Rattle.roster_bound.specs.Floors.{FloorLine, IsFloorLog, RaisesFloor, floor_text, last_line, no_line}
+use Rattle.roster_bound.specs.Worths.{IsLowerBound}
+use Rattle.roster_commands.specs.Answer.{Ends, IsBoundReport, IsUnheld, Output, Report, Reports, StopsFloors, StopsOutput, Untouched, bound_report, outcome_of}
+use Rattle.roster_commands.specs.Lines.{Text, bound_text}
+use Rattle.roster_commands.specs.declared.fault.Fault.{Fault}
+use Rattle.roster_commands.specs.declared.fault.Fault.TheVariants as fault
+use Rattle.roster_commands.proofs.AnswerLemmas.{no_floor, unheld_ends, unheld_log}
+
+module _ (rounds from : ℕ) (c : Meaning) (r : Rows) where
+  IsFloor : FloorLine → Type 0
+  IsFloor x = IsLowerBound c from r x.bound
+
+  last_is_floor : (before : FloorLine) (lines : List FloorLine) → IsFloor before → All IsFloor lines → IsFloor (last_line before lines)
+  last_is_floor before [] first all = first
+  last_is_floor before (x ∷ xs) first all = last_is_floor x xs (All-head IsFloor x xs all) (All-tail IsFloor x xs all)
+
+  -- of some floors
+  of_floors : (lines : List FloorLine) → IsFloorLog c from r rounds lines → IsBoundReport rounds from c r (bound_report lines c r)
+  unfolding IsFloor
+  of_floors lines is_log = record { lines = lines; is_log = is_log; below = last_is_floor no_line lines (λ other fits keeps stays. omega arith) is_log.floors; is = refl }
+
+  module _ {W L : Type 0} (output : Output W) (log : Output L) (source : Text) (b : Bundle) where
+    -- nothing was found, since the roster is not held
+    pub bound_unheld : (f : Fault) → IsUnheld source b (hard_faults c r) f → Untouched output → Untouched log → Reports output log (IsBoundReport rounds from c r) source b (Some f)
+    bound_unheld f h o l = record {
+      report = bound_report [] c r;
+      is = no_floor rounds from c r;
+      ends = unheld_ends output (bound_report [] c r) source b f refl h o;
+      logged = unheld_log log (Some (floor_text c r [])) source b (hard_faults c r) f h l;
+    }
+
+    -- the log failed inside the floors
+    pub bound_stops : (f : Fault) → hard_faults c r ≡ [] → StopsFloors log.contents c from r rounds log.before log.after f → Untouched output
+        → Reports output log (IsBoundReport rounds from c r) source b (Some f)
+    bound_stops (fault.Text f) kept h o = absurd h
+    bound_stops (fault.Case f nurse) kept h o = absurd h
+    bound_stops (fault.Hard f names) kept h o = absurd h
+    bound_stops (fault.Nurse name) kept h o = absurd h
+    bound_stops fault.Memory kept h o = absurd h
+    bound_stops fault.Output kept h o = absurd h
+    bound_stops fault.Log kept h o =
+        record { report = bound_report h.lines c r; is = of_floors h.lines h.is_log; ends = record { ends = (record { kept = kept; known = refl }, refl); left = o }; logged = h.stops }
+
+    -- all floors were found, and written or not
+    pub bound_ends : {X : Type 0} (bound : ℕ) (result : Result X Fault) → hard_faults c r ≡ [] → RaisesFloor log.contents c from r rounds log.before log.after bound
+        → OnOk result (Writes output.contents output.before output.after (bound_text (penalty c r) bound))
+        → IfErr result (StopsOutput output.contents output.before output.after (bound_text (penalty c r) bound))
+        → Reports output log (IsBoundReport rounds from c r) source b (outcome_of result)
+    bound_ends bound (Ok x) kept h ok err = record {
+      report = bound_report h.lines c r;
+      is = of_floors h.lines h.is_log;
+      ends = record { ends = record { kept = kept; known = refl }; left = subst (λ n. Writes output.contents output.before output.after (bound_text (penalty c r) n)) h.bound_is ok };
+      logged = h.writes;
+    }
+    bound_ends bound (Err (fault.Text f)) kept h ok err = absurd err
+    bound_ends bound (Err (fault.Case f nurse)) kept h ok err = absurd err
+    bound_ends bound (Err (fault.Hard f names)) kept h ok err = absurd err
+    bound_ends bound (Err (fault.Nurse name)) kept h ok err = absurd err
+    bound_ends bound (Err fault.Memory) kept h ok err = absurd err
+    bound_ends bound (Err fault.Log) kept h ok err = absurd err
+    bound_ends bound (Err fault.Output) kept h ok err = record {
+      report = bound_report h.lines c r;
+      is = of_floors h.lines h.is_log;
+      ends = record { ends = record { kept = kept; known = refl }; left = subst (λ n. Stops output.contents output.before output.after (bound_text (penalty c r) n)) h.bound_is err };
+      logged = h.writes;
+    }
