@@ -9,7 +9,6 @@ pub mod BlockLaws
 pub mod ReadLaws
 pub mod OfferLaws
 pub mod ByShift
-pub mod BestRoom
 pub mod PartLaws
 pub mod HalfLaws
 pub mod StandLaws

@@ -4,10 +4,9 @@ use Rattle.std.proofs.lemmas.Bool.{true≢false}
 use Rattle.std.proofs.lemmas.List.{length-map}
 use Rattle.std.proofs.lemmas.List.Elements.{All-cons, All-get_or, All-head, All-nil, All-tail}
 use Rattle.roster_instance.specs.declared.Choice.{Choice}
-use Rattle.roster_instance.specs.declared.Choice.TheVariants.{Off}
 use Rattle.roster_instance.specs.Choices.{days_of, shift_of}
-use Rattle.roster_instance.specs.Limits.{most_days, most_shifts, most_skills, most_weeks}
-use Rattle.roster_instance.specs.Meaning.{Meaning, day_count, shift_count, skill_count, week_count}
+use Rattle.roster_instance.specs.Limits.{most_days, most_weeks}
+use Rattle.roster_instance.specs.Meaning.{Meaning, day_count, week_count}
 use Rattle.roster_instance.specs.Rosters.{Row, choice_on}
 use Rattle.roster_instance.specs.Small.{HasSmallNumbers}
 use Rattle.roster_rules.specs.Penalties.{own_cost}
@@ -136,11 +135,15 @@ module _ (c : Meaning) (n : ℕ) (small : HasSmallNumbers c) (weeks : week_count
         weekends_cost-within c n (days_of row) small few,
       )
 
-pub low_over : (c : Meaning) (n : ℕ) (offers : ℕ → List Offer) → ((d : ℕ) → d < day_count c → All (IsOfferOf c) (offers d)) → HasSmallNumbers c → week_count c ≤ most_weeks → IsSome (best_over c n offers) → LowRow (best_over c n offers)
-low_over c n offers of_case small weeks some = go (best_over c n offers) refl some
-  where
-    go : (o : Priced (List Offer)) → best_over c n offers ≡ o → IsSome o → LowRow (best_over c n offers)
-    go None is none = elim (true≢false (sym none)) [ ]
-    go (Some (cost, best)) is found =
-        let row = is_row offers (offer_step c n) (end_cost_of c n) (IsOfferOf c) (day_count c) 0 (summary_of c n []) cost best (λ d low high. of_case d (omega (arith, high))) is in
-        record { row = (cost, best); is = is; low = cost_low c n small weeks best cost row.days row.each (row_cost c n best cost row.along) }
+module _ (c : Meaning) (n : ℕ) (offers : ℕ → List Offer) (of_case : (d : ℕ) → d < day_count c → All (IsOfferOf c) (offers d)) (small : HasSmallNumbers c) (weeks : week_count c ≤ most_weeks) where
+  pub cost_over : (cost : ℕ) (best : List Offer) → best_over c n offers ≡ Some (cost, best) → cost < no_row
+  cost_over cost best is =
+      let row = is_row offers (offer_step c n) (end_cost_of c n) (IsOfferOf c) (day_count c) 0 (summary_of c n []) cost best (λ d low high. of_case d (omega (arith, high))) is in
+      cost_low c n small weeks best cost row.days row.each (row_cost c n best cost row.along)
+
+  pub low_over : IsSome (best_over c n offers) → LowRow (best_over c n offers)
+  low_over some = go (best_over c n offers) refl some
+    where
+      go : (o : Priced (List Offer)) → best_over c n offers ≡ o → IsSome o → LowRow (best_over c n offers)
+      go None is none = elim (true≢false (sym none)) [ ]
+      go (Some (cost, best)) is found = record { row = (cost, best); is = is; low = cost_over cost best is }

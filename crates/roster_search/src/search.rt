@@ -26,7 +26,7 @@ use roster_rules::{Case, Choice};
 use roster_state::{AREAS, Area, Meter, NOWHERE, Ranges, State, areas_of, start};
 use std::mem;
 
-/// The greatest number of days of a case.
+/// The greatest number of days of a case, `most_days` of the limits of an instance.
 pub const MOST_DAYS: usize = 364;
 
 /// What a search goes over: a nurse of a case, and for each day what the nurse is offered.

@@ -1,5 +1,4 @@
 use Rattle.std.proofs.Common.{◌≡◌, ◌∙◌, ◌+◌, ◌*◌, ◌≤◌, arith, ap, length, refl, subst, sym}
-use Rattle.std.proofs.Math.Path.{transport}
 use Rattle.std.proofs.lemmas.Nat.{mul-le}
 use Rattle.std.specs.List.{All}
 use Rattle.roster_instance.specs.Meaning.{day_count}

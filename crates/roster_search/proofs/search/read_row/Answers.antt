@@ -1,4 +1,4 @@
-use Rattle.std.proofs.Common.{◌≡◌, ◌∙◌, ◌+◌, ◌*◌, ◌<◌, ap, arith, [], refl, subst, sym}
+use Rattle.std.proofs.Common.{◌≡◌, ◌∙◌, ◌+◌, ◌*◌, ◌<◌, ap, arith, refl, subst, sym}
 use Rattle.std.proofs.lemmas.List.{length-set}
 use Rattle.roster_instance.specs.Meaning.{day_count}
 use Rattle.roster_state.specs.Codes.{Sizes, product}

@@ -1,9 +1,6 @@
-use Rattle.std.proofs.Common.{◌≡◌, ◌∙◌, ◌+◌, ◌*◌, ◌<◌, ◌≤◌, ℕ, IfSome, List, Some, [], ap, ap₂, arith, is_some, length, mul_comm, refl, slice_index_or, subst, sym}
+use Rattle.std.proofs.Common.{◌≡◌, ◌∙◌, ◌*◌, ◌<◌, ◌≤◌, IfSome, List, Some, ap, arith, length, refl, slice_index_or, subst, sym}
 use Rattle.std.proofs.lemmas.List.{get_or_read_under}
-use Rattle.std.proofs.lemmas.Nat.{mul-le}
 use Rattle.roster_instance.specs.Meaning.{day_count}
-use Rattle.roster_instance.specs.Sizes.{state_count}
-use Rattle.roster_rules.specs.Prefix.{summary_of}
 use Rattle.roster_state.specs.Codes.{code_of, product, sizes_of}
 use Rattle.roster_search.specs.declared.offer.Offer.{Offer}
 use Rattle.roster_search.specs.Cheapest.{Priced}
