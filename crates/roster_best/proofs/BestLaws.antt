@@ -1,5 +1,5 @@
 -- The best row in a workspace: what the room is, that the row is low and allowed, and what its label says.
-use Rattle.std.proofs.Common.{◌≡◌, ◌∙◌, ◌+◌, ◌*◌, ◌<◌, ◌≤◌, ◌&&◌, ◌==◌, ℕ, true, ap, arith, refl, subst, sym, List, [], ◌∷◌, nat_le, Contains, Option, Some, None, IfSome}
+use Rattle.std.proofs.Common.{◌≡◌, ◌+◌, ◌*◌, ◌<◌, ◌≤◌, ◌&&◌, ◌==◌, ℕ, true, arith, refl, subst, sym, List, [], ◌∷◌, nat_le, Contains, Some}
 use Rattle.std.proofs.lemmas.Bool.{and_parts, eqb-true, leb-true}
 use Rattle.std.proofs.lemmas.List.Elements.{Contains-append_right}
 use Rattle.roster_instance.specs.Limits.{most_nurses, most_shifts, most_skills, most_weeks}
@@ -10,7 +10,7 @@ use Rattle.roster_instance.specs.Small.{HasSmallNumbers}
 use Rattle.roster_rules.specs.AllowedRows.{IsBestRow, penalty_with, row_keeps}
 use Rattle.roster_rules.specs.HardRules.{keeps_hard}
 use Rattle.roster_rules.specs.Penalties.{penalty}
-use Rattle.roster_rules.specs.Prefix.{Summary, due, summary_of}
+use Rattle.roster_rules.specs.Prefix.{due}
 use Rattle.roster_rules.specs.Room.{penalty_room}
 use Rattle.roster_rules.proofs.Bounds.{penalty-within}
 use Rattle.roster_rules.proofs.RowFits.{fits-with_row}
@@ -20,12 +20,8 @@ use Rattle.roster_laws.proofs.Allowed.{allowed_keeps}
 use Rattle.roster_laws.proofs.GreatestLemmas.{greatest_states}
 use Rattle.roster_search.specs.declared.Offer.{Offer}
 use Rattle.roster_search.specs.Offers.{best_by_states, choices_of}
-use Rattle.roster_search.specs.Tables.{label_of, no_row}
-use Rattle.roster_search.proofs.Best.{best_some, is_best, penalty_is}
-use Rattle.roster_search.proofs.BestRoom.{cost_below}
-use Rattle.roster_search.proofs.ReadLaws.{LowRow, low_row}
-use Rattle.roster_best.specs.Workspaces.{Space, fits_space, onward}
-use Rattle.roster_best.proofs.SearchLaws.{onward-first}
+use Rattle.roster_search.proofs.Best.{is_best, penalty_is}
+use Rattle.roster_best.specs.Workspaces.{Space, fits_space}
 
 -- ---- the room of a workspace that fits
 
@@ -49,10 +45,6 @@ pub best_keeps : (c : Meaning) (from : ℕ) (r : Rows) (n : ℕ) (row : Row) →
 best_keeps c from r n row best =
     (allowed_keeps c from r n row (subst (λ xs. Contains xs row) (sym best.split) (Contains-append_right best.before (row ∷ best.after) row (0, omega arith, refl)))).0
 
-if_some_of : {X : Type 0} (o : Option X) (P : X → Type 0) → ((x : X) → o ≡ Some x → P x) → IfSome o P
-if_some_of None P each = tt
-if_some_of (Some x) P each = each x refl
-
 -- what a case keeps to
 pub record KeepsLimits (c : Meaning) : Type 0 where
   pub small : HasSmallNumbers c
@@ -62,11 +54,6 @@ pub record KeepsLimits (c : Meaning) : Type 0 where
   pub nurses : nurse_count c ≤ most_nurses
 
 module _ (c : Meaning) (from : ℕ) (r : Rows) (limits : KeepsLimits c) (fits : fits_case c r ≡ true) where
-  pub low_best : keeps_hard c r ≡ true → (n : ℕ) → n < nurse_count c → LowRow (best_by_states c from r n)
-  low_best keeps n inside =
-      low_row (best_by_states c from r n) (best_some c from r fits keeps n inside)
-      (if_some_of (best_by_states c from r n) (λ row. row.0 < no_row) (λ row is. cost_below c from r fits keeps n inside row.0 row.1 is limits.small limits.shifts limits.skills limits.weeks))
-
   pub best_within : (n : ℕ) (row : Row) → IsBestRow c from r n row → penalty_with c r n row < penalty_room
   unfolding penalty
   best_within n row best =
@@ -77,8 +64,3 @@ module _ (c : Meaning) (from : ℕ) (r : Rows) (limits : KeepsLimits c) (fits : 
   pub sum_within : (keeps : keeps_hard c r ≡ true) (n : ℕ) (inside : n < nurse_count c) (cost : ℕ) (offers : List Offer) → best_by_states c from r n ≡ Some (cost, offers) → rest_of c r n + due c n [] + cost < penalty_room
   sum_within keeps n inside cost offers is =
       omega (arith, penalty_is c from r fits keeps n inside cost offers is, best_within n (choices_of offers) (is_best c from r fits keeps n inside cost offers is))
-
--- the first label is the cost of the best row
-pub first_label : (c : Meaning) (from : ℕ) (r : Rows) (n : ℕ) (s : Summary) (label cost : ℕ) (offers : List Offer) → s ≡ summary_of c n [] → label ≡ label_of (onward c from r n 0 s) → best_by_states c from r n ≡ Some (cost, offers) → cost < no_row → label ≡ cost
-first_label c from r n s label cost offers start is best low =
-    is ∙ ap label_of (ap (onward c from r n 0) start ∙ onward-first c from r n ∙ best) ∙ omega (arith, low)

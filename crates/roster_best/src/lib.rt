@@ -15,8 +15,8 @@ mod search;
 mod workspace;
 
 pub use laws::offers_tell_the_allowed_rows;
-pub use offer::choices;
+pub use offer::{choices, request_cost};
 pub use roster_lanes::lower16;
 pub use roster_search::Offer;
 pub use search::{Best, best_row};
-pub use workspace::{BestFault, Workspace, most_steps};
+pub use workspace::{BestFault, Workspace, greatest_states, most_steps};

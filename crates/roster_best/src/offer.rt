@@ -119,7 +119,7 @@ fn offer_if(able: bool, lacking: u32, choice: Choice, price: u32) -> Option<Offe
 }
 
 /// The points for the nurse's requests of a day, by the shift that is worked then, if one is.
-fn request_cost(case: &Case, nurse: usize, day: u16, shift: Option<Shift>) -> u32
+pub fn request_cost(case: &Case, nurse: usize, day: u16, shift: Option<Shift>) -> u32
     requires { nurse < nurse_count case.now }
     ensures cost { result ≡ request_cost_on case.now nurse day shift }
     ensures within { result ≤ off_request_weight + wish_weight }

@@ -7,16 +7,14 @@ ghost use Rattle.roster_laws.specs.Greatest.{extension_count, greatest_state_cou
 ghost use Rattle.roster_best.specs.Workspaces.{fits_space};
 
 use roster_case::{Case, Choice};
-use roster_search::Pointers;
+use roster_search::Tables;
 use std::alloc::{AllocError, Global};
 use std::marker::Model;
 
-/// What a search for a best row writes into: two tables of labels, one for the states of the day at hand and one for those of the
-/// next, a pointer for each state and day, and one row. One workspace serves all nurses of a case, one after another.
+/// What a search for a best row writes into: the tables of the search, and one row. One workspace serves all nurses of a case, one after
+/// another.
 pub struct Workspace {
-    pub(crate) labels: Vec<u32>,
-    pub(crate) later: Vec<u32>,
-    pub(crate) pointers: Pointers,
+    pub(crate) tables: Tables,
     pub(crate) choices: Vec<Choice>,
     /// How many of the choices are those of the last best row: none before the first.
     pub(crate) filled: usize,
@@ -26,9 +24,7 @@ pub struct Workspace {
 impl Drop for Workspace {
     fn drop(self) {
         let Workspace {
-            labels: _,
-            later: _,
-            pointers: _,
+            tables: _,
             choices: _,
             filled: _,
         } = self;
@@ -36,14 +32,14 @@ impl Drop for Workspace {
 }
 
 impl Model for Workspace {
-    ghost use Rattle.std.specs.Prelude.{◌≡◌, ◌+◌, ◌≤◌, length, take};
+    ghost use Rattle.std.specs.Prelude.{◌≤◌, length, take};
     ghost use Rattle.roster_best.specs.Workspaces.{Space};
 
     ghost Value = { Space };
 
-    ghost view = { λ w. record { labels = length w.labels.items + length w.later.items; pointers = length w.pointers; room = length w.choices.items; row = take w.filled w.choices.items } };
+    ghost view = { λ w. record { labels = w.tables.labels; pointers = w.tables.pointers; room = length w.choices.items; row = take w.filled w.choices.items } };
 
-    ghost invariant = { λ w. (length w.labels.items ≡ length w.later.items) × (w.filled ≤ length w.choices.items) };
+    ghost invariant = { λ w. w.filled ≤ length w.choices.items };
 }
 
 /// Why there is no workspace.
@@ -78,9 +74,7 @@ impl Workspace {
         let states = greatest_states(case) as usize;
         let days = case.days() as usize;
         Ok(Workspace {
-            labels: vec![in alloc; 0; states]?,
-            later: vec![in alloc; 0; states]?,
-            pointers: Pointers::new(alloc, states * days)?,
+            tables: Tables::new(alloc, states, days)?,
             choices: vec![in alloc; Choice::Off; days]?,
             filled: 0,
         })
@@ -90,14 +84,14 @@ impl Workspace {
     pub fn labels(&self) -> usize
         ensures { result ≡ self.now.labels }
     {
-        self.labels.len() + self.later.len()
+        self.tables.labels()
     }
 
     /// How many pointers there are: one for each of these states and each day.
     pub fn pointers(&self) -> usize
         ensures { result ≡ self.now.pointers }
     {
-        self.pointers.len()
+        self.tables.pointers()
     }
 
     /// Whether the numbers of labels and pointers are those of the case, and a row of it has room.
@@ -120,7 +114,7 @@ impl Workspace {
 }
 
 /// The number of states of the nurse who has the most.
-fn greatest_states(case: &Case) -> u32
+pub fn greatest_states(case: &Case) -> u32
     ensures greatest { result ≡ greatest_state_count case.now }
     ensures within { result ≤ most_states }
 {

@@ -10,6 +10,7 @@ mod outcome;
 mod room;
 mod rounds;
 
+pub use log::{log_round, log_word};
 pub use nurse::step;
 pub use outcome::{LogFault, Outcome, Step};
 pub use room::most_extensions;

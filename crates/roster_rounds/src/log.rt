@@ -8,7 +8,7 @@ use roster_text::{Piece, Watch, WriteFault, send_pieces};
 use std::io::Write;
 
 /// A line of one word and the penalty.
-pub(crate) fn log_word<W: Write>(
+pub fn log_word<W: Write>(
     log: &mut Watch<W>,
     sent: usize,
     word: &[u8],
@@ -55,7 +55,7 @@ pub(crate) fn log_change<W: Write>(
 }
 
 /// The line of a round that is done.
-pub(crate) fn log_round<W: Write>(
+pub fn log_round<W: Write>(
     log: &mut Watch<W>,
     sent: usize,
     round: u16,

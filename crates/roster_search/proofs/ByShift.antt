@@ -13,12 +13,12 @@ use Rattle.roster_rules.specs.Choices.{shift_of}
 use Rattle.roster_rules.specs.Meaning.{Meaning, shift_at, shift_count, skill_at, skill_count}
 use Rattle.roster_rules.specs.Prefix.{Summary}
 use Rattle.roster_rules.specs.Rosters.{Rows}
-use Rattle.roster_laws.specs.OneRow.{is_offered}
+use Rattle.roster_laws.specs.OneRow.{is_offered, price}
 use Rattle.roster_state.specs.Step.{step_of}
 use Rattle.roster_search.specs.declared.offer.Offer.{Offer}
 use Rattle.roster_search.specs.Cheapest.{Priced, cheaper, cheapest, raised}
 use Rattle.roster_search.specs.ByStates.{best_after}
-use Rattle.roster_search.specs.Offers.{best_of_offers, cheapest_by_shift, dearer, in_front, offer_of, offer_step, same_shift, shift_offers}
+use Rattle.roster_search.specs.Offers.{best_of_offers, cheapest_by_shift, dearer, in_front, offer_at, offer_step, offers_by, same_shift, shift_offers}
 use Rattle.roster_search.proofs.Cheapest.{grouped, keeps_first, takes_second}
 
 -- ---- the same shift
@@ -190,10 +190,10 @@ grown_more s k x is (z ∷ zs) grown = go (alike x z) refl (cases_lt z.price x.p
     go true e (inl h) old = subst (Grown s k) (sym (front_second x z zs e h)) (inr (sym (same_is (shift x) (shift z) e) ∙ is, few))
     go true e (inr h) old = subst (Grown s k) (sym (front_first x z zs e h)) (inr (is, omega (arith, few)))
 
-module _ (c : Meaning) (from : ℕ) (r : Rows) (n d : ℕ) where
+module _ (c : Meaning) (offered : ℕ → Choice → Bool) (price : ℕ → Choice → ℕ) (d : ℕ) where
   -- what is offered of these choices
   abbrev among : List Choice → List Offer
-  among choices = map (offer_of c r n d) (filter (is_offered c from r n d) choices)
+  among choices = map (offer_at price d) (filter (offered d) choices)
 
   abbrev with_skills : ℕ → List ℕ → List Choice
   with_skills t skills = map (λ k. Work (shift_at t) (skill_at k)) skills
@@ -201,11 +201,11 @@ module _ (c : Meaning) (from : ℕ) (r : Rows) (n d : ℕ) where
   shift_grown : (t : ℕ) (skills : List ℕ) (others : List Choice) → Grown (Some (shift_at t)) (length (cheapest_by_shift (among others))) (cheapest_by_shift (among (with_skills t skills ++ others)))
   unfolding Grown cheapest_by_shift
   shift_grown t [] others = inl (omega arith)
-  shift_grown t (k ∷ skills) others = go (is_offered c from r n d (Work (shift_at t) (skill_at k))) (shift_grown t skills others)
+  shift_grown t (k ∷ skills) others = go (offered d (Work (shift_at t) (skill_at k))) (shift_grown t skills others)
     where
       go : (b : Bool) → Grown (Some (shift_at t)) (length (cheapest_by_shift (among others))) (cheapest_by_shift (among (with_skills t skills ++ others)))
-          → Grown (Some (shift_at t)) (length (cheapest_by_shift (among others))) (cheapest_by_shift (map (offer_of c r n d) (if b then Work (shift_at t) (skill_at k) ∷ filter (is_offered c from r n d) (with_skills t skills ++ others) else filter (is_offered c from r n d) (with_skills t skills ++ others))))
-      go true grown = grown_more (Some (shift_at t)) (length (cheapest_by_shift (among others))) (offer_of c r n d (Work (shift_at t) (skill_at k))) refl (cheapest_by_shift (among (with_skills t skills ++ others))) grown
+          → Grown (Some (shift_at t)) (length (cheapest_by_shift (among others))) (cheapest_by_shift (map (offer_at price d) (if b then Work (shift_at t) (skill_at k) ∷ filter (offered d) (with_skills t skills ++ others) else filter (offered d) (with_skills t skills ++ others))))
+      go true grown = grown_more (Some (shift_at t)) (length (cheapest_by_shift (among others))) (offer_at price d (Work (shift_at t) (skill_at k))) refl (cheapest_by_shift (among (with_skills t skills ++ others))) grown
       go false grown = grown
 
   shifts_few : (shifts skills : List ℕ) → length (cheapest_by_shift (among (flat_map (λ t. with_skills t skills) shifts))) ≤ length shifts
@@ -218,17 +218,20 @@ module _ (c : Meaning) (from : ℕ) (r : Rows) (n d : ℕ) where
   -- Off in front of the choices with a shift
   off_few : (work : List Choice) (k : ℕ) → length (cheapest_by_shift (among work)) ≤ k → length (cheapest_by_shift (among (Off ∷ work))) ≤ 1 + k
   unfolding cheapest_by_shift
-  off_few work k few = go (is_offered c from r n d Off)
+  off_few work k few = go (offered d Off)
     where
-      go : (b : Bool) → length (cheapest_by_shift (map (offer_of c r n d) (if b then Off ∷ filter (is_offered c from r n d) work else filter (is_offered c from r n d) work))) ≤ 1 + k
-      go true = omega (arith, front_few (offer_of c r n d Off) (cheapest_by_shift (among work)), few)
+      go : (b : Bool) → length (cheapest_by_shift (map (offer_at price d) (if b then Off ∷ filter (offered d) work else filter (offered d) work))) ≤ 1 + k
+      go true = omega (arith, front_few (offer_at price d Off) (cheapest_by_shift (among work)), few)
       go false = omega (arith, few)
 
-  pub by_shift_few : length (shift_offers c from r n d) ≤ 1 + shift_count c
-  by_shift_few =
+  pub by_shift_few_of : length (cheapest_by_shift (offers_by c offered price d)) ≤ 1 + shift_count c
+  by_shift_few_of =
       let shifts : List ℕ = range_with_len 0 (shift_count c) in
       let skills : List ℕ = range_with_len 0 (skill_count c) in
       off_few (flat_map (λ t. with_skills t skills) shifts) (shift_count c) (omega (arith, shifts_few shifts skills, length-range_with_len 0 (shift_count c)))
+
+pub by_shift_few : (c : Meaning) (from : ℕ) (r : Rows) (n d : ℕ) → length (shift_offers c from r n d) ≤ 1 + shift_count c
+by_shift_few c from r n d = by_shift_few_of c (is_offered c from r n) (price c r n) d
 
 -- ---- one offer more after them
 

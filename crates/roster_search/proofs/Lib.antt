@@ -1,6 +1,7 @@
 pub mod Cheapest
 pub mod RowsByStates
 pub mod RowCosts
+pub mod ByOffers
 pub mod Best
 pub mod LabelLaws
 pub mod CellLaws
@@ -8,7 +9,6 @@ pub mod BlockLaws
 pub mod ReadLaws
 pub mod OfferLaws
 pub mod ByShift
-pub mod BestRoom
 pub mod PartLaws
 pub mod HalfLaws
 pub mod StandLaws
@@ -16,3 +16,5 @@ pub mod GroupLaws
 pub mod DayLaws
 pub mod StretchLaws
 pub mod CountLaws
+pub mod SearchLaws
+pub mod LowRows

@@ -13,7 +13,7 @@ use Rattle.roster_rules.specs.declared.Skill.{Skill}
 use Rattle.roster_rules.specs.Choices.{all_choices, days_of, same_choice, shift_of}
 use Rattle.roster_rules.specs.AllowedRows.{is_frozen, keeps_frozen_day}
 use Rattle.roster_rules.specs.Counting.{one_if, sum_below}
-use Rattle.roster_rules.specs.HardRules.{breaks_succession, keeps_hard}
+use Rattle.roster_rules.specs.HardRules.{breaks_succession, is_able, keeps_hard}
 use Rattle.roster_rules.specs.Limits.{most_shifts, most_skills, most_small}
 use Rattle.roster_rules.specs.Meaning.{Meaning, day_count, nurse_at, nurse_count, optimum, shift_at, shift_count, skill_at, skill_count}
 use Rattle.roster_rules.specs.Penalties.{breaks_off_request, meets_wishes}
@@ -31,7 +31,7 @@ use Rattle.roster_laws.proofs.Keeps.{keeps_hard-with_row}
 use Rattle.roster_laws.proofs.AllRows.{count-below, count-choices, count-cons, count-map, count-none, member_is_choice}
 use Rattle.roster_laws.proofs.Frozen.{frozen_is}
 use Rattle.roster_laws.proofs.SameRows.{same_choice_is, same_choice_self}
-use Rattle.roster_search.specs.Offers.{offer_of, offers_of, open_offers}
+use Rattle.roster_search.specs.Offers.{offer_at, offer_of, offers_by, offers_of, open_offers}
 use Rattle.roster_search.specs.Tables.{IsOfferOf, most_price}
 
 -- ---- how many pass a test
@@ -87,40 +87,42 @@ module _ (c : Meaning) where
   choice_counted p x of_case passed =
       omega (arith, count-fewer (same_choice x) p (λ y same. ap p (sym (same_choice_is x y same)) ∙ passed) (all_choices c), count-choices c x, ap one_if of_case)
 
-module _ (c : Meaning) (from : ℕ) (r : Rows) (n d : ℕ) where
-  -- an offered choice has one of the nurse's skills
-  able : (s k : ℕ) → is_offered c from r n d (Work (shift_at s) (skill_at k)) ≡ true → list_any (λ x. x.0 == k) (nurse_at c n).skills ≡ true
-  able s k e =
-      let x : Choice = Work (shift_at s) (skill_at k) in
-      let own : Bool = list_any (λ skill. skill.0 == k) (nurse_at c n).skills in
-      let met : Bool = meets c d (with_choice (others r n d) x) in
-      (and_parts own met (and_parts (own && met) (keeps_frozen_day from r n d x) e).0).0
-
-  pub offers_few : length (offers_of c from r n d) ≤ choice_count c n
+-- where only what the nurse is able to do is offered
+module _ (c : Meaning) (n : ℕ) (offered : ℕ → Choice → Bool) (price : ℕ → Choice → ℕ) (able : (d : ℕ) (x : Choice) → offered d x ≡ true → is_able (nurse_at c n).skills x ≡ true) (d : ℕ) where
+  pub offers_few_of : length (offers_by c offered price d) ≤ choice_count c n
   unfolding choice_count
-  offers_few =
-      let offered : Choice → Bool = is_offered c from r n d in
+  offers_few_of =
       let own : List Skill = (nurse_at c n).skills in
       let skills : List ℕ = range_with_len 0 (skill_count c) in
       let shifts : List ℕ = range_with_len 0 (shift_count c) in
       let of_shift : ℕ → List Choice = λ s. map (λ k. Work (shift_at s) (skill_at k)) skills in
-      let few : (s : ℕ) → count_by offered (of_shift s) ≤ length own = λ s.
+      let few : (s : ℕ) → count_by (offered d) (of_shift s) ≤ length own = λ s.
       omega (
         arith,
-        count-map offered (λ k. offered (Work (shift_at s) (skill_at k))) (λ k. Work (shift_at s) (skill_at k)) (λ k. refl) skills,
-        count-fewer (λ k. offered (Work (shift_at s) (skill_at k))) (λ k. list_any (λ x. x.0 == k) own)
-            (able s) skills,
+        count-map (offered d) (λ k. offered d (Work (shift_at s) (skill_at k))) (λ k. Work (shift_at s) (skill_at k)) (λ k. refl) skills,
+        count-fewer (λ k. offered d (Work (shift_at s) (skill_at k))) (λ k. list_any (λ x. x.0 == k) own) (λ k e. able d (Work (shift_at s) (skill_at k)) e) skills,
         skills_few (skill_count c) own,
       ) in
       omega (
         arith,
-        length-map (filter offered (all_choices c)) (offer_of c r n d),
-        length-filter offered (all_choices c),
-        count-cons offered Off (flat_map of_shift shifts),
-        one_at_most (offered Off),
-        count-flat_few offered of_shift (length own) few shifts,
+        length-map (filter (offered d) (all_choices c)) (offer_at price d),
+        length-filter (offered d) (all_choices c),
+        count-cons (offered d) Off (flat_map of_shift shifts),
+        one_at_most (offered d Off),
+        count-flat_few (offered d) of_shift (length own) few shifts,
         ap (λ m. m * length own) (length-range_with_len 0 (shift_count c)),
       )
+
+-- an offered choice is one that the nurse is able to do
+offered_able : (c : Meaning) (from : ℕ) (r : Rows) (n d : ℕ) (x : Choice) → is_offered c from r n d x ≡ true → is_able (nurse_at c n).skills x ≡ true
+offered_able c from r n d x e =
+    let able : Bool = is_able (nurse_at c n).skills x in
+    let met : Bool = meets c d (with_choice (others r n d) x) in
+    (and_parts able met (and_parts (able && met) (keeps_frozen_day from r n d x) e).0).0
+
+module _ (c : Meaning) (from : ℕ) (r : Rows) (n d : ℕ) where
+  pub offers_few : length (offers_of c from r n d) ≤ choice_count c n
+  offers_few = offers_few_of c n (is_offered c from r n) (price c r n) (offered_able c from r n) d
 
   module _ (small : HasSmallNumbers c) (shifts : shift_count c ≤ most_shifts) (skills : skill_count c ≤ most_skills) where
     staffing_within : (have : ℕ → ℕ → ℕ) → staffing_cost_by c d have ≤ most_shifts * most_skills * staffing_weight * most_small

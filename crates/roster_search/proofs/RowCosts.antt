@@ -11,16 +11,15 @@ use Rattle.roster_rules.specs.HardRules.{breaks_succession, shift_before}
 use Rattle.roster_rules.specs.Meaning.{Meaning, forbids, last_shift, past_of}
 use Rattle.roster_rules.specs.Penalties.{own_cost}
 use Rattle.roster_rules.specs.Prefix.{Summary, due, last_of, summary_of}
-use Rattle.roster_rules.specs.Rosters.{Row, Rows, choice_on}
+use Rattle.roster_rules.specs.Rosters.{Row, choice_on}
 use Rattle.roster_rules.proofs.DayMore.{shift_before_it, shift_of_it}
 use Rattle.roster_rules.proofs.RunSums.{sum_same}
-use Rattle.roster_laws.specs.OneRow.{is_offered, is_offered_row, price, prices}
 use Rattle.roster_laws.proofs.Below.{all_same}
 use Rattle.roster_state.specs.Step.{end_cost_of, next_of, step_cost}
 use Rattle.roster_state.proofs.SumLaw.{closes, next_is, owed_more}
 use Rattle.roster_search.specs.ByStates.{Steps, cost_after, cost_from}
 use Rattle.roster_search.specs.Cheapest.{plus}
-use Rattle.roster_search.specs.Offers.{dearer, offer_of, offer_step}
+use Rattle.roster_search.specs.Offers.{dearer, offer_at, offer_step, offered_row_by, row_prices_by}
 use Rattle.roster_search.proofs.Cheapest.{plus_twice}
 
 -- a step that is made where two tests allow it
@@ -36,17 +35,23 @@ shift_before_more : (last : Option Shift) (days : Days) (s : Option Shift) (d : 
 shift_before_more last days s zero h = refl
 shift_before_more last days s (suc d) h = ap (λ t. if suc d == 0 then last else t) (shift_before_it days s (suc d - 1) (omega arith))
 
-module _ (c : Meaning) (from : ℕ) (r : Rows) (n : ℕ) where
+module _ (c : Meaning) (n : ℕ) (offered : ℕ → Choice → Bool) (price : ℕ → Choice → ℕ) where
+  abbrev offered_row : Row → ℕ → Bool
+  offered_row = offered_row_by c n offered
+
+  abbrev row_prices : Row → ℕ
+  row_prices = row_prices_by price
+
   -- the nurse's step with a choice, where it is offered
   abbrev pub choice_step : Steps Summary Choice
-  choice_step d s x = if is_offered c from r n d x then offer_step c n d s (offer_of c r n d x) else None
+  choice_step d s x = if offered d x then offer_step c n d s (offer_at price d x) else None
 
   -- what the first days of a row owe, and what a whole row costs its nurse and the staffing
   abbrev pub owed : Row → ℕ
-  owed row = due c n (days_of row) + prices c r n row
+  owed row = due c n (days_of row) + row_prices row
 
   abbrev pub row_costs : Row → Option ℕ
-  row_costs row = if is_offered_row c from r n row (length row) then Some (own_cost c n (days_of row) + prices c r n row) else None
+  row_costs row = if offered_row row (length row) then Some (own_cost c n (days_of row) + row_prices row) else None
 
   -- ---- a row with one day more
 
@@ -69,25 +74,25 @@ module _ (c : Meaning) (from : ℕ) (r : Rows) (n : ℕ) where
   breaks_here days s = λ i. forbids c.successions (shift_before_more (last_shift (past_of c n).border) days s (length days) (omega arith) i) (shift_of_it days s i)
 
   abbrev rule : Row → ℕ → Bool
-  rule p d = is_offered c from r n d (choice_on p d) && not (breaks_succession c n (days_of p) d)
+  rule p d = offered d (choice_on p d) && not (breaks_succession c n (days_of p) d)
 
-  offered_more : (p : Row) (x : Choice) → is_offered_row c from r n (p ++ x ∷ []) (length (p ++ x ∷ [])) ≡ (is_offered_row c from r n p (length p) && (is_offered c from r n (length p) x && not (forbids c.successions (summary_of c n (days_of p)).last (shift_of x))))
+  offered_more : (p : Row) (x : Choice) → offered_row (p ++ x ∷ []) (length (p ++ x ∷ [])) ≡ (offered_row p (length p) && (offered (length p) x && not (forbids c.successions (summary_of c n (days_of p)).last (shift_of x))))
   unfolding summary_of
   offered_more p x =
       let q : Row = p ++ x ∷ [] in
       let m : length (days_of p) ≡ length p = length-map p shift_of in
       ap (λ m. all_below m (rule q)) (longer p x)
       ∙ ap₂ (λ a b. a && b)
-      (all_same (length p) (rule q) (rule p) (λ d h. ap₂ (λ a b. a && b) (ap (is_offered c from r n d) (before p x d h)) (ap not (ap (λ days. breaks_succession c n days d) (days_more p x) ∙ breaks_before (days_of p) (shift_of x) d (omega arith)))))
-      (ap₂ (λ a b. a && b) (ap (is_offered c from r n (length p)) (here p x)) (ap not (ap₂ (breaks_succession c n) (days_more p x) (sym m) ∙ breaks_here (days_of p) (shift_of x))))
+      (all_same (length p) (rule q) (rule p) (λ d h. ap₂ (λ a b. a && b) (ap (offered d) (before p x d h)) (ap not (ap (λ days. breaks_succession c n days d) (days_more p x) ∙ breaks_before (days_of p) (shift_of x) d (omega arith)))))
+      (ap₂ (λ a b. a && b) (ap (offered (length p)) (here p x)) (ap not (ap₂ (breaks_succession c n) (days_more p x) (sym m) ∙ breaks_here (days_of p) (shift_of x))))
 
-  prices_more : (p : Row) (x : Choice) → prices c r n (p ++ x ∷ []) ≡ prices c r n p + price c r n (length p) x
+  prices_more : (p : Row) (x : Choice) → row_prices (p ++ x ∷ []) ≡ row_prices p + price (length p) x
   prices_more p x =
       let q : Row = p ++ x ∷ [] in
-      ap (λ m. sum_below m (λ d. price c r n d (choice_on q d))) (longer p x)
-      ∙ ap₂ (λ a b. a + b) (sum_same (length p) (λ d. price c r n d (choice_on q d)) (λ d. price c r n d (choice_on p d)) (λ d h. ap (price c r n d) (before p x d h))) (ap (price c r n (length p)) (here p x))
+      ap (λ m. sum_below m (λ d. price d (choice_on q d))) (longer p x)
+      ∙ ap₂ (λ a b. a + b) (sum_same (length p) (λ d. price d (choice_on q d)) (λ d. price d (choice_on p d)) (λ d h. ap (price d) (before p x d h))) (ap (price (length p)) (here p x))
 
-  owed_with : (p : Row) (x : Choice) → owed (p ++ x ∷ []) ≡ owed p + (price c r n (length p) x + step_cost c n (length p) (summary_of c n (days_of p)) (shift_of x))
+  owed_with : (p : Row) (x : Choice) → owed (p ++ x ∷ []) ≡ owed p + (price (length p) x + step_cost c n (length p) (summary_of c n (days_of p)) (shift_of x))
   owed_with p x =
       let more : due c n (days_of (p ++ x ∷ [])) ≡ due c n (days_of p) + step_cost c n (length p) (summary_of c n (days_of p)) (shift_of x) =
       ap (due c n) (days_more p x) ∙ owed_more c n (days_of p) (shift_of x) ∙ ap (λ m. due c n (days_of p) + step_cost c n m (summary_of c n (days_of p)) (shift_of x)) (length-map p shift_of) in
@@ -99,14 +104,14 @@ module _ (c : Meaning) (from : ℕ) (r : Rows) (n : ℕ) where
 
   -- ---- the rest of a row, from the state after its first days on
 
-  pub costs_by_states : (rest p : Row) → row_costs (p ++ rest) ≡ (if is_offered_row c from r n p (length p) then plus (owed p) (cost_from choice_step (end_cost_of c n) (length p) (summary_of c n (days_of p)) rest) else None)
+  pub costs_by_states : (rest p : Row) → row_costs (p ++ rest) ≡ (if offered_row p (length p) then plus (owed p) (cost_from choice_step (end_cost_of c n) (length p) (summary_of c n (days_of p)) rest) else None)
   costs_by_states [] p =
-      let all : own_cost c n (days_of p) + prices c r n p ≡ owed p + end_cost_of c n (summary_of c n (days_of p)) = omega (arith, closes c n (days_of p)) in
-      ap row_costs (append-nil p) ∙ (λ i. if is_offered_row c from r n p (length p) then Some (all i) else None)
+      let all : own_cost c n (days_of p) + row_prices p ≡ owed p + end_cost_of c n (summary_of c n (days_of p)) = omega (arith, closes c n (days_of p)) in
+      ap row_costs (append-nil p) ∙ (λ i. if offered_row p (length p) then Some (all i) else None)
   costs_by_states (x ∷ rest) p =
       let s : Summary = summary_of c n (days_of p) in
       ap row_costs (sym (append_assoc p (x ∷ []) rest))
       ∙ costs_by_states rest (p ++ x ∷ [])
       ∙ (λ i. if offered_more p x i then plus (owed_with p x i) (cost_from choice_step (end_cost_of c n) (longer p x i) (summary_with p x i) rest) else None)
-      ∙ one_step (is_offered_row c from r n p (length p)) (is_offered c from r n (length p) x) (forbids c.successions s.last (shift_of x)) (owed p) (price c r n (length p) x) (step_cost c n (length p) s (shift_of x)) (next_of c n (length p) s (shift_of x))
+      ∙ one_step (offered_row p (length p)) (offered (length p) x) (forbids c.successions s.last (shift_of x)) (owed p) (price (length p) x) (step_cost c n (length p) s (shift_of x)) (next_of c n (length p) s (shift_of x))
       (λ t. cost_from choice_step (end_cost_of c n) (suc (length p)) t rest)

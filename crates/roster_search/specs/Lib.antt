@@ -4,3 +4,4 @@ pub mod Offers
 pub mod Tables
 pub mod Counts
 pub mod Halves
+pub mod Search

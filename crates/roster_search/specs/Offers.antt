@@ -1,18 +1,49 @@
 -- What is offered to a nurse, each choice with its price, and the search over it from state to state (our own).
-use Rattle.std.specs.Prelude.{ℕ, ◌+◌, ◌==◌, Bool, true, false, nat_lt, if◌then◌else◌, List, [], ◌∷◌, filter, map, Option, Some, None, option_map}
+use Rattle.std.specs.Prelude.{ℕ, ◌+◌, ◌==◌, ◌&&◌, Bool, true, false, not, nat_lt, if◌then◌else◌, List, [], ◌∷◌, filter, length, map, Option, Some, None, option_map}
 use Rattle.roster_rules.specs.declared.Choice.{Choice}
 use Rattle.roster_rules.specs.declared.Shift.{Shift}
-use Rattle.roster_rules.specs.Choices.{all_choices, shift_of}
+use Rattle.roster_rules.specs.Choices.{all_choices, all_rows, days_of, shift_of}
+use Rattle.roster_rules.specs.Counting.{all_below, sum_below}
+use Rattle.roster_rules.specs.HardRules.{breaks_succession}
 use Rattle.roster_rules.specs.Meaning.{Meaning, day_count}
+use Rattle.roster_rules.specs.Penalties.{own_cost}
 use Rattle.roster_rules.specs.Prefix.{Summary, summary_of}
-use Rattle.roster_rules.specs.Rosters.{Row, Rows}
+use Rattle.roster_rules.specs.Rosters.{Row, Rows, choice_on}
 use Rattle.roster_laws.specs.OneRow.{is_offered, is_open, price}
 use Rattle.roster_state.specs.Step.{end_cost_of, step_of}
 use Rattle.roster_search.specs.declared.offer.Offer.{Offer}
 use Rattle.roster_search.specs.Cheapest.{Priced}
 use Rattle.roster_search.specs.ByStates.{Steps, best_from}
 
+-- ---- whatever is offered on each day, and at whatever prices
+
 -- a choice with its price on a day
+abbrev pub offer_at : (ℕ → Choice → ℕ) → ℕ → Choice → Offer
+offer_at price d choice = record { choice = choice; price = price d choice }
+
+-- the offers of a day
+abbrev pub offers_by : Meaning → (ℕ → Choice → Bool) → (ℕ → Choice → ℕ) → ℕ → List Offer
+offers_by c offered price d = map (offer_at price d) (filter (offered d) (all_choices c))
+
+-- each of a row's first choices is offered on its day, and may follow the one before it, the first one the history's last shift
+abbrev pub offered_row_by : Meaning → ℕ → (ℕ → Choice → Bool) → Row → ℕ → Bool
+offered_row_by c n offered row m = all_below m (λ d. offered d (choice_on row d) && not (breaks_succession c n (days_of row) d))
+
+-- the rows of the case of which each choice is offered, in order
+abbrev pub offered_rows : Meaning → ℕ → (ℕ → Choice → Bool) → List Row
+offered_rows c n offered = filter (λ row. offered_row_by c n offered row (day_count c)) (all_rows (all_choices c) (day_count c))
+
+-- the prices of a row's choices on their days, together
+abbrev pub row_prices_by : (ℕ → Choice → ℕ) → Row → ℕ
+row_prices_by price row = sum_below (length row) (λ d. price d (choice_on row d))
+
+-- what a row costs: its prices, and what the nurse's own rules cost along it
+abbrev pub row_cost_at : Meaning → ℕ → (ℕ → Choice → ℕ) → Row → ℕ
+row_cost_at c n price row = own_cost c n (days_of row) + row_prices_by price row
+
+-- ---- what is offered while the other nurses' rows stay
+
+-- a choice with its price on a day: that day's staffing with it, and the nurse's own requests
 abbrev pub offer_of : Meaning → Rows → ℕ → ℕ → Choice → Offer
 offer_of c r n d choice = record { choice = choice; price = price c r n d choice }
 

@@ -1,18 +1,20 @@
 //! The best row is found from state to state. The functions here do nothing: each is a law, and its clauses say it.
 
-ghost use Rattle.std.specs.Prelude.{◌≡◌, ◌+◌, ◌<◌, ◌≤◌, ℕ, true, false, [], ◌∷◌, All, Contains, List, IsSome, Some, length};
-ghost use Rattle.roster_rules.specs.AllowedRows.{IsBestRow, is_frozen, penalty_with};
+ghost use Rattle.std.specs.Prelude.{◌≡◌, ◌+◌, ◌<◌, ◌≤◌, ℕ, Bool, true, false, [], ◌∷◌, All, Contains, List, IsSome, Some, length};
+ghost use Rattle.roster_rules.specs.declared.Choice.{Choice};
+ghost use Rattle.roster_rules.specs.AllowedRows.{IsBestRow, IsFirstLeast, is_frozen, penalty_with};
 ghost use Rattle.roster_rules.specs.HardRules.{keeps_hard};
 ghost use Rattle.roster_rules.specs.Limits.{most_shifts, most_skills, most_weeks};
 ghost use Rattle.roster_rules.specs.Meaning.{Meaning, day_count, nurse_count, shift_count, skill_count, week_count};
 ghost use Rattle.roster_rules.specs.Prefix.{Summary, due};
-ghost use Rattle.roster_rules.specs.Rosters.{Rows, choice_on, fits_case, row_of};
+ghost use Rattle.roster_rules.specs.Rosters.{Row, Rows, choice_on, fits_case, row_of};
 ghost use Rattle.roster_rules.specs.Sizes.{choice_count};
 ghost use Rattle.roster_rules.specs.Small.{HasSmallNumbers};
 ghost use Rattle.roster_laws.specs.OneRow.{rest_of};
 ghost use Rattle.roster_search.specs.ByStates.{Steps, best_from, cost_from, rows_from};
 ghost use Rattle.roster_search.specs.Cheapest.{cheapest, with_cost};
-ghost use Rattle.roster_search.specs.Offers.{best_by_states, best_of_offers, cheapest_by_shift, choices_of, offer_of, offers_of, open_offers, shift_offers};
+ghost use Rattle.roster_search.specs.Offers.{best_by_states, best_of_offers, cheapest_by_shift, choices_of, offer_of, offered_rows, offers_by, offers_of, open_offers, row_cost_at, shift_offers};
+ghost use Rattle.roster_search.specs.Search.{best_over};
 ghost use Rattle.roster_search.specs.Tables.{IsOfferOf, no_row};
 ghost use Rattle.roster_search.specs.declared.offer.Offer.{Offer};
 
@@ -20,6 +22,16 @@ ghost use Rattle.roster_search.specs.declared.offer.Offer.{Offer};
 /// cost, whatever the offers, the steps and the end are.
 pub fn cheapest_row_is_found_by_states()
     ensures { (offers : ℕ → List Offer) (step : Steps Summary Offer) (finish : Summary → ℕ) (m d : ℕ) (s : Summary) → cheapest (λ row. with_cost row (cost_from step finish d s row)) (rows_from offers m d) ≡ best_from offers step finish m d s }
+{}
+
+/// Whatever a nurse is offered on each day, at whatever prices: where a row of the case has each choice offered on its day and keeps the
+/// successions, also after the history's last shift, the search over a table of offers, one for each shift, gives a row. It is the first
+/// of the cheapest of those rows, and what it costs, its prices and what the nurse's own rules cost along it, is what the start owes and
+/// the cost that the search gives.
+pub fn cheapest_offered_row_is_found()
+    ensures some { (c : Meaning) (n : ℕ) (offered : ℕ → Choice → Bool) (price : ℕ → Choice → ℕ) (row : Row) → Contains (offered_rows c n offered) row → IsSome (best_over c n (λ d. cheapest_by_shift (offers_by c offered price d))) }
+    ensures least { (c : Meaning) (n : ℕ) (offered : ℕ → Choice → Bool) (price : ℕ → Choice → ℕ) (cost : ℕ) (offers : List Offer) → best_over c n (λ d. cheapest_by_shift (offers_by c offered price d)) ≡ Some (cost, offers) → IsFirstLeast (row_cost_at c n price) (offered_rows c n offered) (choices_of offers) }
+    ensures cost { (c : Meaning) (n : ℕ) (offered : ℕ → Choice → Bool) (price : ℕ → Choice → ℕ) (cost : ℕ) (offers : List Offer) → best_over c n (λ d. cheapest_by_shift (offers_by c offered price d)) ≡ Some (cost, offers) → row_cost_at c n price (choices_of offers) ≡ due c n [] + cost }
 {}
 
 /// For a roster that fits the case and keeps the hard rules, the search over a nurse's offers gives a row. It is the nurse's best

@@ -11,6 +11,11 @@ use Rattle.roster_search.proofs.CellLaws.{outside_then, outside_wider, room_for_
 use Rattle.roster_search.proofs.CountLaws.{exactly_more, exactly_on, sum_begun, sum_ended, sum_more}
 use Rattle.roster_search.proofs.DayLaws.{FewRuns, before_all, before_first_run, before_first_shift_run, after_last_run, after_last_shift_run, cells_grouped, counted_on, done_skipped, few_of, group_digit, group_end, group_fits, group_key, group_number, groups, key_of, last_more, number_all, number_up, number_within, of_group, run_more, span_same}
 use Rattle.roster_search.proofs.labels.label_day.Goals as goal
+use Rattle.roster_search.proofs.labels.label_day.Goals.{After-shift_run-shift_runs}
+
+-- the runs are few
+few_here : (g : _) (c : After-shift_run-shift_runs g) → FewRuns (sizes_of c.args.day.now.case.now c.args.day.now.at.nurse)
+few_here g c = few_of c.args.day.now.at.ranges (sizes_of c.args.day.now.case.now c.args.day.now.at.nurse) c.run-runs.result c.shift_run-shift_runs.result c.requires.0.day.ranges c.run-runs.ensures.run c.run-runs.ensures.within c.shift_run-shift_runs.ensures.shift_run c.shift_run-shift_runs.ensures.within
 
 pub loop-last-init : goal.loop-last-init
 loop-last-init g c = record {
@@ -36,7 +41,7 @@ loop-run-init g c =
     let offers = c.args.day.now.offers.now in
     let r = c.requires in
     let last = c.loop-last.last in
-    let few : FewRuns (sizes_of k n) = few_of z (sizes_of k n) c.run-runs.result c.shift_run-shift_runs.result r.0.day.ranges c.run-runs.ensures.run c.run-runs.ensures.within c.shift_run-shift_runs.ensures.shift_run c.shift_run-shift_runs.ensures.within in
+    let few = few_here g (goal.at.loop-run-init g c).After-shift_run-shift_runs in
     let area = c.area_of-area.ensures ∙ ap (λ (x : List Area). area_at x last) (sym r.1.0) in
     let runs_size : c.run-runs.result ≡ (sizes_of k n).run = c.run-runs.ensures.run ∙ ap (λ (y : Sizes). y.run) r.0.day.ranges in
     let order = c.below-first_run.ensures.order in
@@ -64,7 +69,7 @@ loop-shift_run-init g c =
     let offers = c.args.day.now.offers.now in
     let r = c.requires in
     let last = c.loop-last.last in
-    let few : FewRuns (sizes_of k n) = few_of z (sizes_of k n) c.run-runs.result c.shift_run-shift_runs.result r.0.day.ranges c.run-runs.ensures.run c.run-runs.ensures.within c.shift_run-shift_runs.ensures.shift_run c.shift_run-shift_runs.ensures.within in
+    let few = few_here g (goal.at.loop-shift_run-init g c).After-shift_run-shift_runs in
     let area = c.area_of-area.ensures ∙ ap (λ (x : List Area). area_at x last) (sym r.1.0) in
     let shift_runs_size : c.shift_run-shift_runs.result ≡ (sizes_of k n).shift_run = c.shift_run-shift_runs.ensures.shift_run ∙ ap (λ (y : Sizes). y.shift_run) r.0.day.ranges in
     let run = c.loop-run.run in
@@ -89,14 +94,11 @@ loop-shift_run-init g c =
 
 pub label_group-requires : goal.label_group-requires
 label_group-requires g c =
-    let k = c.args.day.now.case.now in
     let at = c.args.day.now.at in
-    let n = at.nurse in
     let z = at.ranges in
     let offers = c.args.day.now.offers.now in
     let r = c.requires in
     let last = c.loop-last.last in
-    let few : FewRuns (sizes_of k n) = few_of z (sizes_of k n) c.run-runs.result c.shift_run-shift_runs.result r.0.day.ranges c.run-runs.ensures.run c.run-runs.ensures.within c.shift_run-shift_runs.ensures.shift_run c.shift_run-shift_runs.ensures.within in
     let area = c.area_of-area.ensures ∙ ap (λ (x : List Area). area_at x last) (sym r.1.0) in
     let run = c.loop-run.run in
     let shift_run = c.loop-shift_run.shift_run in
@@ -127,7 +129,7 @@ loop-shift_run-preserved g c =
     let offers = c.args.day.now.offers.now in
     let r = c.requires in
     let last = c.loop-last.last in
-    let few : FewRuns (sizes_of k n) = few_of z (sizes_of k n) c.run-runs.result c.shift_run-shift_runs.result r.0.day.ranges c.run-runs.ensures.run c.run-runs.ensures.within c.shift_run-shift_runs.ensures.shift_run c.shift_run-shift_runs.ensures.within in
+    let few = few_here g (goal.at.loop-shift_run-preserved g c).After-shift_run-shift_runs in
     let run = c.loop-run.run in
     let few_runs : run < 1000 = omega (arith, c.loop-run-test.true, c.below-first_run.ensures.order, c.run-runs.ensures.within) in
     let shift_run = c.loop-shift_run.shift_run in
@@ -188,7 +190,7 @@ loop-run-preserved g c =
     let offers = c.args.day.now.offers.now in
     let r = c.requires in
     let last = c.loop-last.last in
-    let few : FewRuns (sizes_of k n) = few_of z (sizes_of k n) c.run-runs.result c.shift_run-shift_runs.result r.0.day.ranges c.run-runs.ensures.run c.run-runs.ensures.within c.shift_run-shift_runs.ensures.shift_run c.shift_run-shift_runs.ensures.within in
+    let few = few_here g (goal.at.loop-run-preserved g c).After-shift_run-shift_runs in
     let area = c.area_of-area.ensures ∙ ap (λ (x : List Area). area_at x last) (sym r.1.0) in
     let shift_runs_size : c.shift_run-shift_runs.result ≡ (sizes_of k n).shift_run = c.shift_run-shift_runs.ensures.shift_run ∙ ap (λ (y : Sizes). y.shift_run) r.0.day.ranges in
     let run = c.loop-run.run in
@@ -224,7 +226,7 @@ loop-last-preserved g c =
     let offers = c.args.day.now.offers.now in
     let r = c.requires in
     let last = c.loop-last.last in
-    let few : FewRuns (sizes_of k n) = few_of z (sizes_of k n) c.run-runs.result c.shift_run-shift_runs.result r.0.day.ranges c.run-runs.ensures.run c.run-runs.ensures.within c.shift_run-shift_runs.ensures.shift_run c.shift_run-shift_runs.ensures.within in
+    let few = few_here g (goal.at.loop-last-preserved g c).After-shift_run-shift_runs in
     let area = c.area_of-area.ensures ∙ ap (λ (x : List Area). area_at x last) (sym r.1.0) in
     let runs_size : c.run-runs.result ≡ (sizes_of k n).run = c.run-runs.ensures.run ∙ ap (λ (y : Sizes). y.run) r.0.day.ranges in
     let to = c.loop-run.run in
@@ -251,11 +253,9 @@ returns-clause-labels g c s stands =
     let k = c.args.day.now.case.now in
     let at = c.args.day.now.at in
     let n = at.nurse in
-    let z = at.ranges in
-    let offers = c.args.day.now.offers.now in
     let r = c.requires in
     let last = c.loop-last.last in
-    let few : FewRuns (sizes_of k n) = few_of z (sizes_of k n) c.run-runs.result c.shift_run-shift_runs.result r.0.day.ranges c.run-runs.ensures.run c.run-runs.ensures.within c.shift_run-shift_runs.ensures.shift_run c.shift_run-shift_runs.ensures.within in
+    let few = few_here g (goal.at.returns-clause-labels g c).After-shift_run-shift_runs in
     c.loop-last.invariant.done.labels s (stands, before_all k n g.rest.here few s stands last (omega (arith, c.loop-last-test.false, c.last-last-end.ensures.last, ap (λ (y : Sizes). y.last) r.0.day.ranges)))
 
 pub returns-clause-pointers : goal.returns-clause-pointers
@@ -263,11 +263,9 @@ returns-clause-pointers g c s stands =
     let k = c.args.day.now.case.now in
     let at = c.args.day.now.at in
     let n = at.nurse in
-    let z = at.ranges in
-    let offers = c.args.day.now.offers.now in
     let r = c.requires in
     let last = c.loop-last.last in
-    let few : FewRuns (sizes_of k n) = few_of z (sizes_of k n) c.run-runs.result c.shift_run-shift_runs.result r.0.day.ranges c.run-runs.ensures.run c.run-runs.ensures.within c.shift_run-shift_runs.ensures.shift_run c.shift_run-shift_runs.ensures.within in
+    let few = few_here g (goal.at.returns-clause-pointers g c).After-shift_run-shift_runs in
     c.loop-last.invariant.done.pointers s (stands, before_all k n g.rest.here few s stands last (omega (arith, c.loop-last-test.false, c.last-last-end.ensures.last, ap (λ (y : Sizes). y.last) r.0.day.ranges)))
 
 pub returns-clause-some : goal.returns-clause-some
@@ -275,11 +273,9 @@ returns-clause-some g c offered s stands =
     let k = c.args.day.now.case.now in
     let at = c.args.day.now.at in
     let n = at.nurse in
-    let z = at.ranges in
-    let offers = c.args.day.now.offers.now in
     let r = c.requires in
     let last = c.loop-last.last in
-    let few : FewRuns (sizes_of k n) = few_of z (sizes_of k n) c.run-runs.result c.shift_run-shift_runs.result r.0.day.ranges c.run-runs.ensures.run c.run-runs.ensures.within c.shift_run-shift_runs.ensures.shift_run c.shift_run-shift_runs.ensures.within in
+    let few = few_here g (goal.at.returns-clause-some g c).After-shift_run-shift_runs in
     c.loop-last.invariant.done.some offered s stands (before_all k n g.rest.here few s stands last (omega (arith, c.loop-last-test.false, c.last-last-end.ensures.last, ap (λ (y : Sizes). y.last) r.0.day.ranges)))
 
 pub returns-clause-counted : goal.returns-clause-counted

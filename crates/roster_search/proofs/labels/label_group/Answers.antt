@@ -10,7 +10,7 @@ use Rattle.roster_state.specs.Standing.{can_be}
 use Rattle.roster_state.specs.Step.{with_weekends}
 use Rattle.roster_state.specs.Stretches.{stretch_state}
 use Rattle.roster_state.proofs.CodeLemmas.{fits-all}
-use Rattle.roster_search.specs.Tables.{IsStretchOf, PointsWhereBest, Stands, StretchCells, best_by, best_on, label_of}
+use Rattle.roster_search.specs.Tables.{IsStretchOf, PointsWhereBest, Stands, StandsLike, StretchCells, best_by, best_on, label_of}
 use Rattle.roster_search.proofs.BlockLaws.{product_some}
 use Rattle.roster_search.proofs.CellLaws.{outside_then, outside_wider}
 use Rattle.roster_search.specs.Counts.{numbers_in, states_with}
@@ -18,6 +18,37 @@ use Rattle.roster_search.proofs.CountLaws.{none_with, numbers_are, some_with}
 use Rattle.roster_search.proofs.GroupLaws.{as_place, code_block, code_place, like_can_be, like_place, like_weekends, place_stands, weekends_fit}
 use Rattle.roster_search.proofs.StretchLaws.{group_more, rows_counted, stretch_counted}
 use Rattle.roster_search.proofs.labels.label_group.Goals as goal
+use Rattle.roster_search.proofs.labels.label_group.Goals.{After-below-first, After-below-from, After-can_be}
+
+-- ---- what is known of the group
+
+-- its area, and the greatest number of assignments
+record AreaHere (g : _) (c : After-below-from g) : Type 0 where
+  is : c.area_of-area.result ≡ area_at g.rest.here (shift_digit c.args.group.last)
+  size : c.assignments-side.result ≡ (sizes_of c.args.day.now.case.now c.args.day.now.at.nurse).assignments
+
+area_here : (g : _) (c : After-below-from g) → AreaHere g c
+area_here g c = record {
+  is = c.area_of-area.ensures ∙ ap (λ (x : List Area). area_at x c.last_number.result) (sym c.requires.1.0) ∙ ap (area_at g.rest.here) c.last_number.ensures.number;
+  size = c.assignments-side.ensures.assignments ∙ ap (λ (y : Sizes). y.assignments) c.requires.0.day.ranges;
+}
+
+-- its rows and their places are within the ranges
+record RowsHere (g : _) (c : After-below-first g) : Type 0 where
+  high : c.weekends.result ≡ (sizes_of c.args.day.now.case.now c.args.day.now.at.nurse).weekends
+  first_is : c.below-first.result.0 ≡ min (area_at g.rest.here (shift_digit c.args.group.last)).weekends.least c.below-first.result.1
+  places : c.below-from.result.1 ≤ c.args.day.now.at.ranges.assignments
+  up_to : c.below-first.result.1 ≤ c.args.day.now.at.ranges.weekends
+
+rows_here : (g : _) (c : After-below-first g) → RowsHere g c
+rows_here g c =
+    let is = c.area_of-area.ensures ∙ ap (λ (x : List Area). area_at x c.last_number.result) (sym c.requires.1.0) ∙ ap (area_at g.rest.here) c.last_number.ensures.number in
+    record {
+      high = c.weekends.ensures.weekends ∙ ap (λ (y : Sizes). y.weekends) c.requires.0.day.ranges;
+      first_is = c.below-first.ensures.first ∙ ap (λ (x : Area). min x.weekends.least c.below-first.result.1) is;
+      places = omega (arith, c.below-from.ensures.order, c.assignments-side.ensures.assignments);
+      up_to = omega (arith, c.below-first.ensures.order, c.weekends.ensures.weekends);
+    }
 
 pub area_of-area-requires : goal.area_of-area-requires
 area_of-area-requires g c =
@@ -27,20 +58,19 @@ area_of-area-requires g c =
 
 -- ---- where no state of the group stands
 
+none_can_be : (g : _) (c : After-can_be g) → c.can_be.result ≡ false → (s : Summary) → StandsLike c.args.day.now.case.now c.args.day.now.at.nurse g.rest.here c.args.group s → ⊥
+none_can_be g c not s like =
+    let clash : true ≡ false = sym (like_can_be c.args.day.now.case.now c.args.day.now.at.nurse g.rest.here c.args.group s like) ∙ sym c.can_be.ensures ∙ not in
+    cc
+
 pub returns-then-not-can_be-clause-labels : goal.returns-then-not-can_be-clause-labels
-returns-then-not-can_be-clause-labels g c s like =
-    let clash : true ≡ false = sym (like_can_be c.args.day.now.case.now c.args.day.now.at.nurse g.rest.here c.args.group s like) ∙ sym c.can_be.ensures ∙ c.if-not-can_be.true in
-    absurd cc
+returns-then-not-can_be-clause-labels g c s like = absurd (none_can_be g (goal.at.returns-then-not-can_be-clause-labels g c).After-can_be c.if-not-can_be.true s like)
 
 pub returns-then-not-can_be-clause-pointers : goal.returns-then-not-can_be-clause-pointers
-returns-then-not-can_be-clause-pointers g c s like =
-    let clash : true ≡ false = sym (like_can_be c.args.day.now.case.now c.args.day.now.at.nurse g.rest.here c.args.group s like) ∙ sym c.can_be.ensures ∙ c.if-not-can_be.true in
-    absurd cc
+returns-then-not-can_be-clause-pointers g c s like = absurd (none_can_be g (goal.at.returns-then-not-can_be-clause-pointers g c).After-can_be c.if-not-can_be.true s like)
 
 pub returns-then-not-can_be-clause-some : goal.returns-then-not-can_be-clause-some
-returns-then-not-can_be-clause-some g c offered s like =
-    let clash : true ≡ false = sym (like_can_be c.args.day.now.case.now c.args.day.now.at.nurse g.rest.here c.args.group s like) ∙ sym c.can_be.ensures ∙ c.if-not-can_be.true in
-    absurd cc
+returns-then-not-can_be-clause-some g c offered s like = absurd (none_can_be g (goal.at.returns-then-not-can_be-clause-some g c).After-can_be c.if-not-can_be.true s like)
 
 pub returns-then-not-can_be-clause-exactly : goal.returns-then-not-can_be-clause-exactly
 returns-then-not-can_be-clause-exactly g c =
@@ -48,69 +78,33 @@ returns-then-not-can_be-clause-exactly g c =
     let same : c.args.meter.now ≡ c.args.meter.now + 0 * length c.args.day.now.offers.now = omega arith in
     same ∙ ap (λ k. c.args.meter.now + k * length c.args.day.now.offers.now) (sym none)
 
+none_between : (g : _) (c : After-below-from g) → c.below-from.result.1 ≤ c.below-from.result.0 → (s : Summary) → StandsLike c.args.day.now.case.now c.args.day.now.at.nurse g.rest.here c.args.group s → ⊥
+none_between g c short s like =
+    let here = area_here g c in
+    let inside = like_place c.args.day.now.case.now c.args.day.now.at.nurse g.rest.here c.args.group s like c.area_of-area.result here.is c.below-from.result.0 c.below-from.result.1 (λ x within fits. c.below-from.ensures.each x within (omega (arith, fits, here.size))) in
+    omega (arith, inside.0, inside.1, short)
+
 pub returns-then-end-from-clause-labels : goal.returns-then-end-from-clause-labels
-returns-then-end-from-clause-labels g c s like =
-    let r = c.requires in
-    let day = c.args.day.now in
-    let k = day.case.now in
-    let at = day.at in
-    let n = at.nurse in
-    let z = at.ranges in
-    let group = c.args.group in
-    let from = c.below-from.result.0 in
-    let end = c.below-from.result.1 in
-    let is : c.area_of-area.result ≡ area_at g.rest.here (shift_digit group.last) = c.area_of-area.ensures ∙ ap (λ (x : List Area). area_at x c.last_number.result) (sym r.1.0) ∙ ap (area_at g.rest.here) c.last_number.ensures.number in
-    let size : c.assignments-side.result ≡ (sizes_of k n).assignments = c.assignments-side.ensures.assignments ∙ ap (λ (y : Sizes). y.assignments) r.0.day.ranges in
-    let inside = like_place k n g.rest.here group s like c.area_of-area.result is from end (λ x within fits. c.below-from.ensures.each x within (omega (arith, fits, size))) in
-    absurd (omega (arith, inside.0, inside.1, c.if-end-from.true))
+returns-then-end-from-clause-labels g c s like = absurd (none_between g (goal.at.returns-then-end-from-clause-labels g c).After-below-from c.if-end-from.true s like)
 
 pub returns-then-end-from-clause-pointers : goal.returns-then-end-from-clause-pointers
-returns-then-end-from-clause-pointers g c s like =
-    let r = c.requires in
-    let day = c.args.day.now in
-    let k = day.case.now in
-    let at = day.at in
-    let n = at.nurse in
-    let z = at.ranges in
-    let group = c.args.group in
-    let from = c.below-from.result.0 in
-    let end = c.below-from.result.1 in
-    let is : c.area_of-area.result ≡ area_at g.rest.here (shift_digit group.last) = c.area_of-area.ensures ∙ ap (λ (x : List Area). area_at x c.last_number.result) (sym r.1.0) ∙ ap (area_at g.rest.here) c.last_number.ensures.number in
-    let size : c.assignments-side.result ≡ (sizes_of k n).assignments = c.assignments-side.ensures.assignments ∙ ap (λ (y : Sizes). y.assignments) r.0.day.ranges in
-    let inside = like_place k n g.rest.here group s like c.area_of-area.result is from end (λ x within fits. c.below-from.ensures.each x within (omega (arith, fits, size))) in
-    absurd (omega (arith, inside.0, inside.1, c.if-end-from.true))
+returns-then-end-from-clause-pointers g c s like = absurd (none_between g (goal.at.returns-then-end-from-clause-pointers g c).After-below-from c.if-end-from.true s like)
 
 pub returns-then-end-from-clause-some : goal.returns-then-end-from-clause-some
-returns-then-end-from-clause-some g c offered s like =
-    let r = c.requires in
-    let day = c.args.day.now in
-    let k = day.case.now in
-    let at = day.at in
-    let n = at.nurse in
-    let z = at.ranges in
-    let group = c.args.group in
-    let from = c.below-from.result.0 in
-    let end = c.below-from.result.1 in
-    let is : c.area_of-area.result ≡ area_at g.rest.here (shift_digit group.last) = c.area_of-area.ensures ∙ ap (λ (x : List Area). area_at x c.last_number.result) (sym r.1.0) ∙ ap (area_at g.rest.here) c.last_number.ensures.number in
-    let size : c.assignments-side.result ≡ (sizes_of k n).assignments = c.assignments-side.ensures.assignments ∙ ap (λ (y : Sizes). y.assignments) r.0.day.ranges in
-    let inside = like_place k n g.rest.here group s like c.area_of-area.result is from end (λ x within fits. c.below-from.ensures.each x within (omega (arith, fits, size))) in
-    absurd (omega (arith, inside.0, inside.1, c.if-end-from.true))
+returns-then-end-from-clause-some g c offered s like = absurd (none_between g (goal.at.returns-then-end-from-clause-some g c).After-below-from c.if-end-from.true s like)
 
 pub returns-then-end-from-clause-exactly : goal.returns-then-end-from-clause-exactly
 returns-then-end-from-clause-exactly g c =
-    let r = c.requires in
     let day = c.args.day.now in
     let k = day.case.now in
     let at = day.at in
     let n = at.nurse in
-    let z = at.ranges in
     let group = c.args.group in
     let from = c.below-from.result.0 in
     let end = c.below-from.result.1 in
-    let is : c.area_of-area.result ≡ area_at g.rest.here (shift_digit group.last) = c.area_of-area.ensures ∙ ap (λ (x : List Area). area_at x c.last_number.result) (sym r.1.0) ∙ ap (area_at g.rest.here) c.last_number.ensures.number in
-    let size : c.assignments-side.result ≡ (sizes_of k n).assignments = c.assignments-side.ensures.assignments ∙ ap (λ (y : Sizes). y.assignments) r.0.day.ranges in
+    let here = area_here g (goal.at.returns-then-end-from-clause-exactly g c).After-below-from in
     let places_are : end - from ≡ numbers_in (area_at g.rest.here (shift_digit group.last)).assignments (sizes_of k n).assignments =
-    numbers_are c.area_of-area.result.assignments c.assignments-side.result from end c.below-from.ensures.end c.below-from.ensures.first ∙ (λ i. numbers_in (is i).assignments (size i)) in
+    numbers_are c.area_of-area.result.assignments c.assignments-side.result from end c.below-from.ensures.end c.below-from.ensures.first ∙ (λ i. numbers_in (here.is i).assignments (here.size i)) in
     let zero : numbers_in (area_at g.rest.here (shift_digit group.last)).assignments (sizes_of k n).assignments ≡ 0 = omega (arith, places_are, c.if-end-from.true) in
     let none : states_with k n g.rest.here group ≡ 0 =
     some_with k n g.rest.here group (sym c.can_be.ensures ∙ c.if-not-can_be.false) ∙ ap (λ j. numbers_in (area_at g.rest.here (shift_digit group.last)).weekends (sizes_of k n).weekends * j) zero ∙ omega arith in
@@ -130,15 +124,10 @@ label_rows-requires g c =
     let group = c.args.group in
     let from = c.below-from.result.0 in
     let end = c.below-from.result.1 in
-    let is : c.area_of-area.result ≡ area_at g.rest.here (shift_digit group.last) = c.area_of-area.ensures ∙ ap (λ (x : List Area). area_at x c.last_number.result) (sym r.1.0) ∙ ap (area_at g.rest.here) c.last_number.ensures.number in
-    let size : c.assignments-side.result ≡ (sizes_of k n).assignments = c.assignments-side.ensures.assignments ∙ ap (λ (y : Sizes). y.assignments) r.0.day.ranges in
-    let high : c.weekends.result ≡ (sizes_of k n).weekends = c.weekends.ensures.weekends ∙ ap (λ (y : Sizes). y.weekends) r.0.day.ranges in
-    let first = c.below-first.result.0 in
+    let here = area_here g (goal.at.label_rows-requires g c).After-below-from in
+    let over = rows_here g (goal.at.label_rows-requires g c).After-below-first in
     let last = c.below-first.result.1 in
     let least = (area_at g.rest.here (shift_digit group.last)).weekends.least in
-    let first_is : first ≡ min least last = c.below-first.ensures.first ∙ ap (λ (x : Area). min x.weekends.least last) is in
-    let places : end ≤ z.assignments = omega (arith, c.below-from.ensures.order, c.assignments-side.ensures.assignments) in
-    let up_to : last ≤ z.weekends = omega (arith, c.below-first.ensures.order, c.weekends.ensures.weekends) in
     let long = length day.offers.now in
     let old = c.loop-weekends.invariant in
     let w = c.loop-weekends.weekends in
@@ -153,19 +142,19 @@ label_rows-requires g c =
     let may_be : can_be k n group ≡ true = sym c.can_be.ensures ∙ c.if-not-can_be.false in
     let fits = subst (λ y. fits_sizes y group ≡ true) r.0.day.ranges r.1.1.0 in
     let block_w : block.weekends ≡ w = ap (λ (b : Summary). b.weekends) (sym is_block) in
-    let in_run = subst (λ (x : Area). InSpan x.run group.run) (sym is) r.1.1.1.1.0.0 in
-    let in_shift_run = subst (λ (x : Area). InSpan x.shift_run group.shift_run) (sym is) r.1.1.1.1.0.1 in
+    let in_run = subst (λ (x : Area). InSpan x.run group.run) (sym here.is) r.1.1.1.1.0.0 in
+    let in_shift_run = subst (λ (x : Area). InSpan x.shift_run group.shift_run) (sym here.is) r.1.1.1.1.0.1 in
     let stands : (i b : ℕ) → i < rows → b < end - from → Stands k n g.rest.here (stretch_state block from i b) =
     λ i b in_rows in_width. subst (λ (x : Summary). Stands k n g.rest.here (stretch_state x from i b)) is_block
-    (place_stands k n g.rest.here group c.area_of-area.result is fits may_be in_run in_shift_run (w + i) (from + b) (omega (arith, in_rows, few, up_to, ap (λ (y : Sizes). y.weekends) r.0.day.ranges))
-    (omega (arith, in_width, places, ap (λ (y : Sizes). y.assignments) r.0.day.ranges)) (c.below-first.ensures.only (w + i) (omega (arith, old.begun, first_is)) (omega (arith, in_rows, few))) (c.below-from.ensures.only (from + b) (omega arith) (omega (arith, in_width)))) in
+    (place_stands k n g.rest.here group c.area_of-area.result here.is fits may_be in_run in_shift_run (w + i) (from + b) (omega (arith, in_rows, few, over.up_to, ap (λ (y : Sizes). y.weekends) r.0.day.ranges))
+    (omega (arith, in_width, over.places, ap (λ (y : Sizes). y.assignments) r.0.day.ranges)) (c.below-first.ensures.only (w + i) (omega (arith, old.begun, over.first_is)) (omega (arith, in_rows, few))) (c.below-from.ensures.only (from + b) (omega arith) (omega (arith, in_width)))) in
     let good : IsStretchOf k at g.rest.here (record { block = block; rows = rows; from = from; end = end }) = record {
-      fits = subst (λ (b : Summary). fits_sizes z b ≡ true) is_block (weekends_fit z group w r.1.1.0 (omega (arith, test, up_to)));
+      fits = subst (λ (b : Summary). fits_sizes z b ≡ true) is_block (weekends_fit z group w r.1.1.0 (omega (arith, test, over.up_to)));
       without = ap (λ (b : Summary). b.assignments) (sym is_block) ∙ r.1.1.1.0.1;
       some_rows = e_rows.some;
       some_places = c.if-end-from.false;
-      weekends = omega (arith, block_w, few, up_to);
-      assignments = places;
+      weekends = omega (arith, block_w, few, over.up_to);
+      assignments = over.places;
       short = omega (arith, e_rows.room, ap (λ j. rows * j) c.assignments-side.ensures.assignments);
       stands = stands;
     } in
@@ -173,36 +162,25 @@ label_rows-requires g c =
     λ more. omega (arith, c.alike_rows-alike.ensures.alike (omega (arith, more, e_rows.within)), e_rows.within) in
     let labels_room : product z ≤ length c.loop-weekends.labels = omega (arith, old.labels_length, r.1.1.1.1.1.0) in
     let pointers_room : day.first + product z ≤ length c.loop-weekends.pointers = omega (arith, old.pointers_length, r.1.1.1.1.1.1.0) in
-    let most = stretch_counted long (w + rows - least) (end - from) z.weekends z.assignments (omega (arith, few, up_to)) (omega (arith, places)) in
+    let most = stretch_counted long (w + rows - least) (end - from) z.weekends z.assignments (omega (arith, few, over.up_to)) (omega (arith, over.places)) in
     let room : c.loop-weekends.meter + long * (rows * (end - from)) ≤ 18446744073709551615 = omega (arith, old.counted, sum, most, r.1.1.1.1.1.1.1) in
     (r.0, (good, (alike, (labels_room, (pointers_room, room)))))
 
 pub loop-weekends-init : goal.loop-weekends-init
 loop-weekends-init g c =
-    let r = c.requires in
     let day = c.args.day.now in
-    let k = day.case.now in
-    let at = day.at in
-    let n = at.nurse in
-    let z = at.ranges in
     let group = c.args.group in
     let from = c.below-from.result.0 in
     let end = c.below-from.result.1 in
-    let is : c.area_of-area.result ≡ area_at g.rest.here (shift_digit group.last) = c.area_of-area.ensures ∙ ap (λ (x : List Area). area_at x c.last_number.result) (sym r.1.0) ∙ ap (area_at g.rest.here) c.last_number.ensures.number in
-    let size : c.assignments-side.result ≡ (sizes_of k n).assignments = c.assignments-side.ensures.assignments ∙ ap (λ (y : Sizes). y.assignments) r.0.day.ranges in
-    let high : c.weekends.result ≡ (sizes_of k n).weekends = c.weekends.ensures.weekends ∙ ap (λ (y : Sizes). y.weekends) r.0.day.ranges in
+    let over = rows_here g (goal.at.loop-weekends-init g c).After-below-first in
     let first = c.below-first.result.0 in
-    let last = c.below-first.result.1 in
     let least = (area_at g.rest.here (shift_digit group.last)).weekends.least in
-    let first_is : first ≡ min least last = c.below-first.ensures.first ∙ ap (λ (x : Area). min x.weekends.least last) is in
-    let places : end ≤ z.assignments = omega (arith, c.below-from.ensures.order, c.assignments-side.ensures.assignments) in
-    let up_to : last ≤ z.weekends = omega (arith, c.below-first.ensures.order, c.weekends.ensures.weekends) in
     let long = length day.offers.now in
-    let none : first - least ≡ 0 = omega (arith, first_is) in
+    let none : first - least ≡ 0 = omega (arith, over.first_is) in
     record {
-      begun = omega (arith, first_is);
+      begun = omega (arith, over.first_is);
       inside = c.below-first.ensures.order.0;
-      least = λ w a low high from_a to_a. absurd (omega (arith, low, high, first_is));
+      least = λ w a low high from_a to_a. absurd (omega (arith, low, high, over.first_is));
       labels_others = record { before = λ i below. refl; after = λ i from. refl };
       pointers_others = record { before = λ i below. refl; after = λ i from. refl };
       labels_length = refl;
@@ -216,20 +194,13 @@ loop-weekends-preserved g c =
     let day = c.args.day.now in
     let k = day.case.now in
     let at = day.at in
-    let n = at.nurse in
     let z = at.ranges in
     let group = c.args.group in
     let from = c.below-from.result.0 in
     let end = c.below-from.result.1 in
-    let is : c.area_of-area.result ≡ area_at g.rest.here (shift_digit group.last) = c.area_of-area.ensures ∙ ap (λ (x : List Area). area_at x c.last_number.result) (sym r.1.0) ∙ ap (area_at g.rest.here) c.last_number.ensures.number in
-    let size : c.assignments-side.result ≡ (sizes_of k n).assignments = c.assignments-side.ensures.assignments ∙ ap (λ (y : Sizes). y.assignments) r.0.day.ranges in
-    let high : c.weekends.result ≡ (sizes_of k n).weekends = c.weekends.ensures.weekends ∙ ap (λ (y : Sizes). y.weekends) r.0.day.ranges in
-    let first = c.below-first.result.0 in
+    let over = rows_here g (goal.at.loop-weekends-preserved g c).After-below-first in
     let last = c.below-first.result.1 in
     let least = (area_at g.rest.here (shift_digit group.last)).weekends.least in
-    let first_is : first ≡ min least last = c.below-first.ensures.first ∙ ap (λ (x : Area). min x.weekends.least last) is in
-    let places : end ≤ z.assignments = omega (arith, c.below-from.ensures.order, c.assignments-side.ensures.assignments) in
-    let up_to : last ≤ z.weekends = omega (arith, c.below-first.ensures.order, c.weekends.ensures.weekends) in
     let long = length day.offers.now in
     let old = c.loop-weekends.invariant in
     let w = c.loop-weekends.weekends in
@@ -252,11 +223,11 @@ loop-weekends-preserved g c =
     subst (λ j. StretchCells k at g.rest.best (with_weekends group w) day.offers.now rows from end (code + w * z.assignments) j labels pointers) at_first
     (subst (λ j. StretchCells k at g.rest.best (with_weekends group w) day.offers.now rows from end j (day.first + j) labels pointers) at_block
     (subst (λ (b : Summary). StretchCells k at g.rest.best b day.offers.now rows from end (code_of z b) (day.first + code_of z b) labels pointers) (sym is_block) e.least)) in
-    let within : (w + rows) * z.assignments ≤ z.weekends * z.assignments = mul-le (w + rows) z.assignments z.weekends z.assignments (omega (arith, few, up_to)) (omega arith) in
+    let within : (w + rows) * z.assignments ≤ z.weekends * z.assignments = mul-le (w + rows) z.assignments z.weekends z.assignments (omega (arith, few, over.up_to)) (omega arith) in
     record {
       begun = omega (arith, old.begun);
       inside = few;
-      least = group_more k at g.rest.best group day.offers.now from end places least w rows code (day.first + code) c.loop-weekends.labels c.loop-weekends.pointers labels pointers old.least
+      least = group_more k at g.rest.best group day.offers.now from end over.places least w rows code (day.first + code) c.loop-weekends.labels c.loop-weekends.pointers labels pointers old.least
           (λ j below. e.labels_others.before j (omega (arith, below, code_is))) (λ j below. e.pointers_others.before j (omega (arith, below, code_is))) cells;
       labels_others = outside_then _ _ _ _ _ old.labels_others (outside_wider _ _ _ _ c.loop-weekends.labels labels (omega (arith, code_is)) (omega (arith, code_is, within)) e.labels_others);
       pointers_others = outside_then _ _ _ _ _ old.pointers_others (outside_wider _ _ _ _ c.loop-weekends.pointers pointers (omega (arith, code_is)) (omega (arith, code_is, within)) e.pointers_others);
@@ -278,22 +249,17 @@ returns-clause-labels g c s like =
     let group = c.args.group in
     let from = c.below-from.result.0 in
     let end = c.below-from.result.1 in
-    let is : c.area_of-area.result ≡ area_at g.rest.here (shift_digit group.last) = c.area_of-area.ensures ∙ ap (λ (x : List Area). area_at x c.last_number.result) (sym r.1.0) ∙ ap (area_at g.rest.here) c.last_number.ensures.number in
-    let size : c.assignments-side.result ≡ (sizes_of k n).assignments = c.assignments-side.ensures.assignments ∙ ap (λ (y : Sizes). y.assignments) r.0.day.ranges in
-    let high : c.weekends.result ≡ (sizes_of k n).weekends = c.weekends.ensures.weekends ∙ ap (λ (y : Sizes). y.weekends) r.0.day.ranges in
+    let here = area_here g (goal.at.returns-clause-labels g c).After-below-from in
+    let over = rows_here g (goal.at.returns-clause-labels g c).After-below-first in
     let first = c.below-first.result.0 in
     let last = c.below-first.result.1 in
     let least = (area_at g.rest.here (shift_digit group.last)).weekends.least in
-    let first_is : first ≡ min least last = c.below-first.ensures.first ∙ ap (λ (x : Area). min x.weekends.least last) is in
-    let places : end ≤ z.assignments = omega (arith, c.below-from.ensures.order, c.assignments-side.ensures.assignments) in
-    let up_to : last ≤ z.weekends = omega (arith, c.below-first.ensures.order, c.weekends.ensures.weekends) in
-    let long = length day.offers.now in
     let old = c.loop-weekends.invariant in
     let w = c.loop-weekends.weekends in
     let at_end : w ≡ last = omega (arith, old.inside, c.loop-weekends-test.false) in
-    let in_a = like_place k n g.rest.here group s like c.area_of-area.result is from end (λ x in_span fits. c.below-from.ensures.each x in_span (omega (arith, fits, size))) in
-    let in_w = like_weekends k n g.rest.here group s like c.area_of-area.result is first last (λ x in_span fits. c.below-first.ensures.each x in_span (omega (arith, fits, high))) in
-    let low : least ≤ s.weekends = omega (arith, in_w.0, in_w.1, first_is) in
+    let in_a = like_place k n g.rest.here group s like c.area_of-area.result here.is from end (λ x in_span fits. c.below-from.ensures.each x in_span (omega (arith, fits, here.size))) in
+    let in_w = like_weekends k n g.rest.here group s like c.area_of-area.result here.is first last (λ x in_span fits. c.below-first.ensures.each x in_span (omega (arith, fits, over.high))) in
+    let low : least ≤ s.weekends = omega (arith, in_w.0, in_w.1, over.first_is) in
     let state = as_place k n g.rest.here group s like s.weekends refl in
     let there : code_of (sizes_of k n) s ≡ code_of z group + (s.weekends * z.assignments + s.assignments) =
     ap (λ y. code_of y s) (sym r.0.day.ranges) ∙ ap (code_of z) (sym state) ∙ code_place z group r.1.1.1.0.0 r.1.1.1.0.1 s.weekends s.assignments ∙ omega arith in
@@ -312,22 +278,17 @@ returns-clause-pointers g c s like =
     let group = c.args.group in
     let from = c.below-from.result.0 in
     let end = c.below-from.result.1 in
-    let is : c.area_of-area.result ≡ area_at g.rest.here (shift_digit group.last) = c.area_of-area.ensures ∙ ap (λ (x : List Area). area_at x c.last_number.result) (sym r.1.0) ∙ ap (area_at g.rest.here) c.last_number.ensures.number in
-    let size : c.assignments-side.result ≡ (sizes_of k n).assignments = c.assignments-side.ensures.assignments ∙ ap (λ (y : Sizes). y.assignments) r.0.day.ranges in
-    let high : c.weekends.result ≡ (sizes_of k n).weekends = c.weekends.ensures.weekends ∙ ap (λ (y : Sizes). y.weekends) r.0.day.ranges in
+    let here = area_here g (goal.at.returns-clause-pointers g c).After-below-from in
+    let over = rows_here g (goal.at.returns-clause-pointers g c).After-below-first in
     let first = c.below-first.result.0 in
     let last = c.below-first.result.1 in
     let least = (area_at g.rest.here (shift_digit group.last)).weekends.least in
-    let first_is : first ≡ min least last = c.below-first.ensures.first ∙ ap (λ (x : Area). min x.weekends.least last) is in
-    let places : end ≤ z.assignments = omega (arith, c.below-from.ensures.order, c.assignments-side.ensures.assignments) in
-    let up_to : last ≤ z.weekends = omega (arith, c.below-first.ensures.order, c.weekends.ensures.weekends) in
-    let long = length day.offers.now in
     let old = c.loop-weekends.invariant in
     let w = c.loop-weekends.weekends in
     let at_end : w ≡ last = omega (arith, old.inside, c.loop-weekends-test.false) in
-    let in_a = like_place k n g.rest.here group s like c.area_of-area.result is from end (λ x in_span fits. c.below-from.ensures.each x in_span (omega (arith, fits, size))) in
-    let in_w = like_weekends k n g.rest.here group s like c.area_of-area.result is first last (λ x in_span fits. c.below-first.ensures.each x in_span (omega (arith, fits, high))) in
-    let low : least ≤ s.weekends = omega (arith, in_w.0, in_w.1, first_is) in
+    let in_a = like_place k n g.rest.here group s like c.area_of-area.result here.is from end (λ x in_span fits. c.below-from.ensures.each x in_span (omega (arith, fits, here.size))) in
+    let in_w = like_weekends k n g.rest.here group s like c.area_of-area.result here.is first last (λ x in_span fits. c.below-first.ensures.each x in_span (omega (arith, fits, over.high))) in
+    let low : least ≤ s.weekends = omega (arith, in_w.0, in_w.1, over.first_is) in
     let state = as_place k n g.rest.here group s like s.weekends refl in
     let there : code_of (sizes_of k n) s ≡ code_of z group + (s.weekends * z.assignments + s.assignments) =
     ap (λ y. code_of y s) (sym r.0.day.ranges) ∙ ap (code_of z) (sym state) ∙ code_place z group r.1.1.1.0.0 r.1.1.1.0.1 s.weekends s.assignments ∙ omega arith in
@@ -338,86 +299,64 @@ returns-clause-pointers g c s like =
 
 pub returns-clause-some : goal.returns-clause-some
 returns-clause-some g c offered s like =
-    let r = c.requires in
     let day = c.args.day.now in
     let k = day.case.now in
     let at = day.at in
     let n = at.nurse in
-    let z = at.ranges in
     let group = c.args.group in
     let from = c.below-from.result.0 in
     let end = c.below-from.result.1 in
-    let is : c.area_of-area.result ≡ area_at g.rest.here (shift_digit group.last) = c.area_of-area.ensures ∙ ap (λ (x : List Area). area_at x c.last_number.result) (sym r.1.0) ∙ ap (area_at g.rest.here) c.last_number.ensures.number in
-    let size : c.assignments-side.result ≡ (sizes_of k n).assignments = c.assignments-side.ensures.assignments ∙ ap (λ (y : Sizes). y.assignments) r.0.day.ranges in
-    let high : c.weekends.result ≡ (sizes_of k n).weekends = c.weekends.ensures.weekends ∙ ap (λ (y : Sizes). y.weekends) r.0.day.ranges in
+    let here = area_here g (goal.at.returns-clause-some g c).After-below-from in
+    let over = rows_here g (goal.at.returns-clause-some g c).After-below-first in
     let first = c.below-first.result.0 in
     let last = c.below-first.result.1 in
     let least = (area_at g.rest.here (shift_digit group.last)).weekends.least in
-    let first_is : first ≡ min least last = c.below-first.ensures.first ∙ ap (λ (x : Area). min x.weekends.least last) is in
-    let places : end ≤ z.assignments = omega (arith, c.below-from.ensures.order, c.assignments-side.ensures.assignments) in
-    let up_to : last ≤ z.weekends = omega (arith, c.below-first.ensures.order, c.weekends.ensures.weekends) in
     let long = length day.offers.now in
     let old = c.loop-weekends.invariant in
     let w = c.loop-weekends.weekends in
     let at_end : w ≡ last = omega (arith, old.inside, c.loop-weekends-test.false) in
-    let in_w = like_weekends k n g.rest.here group s like c.area_of-area.result is first last (λ x in_span fits. c.below-first.ensures.each x in_span (omega (arith, fits, high))) in
-    let some : 0 < long * ((w - least) * (end - from)) = product_some long ((w - least) * (end - from)) offered (product_some (w - least) (end - from) (omega (arith, in_w.0, in_w.1, first_is, at_end)) (omega (arith, c.if-end-from.false))) in
+    let in_w = like_weekends k n g.rest.here group s like c.area_of-area.result here.is first last (λ x in_span fits. c.below-first.ensures.each x in_span (omega (arith, fits, over.high))) in
+    let some : 0 < long * ((w - least) * (end - from)) = product_some long ((w - least) * (end - from)) offered (product_some (w - least) (end - from) (omega (arith, in_w.0, in_w.1, over.first_is, at_end)) (omega (arith, c.if-end-from.false))) in
     omega (arith, old.counted, some)
 
 pub returns-clause-exactly : goal.returns-clause-exactly
 returns-clause-exactly g c =
-    let r = c.requires in
     let day = c.args.day.now in
     let k = day.case.now in
     let at = day.at in
     let n = at.nurse in
-    let z = at.ranges in
     let group = c.args.group in
     let from = c.below-from.result.0 in
     let end = c.below-from.result.1 in
-    let is : c.area_of-area.result ≡ area_at g.rest.here (shift_digit group.last) = c.area_of-area.ensures ∙ ap (λ (x : List Area). area_at x c.last_number.result) (sym r.1.0) ∙ ap (area_at g.rest.here) c.last_number.ensures.number in
-    let size : c.assignments-side.result ≡ (sizes_of k n).assignments = c.assignments-side.ensures.assignments ∙ ap (λ (y : Sizes). y.assignments) r.0.day.ranges in
-    let high : c.weekends.result ≡ (sizes_of k n).weekends = c.weekends.ensures.weekends ∙ ap (λ (y : Sizes). y.weekends) r.0.day.ranges in
-    let first = c.below-first.result.0 in
+    let here = area_here g (goal.at.returns-clause-exactly g c).After-below-from in
+    let over = rows_here g (goal.at.returns-clause-exactly g c).After-below-first in
     let last = c.below-first.result.1 in
     let least = (area_at g.rest.here (shift_digit group.last)).weekends.least in
-    let first_is : first ≡ min least last = c.below-first.ensures.first ∙ ap (λ (x : Area). min x.weekends.least last) is in
-    let places : end ≤ z.assignments = omega (arith, c.below-from.ensures.order, c.assignments-side.ensures.assignments) in
-    let up_to : last ≤ z.weekends = omega (arith, c.below-first.ensures.order, c.weekends.ensures.weekends) in
     let long = length day.offers.now in
     let old = c.loop-weekends.invariant in
     let w = c.loop-weekends.weekends in
     let at_end : w ≡ last = omega (arith, old.inside, c.loop-weekends-test.false) in
     let area = area_at g.rest.here (shift_digit group.last) in
     let places_are : end - from ≡ numbers_in area.assignments (sizes_of k n).assignments =
-    numbers_are c.area_of-area.result.assignments c.assignments-side.result from end c.below-from.ensures.end c.below-from.ensures.first ∙ (λ i. numbers_in (is i).assignments (size i)) in
-    let last_is : last ≡ min (area.weekends.greatest + 1) (sizes_of k n).weekends = c.below-first.ensures.end ∙ (λ i. min ((is i).weekends.greatest + 1) (high i)) in
+    numbers_are c.area_of-area.result.assignments c.assignments-side.result from end c.below-from.ensures.end c.below-from.ensures.first ∙ (λ i. numbers_in (here.is i).assignments (here.size i)) in
+    let last_is : last ≡ min (area.weekends.greatest + 1) (sizes_of k n).weekends = c.below-first.ensures.end ∙ (λ i. min ((here.is i).weekends.greatest + 1) (over.high i)) in
     let rows_are : w - least ≡ numbers_in area.weekends (sizes_of k n).weekends = ap (λ j. j - least) (at_end ∙ last_is) in
     let states : (w - least) * (end - from) ≡ states_with k n g.rest.here group = (λ i. rows_are i * places_are i) ∙ sym (some_with k n g.rest.here group (sym c.can_be.ensures ∙ c.if-not-can_be.false)) in
     old.counted ∙ ap (λ j. c.args.meter.now + j) (mul_comm long ((w - least) * (end - from))) ∙ ap (λ j. c.args.meter.now + j * long) states
 
 pub returns-clause-counted : goal.returns-clause-counted
 returns-clause-counted g c =
-    let r = c.requires in
     let day = c.args.day.now in
-    let k = day.case.now in
     let at = day.at in
-    let n = at.nurse in
     let z = at.ranges in
     let group = c.args.group in
     let from = c.below-from.result.0 in
     let end = c.below-from.result.1 in
-    let is : c.area_of-area.result ≡ area_at g.rest.here (shift_digit group.last) = c.area_of-area.ensures ∙ ap (λ (x : List Area). area_at x c.last_number.result) (sym r.1.0) ∙ ap (area_at g.rest.here) c.last_number.ensures.number in
-    let size : c.assignments-side.result ≡ (sizes_of k n).assignments = c.assignments-side.ensures.assignments ∙ ap (λ (y : Sizes). y.assignments) r.0.day.ranges in
-    let high : c.weekends.result ≡ (sizes_of k n).weekends = c.weekends.ensures.weekends ∙ ap (λ (y : Sizes). y.weekends) r.0.day.ranges in
-    let first = c.below-first.result.0 in
+    let over = rows_here g (goal.at.returns-clause-counted g c).After-below-first in
     let last = c.below-first.result.1 in
     let least = (area_at g.rest.here (shift_digit group.last)).weekends.least in
-    let first_is : first ≡ min least last = c.below-first.ensures.first ∙ ap (λ (x : Area). min x.weekends.least last) is in
-    let places : end ≤ z.assignments = omega (arith, c.below-from.ensures.order, c.assignments-side.ensures.assignments) in
-    let up_to : last ≤ z.weekends = omega (arith, c.below-first.ensures.order, c.weekends.ensures.weekends) in
     let long = length day.offers.now in
     let old = c.loop-weekends.invariant in
     let w = c.loop-weekends.weekends in
     let at_end : w ≡ last = omega (arith, old.inside, c.loop-weekends-test.false) in
-    omega (arith, old.counted, stretch_counted long (w - least) (end - from) z.weekends z.assignments (omega (arith, at_end, up_to)) (omega (arith, places)))
+    omega (arith, old.counted, stretch_counted long (w - least) (end - from) z.weekends z.assignments (omega (arith, at_end, over.up_to)) (omega (arith, over.places)))

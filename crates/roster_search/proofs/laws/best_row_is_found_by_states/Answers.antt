@@ -1,5 +1,7 @@
+use Rattle.roster_search.specs.Offers.{offers_of}
 use Rattle.roster_search.proofs.Best.{best_some, is_best, penalty_is}
-use Rattle.roster_search.proofs.BestRoom.{cost_below}
+use Rattle.roster_search.proofs.LowRows.{cost_over}
+use Rattle.roster_search.proofs.OfferLaws.{offers_of_case}
 use Rattle.roster_search.proofs.laws.best_row_is_found_by_states.Goals as goal
 
 pub returns-clause-some : goal.returns-clause-some
@@ -12,4 +14,5 @@ pub returns-clause-penalty : goal.returns-clause-penalty
 returns-clause-penalty c = penalty_is
 
 pub returns-clause-below : goal.returns-clause-below
-returns-clause-below c = cost_below
+returns-clause-below c m from r fits keeps n inside cost offers is small shifts skills weeks =
+    cost_over m n (offers_of m from r n) (λ d within. offers_of_case m from r n d small shifts skills) small weeks cost offers is

@@ -1,0 +1,214 @@
+-- What the places pay is what the nurses earn: so the least costs together are at most the penalty.
+use Rattle.std.proofs.Common.{◌≡◌, ◌∙◌, ◌+◌, ◌-◌, ◌*◌, ◌%◌, ◌||◌, ◌<◌, ◌≤◌, ◌&&◌, ◌==◌, ℕ, zero, suc, Bool, true, false, not, ap, arith, refl, sym, [], length, nat_lt, mul-add, if◌then◌else◌}
+use Rattle.std.specs.List.{list_all}
+use Rattle.std.proofs.lemmas.Bool.{and_from, and_parts, eqb-true}
+use Rattle.std.proofs.lemmas.List.{length-map}
+use Rattle.std.proofs.Math.ListN.{get_or-map}
+use Rattle.roster_rules.specs.declared.Choice.{Choice}
+use Rattle.roster_rules.specs.declared.Choice.TheVariants.{Off, Work}
+use Rattle.roster_rules.specs.Choices.{all_choices, all_rows, days_of, same_choice, shift_of}
+use Rattle.roster_rules.specs.Counting.{all_below, one_if, sum_below}
+use Rattle.roster_rules.specs.HardRules.{keeps_hard, keeps_skills, keeps_successions}
+use Rattle.roster_rules.specs.Meaning.{Meaning, day_count, minimum, nurse_count, optimum, shift_at, shift_count, skill_at, skill_count}
+use Rattle.roster_rules.specs.AllowedRows.{is_frozen, keeps_frozen_day, keeps_frozen_days}
+use Rattle.roster_rules.specs.Penalties.{nurse_cost, off_request_cost_on, penalty, request_cost, request_cost_on, staffing_cost, wish_cost_on}
+use Rattle.roster_rules.specs.Rosters.{Row, Rows, choice_on, cover, days_of_nurse, fits_case, is_row_of, row_of}
+use Rattle.roster_rules.specs.Weights.{staffing_weight}
+use Rattle.roster_rules.proofs.RosterFacts.{row-length, row_fits}
+use Rattle.roster_rules.proofs.RunSums.{sum_zero, sum_same}
+use Rattle.roster_laws.specs.Staffing.{meets}
+use Rattle.roster_laws.proofs.AllRows.{row_is_member}
+use Rattle.roster_laws.proofs.Allowed.{member_is_kept}
+use Rattle.roster_laws.specs.FrozenDays.{FrozenDaysStay}
+use Rattle.roster_laws.proofs.Below.{all_elim, all_true, sum_both}
+use Rattle.roster_laws.proofs.Fives.{penalty_is}
+use Rattle.roster_laws.proofs.SameRows.{same_choice_self}
+use Rattle.roster_laws.proofs.Keeps.{keeps_hard-parts}
+use Rattle.roster_laws.proofs.OneRow.{penalty-parts}
+use Rattle.roster_bound.specs.Worths.{AreWorths, IsLowerBound, PlaceWorths, bound_by, can_work, earned, floors_together, most_worth, own_rows, place_floor, places_floor, price_by, rounded_up, row_cost_by, row_floor}
+use Rattle.roster_bound.proofs.LeastCosts.{least_below, place_least}
+use Rattle.roster_bound.proofs.Sums.{count_by_place, over_places, places_both, places_le, places_none, sum_le, sum_of_one, sum_same_number}
+
+-- ---- what one nurse earns
+
+times_one : (x : ℕ) (b : Bool) → x * one_if b ≡ (if b then x else 0)
+times_one x true = omega arith
+times_one x false = omega arith
+
+module _ (w : PlaceWorths) where
+  -- what the places of a day pay to a choice
+  paid_to : Choice → ℕ → ℕ → ℕ → ℕ
+  paid_to x d s k = w d s k * one_if (same_choice x (Work (shift_at s) (skill_at k)))
+
+  by_skill : (d t l s : ℕ) (skills : ℕ) (b : Bool) → sum_below skills (λ k. w d s k * one_if (b && (l == k))) ≤ (if b then w d s l else 0)
+  by_skill d t l s skills true = omega (arith, sum_same skills (λ k. w d s k * one_if (l == k)) (λ k. if l == k then w d s k else 0) (λ k h. times_one (w d s k) (l == k)), sum_of_one skills l (w d s))
+  by_skill d t l s skills false = omega (arith, sum_zero skills (λ k. w d s k * 0) (λ k h. omega arith))
+
+  day_earned : (shifts skills d : ℕ) (x : Choice) → sum_below shifts (λ s. sum_below skills (paid_to x d s)) ≤ earned w d x
+  unfolding paid_to
+  day_earned shifts skills d Off = omega (arith, sum_zero shifts (λ s. sum_below skills (λ k. w d s k * 0)) (λ s h. sum_zero skills (λ k. w d s k * 0) (λ k l. omega arith)))
+  day_earned shifts skills d (Work t l) =
+      omega (
+        arith,
+        sum_le shifts (λ s. sum_below skills (λ k. w d s k * one_if ((t.0 == s) && (l.0 == k)))) (λ s. if t.0 == s then w d s l.0 else 0) (λ s h. by_skill d t.0 l.0 s skills (t.0 == s)),
+        sum_of_one shifts t.0 (λ s. w d s l.0),
+      )
+
+  module _ (days shifts skills : ℕ) (r : Rows) where
+    -- how many of the first m nurses are at a place, and what they earn
+    abbrev first_nurses : ℕ → ℕ → ℕ → ℕ → ℕ
+    first_nurses m d s k = sum_below m (λ n. one_if (same_choice (choice_on (row_of r n) d) (Work (shift_at s) (skill_at k))))
+
+    abbrev pub row_earned : ℕ → ℕ
+    row_earned n = sum_below days (λ d. earned w d (choice_on (row_of r n) d))
+
+    paid_up_to : (m : ℕ) → over_places days shifts skills (λ d s k. w d s k * first_nurses m d s k) ≤ sum_below m row_earned
+    unfolding paid_to
+    paid_up_to zero = omega (arith, places_none days shifts skills (λ d s k. w d s k * 0) (λ d s k. omega arith))
+    paid_up_to (suc m) =
+        let row : Row = row_of r m in
+        let last : ℕ → ℕ → ℕ → ℕ = λ d. paid_to (choice_on row d) d in
+        omega (
+          arith,
+          places_both days shifts skills (λ d s k. w d s k * first_nurses (suc m) d s k) (λ d s k. w d s k * first_nurses m d s k) last
+              (λ d s k. mul-add (w d s k) (first_nurses m d s k) (one_if (same_choice (choice_on row d) (Work (shift_at s) (skill_at k))))),
+          paid_up_to m,
+          sum_le days (λ d. sum_below shifts (λ s. sum_below skills (last d s))) (λ d. earned w d (choice_on row d)) (λ d h. day_earned shifts skills d (choice_on row d)),
+        )
+
+    -- what all places pay
+    pub paid_is_earned : over_places days shifts skills (λ d s k. w d s k * cover r d s k) ≤ sum_below (length r) row_earned
+    paid_is_earned =
+        let same : over_places days shifts skills (λ d s k. w d s k * first_nurses (length r) d s k) ≡ over_places days shifts skills (λ d s k. w d s k * cover r d s k) =
+        λ i. over_places days shifts skills (λ d s k. w d s k * count_by_place (λ (row : Row). same_choice (choice_on row d) (Work (shift_at s) (skill_at k))) r [] i) in
+        omega (arith, same, paid_up_to (length r))
+
+-- ---- a row costs by the worths what it costs, less what is earned
+
+prices_split : (n : ℕ) (p e q : ℕ → ℕ) → ((d : ℕ) → e d ≤ most_worth) → ((d : ℕ) → p d ≡ (most_worth - e d) + q d) → sum_below n p + sum_below n e ≡ sum_below n q + n * most_worth
+prices_split zero p e q within each = refl
+prices_split (suc n) p e q within each = omega (arith, prices_split n p e q within each, each n, within n)
+
+earned_within : (w : PlaceWorths) → AreWorths w → (d : ℕ) (x : Choice) → earned w d x ≤ most_worth
+earned_within w are d Off = omega arith
+earned_within w are d (Work s k) = are d s.0 k.0
+
+requests_of_row : (c : Meaning) (n : ℕ) (row : Row) → request_cost c n (days_of row) ≡ sum_below (length row) (λ d. request_cost_on c n d (shift_of (choice_on row d)))
+requests_of_row c n row =
+    let off : ℕ → ℕ = λ d. off_request_cost_on c n d (shift_of (choice_on row d)) in
+    let wished : ℕ → ℕ = λ d. wish_cost_on c n d (shift_of (choice_on row d)) in
+    let both : request_cost c n (days_of row) ≡ sum_below (length row) off + sum_below (length row) wished =
+    λ i. sum_below (length-map row shift_of i) (λ d. off_request_cost_on c n d (get_or-map shift_of row d Off i)) + sum_below (length-map row shift_of i) (λ d. wish_cost_on c n d (get_or-map shift_of row d Off i)) in
+    both ∙ sym (sum_both (length row) off wished)
+
+pub row_cost-earned : (c : Meaning) (w : PlaceWorths) → AreWorths w → (n : ℕ) (row : Row)
+    → row_cost_by c w n row + sum_below (length row) (λ d. earned w d (choice_on row d)) ≡ nurse_cost c n (days_of row) + length row * most_worth
+row_cost-earned c w are n row =
+    omega (
+      arith,
+      prices_split (length row) (λ d. price_by c w n d (choice_on row d)) (λ d. earned w d (choice_on row d)) (λ d. request_cost_on c n d (shift_of (choice_on row d))) (λ d. earned_within w are d (choice_on row d)) (λ d. refl),
+      requests_of_row c n row,
+    )
+
+-- ---- a roster that keeps the hard rules
+
+met : (have need : ℕ) → not (nat_lt have need) ≡ true → need ≤ have
+met have need e = grind (arith, e)
+
+put_together : (p f paid cost room staffing pen : ℕ) → p ≤ staffing + paid → f + paid ≤ cost + room → pen ≡ staffing + cost → (p + f) - room ≤ pen
+put_together p f paid cost room staffing pen h k e = omega arith
+
+-- a multiple of 5 that is not below a number isn't below the next multiple of 5 either
+pub rounded_below : (b pen : ℕ) → b ≤ pen → pen % 5 ≡ 0 → rounded_up b ≤ pen
+rounded_below b pen h five = omega (arith, h, five)
+
+-- on a frozen day the given choice keeps
+keeps_given : (from : ℕ) (given : Rows) (n d : ℕ) (x : Choice) → (is_frozen from d ≡ true → x ≡ choice_on (row_of given n) d) → keeps_frozen_day from given n d x ≡ true
+keeps_given from given n d x same = go (is_frozen from d) refl
+  where
+    go : (b : Bool) → is_frozen from d ≡ b → (not b || same_choice x (choice_on (row_of given n) d)) ≡ true
+    go false e = refl
+    go true e = ap (λ y. same_choice y (choice_on (row_of given n) d)) (same e) ∙ same_choice_self (choice_on (row_of given n) d)
+
+module _ (c : Meaning) (from : ℕ) (given : Rows) (w : PlaceWorths) (are : AreWorths w) (r : Rows) (fits : fits_case c r ≡ true) (keeps : keeps_hard c r ≡ true) (stays : FrozenDaysStay c from given r) where
+  nurses : length r ≡ nurse_count c
+  nurses = eqb-true (length r) (nurse_count c) (and_parts (length r == nurse_count c) (list_all (is_row_of c) r) fits).0
+
+  rules : (all_below (day_count c) (λ d. meets c d (cover r d)) && all_below (nurse_count c) (λ n. keeps_successions c n (days_of_nurse r n) (day_count c)) ≡ true) × (all_below (nurse_count c) (λ n. keeps_skills c n (row_of r n) (day_count c)) ≡ true)
+  rules = and_parts _ _ (sym (keeps_hard-parts c r) ∙ keeps)
+
+  two_rules : (all_below (day_count c) (λ d. meets c d (cover r d)) ≡ true) × (all_below (nurse_count c) (λ n. keeps_successions c n (days_of_nurse r n) (day_count c)) ≡ true)
+  two_rules = and_parts _ _ rules.0
+
+  minimum_met : (d s k : ℕ) → d < day_count c → s < shift_count c → k < skill_count c → minimum c d s k ≤ cover r d s k
+  minimum_met d s k hd hs hk =
+      met (cover r d s k) (minimum c d s k)
+      (all_elim (skill_count c) (λ k. not (nat_lt (cover r d s k) (minimum c d s k)))
+      (all_elim (shift_count c) (λ s. all_below (skill_count c) (λ k. not (nat_lt (cover r d s k) (minimum c d s k)))) (all_elim (day_count c) (λ d. meets c d (cover r d)) two_rules.0 d hd) s hs) k hk)
+
+  -- the places: what is missing and the pay
+  places_below : places_floor c w ≤ staffing_cost c r + over_places (day_count c) (shift_count c) (skill_count c) (λ d s k. w d s k * cover r d s k)
+  places_below =
+      let D = day_count c in
+      let S = shift_count c in
+      let K = skill_count c in
+      let missing : ℕ → ℕ → ℕ → ℕ = λ d s k. staffing_weight * (optimum c d s k - cover r d s k) in
+      let pay : ℕ → ℕ → ℕ → ℕ = λ d s k. w d s k * cover r d s k in
+      omega (
+        arith,
+        places_le D S K (place_floor c w) (λ d s k. missing d s k + pay d s k) (λ d s k hd hs hk. place_least (w d s k) (minimum c d s k) (optimum c d s k) (cover r d s k) (minimum_met d s k hd hs hk)),
+        places_both D S K (λ d s k. missing d s k + pay d s k) missing pay (λ d s k. refl),
+      )
+
+  module _ (n : ℕ) (inside : n < nurse_count c) where
+    row : Row
+    row = row_of r n
+
+    frozen_kept : keeps_frozen_days c from given n (row_of r n) ≡ true
+    frozen_kept = all_true (day_count c) (λ d. keeps_frozen_day from given n d (choice_on (row_of r n) d)) (λ d h. keeps_given from given n d (choice_on (row_of r n) d) (stays n d h))
+
+    pub worked : can_work c from given n (row_of r n) ≡ true
+    worked =
+        let skills : Bool = keeps_skills c n (row_of r n) (day_count c) in
+        let successions : Bool = keeps_successions c n (days_of_nurse r n) (day_count c) in
+        and_from (skills && successions) (keeps_frozen_days c from given n (row_of r n))
+        (and_from skills successions (all_elim (nurse_count c) (λ n. keeps_skills c n (row_of r n) (day_count c)) rules.1 n inside) (all_elim (nurse_count c) (λ n. keeps_successions c n (days_of_nurse r n) (day_count c)) two_rules.1 n inside)) frozen_kept
+
+    row_below : row_floor c from given w n + row_earned w (day_count c) (shift_count c) (skill_count c) r n ≤ nurse_cost c n (days_of_nurse r n) + day_count c * most_worth
+    row_below =
+        let days : length (row_of r n) ≡ day_count c = row-length c r n fits inside in
+        let least : row_floor c from given w n ≤ row_cost_by c w n (row_of r n) = least_below (row_cost_by c w n) (own_rows c from given n) (row_of r n)
+        (member_is_kept (can_work c from given n) (all_rows (all_choices c) (day_count c)) (row_of r n) (row_is_member c (row_of r n) (row_fits c r n fits inside)) worked) in
+        let earns : sum_below (length (row_of r n)) (λ d. earned w d (choice_on (row_of r n) d)) ≡ sum_below (day_count c) (λ d. earned w d (choice_on (row_of r n) d)) =
+        ap (λ m. sum_below m (λ d. earned w d (choice_on (row_of r n) d))) days in
+        let room : length (row_of r n) * most_worth ≡ day_count c * most_worth = ap (λ m. m * most_worth) days in
+        omega (arith, least, row_cost-earned c w are n (row_of r n), earns, room)
+
+  rows_below : sum_below (nurse_count c) (row_floor c from given w) + sum_below (nurse_count c) (row_earned w (day_count c) (shift_count c) (skill_count c) r)
+      ≤ sum_below (nurse_count c) (λ n. nurse_cost c n (days_of_nurse r n)) + nurse_count c * (day_count c * most_worth)
+  rows_below =
+      let N = nurse_count c in
+      let earns = row_earned w (day_count c) (shift_count c) (skill_count c) r in
+      let room : ℕ = day_count c * most_worth in
+      omega (
+        arith,
+        sum_both N (row_floor c from given w) earns,
+        sum_le N (λ n. row_floor c from given w n + earns n) (λ n. nurse_cost c n (days_of_nurse r n) + room) row_below,
+        sum_both N (λ n. nurse_cost c n (days_of_nurse r n)) (λ n. room),
+        sum_same_number N room,
+      )
+
+  together_below : floors_together c from given w ≤ penalty c r
+  together_below =
+      let earns = row_earned w (day_count c) (shift_count c) (skill_count c) r in
+      let paid : over_places (day_count c) (shift_count c) (skill_count c) (λ d s k. w d s k * cover r d s k) ≤ sum_below (nurse_count c) earns =
+      omega (arith, paid_is_earned w (day_count c) (shift_count c) (skill_count c) r, ap (λ m. sum_below m earns) nurses) in
+      put_together (places_floor c w) (sum_below (nurse_count c) (row_floor c from given w)) (sum_below (nurse_count c) earns) (sum_below (nurse_count c) (λ n. nurse_cost c n (days_of_nurse r n))) (nurse_count c * (day_count c * most_worth)) (staffing_cost c r) (penalty c r)
+      (omega (arith, places_below, paid)) rows_below (penalty-parts c r)
+
+  below : bound_by c from given w ≤ penalty c r
+  unfolding bound_by
+  below = rounded_below (floors_together c from given w) (penalty c r) together_below (penalty_is c r)
+
+pub no_roster_below : (c : Meaning) (from : ℕ) (given : Rows) (w : PlaceWorths) → AreWorths w → IsLowerBound c from given (bound_by c from given w)
+no_roster_below c from given w are r fits keeps stays = below c from given w are r fits keeps stays

@@ -1,0 +1,157 @@
+-- The least that a nurse costs is what the search finds.
+use Rattle.std.proofs.Common.{◌≡◌, ◌∙◌, ◌+◌, ◌<◌, ◌≤◌, ◌&&◌, ℕ, Bool, true, false, not, ap, arith, refl, subst, sym, List, [], ◌∷◌, length, Contains, IsSome, Option, Some, None, if◌then◌else◌}
+use Rattle.std.specs.Prelude.{option_map}
+use Rattle.std.specs.List.{All, filter}
+use Rattle.std.specs.Option.{option_map_or}
+use Rattle.std.proofs.lemmas.Bool.{and_parts, true≢false}
+use Rattle.std.proofs.lemmas.List.{length-map}
+use Rattle.std.proofs.lemmas.List.Elements.{All-contains_itself, All-filter, All-map, All-weaker}
+use Rattle.arrayvec.specs.ArrayVec.{ArrayVec}
+use Rattle.roster_rules.specs.declared.Choice.{Choice}
+use Rattle.roster_rules.specs.AllowedRows.{first_least, keeps_frozen_day, keeps_frozen_days}
+use Rattle.roster_rules.specs.Choices.{all_choices, all_rows, days_of, shift_of}
+use Rattle.roster_rules.specs.HardRules.{breaks_succession, is_able, is_able_on, keeps_hard}
+use Rattle.roster_rules.specs.Meaning.{Meaning, day_count, nurse_at, nurse_count}
+use Rattle.roster_rules.specs.Penalties.{breaks_off_request, meets_wishes}
+use Rattle.roster_rules.specs.Prefix.{due, summary_of}
+use Rattle.roster_rules.specs.Rosters.{Row, Rows, choice_on, fits_case, row_of}
+use Rattle.roster_rules.specs.Weights.{off_request_weight, wish_weight}
+use Rattle.roster_rules.proofs.RosterFacts.{row-length, row_fits}
+use Rattle.roster_laws.proofs.AllRows.{choice_is_member, member_is_choice, row_is_member}
+use Rattle.roster_laws.proofs.Allowed.{member_is_kept}
+use Rattle.roster_laws.proofs.Below.{all_both, all_elim, all_same}
+use Rattle.roster_laws.proofs.Frozen.{stays_self}
+use Rattle.roster_search.specs.declared.Offer.{Offer}
+use Rattle.roster_search.specs.Cheapest.{Priced, raised}
+use Rattle.roster_search.specs.Offers.{choices_of, offer_at, offered_row_by}
+use Rattle.roster_search.specs.Search.{AreDayOffers, AreOffers, IsFound, best_over, offers_on}
+use Rattle.roster_search.specs.Tables.{IsOfferOf, most_price}
+use Rattle.roster_search.proofs.ByOffers.{found_by_offers}
+use Rattle.roster_search.proofs.ByShift.{best_by_shift, by_shift_all, by_shift_fewer, by_shift_some}
+use Rattle.roster_search.proofs.Cheapest.{cost_or, thing_or}
+use Rattle.roster_search.proofs.OfferLaws.{offers_few_of, present_of_case}
+use Rattle.roster_search.proofs.SearchLaws.{best_over_same}
+use Rattle.roster_bound.specs.Days.{AreWorthOffers, can_do, offers_by_worth, shift_offers_by_worth}
+use Rattle.roster_bound.specs.Worths.{PlaceWorths, can_work, floor_row, own_rows, price_by, row_cost_by, row_floor}
+use Rattle.roster_bound.proofs.Duality.{worked}
+
+-- a choice is one that the nurse is able to do, may follow, and stays
+last_two : (a b d : Bool) → ((a && b) && d) ≡ ((a && d) && b)
+last_two true true true = refl
+last_two true true false = refl
+last_two true false true = refl
+last_two true false false = refl
+last_two false b d = refl
+
+some_least : {X : Type 0} (cost : X → ℕ) (xs : List X) (x : X) → Contains xs x → IsSome (first_least cost xs)
+some_least cost [] x member = absurd (omega (arith, member.1))
+some_least cost (y ∷ ys) x member = refl
+
+asked_within : (b : Bool) → (if b then off_request_weight else 0) ≤ off_request_weight
+asked_within true = omega arith
+asked_within false = omega arith
+
+wish_within : (b : Bool) → (if b then 0 else wish_weight) ≤ wish_weight
+wish_within true = omega arith
+wish_within false = omega arith
+
+module _ (c : Meaning) (from : ℕ) (given : Rows) (w : PlaceWorths) (n : ℕ) where
+  abbrev can : ℕ → Choice → Bool
+  can = can_do c from given n
+
+  -- ---- the offers of a day
+
+  price_within : (d : ℕ) (x : Choice) → price_by c w n d x ≤ most_price
+  price_within d x = omega (arith, asked_within (breaks_off_request c n d (shift_of x)), wish_within (meets_wishes c n d (shift_of x)))
+
+  offers_of_case : (d : ℕ) → All (IsOfferOf c) (offers_by_worth c from given w n d)
+  offers_of_case d =
+      All-map (IsOfferOf c) (offer_at (price_by c w n) d) (filter (can d) (all_choices c))
+      (All-filter (can d) (λ x. IsOfferOf c (offer_at (price_by c w n) d x)) (all_choices c)
+      (All-weaker (Contains (all_choices c)) (λ x. IsOfferOf c (offer_at (price_by c w n) d x)) (λ x member. record { choice = member_is_choice c x member; price = price_within d x }) (all_choices c) (All-contains_itself (all_choices c))))
+
+  -- ---- the rows
+
+  kept : (row : Row) → length row ≡ day_count c → can_work c from given n row ≡ offered_row_by c n can row (length row)
+  kept row days =
+      let D = day_count c in
+      let able : ℕ → Bool = is_able_on c n row in
+      let follows : ℕ → Bool = λ d. not (breaks_succession c n (days_of row) d) in
+      let stays : ℕ → Bool = λ d. keeps_frozen_day from given n d (choice_on row d) in
+      ap (λ b. b && keeps_frozen_days c from given n row) (sym (all_both D able follows))
+      ∙ sym (all_both D (λ d. able d && follows d) stays)
+      ∙ all_same D (λ d. (able d && follows d) && stays d) (λ d. (able d && stays d) && follows d) (λ d h. last_two (able d) (follows d) (stays d))
+      ∙ sym (ap (offered_row_by c n can row) days)
+
+  with_its_cost : Row → ℕ × Row
+  with_its_cost row = (row_cost_by c w n row, row)
+
+  abbrev pub best : Priced (List Offer)
+  best = best_over c n (shift_offers_by_worth c from given w n)
+
+  best_is : option_map with_its_cost (floor_row c from given w n) ≡ raised (0 + due c n []) choices_of best
+  unfolding with_its_cost
+  best_is =
+      found_by_offers c n can (price_by c w n) 0 (row_cost_by c w n) (can_work c from given n) kept (λ row days. omega arith)
+      ∙ ap (raised (0 + due c n []) choices_of) (sym (best_by_shift c n (offers_by_worth c from given w n) (day_count c) 0 (summary_of c n [])))
+
+  some_is : (o : Option Row) (p : Priced (List Offer)) → option_map with_its_cost o ≡ raised (0 + due c n []) choices_of p → IsSome o → IsSome p
+  some_is None p e some = elim (true≢false (sym some)) [ ]
+  some_is (Some row) None e some = absurd cc
+  some_is (Some row) (Some p) e some = refl
+
+  read : (o : Option Row) (k : ℕ) (offers : List Offer) → option_map with_its_cost o ≡ raised (0 + due c n []) choices_of (Some (k, offers)) → (due c n [] + k ≡ option_map_or (row_cost_by c w n) o 0) × (o ≡ Some (choices_of offers))
+  unfolding with_its_cost
+  read None k offers e = absurd cc
+  read (Some row) k offers e =
+      let cost : row_cost_by c w n row ≡ 0 + due c n [] + k = ap (cost_or 0) e in
+      (omega (arith, cost), ap Some (ap (thing_or []) e))
+
+  module _ (fits : fits_case c given ≡ true) (keeps : keeps_hard c given ≡ true) (inside : n < nurse_count c) where
+    can_work_given : can_work c from given n (row_of given n) ≡ true
+    can_work_given = worked c from given (λ d s k. 0) (λ d s k. omega arith) given fits keeps (stays_self c from given) n inside
+
+    some : IsSome best
+    some =
+        some_is (floor_row c from given w n) best best_is
+        (some_least (row_cost_by c w n) (own_rows c from given n) (row_of given n) (member_is_kept (can_work c from given n) (all_rows (all_choices c) (day_count c)) (row_of given n) (row_is_member c (row_of given n) (row_fits c given n fits inside)) can_work_given))
+
+    -- the given choice of a day
+    can_do_given : (d : ℕ) → d < day_count c → can d (choice_on (row_of given n) d) ≡ true
+    can_do_given d within =
+        let all : offered_row_by c n can (row_of given n) (length (row_of given n)) ≡ true = sym (kept (row_of given n) (row-length c given n fits inside)) ∙ can_work_given in
+        (and_parts _ _ (all_elim (length (row_of given n)) (λ k. can k (choice_on (row_of given n) k) && not (breaks_succession c n (days_of (row_of given n)) k)) all d (omega (arith, within, row-length c given n fits inside)))).0
+
+    offers_some : (d : ℕ) → d < day_count c → 0 < length (offers_by_worth c from given w n d)
+    offers_some d within =
+        let member = member_is_kept (can d) (all_choices c) (choice_on (row_of given n) d) (choice_is_member c (choice_on (row_of given n) d) (present_of_case c from given n d fits keeps inside within)) (can_do_given d within) in
+        omega (arith, member.1, length-map (filter (can d) (all_choices c)) (offer_at (price_by c w n) d))
+
+    day_offers : (d : ℕ) → d < day_count c → AreDayOffers c n (shift_offers_by_worth c from given w n d)
+    day_offers d within = record {
+      of_case = by_shift_all (IsOfferOf c) (offers_by_worth c from given w n d) (offers_of_case d);
+      some = by_shift_some (offers_by_worth c from given w n d) (offers_some d within);
+      few = omega (arith, by_shift_fewer (offers_by_worth c from given w n d), offers_few_of c n can (price_by c w n) (λ e x is. (and_parts (is_able (nurse_at c n).skills x) (keeps_frozen_day from given n e x) is).0) d);
+    }
+
+    -- ---- over a table of these offers
+
+    module _ (table : List (ArrayVec Offer)) (are : AreWorthOffers c from given w n table) where
+      pub can_search : AreOffers c n table
+      can_search = record { days = omega (arith, are.days); each = λ day within. subst (AreDayOffers c n) (sym (are.each day within)) (day_offers day within) }
+
+      same_best : best_over c n (offers_on table) ≡ best
+      same_best = best_over_same c n (offers_on table) (shift_offers_by_worth c from given w n) are.each
+
+      pub some_found : IsSome (best_over c n (offers_on table))
+      some_found = subst (λ (p : Priced (List Offer)). IsSome p) (sym same_best) some
+
+      module _ (cost : ℕ) (row : Row) (found : IsFound (best_over c n (offers_on table)) cost row) where
+        both : (due c n [] + cost ≡ row_floor c from given w n) × (floor_row c from given w n ≡ Some (choices_of found.offers))
+        both = read (floor_row c from given w n) cost found.offers (best_is ∙ ap (raised (0 + due c n []) choices_of) (sym same_best ∙ found.is))
+
+        pub floor_is : due c n [] + cost ≡ row_floor c from given w n
+        floor_is = both.0
+
+        pub floor_row_is : floor_row c from given w n ≡ Some row
+        floor_row_is = both.1 ∙ ap Some (sym found.row_is)

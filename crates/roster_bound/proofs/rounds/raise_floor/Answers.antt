@@ -1,0 +1,55 @@
+use Rattle.std.proofs.Common.{◌∙◌, ap, arith, subst, sym}
+use Rattle.std.proofs.lemmas.Result.{err_from_is_err_and}
+use Rattle.roster_text.specs.Io.{BreaksIn, Sends}
+use Rattle.roster_bound.specs.declared.worths.Worths.{Worths}
+use Rattle.roster_instance.specs.Meaning.{Meaning}
+use Rattle.roster_bound.specs.Workspaces.{FitsFloor, FitsRows}
+use Rattle.roster_bound.proofs.Counted.{round_counted}
+use Rattle.roster_bound.proofs.FloorLogs.{Going-raised, Going-start, first_text, raised_breaks, start_breaks}
+use Rattle.roster_bound.proofs.rounds.raise_floor.Goals as goal
+
+pub returns-in_err-sent-clause-err : goal.returns-in_err-sent-clause-err
+returns-in_err-sent-clause-err g c =
+    let p = err_from_is_err_and c.from_residual.result c.from_residual.ensures.1 in
+    let k = c.args.held.now.case in
+    let given = c.args.held.now.roster in
+    rw (p.1, p.2) (start_breaks g.W.Write.contents k c.args.from given c.args.log.now c.args.rounds c.log_word.new.log c.in_err-sent.field-0.0
+    (subst (λ text. BreaksIn g.W.Write.contents c.args.log.now c.log_word.new.log 0 text c.in_err-sent.field-0.0) (first_text k given c.total.result c.total.ensures.total) c.in_err-sent.ensures.err))
+
+pub loop-rounds_before-init : goal.loop-rounds_before-init
+loop-rounds_before-init g c =
+    let k = c.args.held.now.case in
+    let given = c.args.held.now.roster in
+    record {
+      going = Going-start g.W.Write.contents k c.args.from given c.args.log.now c.log_word.new.log c.in_ok-sent.sent
+          (subst (Sends g.W.Write.contents c.args.log.now c.log_word.new.log 0 c.in_ok-sent.sent) (first_text k given c.total.result c.total.ensures.total) c.in_ok-sent.ensures.ok);
+      below = λ r fits keeps stays. omega arith;
+      within = omega arith;
+      counted = omega arith;
+      fits = record {
+        rows = subst (FitsRows k) (sym c.begin.ensures.rows) c.requires.fits.rows;
+        worths = c.set_all.ensures ∙ ap (λ (w : Worths). w.days) c.begin.ensures.worths ∙ c.requires.fits.worths;
+        wanted = c.begin.ensures.wanted ∙ c.requires.fits.wanted;
+        had = c.begin.ensures.had ∙ c.requires.fits.had;
+      };
+    }
+
+pub returns-in_err-sent-2-clause-err : goal.returns-in_err-sent-2-clause-err
+returns-in_err-sent-2-clause-err g c =
+    let p = err_from_is_err_and c.from_residual-in_err-sent-2.result c.from_residual-in_err-sent-2.ensures.1 in
+    let l = c.loop-rounds_before in
+    rw (p.1, p.2) (raised_breaks g.W.Write.contents c.args.held.now.case c.args.from c.args.held.now.roster c.args.log.now c.args.rounds l.log c.log_round.new.log l.rounds_before l.sent l.best c.make_round-bound.result c.in_err-sent-2.field-0.0
+    l.invariant.going c.loop-rounds_before-test.true c.if-bound-best.false c.make_round-bound.ensures.below c.in_err-sent-2.ensures.err)
+
+pub loop-rounds_before-preserved : goal.loop-rounds_before-preserved
+loop-rounds_before-preserved g c =
+    let k = c.args.held.now.case in
+    let l = c.loop-rounds_before in
+    record {
+      going = Going-raised g.W.Write.contents k c.args.from c.args.held.now.roster c.args.log.now l.log c.log_round.new.log l.rounds_before l.sent c.in_ok-sent-2.sent l.best c.make_round-bound.result l.invariant.going c.if-bound-best.false
+          c.make_round-bound.ensures.below c.in_ok-sent-2.ensures.ok;
+      below = c.make_round-bound.ensures.below;
+      within = c.make_round-bound.ensures.within;
+      counted = round_counted k l.rounds_before c.args.meter.now l.meter l.invariant.counted c.make_round-bound.new.meter c.make_round-bound.ensures.counted;
+      fits = subst (λ (m : Meaning). FitsFloor m c.move_worths.new.workspace) c.case-case.ensures c.move_worths.ensures;
+    }

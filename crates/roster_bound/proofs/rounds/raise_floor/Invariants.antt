@@ -1,0 +1,17 @@
+-- The rounds so far are made, and the lines so far are sent.
+use Rattle.std.proofs.Common.{◌+◌, ◌≤◌}
+use Rattle.roster_rules.specs.Penalties.{penalty}
+use Rattle.roster_rounds.specs.RunLogs.{extensions_in}
+use Rattle.roster_bound.specs.Workspaces.{FitsFloor}
+use Rattle.roster_bound.specs.Worths.{IsLowerBound}
+use Rattle.roster_bound.proofs.FloorLogs.{Going}
+use Rattle.roster_bound.proofs.rounds.raise_floor.Given as goal
+
+abbrev pub invariant-loop-rounds_before : goal.invariant-loop-rounds_before
+invariant-loop-rounds_before g l = record {
+  going : Going g.W.Write.contents l.held.case l.from l.held.roster l.fn.log l.log l.rounds_before l.sent l.best;
+  below : IsLowerBound l.held.case l.from l.held.roster l.best;
+  within : l.best ≤ penalty l.held.case l.held.roster;
+  counted : l.meter ≤ l.fn.meter + extensions_in l.held.case l.rounds_before;
+  fits : FitsFloor l.held.case l.workspace;
+}

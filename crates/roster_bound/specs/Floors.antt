@@ -1,0 +1,60 @@
+-- The log of a run that raises a floor, and a run whose log a writer took, or on which it stopped (our own).
+use Rattle.std.specs.Prelude.{◌≡◌, ℕ, ◌<◌, ◌≤◌, All, List, [], ◌∷◌, ◌++◌, codes, decimal, flat_map, Option}
+use Rattle.roster_text.specs.Io.{StopsAt, Watched, Writes, saturated}
+use Rattle.roster_instance.specs.Meaning.{Meaning}
+use Rattle.roster_instance.specs.Rosters.{Rows}
+use Rattle.roster_rules.specs.Penalties.{penalty}
+use Rattle.roster_rounds.specs.RunLogs.{line}
+use Rattle.roster_rounds.specs.declared.outcome.LogFault.{LogFault}
+use Rattle.roster_rounds.specs.declared.outcome.LogFault.TheVariants.{LogFailed}
+use Rattle.roster_bound.specs.Worths.{IsLowerBound}
+
+-- a line of the log: a round, and the floor that it reached
+pub record FloorLine : Type 0 where
+  pub round : ℕ
+  pub bound : ℕ
+
+-- before the first round: the floor 0
+abbrev pub no_line : FloorLine
+no_line = record { round = 0; bound = 0 }
+
+-- the last of some lines, or the one before them where there is none
+abbrev pub last_line : FloorLine → List FloorLine → FloorLine
+last_line before [] = before
+last_line before (x ∷ xs) = last_line x xs
+
+-- later rounds, greater floors
+abbrev pub Rises : FloorLine → List FloorLine → Type 0
+Rises before [] = Unit {0}
+Rises before (x ∷ xs) = (before.round < x.round) × (before.bound < x.bound) × Rises x xs
+
+-- each line's bound is a floor, greater than the one before, and no round is beyond the number of rounds
+pub record IsFloorLog (c : Meaning) (from : ℕ) (given : Rows) (rounds : ℕ) (lines : List FloorLine) : Type 0 where
+  pub floors : All (λ x. IsLowerBound c from given x.bound) lines
+  pub rises : Rises no_line lines
+  pub within : (last_line no_line lines).round ≤ rounds
+
+-- ---- the text: the penalty of the given roster, then each floor
+
+abbrev pub floor_line : FloorLine → List ℕ
+floor_line x = line (codes "round " ++ decimal x.round) x.bound
+
+abbrev pub floor_text : Meaning → Rows → List FloorLine → List ℕ
+floor_text c given lines = line (codes "start") (penalty c given) ++ flat_map floor_line lines
+
+-- ---- a writer that takes all, and one that stops
+
+-- the log of some floors went out, and the answer is the last of them
+pub record RaisesFloor {W : Type 0} (contents : W → Option (List ℕ)) (c : Meaning) (from : ℕ) (given : Rows) (rounds : ℕ) (old new : Watched W) (bound : ℕ) : Type 0 where
+  pub lines : List FloorLine
+  pub is_log : IsFloorLog c from given rounds lines
+  pub writes : Writes contents old new (floor_text c given lines)
+  pub bound_is : bound ≡ (last_line no_line lines).bound
+
+-- just the first bytes of the log of some floors went out
+pub record FloorLogStops {W : Type 0} (contents : W → Option (List ℕ)) (c : Meaning) (from : ℕ) (given : Rows) (rounds : ℕ) (old new : Watched W) (fault : LogFault) : Type 0 where
+  pub lines : List FloorLine
+  pub is_log : IsFloorLog c from given rounds lines
+  pub sent : ℕ
+  pub stops : StopsAt contents old new (floor_text c given lines) sent
+  pub counted : fault ≡ LogFailed (saturated sent)

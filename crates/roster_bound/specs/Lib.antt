@@ -1,0 +1,5 @@
+pub mod Worths
+pub mod Tables
+pub mod Days
+pub mod Floors
+pub mod Workspaces

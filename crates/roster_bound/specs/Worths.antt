@@ -1,0 +1,93 @@
+-- A floor under the penalty of every roster. A place is a day, a shift and a skill. It pays its worth to each nurse that works there:
+-- what the places pay is what the nurses earn, so that pay changes no penalty. But then each place and each nurse has a least cost of
+-- its own, and no roster costs less than all of these together (our own, by weak duality).
+use Rattle.std.specs.Prelude.{◌≡◌, ℕ, ◌+◌, ◌-◌, ◌*◌, ◌/◌, ◌≤◌, min, max, Bool, true, ◌&&◌, List, length, filter, Option}
+use Rattle.std.specs.Option.{option_map_or}
+use Rattle.roster_instance.specs.declared.Choice.{Choice}
+use Rattle.roster_instance.specs.declared.Choice.TheVariants.{Off, Work}
+use Rattle.roster_instance.specs.Choices.{all_choices, all_rows, days_of, shift_of}
+use Rattle.roster_instance.specs.Counting.{sum_below}
+use Rattle.roster_instance.specs.Limits.{most_small}
+use Rattle.roster_instance.specs.Meaning.{Meaning, day_count, minimum, nurse_count, optimum, shift_count, skill_count}
+use Rattle.roster_instance.specs.Rosters.{Row, Rows, choice_on, fits_case}
+use Rattle.roster_rules.specs.AllowedRows.{first_least, keeps_frozen_days}
+use Rattle.roster_rules.specs.HardRules.{keeps_hard, keeps_skills, keeps_successions}
+use Rattle.roster_rules.specs.Penalties.{own_cost, penalty, request_cost_on}
+use Rattle.roster_rules.specs.Weights.{staffing_weight}
+use Rattle.roster_laws.specs.FrozenDays.{FrozenDaysStay}
+
+-- no roster of the case that keeps the hard rules, and agrees with the given one on each day before week `from`, costs less
+abbrev pub IsLowerBound : Meaning → ℕ → Rows → ℕ → Type 0
+IsLowerBound c from given bound = (r : Rows) → fits_case c r ≡ true → keeps_hard c r ≡ true → FrozenDaysStay c from given r → bound ≤ penalty c r
+
+-- ---- worths: the points that each place, by day, shift and skill, pays to a nurse
+
+abbrev pub PlaceWorths : Type 0
+PlaceWorths = (day shift skill : ℕ) → ℕ
+
+abbrev pub most_worth : ℕ
+most_worth = 1000
+
+-- no place pays more than that
+abbrev pub AreWorths : PlaceWorths → Type 0
+AreWorths w = (d s k : ℕ) → w d s k ≤ most_worth
+
+-- what a nurse earns on a day
+abbrev pub earned : PlaceWorths → ℕ → Choice → ℕ
+earned w d Off = 0
+earned w d (Work s k) = w d s.0 k.0
+
+-- ---- the least that a place costs
+
+-- what a place costs with so many nurses: those that are missing, and the pay
+abbrev pub place_cost : Meaning → PlaceWorths → (d s k : ℕ) → ℕ → ℕ
+place_cost c w d s k nurses = staffing_weight * (optimum c d s k - nurses) + w d s k * nurses
+
+-- that is at most, by the limits of a case: 1,028,970
+abbrev pub most_place : ℕ
+most_place = (staffing_weight + most_worth) * most_small
+
+-- with the minimum or more it is least at the minimum, or at the optimum where that is more
+abbrev pub place_floor : Meaning → PlaceWorths → (d s k : ℕ) → ℕ
+place_floor c w d s k = min (place_cost c w d s k (minimum c d s k)) (place_cost c w d s k (max (minimum c d s k) (optimum c d s k)))
+
+-- of all places together
+abbrev pub places_floor : Meaning → PlaceWorths → ℕ
+places_floor c w = sum_below (day_count c) (λ d. sum_below (shift_count c) (λ s. sum_below (skill_count c) (place_floor c w d s)))
+
+-- ---- the least that a nurse costs
+
+-- the price of a choice on a day: what the nurse earns less than the most, and the requests
+abbrev pub price_by : Meaning → PlaceWorths → ℕ → ℕ → Choice → ℕ
+price_by c w n d choice = (most_worth - earned w d choice) + request_cost_on c n d (shift_of choice)
+
+-- what a row costs its nurse at these prices
+abbrev pub row_cost_by : Meaning → PlaceWorths → ℕ → Row → ℕ
+row_cost_by c w n row = own_cost c n (days_of row) + sum_below (length row) (λ d. price_by c w n d (choice_on row d))
+
+-- the nurse has the skills for the row, no shift of it is forbidden by the one before, and it agrees with the given one on each frozen day
+abbrev pub can_work : Meaning → ℕ → Rows → ℕ → Row → Bool
+can_work c from given n row = keeps_skills c n row (day_count c) && keeps_successions c n (days_of row) (day_count c) && keeps_frozen_days c from given n row
+
+abbrev pub own_rows : Meaning → ℕ → Rows → ℕ → List Row
+own_rows c from given n = filter (can_work c from given n) (all_rows (all_choices c) (day_count c))
+
+-- the first of the cheapest of these, and its cost
+abbrev pub floor_row : Meaning → ℕ → Rows → PlaceWorths → ℕ → Option Row
+floor_row c from given w n = first_least (row_cost_by c w n) (own_rows c from given n)
+
+abbrev pub row_floor : Meaning → ℕ → Rows → PlaceWorths → ℕ → ℕ
+row_floor c from given w n = option_map_or (row_cost_by c w n) (floor_row c from given w n) 0
+
+-- ---- both together
+
+-- less the most that a nurse earns, which stands in the price of each day
+abbrev pub floors_together : Meaning → ℕ → Rows → PlaceWorths → ℕ
+floors_together c from given w = places_floor c w + sum_below (nurse_count c) (row_floor c from given w) - nurse_count c * (day_count c * most_worth)
+
+-- the next multiple of 5, which each penalty is
+abbrev pub rounded_up : ℕ → ℕ
+rounded_up n = 5 * ((n + 4) / 5)
+
+unfoldable pub bound_by : Meaning → ℕ → Rows → PlaceWorths → ℕ
+bound_by c from given w = rounded_up (floors_together c from given w)

@@ -1,0 +1,111 @@
+//! The least that nurses cost, and the floor under a roster.
+
+ghost use Rattle.std.specs.Prelude.{◌≡◌, ◌+◌, ◌*◌, ◌<◌, ◌≤◌, true, Some, length, take};
+ghost use Rattle.roster_instance.specs.Limits.{most_days, most_nurses};
+ghost use Rattle.roster_instance.specs.Meaning.{day_count, nurse_count};
+ghost use Rattle.roster_instance.specs.Rosters.{fits_case};
+ghost use Rattle.roster_rules.specs.HardRules.{keeps_hard};
+ghost use Rattle.roster_rules.specs.Penalties.{penalty};
+ghost use Rattle.roster_laws.specs.Greatest.{extension_count, greatest_extension_count};
+ghost use Rattle.roster_bound.specs.Days.{AreWorthOffers, shift_offers_by_worth};
+ghost use Rattle.roster_bound.specs.Tables.{worths_of};
+ghost use Rattle.roster_bound.specs.Workspaces.{FitsRows};
+ghost use Rattle.roster_bound.specs.Worths.{IsLowerBound, bound_by, floor_row, most_worth, row_floor};
+
+use crate::moves::count_row;
+use crate::offers::{Terms, choices};
+use crate::places::places_floor;
+use crate::workspace::RowSpace;
+use crate::worths::MOST_WORTH;
+use arrayvec::ArrayVec;
+use roster_rules::Case;
+use roster_search::{MOST_DAYS, Offer, RowSearch, cheapest_by_shift, search_row};
+use roster_state::{Meter, start};
+
+/// A floor by worths: no roster costs less that fits the case, keeps the hard rules and agrees with the given one on the days before
+/// the week of the terms. The given roster is such a one, so that each nurse has a row.
+pub fn lower_bound(terms: &Terms<'_>, rows: &mut RowSpace, meter: &mut Meter) -> u64
+    requires fitting { fits_case terms.now.case.now terms.now.given.now ≡ true }
+    requires keeps { keeps_hard terms.now.case.now terms.now.given.now ≡ true }
+    requires worths { terms.now.worths.now.days ≡ day_count terms.now.case.now }
+    requires rows { FitsRows terms.now.case.now rows.old }
+    requires room { meter.old + nurse_count terms.now.case.now * greatest_extension_count terms.now.case.now ≤ 18446744073709551615 }
+    ensures below { IsLowerBound terms.now.case.now terms.now.from terms.now.given.now result }
+    ensures within { result ≤ penalty terms.now.case.now terms.now.given.now }
+    ensures bound { result ≡ bound_by terms.now.case.now terms.now.from terms.now.given.now (worths_of terms.now.worths.now) }
+    ensures rows { FitsRows terms.now.case.now rows.new }
+    ensures counted { meter.new ≤ meter.old + nurse_count terms.now.case.now * greatest_extension_count terms.now.case.now }
+{
+    terms.case.keeps_limits();
+    terms.worths.keep_most();
+    rows.forget();
+    let mut floors = places_floor(terms.case, terms.worths);
+    for nurse in 0..terms.case.nurses() {
+        floors += row_floor(terms, nurse, rows, meter);
+    }
+    let together = floors.saturating_sub(most_earned(terms.case));
+    5 * ((together + 4) / 5)
+}
+
+/// What all nurses would earn at the most worth on each day.
+fn most_earned(case: &Case) -> u64
+    ensures all { result ≡ nurse_count case.now * (day_count case.now * most_worth) }
+    ensures within { result ≤ most_nurses * (most_days * most_worth) }
+{
+    case.keeps_limits();
+    case.nurses() as u64 * (case.days() as u64 * MOST_WORTH as u64)
+}
+
+/// The least that a nurse costs by worths. The first of the cheapest rows is then counted at its places.
+pub fn row_floor(terms: &Terms<'_>, nurse: usize, rows: &mut RowSpace, meter: &mut Meter) -> u64
+    requires fitting { fits_case terms.now.case.now terms.now.given.now ≡ true }
+    requires keeps { keeps_hard terms.now.case.now terms.now.given.now ≡ true }
+    requires nurse { nurse < nurse_count terms.now.case.now }
+    requires worths { terms.now.worths.now.days ≡ day_count terms.now.case.now }
+    requires rows { FitsRows terms.now.case.now rows.old }
+    requires room { meter.old + extension_count terms.now.case.now nurse ≤ 18446744073709551615 }
+    ensures floor { result ≡ row_floor terms.now.case.now terms.now.from terms.now.given.now (worths_of terms.now.worths.now) nurse }
+    ensures within { result ≤ 8589934590 }
+    ensures row { floor_row terms.now.case.now terms.now.from terms.now.given.now (worths_of terms.now.worths.now) nurse ≡ Some (take (day_count terms.now.case.now) rows.new.row.items) }
+    ensures rows { FitsRows terms.now.case.now rows.new }
+    ensures counted { meter.new ≤ meter.old + extension_count terms.now.case.now nurse }
+{
+    let case = terms.case;
+    case.keeps_limits();
+    let table = offers_of_days(terms, nurse);
+    let search = RowSearch {
+        case,
+        nurse,
+        offers: table.as_slice(),
+    };
+    let RowSpace { tables, row, cover } = rows;
+    let cost = search_row(&search, tables, row, meter);
+    count_row(row, cover);
+    let (_, owed) = start(case, nurse);
+    owed as u64 + cost as u64
+}
+
+/// The offers of each day: to be off, and for each shift the cheapest, of equally cheap ones the first.
+fn offers_of_days(terms: &Terms<'_>, nurse: usize) -> ArrayVec<ArrayVec<Offer, 9>, MOST_DAYS>
+    requires nurse { nurse < nurse_count terms.now.case.now }
+    requires worths { terms.now.worths.now.days ≡ day_count terms.now.case.now }
+    ensures offers { AreWorthOffers terms.now.case.now terms.now.from terms.now.given.now (worths_of terms.now.worths.now) nurse result.items }
+{
+    terms.case.keeps_limits();
+    let mut offers = ArrayVec::new();
+    for day in 0..terms.case.days() {
+        offers.push(offers_of_day(terms, nurse, day));
+    }
+    offers
+}
+
+/// The offers of one day.
+fn offers_of_day(terms: &Terms<'_>, nurse: usize, day: u16) -> ArrayVec<Offer, 9>
+    requires nurse { nurse < nurse_count terms.now.case.now }
+    requires day { day < day_count terms.now.case.now }
+    requires worths { terms.now.worths.now.days ≡ day_count terms.now.case.now }
+    ensures offers { result.items ≡ shift_offers_by_worth terms.now.case.now terms.now.from terms.now.given.now (worths_of terms.now.worths.now) nurse day }
+{
+    terms.case.keeps_limits();
+    cheapest_by_shift(&choices(terms, nurse, day))
+}

@@ -1,0 +1,19 @@
+//! No roster costs less than the floors. The functions here do nothing: each is a law, and its clauses say it.
+
+ghost use Rattle.std.specs.Prelude.{◌≡◌, ◌%◌, ◌≤◌, ℕ};
+ghost use Rattle.roster_instance.specs.Meaning.{Meaning};
+ghost use Rattle.roster_instance.specs.Rosters.{Rows};
+ghost use Rattle.roster_rules.specs.Penalties.{penalty};
+ghost use Rattle.roster_bound.specs.Worths.{AreWorths, IsLowerBound, PlaceWorths, bound_by, rounded_up};
+
+/// Whatever the places pay, what places and nurses cost at least, rounded up to a multiple of 5, is a lower bound on the penalty of
+/// each roster that fits the case, keeps the hard rules and agrees with the given one on the frozen days.
+pub fn no_roster_is_below_the_bound()
+    ensures { (c : Meaning) (from : ℕ) (given : Rows) (w : PlaceWorths) → AreWorths w → IsLowerBound c from given (bound_by c from given w) }
+{}
+
+/// A bound may be rounded up to the next multiple of 5: each penalty is one.
+pub fn bounds_are_rounded_up()
+    ensures fives { (c : Meaning) (r : Rows) → penalty c r % 5 ≡ 0 }
+    ensures bounds { (c : Meaning) (from : ℕ) (given : Rows) (bound : ℕ) → IsLowerBound c from given bound → IsLowerBound c from given (rounded_up bound) }
+{}

@@ -1,0 +1,109 @@
+//! What a nurse may do on a day by worths.
+
+ghost use Rattle.std.specs.Prelude.{◌≡◌, ◌+◌, ◌<◌, ◌≤◌, ◌++◌, if◌then◌else◌, length, true, Some, None};
+ghost use Rattle.std.specs.Option.{option_to_list};
+ghost use Rattle.roster_instance.specs.Choices.{shift_of};
+ghost use Rattle.roster_instance.specs.Meaning.{day_count, nurse_count};
+ghost use Rattle.roster_instance.specs.Rosters.{is_choice_of};
+ghost use Rattle.roster_rules.specs.AllowedRows.{keeps_frozen_day};
+ghost use Rattle.roster_rules.specs.Penalties.{request_cost_on};
+ghost use Rattle.roster_rules.specs.Weights.{off_request_weight, wish_weight};
+ghost use Rattle.roster_bound.specs.Days.{can_do, offers_by_worth};
+ghost use Rattle.roster_search.specs.Offers.{offer_at};
+ghost use Rattle.roster_bound.specs.Tables.{worths_of};
+ghost use Rattle.roster_bound.specs.Worths.{earned, most_worth, price_by};
+
+use crate::worths::{MOST_WORTH, Worths};
+use arrayvec::ArrayVec;
+use roster_best::request_cost;
+use roster_rules::{Case, Choice, Roster, Shift, Skill, choice_on, is_able};
+use roster_search::Offer;
+
+/// What floors are reckoned by: a case, what its places pay, and a roster of which the days before week `from` stay.
+#[derive(Clone, Copy)]
+pub struct Terms<'a> {
+    pub case: &'a Case,
+    pub worths: &'a Worths,
+    pub given: &'a Roster,
+    pub from: u16,
+}
+
+/// All that a nurse can do on a day, each choice at what the nurse earns less than the most and what the requests cost.
+pub fn choices(terms: &Terms<'_>, nurse: usize, day: u16) -> ArrayVec<Offer, 65>
+    requires nurse { nurse < nurse_count terms.now.case.now }
+    requires day { day < day_count terms.now.case.now }
+    requires worths { terms.now.worths.now.days ≡ day_count terms.now.case.now }
+    ensures offers { result.items ≡ offers_by_worth terms.now.case.now terms.now.from terms.now.given.now (worths_of terms.now.worths.now) nurse day }
+{
+    let case = terms.case;
+    let shifts = case.shifts();
+    let skills = case.skills();
+    let free = request_cost(case, nurse, day, None);
+    let mut offers = ArrayVec::new();
+    push_some(&mut offers, offered(terms, nurse, day, Choice::Off, free));
+    for shift in 0..shifts {
+        let asked = request_cost(case, nurse, day, Some(Shift(shift)));
+        for skill in 0..skills {
+            let choice = Choice::Work(Shift(shift), Skill(skill));
+            push_some(&mut offers, offered(terms, nurse, day, choice, asked));
+        }
+    }
+    offers
+}
+
+fn push_some(offers: &mut ArrayVec<Offer, 65>, offer: Option<Offer>)
+    requires { length offers.old.items < 65 }
+    ensures items { offers.new.items ≡ offers.old.items ++ option_to_list offer }
+    ensures few { length offers.new.items ≤ length offers.old.items + 1 }
+{
+    if let Some(offer) = offer {
+        offers.push(offer);
+    }
+}
+
+/// The choice with its price, where the nurse can do it, by what the requests cost with it.
+fn offered(terms: &Terms<'_>, nurse: usize, day: u16, choice: Choice, asked: u32) -> Option<Offer>
+    requires nurse { nurse < nurse_count terms.now.case.now }
+    requires day { day < day_count terms.now.case.now }
+    requires worths { terms.now.worths.now.days ≡ day_count terms.now.case.now }
+    requires choice { is_choice_of terms.now.case.now choice ≡ true }
+    requires asked { asked ≡ request_cost_on terms.now.case.now nurse day (shift_of choice) }
+    requires within { asked ≤ off_request_weight + wish_weight }
+    ensures { result ≡ (if can_do terms.now.case.now terms.now.from terms.now.given.now nurse day choice then Some (offer_at (price_by terms.now.case.now (worths_of terms.now.worths.now) nurse) day choice) else None) }
+{
+    let able = is_able(terms.case.skills_of(nurse), choice);
+    let kept = keeps_frozen_day(terms, nurse, day, choice);
+    let pay = earned(terms, day, choice);
+    offer_if(able && kept, choice, (MOST_WORTH - pay) as u32 + asked)
+}
+
+fn offer_if(able: bool, choice: Choice, price: u32) -> Option<Offer>
+    ensures { result ≡ (if able then Some (record { choice = choice; price = price }) else None) }
+{
+    if able {
+        return Some(Offer { choice, price });
+    }
+    None
+}
+
+/// Whether the day isn't frozen, or the choice is the given one.
+fn keeps_frozen_day(terms: &Terms<'_>, nurse: usize, day: u16, choice: Choice) -> bool
+    ensures { result ≡ keeps_frozen_day terms.now.from terms.now.given.now nurse day choice }
+{
+    day / 7 >= terms.from || choice == choice_on(terms.given.row(nurse), day)
+}
+
+/// What a nurse earns on a day.
+fn earned(terms: &Terms<'_>, day: u16, choice: Choice) -> u16
+    requires day { day < day_count terms.now.case.now }
+    requires worths { terms.now.worths.now.days ≡ day_count terms.now.case.now }
+    requires choice { is_choice_of terms.now.case.now choice ≡ true }
+    ensures pay { result ≡ earned (worths_of terms.now.worths.now) day choice }
+    ensures within { result ≤ most_worth }
+{
+    terms.case.keeps_limits();
+    match choice {
+        Choice::Off => 0,
+        Choice::Work(shift, skill) => terms.worths.at(day, shift, skill),
+    }
+}

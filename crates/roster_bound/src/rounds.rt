@@ -1,0 +1,105 @@
+//! Rounds of floors.
+
+ghost use Rattle.std.specs.Prelude.{◌≡◌, ◌+◌, ◌*◌, ◌<◌, ◌≤◌, IfErr, IfOk};
+ghost use Rattle.roster_instance.specs.Meaning.{nurse_count};
+ghost use Rattle.roster_rules.specs.Penalties.{penalty};
+ghost use Rattle.roster_laws.specs.Greatest.{greatest_extension_count};
+ghost use Rattle.roster_rounds.specs.RunLogs.{extensions_in};
+ghost use Rattle.roster_bound.specs.Floors.{FloorLogStops, RaisesFloor};
+ghost use Rattle.roster_bound.specs.Workspaces.{FitsFloor};
+ghost use Rattle.roster_bound.specs.Worths.{IsLowerBound};
+
+use crate::floors::lower_bound;
+use crate::moves::{farthest, learn, most_step};
+use crate::offers::Terms;
+use crate::workspace::FloorWorkspace;
+use roster_case::{Case, Held};
+use roster_rounds::{LogFault, log_round, log_word};
+use roster_state::Meter;
+use roster_text::Watch;
+use std::io::Write;
+
+/// Raises a floor under every roster of a case that keeps the hard rules and agrees with the held one on the days before week `from`:
+/// so many rounds, each by other worths. The log gets the penalty of the held roster, and then each round in which the floor rose, as
+/// it comes. The answer is the greatest floor, 0 where there was no round. It takes no memory.
+///
+/// # Errors
+///
+/// The log failed.
+pub fn raise_floor<W: Write>(
+    held: &Held,
+    rounds: u16,
+    from: u16,
+    workspace: &mut FloorWorkspace,
+    meter: &mut Meter,
+    log: &mut Watch<W>,
+) -> Result<u64, LogFault>
+    requires fits { FitsFloor held.now.case workspace.old }
+    requires room { meter.old + extensions_in held.now.case rounds ≤ 18446744073709551615 }
+    ensures ok { IfOk result (RaisesFloor W.contents held.now.case from held.now.roster rounds log.old log.new) }
+    ensures err { IfErr result (FloorLogStops W.contents held.now.case from held.now.roster rounds log.old log.new) }
+    ensures below { IfOk result (IsLowerBound held.now.case from held.now.roster) }
+    ensures within { IfOk result (λ bound. bound ≤ penalty held.now.case held.now.roster) }
+    ensures counted { meter.new ≤ meter.old + extensions_in held.now.case rounds }
+    ensures fits { FitsFloor held.now.case workspace.new }
+{
+    let case = held.case();
+    workspace.begin();
+    workspace.worths.set_all(case, FIRST);
+    let mut best = 0;
+    let mut sent = log_word(log, 0, b"start", held.total())?;
+    for rounds_before in 0..rounds {
+        let bound = make_round(held, from, workspace, meter);
+        move_worths(case, rounds_before, rounds, workspace);
+        if bound <= best {
+            continue;
+        }
+        best = bound;
+        sent = log_round(log, sent, rounds_before + 1, bound)?;
+    }
+    Ok(best)
+}
+
+/// What each place that asks for nurses pays in the first round: as much as a missing nurse costs. Its floor is good at once, but steps
+/// from there hardly move.
+const FIRST: u16 = 30;
+
+/// What it pays in the second, from which the worths move.
+const SECOND: u16 = 15;
+
+/// The floor by the worths. Their rows are counted.
+fn make_round(held: &Held, from: u16, workspace: &mut FloorWorkspace, meter: &mut Meter) -> u64
+    requires fits { FitsFloor held.now.case workspace.old }
+    requires room { meter.old + nurse_count held.now.case * greatest_extension_count held.now.case ≤ 18446744073709551615 }
+    ensures below { IsLowerBound held.now.case from held.now.roster result }
+    ensures within { result ≤ penalty held.now.case held.now.roster }
+    ensures counted { meter.new ≤ meter.old + nurse_count held.now.case * greatest_extension_count held.now.case }
+    ensures fits { FitsFloor held.now.case workspace.new }
+{
+    let terms = Terms {
+        case: held.case(),
+        worths: &workspace.worths,
+        given: held.roster(),
+        from,
+    };
+    lower_bound(&terms, &mut workspace.rows, meter)
+}
+
+/// Moves the worths after a round, so many of all having been made before it.
+fn move_worths(case: &Case, made: u16, rounds: u16, workspace: &mut FloorWorkspace)
+    requires made { made < rounds }
+    requires fits { FitsFloor case.now workspace.old }
+    ensures { FitsFloor case.now workspace.new }
+{
+    let FloorWorkspace {
+        rows,
+        worths,
+        covers,
+    } = workspace;
+    if made == 0 {
+        worths.set_all(case, SECOND);
+        return;
+    }
+    learn(case, worths, &rows.cover, covers);
+    worths.follow(covers, most_step(made + 1, rounds), farthest(covers));
+}

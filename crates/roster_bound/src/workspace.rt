@@ -1,0 +1,116 @@
+//! The memory of a run that raises a floor.
+
+ghost use Rattle.std.specs.Prelude.{◌≡◌, ◌*◌, IfOk, length};
+ghost use Rattle.roster_instance.specs.Meaning.{day_count};
+ghost use Rattle.roster_bound.specs.Workspaces.{FitsFloor, FitsRows};
+
+use crate::moves::Covers;
+use crate::worths::Worths;
+use roster_best::{BestFault, greatest_states};
+use roster_case::{Case, Choice};
+use roster_search::Tables;
+use std::alloc::Global;
+
+/// What the searches for the nurses' cheapest rows write into: the tables of a search, a row, and how many of these rows are at each
+/// place, 64 places for each day.
+pub struct RowSpace {
+    pub(crate) tables: Tables,
+    pub(crate) row: Vec<Choice>,
+    pub(crate) cover: Vec<u16>,
+}
+
+// By hand, so that who drops it has one call to prove.
+impl Drop for RowSpace {
+    fn drop(self) {
+        let RowSpace {
+            tables: _,
+            row: _,
+            cover: _,
+        } = self;
+    }
+}
+
+/// What a run that raises a floor writes into: what its searches do, the worths, and the covers by which they move. For each day that
+/// is 64 times 14 bytes beside the tables of a search and a row: 326 kB at most. One serves one run after another.
+pub struct FloorWorkspace {
+    pub(crate) rows: RowSpace,
+    pub(crate) worths: Worths,
+    pub(crate) covers: Covers,
+}
+
+// By hand, so that who drops it has one call to prove.
+impl Drop for FloorWorkspace {
+    fn drop(self) {
+        let FloorWorkspace {
+            rows: _,
+            worths: _,
+            covers: _,
+        } = self;
+    }
+}
+
+impl RowSpace {
+    /// Room for the nurses of a case, by at most five growths.
+    ///
+    /// # Errors
+    ///
+    /// A growth was refused.
+    pub fn for_case(alloc: Global, case: &Case) -> Result<RowSpace, BestFault>
+        ensures { IfOk result (FitsRows case.now) }
+    {
+        let states = greatest_states(case) as usize;
+        let days = case.days() as usize;
+        Ok(RowSpace {
+            tables: Tables::new(alloc, states, days)?,
+            row: vec![in alloc; Choice::Off; days]?,
+            cover: vec![in alloc; 0; 64 * days]?,
+        })
+    }
+
+    /// Counts no row at any place.
+    pub(crate) fn forget(&mut self)
+        ensures tables { self.new.tables ≡ self.old.tables }
+        ensures row { self.new.row ≡ self.old.row }
+        ensures cover { length self.new.cover.items ≡ length self.old.cover.items }
+    {
+        for place in 0..self.cover.len() {
+            self.cover[place] = 0;
+        }
+    }
+}
+
+impl FloorWorkspace {
+    /// Room for a run over a case, by at most eight growths.
+    ///
+    /// # Errors
+    ///
+    /// A growth was refused.
+    pub fn for_case(alloc: Global, case: &Case) -> Result<FloorWorkspace, BestFault>
+        ensures fits { IfOk result (FitsFloor case.now) }
+    {
+        let places = 64 * case.days() as usize;
+        Ok(FloorWorkspace {
+            rows: RowSpace::for_case(alloc, case)?,
+            worths: Worths::even(alloc, case, 0)?,
+            covers: Covers {
+                wanted: vec![in alloc; 0; places]?,
+                had: vec![in alloc; 0; places]?,
+            },
+        })
+    }
+
+    /// Begins anew, as if no round had been made.
+    pub(crate) fn begin(&mut self)
+        ensures rows { self.new.rows ≡ self.old.rows }
+        ensures worths { self.new.worths ≡ self.old.worths }
+        ensures wanted { length self.new.covers.wanted.items ≡ length self.old.covers.wanted.items }
+        ensures had { length self.new.covers.had.items ≡ length self.old.covers.had.items }
+    {
+        for place in 0..self.covers.wanted.len() {
+            self.covers.wanted[place] = 0;
+        }
+        for place in 0..self.covers.had.len() {
+            self.covers.had[place] = 0;
+        }
+    }
+}

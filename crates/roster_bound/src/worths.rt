@@ -1,0 +1,135 @@
+//! What each place pays to a nurse that works there.
+
+ghost use Rattle.std.specs.Prelude.{◌≡◌, ◌*◌, ◌<◌, ◌≤◌, IfOk, length, replicate};
+ghost use Rattle.roster_instance.specs.Limits.{most_days};
+ghost use Rattle.roster_instance.specs.Meaning.{day_count};
+ghost use Rattle.roster_bound.specs.Tables.{most_fine, worths_of};
+ghost use Rattle.roster_bound.specs.Worths.{AreWorths, most_worth};
+
+use crate::moves::Covers;
+use roster_rules::{Case, Shift, Skill};
+use std::alloc::{AllocError, Global};
+use std::marker::Model;
+
+/// The most that a place pays, in points.
+pub const MOST_WORTH: u16 = 1000;
+
+/// How many parts of a point a worth is held in.
+pub(crate) const PARTS: u32 = 256;
+
+/// The points that each place, a day, a shift and a skill, pays to a nurse that works there. They are held in 256ths of a point, 64 for
+/// each day, and rounded to the nearest point for use.
+pub struct Worths {
+    pub(crate) days: u16,
+    pub(crate) fine: Vec<u32>,
+}
+
+// By hand, so that who drops the worths has one call to prove.
+impl Drop for Worths {
+    fn drop(self) {
+        let Worths { days: _, fine: _ } = self;
+    }
+}
+
+impl Model for Worths {
+    ghost use Rattle.roster_bound.specs.Tables.{AreHeld, WorthTable};
+
+    ghost Value = { WorthTable };
+
+    ghost view = { λ w. record { days = w.days; fine = w.fine.items } };
+
+    ghost invariant = { λ w. AreHeld w.days w.fine.items };
+}
+
+impl Worths {
+    /// The same worth for each place of a case, by one growth.
+    ///
+    /// # Errors
+    ///
+    /// The growth was refused.
+    pub fn even(alloc: Global, case: &Case, worth: u16) -> Result<Worths, AllocError>
+        requires { worth ≤ most_worth }
+        ensures days { IfOk result (λ worths. worths.days ≡ day_count case.now) }
+        ensures fine { IfOk result (λ worths. worths.fine ≡ replicate (64 * day_count case.now) (256 * worth)) }
+    {
+        let days = case.days();
+        Ok(Worths {
+            days,
+            fine: vec![in alloc; PARTS * worth as u32; 64 * days as usize]?,
+        })
+    }
+
+    /// What a place pays, in points.
+    pub fn at(&self, day: u16, shift: Shift, skill: Skill) -> u16
+        requires day { day < self.now.days }
+        requires shift { shift.0 < 8 }
+        requires skill { skill.0 < 8 }
+        ensures worth { result ≡ worths_of self.now day shift.0 skill.0 }
+        ensures within { result ≤ most_worth }
+    {
+        let fine = self.fine[64 * day as usize + 8 * shift.0 as usize + skill.0 as usize];
+        ((fine + PARTS / 2) / PARTS) as u16
+    }
+
+    /// Gives each place that asks for nurses the same worth, and none to the others.
+    pub(crate) fn set_all(&mut self, case: &Case, worth: u16)
+        requires worth { worth ≤ most_worth }
+        requires days { self.old.days ≡ day_count case.now }
+        ensures { self.new.days ≡ self.old.days }
+    {
+        for place in 0..self.fine.len() {
+            let asks = asks_for_nurses(case, place);
+            self.fine[place] = if asks { PARTS * worth as u32 } else { 0 };
+        }
+    }
+
+    /// Moves each worth towards what is wanted at its place, by its share of a step: the whole step where wanted and had are so far
+    /// apart.
+    pub(crate) fn follow(&mut self, covers: &Covers, step: u32, far: u32)
+        requires wanted { length covers.now.wanted.items ≡ 64 * self.old.days }
+        requires had { length covers.now.had.items ≡ 64 * self.old.days }
+        requires far { 0 < far }
+        ensures { self.new.days ≡ self.old.days }
+    {
+        for place in 0..self.fine.len() {
+            let (wanted, had) = (covers.wanted[place], covers.had[place]);
+            let apart = wanted.abs_diff(had) as u64;
+            let share = (apart * step as u64 / far as u64).min(step as u64) as u32;
+            self.fine[place] = moved(self.fine[place], wanted, had, share);
+        }
+    }
+
+    /// A law: no place pays more than the most.
+    pub fn keep_most(&self)
+        ensures { AreWorths (worths_of self.now) }
+    {
+        let _ = &self.fine;
+    }
+}
+
+/// Whether the minimum or the optimum of a place is above 0.
+fn asks_for_nurses(case: &Case, place: usize) -> bool
+    requires { place < 64 * day_count case.now }
+{
+    case.keeps_limits();
+    let (day, shift, skill) = (place / 64, place % 64 / 8, place % 8);
+    let need = case.need(day as u16, Shift(shift as u8), Skill(skill as u8));
+    need.least > 0 || need.greatest > 0
+}
+
+/// A worth in 256ths of a point, moved by a share: up where nurses are wanted, and by one more down where there are too many.
+fn moved(fine: u32, wanted: u32, had: u32, share: u32) -> u32
+    requires { fine ≤ most_fine }
+    ensures { result ≤ most_fine }
+{
+    if had < wanted {
+        fine.saturating_add(share).min(MOST_FINE)
+    } else if wanted < had {
+        fine.saturating_sub(share.saturating_add(1))
+    } else {
+        fine
+    }
+}
+
+/// The most in 256ths of a point.
+const MOST_FINE: u32 = 256_000;

@@ -1,0 +1,30 @@
+use Rattle.std.proofs.Common.{◌≡◌, ◌+◌, ◌*◌, ◌≤◌, length}
+use Rattle.roster_instance.specs.Meaning.{day_count}
+use Rattle.roster_instance.specs.Sizes.{choice_count}
+use Rattle.roster_rules.specs.Counting.{sum_below}
+use Rattle.roster_state.specs.Codes.{product}
+use Rattle.roster_search.specs.Tables.{AreLabels}
+use Rattle.roster_search.specs.Search.{PointersFrom, areas_on, offers_on, onward, steps_on}
+use Rattle.roster_search.proofs.search.label_days.Given as goal
+
+abbrev pub ghost-label_end : goal.ghost-label_end
+ghost-label_end a = a.areas.now
+
+abbrev pub ghost-label_before : goal.ghost-label_before
+ghost-label_before a = record {
+  here = areas_on a.days.now.areas.now a.at.now.day;
+  next = areas_on a.days.now.areas.now (a.at.now.day + 1);
+  best = onward a.days.now.case.now a.at.now.nurse (offers_on a.days.now.offers.now) (a.at.now.day + 1);
+}
+
+abbrev pub invariant-loop-day : goal.invariant-loop-day
+invariant-loop-day l = record {
+  labels : AreLabels l.days.case.now l.days.nurse (areas_on l.days.areas.now l.day) (onward l.days.case.now l.days.nurse (offers_on l.days.offers.now) l.day) l.later.items;
+  pointers : PointersFrom l.days.case.now l.days.nurse (offers_on l.days.offers.now) l.days.areas.now l.day l.pointers;
+  labels_length : length l.labels.items ≡ length l.fn.labels.items;
+  later_length : length l.later.items ≡ length l.fn.later.items;
+  pointers_length : length l.pointers ≡ length l.fn.pointers;
+  each_day : l.fn.meter + day_count l.days.case.now ≤ l.meter + l.day;
+  counted : l.meter + l.day * (product l.days.ranges * choice_count l.days.case.now l.days.nurse) ≤ l.fn.meter + day_count l.days.case.now * (product l.days.ranges * choice_count l.days.case.now l.days.nurse);
+  exactly : l.meter + sum_below l.day (steps_on l.days.case.now l.days.nurse (offers_on l.days.offers.now) l.days.areas.now) ≡ l.fn.meter + sum_below (day_count l.days.case.now) (steps_on l.days.case.now l.days.nurse (offers_on l.days.offers.now) l.days.areas.now);
+}

@@ -1,0 +1,47 @@
+use Rattle.std.proofs.Common.{◌≡◌, ◌∙◌, ◌+◌, ◌<◌, arith, length, refl, subst, sym, []}
+use Rattle.std.proofs.Math.Path.{transport}
+use Rattle.std.proofs.lemmas.List.{length-set}
+use Rattle.std.specs.List.{All}
+use Rattle.roster_instance.specs.Meaning.{day_count}
+use Rattle.roster_rules.specs.Prefix.{summary_of}
+use Rattle.roster_state.specs.Codes.{sizes_of}
+use Rattle.roster_state.proofs.CodeLemmas.{fits-all}
+use Rattle.roster_search.specs.Search.{offers_on}
+use Rattle.roster_search.specs.Tables.{IsOfferOf, LeadsOn, Stands}
+use Rattle.roster_search.proofs.SearchLaws.{areas_read, day_kept, lead_more, offers_read}
+use Rattle.roster_search.proofs.search.stand_days.Goals as goal
+use Rattle.roster_search.proofs.search.stand_days.Goals.{After-as_slice-day_offers}
+
+pub areas_of-requires : goal.areas_of-requires
+areas_of-requires c = omega (arith, (fits-all _ c.start-state.result.0 c.start-state.ensures.fits).last, c.keeps_limits.ensures.shifts)
+
+-- a day's offers, as they are read from the table
+offers_here : (c : After-as_slice-day_offers) → c.as_slice-day_offers.result.now ≡ offers_on c.args.search.now.offers.now c.loop-day.day
+offers_here c =
+    c.as_slice-day_offers.ensures.value ∙ offers_read c.args.search.now.case.now c.args.search.now.nurse c.args.search.now.offers.now c.requires.offers c.loop-day.day (omega (arith, c.loop-day-test.true, c.days-day-end.ensures.count)) _ c.index-search-day.result refl
+
+pub areas_after-requires-clause-offers : goal.areas_after-requires-clause-offers
+areas_after-requires-clause-offers c =
+    let inside : c.loop-day.day < day_count c.args.search.now.case.now = omega (arith, c.loop-day-test.true, c.days-day-end.ensures.count) in
+    subst (All (IsOfferOf c.args.search.now.case.now)) (sym (offers_here (goal.at.areas_after-requires-clause-offers c).After-as_slice-day_offers)) (c.requires.offers.each c.loop-day.day inside).of_case
+
+pub loop-day-preserved : goal.loop-day-preserved
+loop-day-preserved c =
+    let k = c.args.search.now.case.now in
+    let table = offers_on c.args.search.now.offers.now in
+    let n = c.args.search.now.nurse in
+    let day = c.loop-day.day in
+    let old = c.loop-day.invariant in
+    let inside : day + 1 < length c.loop-day.areas = omega (arith, c.loop-day-test.true, c.days-day-end.ensures.count, old.length, c.requires.room) in
+    let read = areas_read c.loop-day.areas day _ (omega (arith, inside)) in
+    let offers = offers_here (goal.at.loop-day-preserved c).After-as_slice-day_offers in
+    let sizes : c.args.ranges.now ≡ sizes_of k n = c.requires.ranges in
+    let here = transport (λ i. All (LeadsOn k (record { nurse = n; day = day; ranges = sizes i }) (read i) c.areas_after.result) (offers i)) c.areas_after.ensures in
+    record {
+      start = subst (λ (x : _). Stands k n x (summary_of k n [])) (sym (day_kept k n table c.loop-day.areas day inside c.areas_after.result 0 (omega arith))) old.start;
+      lead = lead_more k n table c.loop-day.areas day inside c.areas_after.result here old.lead;
+      length = length-set c.loop-day.areas (day + 1) c.areas_after.result ∙ old.length;
+    }
+
+pub returns-clause-lead : goal.returns-clause-lead
+returns-clause-lead c day within = c.loop-day.invariant.lead day (omega (arith, within, c.days-day-end.ensures.count, c.loop-day-test.false))

@@ -1,0 +1,96 @@
+-- A search over a table of offers: what it takes, what it finds, and how many states it goes over (our own).
+use Rattle.std.specs.Prelude.{◌≡◌, ℕ, ◌+◌, ◌-◌, ◌*◌, ◌<◌, ◌≤◌, All, List, [], Some, length, slice_index_or}
+use Rattle.arrayvec.specs.ArrayVec.{ArrayVec}
+use Rattle.roster_instance.specs.Meaning.{Meaning, day_count}
+use Rattle.roster_instance.specs.Rosters.{Row}
+use Rattle.roster_instance.specs.Sizes.{choice_count, state_count}
+use Rattle.roster_rules.specs.Counting.{sum_below}
+use Rattle.roster_rules.specs.Prefix.{Summary, summary_of}
+use Rattle.roster_state.specs.declared.Area.{Area}
+use Rattle.roster_state.specs.Codes.{product, sizes_of}
+use Rattle.roster_search.specs.declared.day.SearchDay.{SearchDay}
+use Rattle.roster_search.specs.declared.offer.Offer.{Offer}
+use Rattle.roster_search.specs.Cheapest.{Priced}
+use Rattle.roster_search.specs.Counts.{states_on}
+use Rattle.roster_search.specs.Offers.{best_of_offers, choices_of}
+use Rattle.roster_search.specs.Tables.{ArePointers, BestOnward, IsOfferOf, LeadsOn, Stands}
+
+-- ---- the offers
+
+-- a day's list in a table with a list for each day
+abbrev pub offers_on : List (ArrayVec Offer) → ℕ → List Offer
+offers_on offers day = (slice_index_or offers day (record { items = [] })).items
+
+-- a day's offers: one at least, no more than the nurse has choices, each a choice of the case at a price within range
+pub record AreDayOffers (c : Meaning) (n : ℕ) (offers : List Offer) : Type 0 where
+  pub of_case : All (IsOfferOf c) offers
+  pub some : 0 < length offers
+  pub few : length offers ≤ choice_count c n
+
+-- a list for each day
+pub record AreOffers (c : Meaning) (n : ℕ) (offers : List (ArrayVec Offer)) : Type 0 where
+  pub days : day_count c ≤ length offers
+  pub each : (day : ℕ) → day < day_count c → AreDayOffers c n (offers_on offers day)
+
+-- ---- the room
+
+-- how many labels the two tables have together, and how many pointers there are
+pub record TableRoom : Type 0 where
+  pub labels : ℕ
+  pub pointers : ℕ
+
+-- two labels for each of the nurse's states, and a pointer for each state and day
+pub record HasTables (c : Meaning) (n : ℕ) (t : TableRoom) : Type 0 where
+  pub labels : 2 * state_count c n ≤ t.labels
+  pub pointers : day_count c * state_count c n ≤ t.pointers
+
+-- ---- what is found
+
+-- the best row over all days of these offers, with its cost
+abbrev pub best_over : Meaning → ℕ → (ℕ → List Offer) → Priced (List Offer)
+best_over c n offers = best_of_offers c n offers (day_count c) 0 (summary_of c n [])
+
+-- the cost and the choices of a best row
+pub record IsFound (best : Priced (List Offer)) (cost : ℕ) (row : Row) : Type 0 where
+  pub offers : List Offer
+  pub is : best ≡ Some (cost, offers)
+  pub row_is : row ≡ choices_of offers
+
+-- ---- the days of a search
+
+-- a day of the search for a nurse, with the nurse's ranges
+abbrev pub search_day : Meaning → ℕ → ℕ → SearchDay
+search_day c n day = record { nurse = n; day = day; ranges = sizes_of c n }
+
+-- the best row of the days from one on, from a state on
+abbrev pub onward : Meaning → ℕ → (ℕ → List Offer) → ℕ → BestOnward
+onward c n offers day s = best_of_offers c n offers (day_count c - day) day s
+
+-- the areas of a day
+abbrev pub areas_on : List (List Area) → ℕ → List Area
+areas_on areas day = slice_index_or areas day []
+
+-- each day's offers lead from its areas to those of the next day
+abbrev pub AreasLead : Meaning → ℕ → (ℕ → List Offer) → List (List Area) → Type 0
+AreasLead c n offers areas = (day : ℕ) → day < day_count c → All (LeadsOn c (search_day c n day) (areas_on areas day) (areas_on areas (day + 1))) (offers day)
+
+-- how many states a search goes over on a day: those that stand, each once for each of the day's offers
+abbrev pub steps_on : Meaning → ℕ → (ℕ → List Offer) → List (List Area) → ℕ → ℕ
+steps_on c n offers areas day = states_on c n (areas_on areas day) * length (offers day)
+
+-- so many were counted: exactly those that stand in areas in which the nurse's rows stay, from the start on
+pub record CountsStates (c : Meaning) (n : ℕ) (offers : ℕ → List Offer) (before after : ℕ) : Type 0 where
+  pub areas : List (List Area)
+  pub start : Stands c n (areas_on areas 0) (summary_of c n [])
+  pub lead : AreasLead c n offers areas
+  pub counted : after ≡ before + sum_below (day_count c) (steps_on c n offers areas)
+
+-- a state that stands in these areas
+pub record SomeStands (c : Meaning) (n : ℕ) (areas : List Area) : Type 0 where
+  pub state : Summary
+  pub stands : Stands c n areas state
+
+-- the pointers of each day from one on are right: places among these offers. The days stand one after another.
+abbrev pub PointersFrom : Meaning → ℕ → (ℕ → List Offer) → List (List Area) → ℕ → List ℕ → Type 0
+PointersFrom c n offers areas first pointers =
+    (day : ℕ) → first ≤ day → day < day_count c → ArePointers c (search_day c n day) (areas_on areas day) (offers day) (onward c n offers (day + 1)) (day * product (sizes_of c n)) pointers

@@ -1,0 +1,267 @@
+//! The search over a table of offers.
+
+ghost use Rattle.std.specs.Prelude.{◌≡◌, ◌+◌, ◌*◌, ◌<◌, ◌≤◌, ℕ, [], All, IfSome, IsSome, List, Some, length, take};
+ghost use Rattle.roster_instance.specs.Meaning.{day_count, nurse_count};
+ghost use Rattle.roster_instance.specs.Sizes.{choice_count};
+ghost use Rattle.roster_laws.specs.Greatest.{extension_count};
+ghost use Rattle.roster_rules.specs.Counting.{sum_below};
+ghost use Rattle.roster_rules.specs.Prefix.{summary_of};
+ghost use Rattle.roster_state.specs.Codes.{product, sizes_of};
+ghost use Rattle.roster_lanes.specs.Lanes.{SameOutside};
+ghost use Rattle.roster_search.specs.Counts.{states_on};
+ghost use Rattle.roster_search.specs.Offers.{choices_of};
+ghost use Rattle.roster_search.specs.Search.{AreOffers, AreasLead, CountsStates, HasTables, IsFound, PointersFrom, SomeStands, areas_on, best_over, offers_on, onward, steps_on};
+ghost use Rattle.roster_search.specs.Tables.{AreLabels, ArePointers, Around, BeginsWith, IsDayOf, LeadsOn, Stands, best_on, no_row};
+ghost use Rattle.roster_search.specs.declared.offer.Offer.{Offer};
+
+use crate::day::{OpenDay, SearchDay};
+use crate::labels::{label_day, label_end};
+use crate::offer::Offer;
+use crate::pointers::Pointers;
+use crate::read::read_day;
+use crate::stand::areas_after;
+use crate::tables::Tables;
+use arrayvec::ArrayVec;
+use roster_rules::{Case, Choice};
+use roster_state::{AREAS, Area, Meter, NOWHERE, Ranges, State, areas_of, start};
+use std::mem;
+
+/// The greatest number of days of a case, `most_days` of the limits of an instance.
+pub const MOST_DAYS: usize = 364;
+
+/// What a search goes over: a nurse of a case, and for each day what the nurse is offered.
+#[derive(Clone, Copy)]
+pub struct RowSearch<'a> {
+    pub case: &'a Case,
+    pub nurse: usize,
+    pub offers: &'a [ArrayVec<Offer, 9>],
+}
+
+/// Searches the best row over a table of offers, wherever these come from. `row` then begins with its choices, one for each day, and the
+/// answer is its cost: its prices, and what the nurse's own rules cost along it beside what the start owes. It takes no memory. The
+/// meter counts each state that is taken over a choice: one for each day at least, and at most one for each state, day and choice of
+/// the nurse.
+pub fn search_row(
+    search: &RowSearch<'_>,
+    tables: &mut Tables,
+    row: &mut [Choice],
+    meter: &mut Meter,
+) -> u32
+    requires nurse { search.now.nurse < nurse_count search.now.case.now }
+    requires offers { AreOffers search.now.case.now search.now.nurse search.now.offers.now }
+    requires some { IsSome (best_over search.now.case.now search.now.nurse (offers_on search.now.offers.now)) }
+    requires tables { HasTables search.now.case.now search.now.nurse tables.old }
+    requires row_room { day_count search.now.case.now ≤ length row.old }
+    requires room { meter.old + extension_count search.now.case.now search.now.nurse ≤ 18446744073709551615 }
+
+    // The row, and its cost.
+    ensures best { IsFound (best_over search.now.case.now search.now.nurse (offers_on search.now.offers.now)) result (take (day_count search.now.case.now) row.new) }
+    ensures below { result < no_row }
+    ensures length { length row.new ≡ length row.old }
+
+    // What it takes.
+    ensures each_day { meter.old + day_count search.now.case.now ≤ meter.new }
+    ensures counted { meter.new ≤ meter.old + extension_count search.now.case.now search.now.nurse }
+    ensures standing { CountsStates search.now.case.now search.now.nurse (offers_on search.now.offers.now) meter.old meter.new }
+    ensures tables { tables.new ≡ tables.old }
+{
+    let RowSearch {
+        case,
+        nurse,
+        offers,
+    } = *search;
+    case.keeps_limits();
+    let ranges = Ranges::of(case, nurse);
+    let mut areas = [[NOWHERE; AREAS]; MOST_DAYS + 1];
+    stand_days(search, &ranges, &mut areas);
+    let days = Days {
+        case,
+        nurse,
+        ranges,
+        offers,
+        areas: &areas,
+    };
+    let Tables {
+        labels,
+        later,
+        pointers,
+    } = tables;
+    label_days(&days, labels, later, pointers, meter);
+    read_row(&days, pointers, row);
+    let (first, _) = start(case, nurse);
+    later[first.code(&ranges) as usize]
+}
+
+/// What the search knows before it labels: each day's offers, and the areas of each day and of the one after the last.
+#[derive(Clone, Copy)]
+struct Days<'a> {
+    case: &'a Case,
+    nurse: usize,
+    ranges: Ranges,
+    offers: &'a [ArrayVec<Offer, 9>],
+    areas: &'a [[Area; AREAS]],
+}
+
+/// Sets the areas of each day, from the first day to the one after the last.
+fn stand_days(search: &RowSearch<'_>, ranges: &Ranges, areas: &mut [[Area; AREAS]])
+    requires nurse { search.now.nurse < nurse_count search.now.case.now }
+    requires ranges { ranges.now ≡ sizes_of search.now.case.now search.now.nurse }
+    requires offers { AreOffers search.now.case.now search.now.nurse search.now.offers.now }
+    requires room { day_count search.now.case.now < length areas.old }
+    ensures start { Stands search.now.case.now search.now.nurse (areas_on areas.new 0) (summary_of search.now.case.now search.now.nurse []) }
+    ensures lead { AreasLead search.now.case.now search.now.nurse (offers_on search.now.offers.now) areas.new }
+{
+    let (case, nurse) = (search.case, search.nurse);
+    case.keeps_limits();
+    let (state, _) = start(case, nurse);
+    areas[0] = areas_of(&state);
+    for day in 0..case.days() {
+        let at = SearchDay {
+            nurse,
+            day,
+            ranges: *ranges,
+        };
+        let day_offers = search.offers[day as usize].as_slice();
+        areas[day as usize + 1] = areas_after(case, &at, &areas[day as usize], day_offers);
+    }
+}
+
+/// Sets the labels and the pointers of all days, from the last day to the first, in two tables that change places. In the end the
+/// labels of the first day stand in `later`.
+fn label_days(
+    days: &Days<'_>,
+    labels: &mut Vec<u32>,
+    later: &mut Vec<u32>,
+    pointers: &mut Pointers,
+    meter: &mut Meter,
+)
+    requires nurse { days.now.nurse < nurse_count days.now.case.now }
+    requires ranges { days.now.ranges ≡ sizes_of days.now.case.now days.now.nurse }
+    requires offers { AreOffers days.now.case.now days.now.nurse days.now.offers.now }
+    requires areas_room { day_count days.now.case.now < length days.now.areas.now }
+    requires lead { AreasLead days.now.case.now days.now.nurse (offers_on days.now.offers.now) days.now.areas.now }
+    requires stand { (day : ℕ) → day < day_count days.now.case.now → SomeStands days.now.case.now days.now.nurse (areas_on days.now.areas.now day) }
+    requires labels_room { product days.now.ranges ≤ length labels.old.items }
+    requires same_room { length later.old.items ≡ length labels.old.items }
+    requires pointers_room { day_count days.now.case.now * product days.now.ranges ≤ length pointers.old }
+    requires room { meter.old + extension_count days.now.case.now days.now.nurse ≤ 18446744073709551615 }
+    ensures labels { AreLabels days.now.case.now days.now.nurse (areas_on days.now.areas.now 0) (onward days.now.case.now days.now.nurse (offers_on days.now.offers.now) 0) later.new.items }
+    ensures pointers { PointersFrom days.now.case.now days.now.nurse (offers_on days.now.offers.now) days.now.areas.now 0 pointers.new }
+    ensures lengths { (length labels.new.items ≡ length labels.old.items) × (length later.new.items ≡ length later.old.items) × (length pointers.new ≡ length pointers.old) }
+    ensures each_day { meter.old + day_count days.now.case.now ≤ meter.new }
+    ensures counted { meter.new ≤ meter.old + extension_count days.now.case.now days.now.nurse }
+    ensures exactly { meter.new ≡ meter.old + sum_below (day_count days.now.case.now) (steps_on days.now.case.now days.now.nurse (offers_on days.now.offers.now) days.now.areas.now) }
+{
+    let case = days.case;
+    let count = case.days();
+    let last = &days.areas[count as usize];
+    label_end(case, days.nurse, &days.ranges, last, later);
+    for day in (0..count).rev() {
+        let at = SearchDay {
+            nurse: days.nurse,
+            day,
+            ranges: days.ranges,
+        };
+        label_before(days, &at, later, labels, pointers, meter);
+        mem::swap(labels, later);
+    }
+}
+
+/// Sets the labels and the pointers of a day, by its offers and by the labels of the day after it.
+fn label_before(
+    days: &Days<'_>,
+    at: &SearchDay,
+    later: &[u32],
+    labels: &mut [u32],
+    pointers: &mut Pointers,
+    meter: &mut Meter,
+)
+    ghost rest: { Around }
+    requires day { IsDayOf days.now.case.now at.now }
+    requires offers { AreOffers days.now.case.now at.now.nurse days.now.offers.now }
+    requires here { rest.here ≡ areas_on days.now.areas.now at.now.day }
+    requires areas_room { day_count days.now.case.now < length days.now.areas.now }
+    requires leads { All (LeadsOn days.now.case.now at.now rest.here rest.next) (offers_on days.now.offers.now at.now.day) }
+    requires stand { SomeStands days.now.case.now at.now.nurse rest.here }
+    requires later { AreLabels days.now.case.now at.now.nurse rest.next rest.best later.now }
+    requires all { product at.now.ranges ≤ length later.now }
+    requires labels_room { product at.now.ranges ≤ length labels.old }
+    requires pointers_room { day_count days.now.case.now * product at.now.ranges ≤ length pointers.old }
+    requires room { meter.old + product at.now.ranges * choice_count days.now.case.now at.now.nurse ≤ 18446744073709551615 }
+    ensures labels { AreLabels days.now.case.now at.now.nurse rest.here (best_on days.now.case.now at.now (offers_on days.now.offers.now at.now.day) rest.best) labels.new }
+    ensures pointers { ArePointers days.now.case.now at.now rest.here (offers_on days.now.offers.now at.now.day) rest.best (at.now.day * product at.now.ranges) pointers.new }
+    ensures others { SameOutside (at.now.day * product at.now.ranges) (at.now.day * product at.now.ranges + product at.now.ranges) pointers.old pointers.new }
+    ensures lengths { (length labels.new ≡ length labels.old) × (length pointers.new ≡ length pointers.old) }
+    ensures some { meter.old < meter.new }
+    ensures counted { meter.new ≤ meter.old + product at.now.ranges * choice_count days.now.case.now at.now.nurse }
+    ensures exactly { meter.new ≡ meter.old + states_on days.now.case.now at.now.nurse rest.here * length (offers_on days.now.offers.now at.now.day) }
+{
+    let case = days.case;
+    case.keeps_limits();
+    let offers = days.offers[at.day as usize].as_slice();
+    let first = at.day as u32 * at.ranges.product();
+    let open = OpenDay {
+        case,
+        at: *at,
+        areas: &days.areas[at.day as usize],
+        offers,
+        later,
+        first,
+    };
+    label_day(&open, labels, pointers, meter);
+}
+
+/// Reads the best row by the pointers of all days, from the first day to the last.
+fn read_row(days: &Days<'_>, pointers: &Pointers, row: &mut [Choice])
+    requires nurse { days.now.nurse < nurse_count days.now.case.now }
+    requires ranges { days.now.ranges ≡ sizes_of days.now.case.now days.now.nurse }
+    requires offers { AreOffers days.now.case.now days.now.nurse days.now.offers.now }
+    requires start { Stands days.now.case.now days.now.nurse (areas_on days.now.areas.now 0) (summary_of days.now.case.now days.now.nurse []) }
+    requires lead { AreasLead days.now.case.now days.now.nurse (offers_on days.now.offers.now) days.now.areas.now }
+    requires pointers { PointersFrom days.now.case.now days.now.nurse (offers_on days.now.offers.now) days.now.areas.now 0 pointers.now }
+    requires pointers_room { day_count days.now.case.now * product days.now.ranges ≤ length pointers.now }
+    requires row_room { day_count days.now.case.now ≤ length row.old }
+    requires some { IsSome (best_over days.now.case.now days.now.nurse (offers_on days.now.offers.now)) }
+    requires low { IfSome (best_over days.now.case.now days.now.nurse (offers_on days.now.offers.now)) (λ row. row.0 < no_row) }
+    ensures row { (cost : ℕ) (offers : List Offer) → best_over days.now.case.now days.now.nurse (offers_on days.now.offers.now) ≡ Some (cost, offers) → take (day_count days.now.case.now) row.new ≡ choices_of offers }
+    ensures length { length row.new ≡ length row.old }
+{
+    let case = days.case;
+    let (mut state, _) = start(case, days.nurse);
+    for day in 0..case.days() {
+        let at = SearchDay {
+            nurse: days.nurse,
+            day,
+            ranges: days.ranges,
+        };
+        let (choice, next) = read_choice(days, &at, &state, pointers);
+        row[day as usize] = choice;
+        state = next;
+    }
+}
+
+/// The choice with which the best row from a state on begins, and the state after it.
+fn read_choice(
+    days: &Days<'_>,
+    at: &SearchDay,
+    state: &State,
+    pointers: &Pointers,
+) -> (Choice, State)
+    ghost rest: { Around }
+    requires day { IsDayOf days.now.case.now at.now }
+    requires stands { Stands days.now.case.now at.now.nurse rest.here state.now }
+    requires leads { All (LeadsOn days.now.case.now at.now rest.here rest.next) (offers_on days.now.offers.now at.now.day) }
+    requires pointers { ArePointers days.now.case.now at.now rest.here (offers_on days.now.offers.now at.now.day) rest.best (at.now.day * product at.now.ranges) pointers.now }
+    requires pointers_room { day_count days.now.case.now * product at.now.ranges ≤ length pointers.now }
+    requires some { IsSome (best_on days.now.case.now at.now (offers_on days.now.offers.now at.now.day) rest.best state.now) }
+    requires low { IfSome (best_on days.now.case.now at.now (offers_on days.now.offers.now at.now.day) rest.best state.now) (λ row. row.0 < no_row) }
+    requires offers { AreOffers days.now.case.now at.now.nurse days.now.offers.now }
+    ensures begins { (row : ℕ × List Offer) → best_on days.now.case.now at.now (offers_on days.now.offers.now at.now.day) rest.best state.now ≡ Some row → BeginsWith rest.best row result.0 result.1 }
+    ensures stands { Stands days.now.case.now at.now.nurse rest.next result.1 }
+{
+    let case = days.case;
+    case.keeps_limits();
+    let offers = days.offers[at.day as usize].as_slice();
+    let first = at.day as u32 * at.ranges.product();
+    read_day(case, at, state, offers, pointers, first)
+}
