@@ -18,7 +18,7 @@ use Rattle.roster_laws.specs.OneRow.{rest_of}
 use Rattle.roster_laws.specs.Greatest.{greatest_state_count}
 use Rattle.roster_laws.proofs.Allowed.{allowed_keeps}
 use Rattle.roster_laws.proofs.GreatestLemmas.{greatest_states}
-use Rattle.roster_search.specs.declared.Offer.{Offer}
+use Rattle.roster_search.specs.declared.offer.Offer.{Offer}
 use Rattle.roster_search.specs.Offers.{best_by_states, choices_of}
 use Rattle.roster_search.proofs.Best.{is_best, penalty_is}
 use Rattle.roster_best.specs.Workspaces.{Space, fits_space}

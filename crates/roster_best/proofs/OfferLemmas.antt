@@ -5,10 +5,10 @@ use Rattle.std.specs.List.{flat_map, range_with_len}
 use Rattle.std.proofs.lemmas.List.{map-append}
 use Rattle.std.proofs.lemmas.List.Elements.{filter-append}
 use Rattle.roster_bundle.proofs.Ranges.{flat_map-range_more, range_with_len_more}
-use Rattle.roster_instance.specs.declared.Choice.{Choice}
-use Rattle.roster_instance.specs.declared.Choice.TheVariants.{Off, Work}
-use Rattle.roster_instance.specs.declared.Shift.{Shift}
-use Rattle.roster_instance.specs.declared.Skill.{Skill}
+use Rattle.roster_instance.specs.declared.choice.Choice.{Choice}
+use Rattle.roster_instance.specs.declared.choice.Choice.TheVariants.{Off, Work}
+use Rattle.roster_instance.specs.declared.choice.Shift.{Shift}
+use Rattle.roster_instance.specs.declared.choice.Skill.{Skill}
 use Rattle.roster_instance.specs.Choices.{shift_of}
 use Rattle.roster_instance.specs.Counting.{one_if}
 use Rattle.roster_instance.specs.Meaning.{Meaning, minimum, nurse_at, optimum, shift_at, shift_count, skill_at, skill_count}
@@ -16,10 +16,10 @@ use Rattle.roster_instance.specs.Rosters.{Rows}
 use Rattle.roster_rules.specs.HardRules.{is_able}
 use Rattle.roster_rules.specs.Penalties.{request_cost_on}
 use Rattle.roster_rules.specs.Weights.{staffing_weight}
-use Rattle.roster_case.specs.OneRow.{is_open, others}
-use Rattle.roster_case.specs.Staffing.{lacking, with_choice}
+use Rattle.roster_laws.specs.OneRow.{is_open, others}
+use Rattle.roster_laws.specs.Staffing.{lacking, with_choice}
 use Rattle.roster_case.proofs.Lacking.{lacking-off, lacking-work, meets-lacking, staffing-lacking}
-use Rattle.roster_search.specs.declared.Offer.{Offer}
+use Rattle.roster_search.specs.declared.offer.Offer.{Offer}
 use Rattle.roster_search.specs.Offers.{offer_of}
 
 -- the choices of a shift with the first skills, and those of the first shifts

@@ -6,20 +6,20 @@ use Rattle.std.proofs.lemmas.List.{length-map}
 use Rattle.std.proofs.lemmas.List.Elements.{All-from_get_or, All-get_or}
 use Rattle.std.proofs.lemmas.List.Sums.{AllPass-from_list_all, list_all-from_AllPass}
 use Rattle.std.proofs.Math.ListN.{get_or-map}
-use Rattle.roster_instance.specs.declared.Choice.{Choice}
-use Rattle.roster_instance.specs.declared.Choice.TheVariants.{Off}
+use Rattle.roster_instance.specs.declared.choice.Choice.{Choice}
+use Rattle.roster_instance.specs.declared.choice.Choice.TheVariants.{Off}
 use Rattle.roster_instance.specs.Choices.{all_choices, days_of}
 use Rattle.roster_instance.specs.Counting.{all_below}
 use Rattle.roster_instance.specs.Meaning.{Meaning, day_count, nurse_count}
 use Rattle.roster_instance.specs.Rosters.{Row, Rows, choice_on, is_choice_of, is_row_of, with_row}
 use Rattle.roster_rules.specs.AllowedRows.{keeps_frozen_days, row_keeps}
 use Rattle.roster_rules.specs.HardRules.{breaks_succession, keeps_hard, keeps_successions}
-use Rattle.roster_case.specs.OneRow.{is_offered, is_offered_row}
+use Rattle.roster_laws.specs.OneRow.{is_offered, is_offered_row}
 use Rattle.roster_case.proofs.Below.{all_both, all_elim, all_true}
 use Rattle.roster_case.proofs.Keeps.{allowed-with_row}
 use Rattle.roster_laws.proofs.Allowed.{kept_is_member, kept_passes, member_is_kept}
 use Rattle.roster_laws.proofs.AllRows.{choice_is_member, member_is_choice}
-use Rattle.roster_search.specs.declared.Offer.{Offer}
+use Rattle.roster_search.specs.declared.offer.Offer.{Offer}
 use Rattle.roster_search.specs.Offers.{offer_of, offers_of}
 use Rattle.roster_best.specs.Offers.{IsOffered}
 

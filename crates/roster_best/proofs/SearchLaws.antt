@@ -13,7 +13,7 @@ use Rattle.roster_instance.proofs.SizeLemmas.{greatest_of-push}
 use Rattle.roster_rules.specs.HardRules.{keeps_hard}
 use Rattle.roster_rules.specs.Prefix.{summary_of}
 use Rattle.roster_laws.specs.Greatest.{greatest_state_count}
-use Rattle.roster_search.specs.declared.Offer.{Offer}
+use Rattle.roster_search.specs.declared.offer.Offer.{Offer}
 use Rattle.roster_search.specs.Offers.{best_by_states, offers_of, shift_offers}
 use Rattle.roster_search.specs.Search.{AreDayOffers, AreOffers, CountsStates, IsFound, best_over, offers_on}
 use Rattle.roster_search.specs.Cheapest.{Priced}

@@ -7,7 +7,7 @@ ghost use Rattle.roster_instance.specs.Rosters.{Row, Rows, with_row};
 ghost use Rattle.roster_rules.specs.AllowedRows.{keeps_frozen_days, row_keeps};
 ghost use Rattle.roster_rules.specs.HardRules.{keeps_hard, keeps_successions};
 ghost use Rattle.roster_rules.specs.Penalties.{request_cost, staffing_cost};
-ghost use Rattle.roster_case.specs.OneRow.{prices};
+ghost use Rattle.roster_laws.specs.OneRow.{prices};
 ghost use Rattle.roster_best.specs.Offers.{IsOffered};
 
 /// Where a roster keeps the hard rules, a row of as many days is one of the case's and keeps them and the frozen days in the place

@@ -2,7 +2,7 @@
 
 ghost use Rattle.std.specs.Prelude.{◌≡◌, ◌+◌, ◌-◌, ◌*◌, ◌<◌, ◌≤◌, ◌++◌, ◌&&◌, ◌==◌, if◌then◌else◌, [], ◌∷◌, length, nat_lt, true, Some, None};
 ghost use Rattle.std.specs.Option.{option_to_list};
-ghost use Rattle.roster_instance.specs.declared.Choice.TheVariants.{Off, Work};
+ghost use Rattle.roster_instance.specs.declared.choice.Choice.TheVariants.{Off, Work};
 ghost use Rattle.roster_instance.specs.Counting.{one_if};
 ghost use Rattle.roster_instance.specs.Limits.{most_shifts, most_skills, most_small};
 ghost use Rattle.roster_instance.specs.Meaning.{day_count, minimum, nurse_count, optimum, shift_count, skill_count};
@@ -10,8 +10,8 @@ ghost use Rattle.roster_instance.specs.Rosters.{choice_on, is_choice_of, row_of}
 ghost use Rattle.roster_rules.specs.AllowedRows.{is_frozen};
 ghost use Rattle.roster_rules.specs.Penalties.{off_request_cost_on, request_cost_on, wish_cost_on};
 ghost use Rattle.roster_rules.specs.Weights.{off_request_weight, wish_weight};
-ghost use Rattle.roster_case.specs.OneRow.{is_open, others};
-ghost use Rattle.roster_case.specs.Staffing.{lacking, with_choice};
+ghost use Rattle.roster_laws.specs.OneRow.{is_open, others};
+ghost use Rattle.roster_laws.specs.Staffing.{lacking, with_choice};
 ghost use Rattle.roster_search.specs.Offers.{offer_of, offers_of, open_offers};
 
 use arrayvec::ArrayVec;

@@ -1,6 +1,7 @@
 //! The best row of a nurse.
 
 ghost use Rattle.std.specs.Prelude.{◌≡◌, ◌+◌, ◌<◌, ◌≤◌, true};
+ghost use Rattle.roster_bundle.specs.Limits.{greatest_u64};
 ghost use Rattle.roster_instance.specs.Meaning.{day_count, nurse_count};
 ghost use Rattle.roster_rules.specs.AllowedRows.{IsBestRow, penalty_with, row_keeps};
 ghost use Rattle.roster_laws.specs.Greatest.{extension_count};
@@ -33,7 +34,7 @@ pub fn best_row(
 ) -> Best
     requires nurse { nurse < nurse_count held.now.case }
     requires fits { fits_space held.now.case workspace.old ≡ true }
-    requires room { meter.old + extension_count held.now.case nurse ≤ 18446744073709551615 }
+    requires room { meter.old + extension_count held.now.case nurse ≤ greatest_u64 }
 
     // The row, and the roster's penalty with it.
     ensures best { IsBestRow held.now.case from held.now.roster nurse workspace.new.row }

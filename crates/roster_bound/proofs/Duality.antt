@@ -4,15 +4,15 @@ use Rattle.std.specs.List.{list_all}
 use Rattle.std.proofs.lemmas.Bool.{and_from, and_parts, eqb-true}
 use Rattle.std.proofs.lemmas.List.{length-map}
 use Rattle.std.proofs.Math.ListN.{get_or-map}
-use Rattle.roster_rules.specs.declared.Choice.{Choice}
-use Rattle.roster_rules.specs.declared.Choice.TheVariants.{Off, Work}
-use Rattle.roster_rules.specs.Choices.{all_choices, all_rows, days_of, same_choice, shift_of}
-use Rattle.roster_rules.specs.Counting.{all_below, one_if, sum_below}
+use Rattle.roster_instance.specs.declared.choice.Choice.{Choice}
+use Rattle.roster_instance.specs.declared.choice.Choice.TheVariants.{Off, Work}
+use Rattle.roster_instance.specs.Choices.{all_choices, all_rows, days_of, same_choice, shift_of}
+use Rattle.roster_instance.specs.Counting.{all_below, one_if, sum_below}
 use Rattle.roster_rules.specs.HardRules.{keeps_hard, keeps_skills, keeps_successions}
-use Rattle.roster_rules.specs.Meaning.{Meaning, day_count, minimum, nurse_count, optimum, shift_at, shift_count, skill_at, skill_count}
+use Rattle.roster_instance.specs.Meaning.{Meaning, day_count, minimum, nurse_count, optimum, shift_at, shift_count, skill_at, skill_count}
 use Rattle.roster_rules.specs.AllowedRows.{is_frozen, keeps_frozen_day, keeps_frozen_days}
 use Rattle.roster_rules.specs.Penalties.{nurse_cost, off_request_cost_on, penalty, request_cost, request_cost_on, staffing_cost, wish_cost_on}
-use Rattle.roster_rules.specs.Rosters.{Row, Rows, choice_on, cover, days_of_nurse, fits_case, is_row_of, row_of}
+use Rattle.roster_instance.specs.Rosters.{Row, Rows, choice_on, cover, days_of_nurse, fits_case, is_row_of, row_of}
 use Rattle.roster_rules.specs.Weights.{staffing_weight}
 use Rattle.roster_rules.proofs.RosterFacts.{row-length, row_fits}
 use Rattle.roster_rules.proofs.RunSums.{sum_zero, sum_same}

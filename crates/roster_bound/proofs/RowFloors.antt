@@ -7,21 +7,21 @@ use Rattle.std.proofs.lemmas.Bool.{and_parts, true≢false}
 use Rattle.std.proofs.lemmas.List.{length-map}
 use Rattle.std.proofs.lemmas.List.Elements.{All-contains_itself, All-filter, All-map, All-weaker}
 use Rattle.arrayvec.specs.ArrayVec.{ArrayVec}
-use Rattle.roster_rules.specs.declared.Choice.{Choice}
+use Rattle.roster_instance.specs.declared.choice.Choice.{Choice}
 use Rattle.roster_rules.specs.AllowedRows.{first_least, keeps_frozen_day, keeps_frozen_days}
-use Rattle.roster_rules.specs.Choices.{all_choices, all_rows, days_of, shift_of}
+use Rattle.roster_instance.specs.Choices.{all_choices, all_rows, days_of, shift_of}
 use Rattle.roster_rules.specs.HardRules.{breaks_succession, is_able, is_able_on, keeps_hard}
-use Rattle.roster_rules.specs.Meaning.{Meaning, day_count, nurse_at, nurse_count}
+use Rattle.roster_instance.specs.Meaning.{Meaning, day_count, nurse_at, nurse_count}
 use Rattle.roster_rules.specs.Penalties.{breaks_off_request, meets_wishes}
 use Rattle.roster_rules.specs.Prefix.{due, summary_of}
-use Rattle.roster_rules.specs.Rosters.{Row, Rows, choice_on, fits_case, row_of}
+use Rattle.roster_instance.specs.Rosters.{Row, Rows, choice_on, fits_case, row_of}
 use Rattle.roster_rules.specs.Weights.{off_request_weight, wish_weight}
 use Rattle.roster_rules.proofs.RosterFacts.{row-length, row_fits}
 use Rattle.roster_laws.proofs.AllRows.{choice_is_member, member_is_choice, row_is_member}
 use Rattle.roster_laws.proofs.Allowed.{member_is_kept}
 use Rattle.roster_laws.proofs.Below.{all_both, all_elim, all_same}
 use Rattle.roster_laws.proofs.Frozen.{stays_self}
-use Rattle.roster_search.specs.declared.Offer.{Offer}
+use Rattle.roster_search.specs.declared.offer.Offer.{Offer}
 use Rattle.roster_search.specs.Cheapest.{Priced, raised}
 use Rattle.roster_search.specs.Offers.{choices_of, offer_at, offered_row_by}
 use Rattle.roster_search.specs.Search.{AreDayOffers, AreOffers, IsFound, best_over, offers_on}

@@ -5,7 +5,7 @@ use Rattle.std.proofs.Math.Nat.{suc-mul}
 use Rattle.std.proofs.lemmas.Bool.{cases_eq, eq-eqb, ne_eqb}
 use Rattle.std.proofs.lemmas.List.Sums.{sum_by_more}
 use Rattle.std.proofs.lemmas.List.{take_all}
-use Rattle.roster_rules.specs.Counting.{one_if, sum_below}
+use Rattle.roster_instance.specs.Counting.{one_if, sum_below}
 use Rattle.roster_rules.proofs.RunSums.{sum_zero}
 
 pub sum_le : (n : ℕ) (f g : ℕ → ℕ) → ((k : ℕ) → k < n → f k ≤ g k) → sum_below n f ≤ sum_below n g

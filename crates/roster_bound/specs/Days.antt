@@ -1,12 +1,12 @@
 -- What a nurse is offered on each day by worths.
 use Rattle.std.specs.Prelude.{◌≡◌, ℕ, ◌<◌, Bool, ◌&&◌, List, length}
 use Rattle.arrayvec.specs.ArrayVec.{ArrayVec}
-use Rattle.roster_instance.specs.declared.Choice.{Choice}
+use Rattle.roster_instance.specs.declared.choice.Choice.{Choice}
 use Rattle.roster_instance.specs.Meaning.{Meaning, day_count, nurse_at}
 use Rattle.roster_instance.specs.Rosters.{Rows}
 use Rattle.roster_rules.specs.AllowedRows.{keeps_frozen_day}
 use Rattle.roster_rules.specs.HardRules.{is_able}
-use Rattle.roster_search.specs.declared.Offer.{Offer}
+use Rattle.roster_search.specs.declared.offer.Offer.{Offer}
 use Rattle.roster_search.specs.Offers.{cheapest_by_shift, offers_by}
 use Rattle.roster_search.specs.Search.{offers_on}
 use Rattle.roster_bound.specs.Worths.{PlaceWorths, price_by}

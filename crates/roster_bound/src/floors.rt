@@ -1,6 +1,7 @@
 //! The least that nurses cost, and the floor under a roster.
 
 ghost use Rattle.std.specs.Prelude.{◌≡◌, ◌+◌, ◌*◌, ◌<◌, ◌≤◌, true, Some, length, take};
+ghost use Rattle.roster_bundle.specs.Limits.{greatest_u64};
 ghost use Rattle.roster_instance.specs.Limits.{most_days, most_nurses};
 ghost use Rattle.roster_instance.specs.Meaning.{day_count, nurse_count};
 ghost use Rattle.roster_instance.specs.Rosters.{fits_case};
@@ -29,7 +30,7 @@ pub fn lower_bound(terms: &Terms<'_>, rows: &mut RowSpace, meter: &mut Meter) ->
     requires keeps { keeps_hard terms.now.case.now terms.now.given.now ≡ true }
     requires worths { terms.now.worths.now.days ≡ day_count terms.now.case.now }
     requires rows { FitsRows terms.now.case.now rows.old }
-    requires room { meter.old + nurse_count terms.now.case.now * greatest_extension_count terms.now.case.now ≤ 18446744073709551615 }
+    requires room { meter.old + nurse_count terms.now.case.now * greatest_extension_count terms.now.case.now ≤ greatest_u64 }
     ensures below { IsLowerBound terms.now.case.now terms.now.from terms.now.given.now result }
     ensures within { result ≤ penalty terms.now.case.now terms.now.given.now }
     ensures bound { result ≡ bound_by terms.now.case.now terms.now.from terms.now.given.now (worths_of terms.now.worths.now) }
@@ -63,7 +64,7 @@ pub fn row_floor(terms: &Terms<'_>, nurse: usize, rows: &mut RowSpace, meter: &m
     requires nurse { nurse < nurse_count terms.now.case.now }
     requires worths { terms.now.worths.now.days ≡ day_count terms.now.case.now }
     requires rows { FitsRows terms.now.case.now rows.old }
-    requires room { meter.old + extension_count terms.now.case.now nurse ≤ 18446744073709551615 }
+    requires room { meter.old + extension_count terms.now.case.now nurse ≤ greatest_u64 }
     ensures floor { result ≡ row_floor terms.now.case.now terms.now.from terms.now.given.now (worths_of terms.now.worths.now) nurse }
     ensures within { result ≤ 8589934590 }
     ensures row { floor_row terms.now.case.now terms.now.from terms.now.given.now (worths_of terms.now.worths.now) nurse ≡ Some (take (day_count terms.now.case.now) rows.new.row.items) }

@@ -1,6 +1,7 @@
 //! Rounds of floors.
 
 ghost use Rattle.std.specs.Prelude.{◌≡◌, ◌+◌, ◌*◌, ◌<◌, ◌≤◌, IfErr, IfOk};
+ghost use Rattle.roster_bundle.specs.Limits.{greatest_u64};
 ghost use Rattle.roster_instance.specs.Meaning.{nurse_count};
 ghost use Rattle.roster_rules.specs.Penalties.{penalty};
 ghost use Rattle.roster_laws.specs.Greatest.{greatest_extension_count};
@@ -35,7 +36,7 @@ pub fn raise_floor<W: Write>(
     log: &mut Watch<W>,
 ) -> Result<u64, LogFault>
     requires fits { FitsFloor held.now.case workspace.old }
-    requires room { meter.old + extensions_in held.now.case rounds ≤ 18446744073709551615 }
+    requires room { meter.old + extensions_in held.now.case rounds ≤ greatest_u64 }
     ensures ok { IfOk result (RaisesFloor W.contents held.now.case from held.now.roster rounds log.old log.new) }
     ensures err { IfErr result (FloorLogStops W.contents held.now.case from held.now.roster rounds log.old log.new) }
     ensures below { IfOk result (IsLowerBound held.now.case from held.now.roster) }
@@ -70,7 +71,7 @@ const SECOND: u16 = 15;
 /// The floor by the worths. Their rows are counted.
 fn make_round(held: &Held, from: u16, workspace: &mut FloorWorkspace, meter: &mut Meter) -> u64
     requires fits { FitsFloor held.now.case workspace.old }
-    requires room { meter.old + nurse_count held.now.case * greatest_extension_count held.now.case ≤ 18446744073709551615 }
+    requires room { meter.old + nurse_count held.now.case * greatest_extension_count held.now.case ≤ greatest_u64 }
     ensures below { IsLowerBound held.now.case from held.now.roster result }
     ensures within { result ≤ penalty held.now.case held.now.roster }
     ensures counted { meter.new ≤ meter.old + nurse_count held.now.case * greatest_extension_count held.now.case }

@@ -12,3 +12,7 @@ most_small = 999
 -- the most items that a count announces
 abbrev pub most_counted : ℕ
 most_counted = 99999
+
+-- the greatest number of 64 bits
+abbrev pub greatest_u64 : ℕ
+greatest_u64 = 18446744073709551615

@@ -1,7 +1,7 @@
 -- A row's day, by the choice and the shift before it.
 use Rattle.std.proofs.Common.{◌≡◌, ◌∙◌, ◌&&◌, ℕ, Bool, not, ap, Option}
-use Rattle.roster_instance.specs.declared.Choice.{Choice}
-use Rattle.roster_instance.specs.declared.Shift.{Shift}
+use Rattle.roster_instance.specs.declared.choice.Choice.{Choice}
+use Rattle.roster_instance.specs.declared.choice.Shift.{Shift}
 use Rattle.roster_instance.specs.Choices.{days_of, shift_of}
 use Rattle.roster_instance.specs.Meaning.{Meaning, forbids, last_shift, past_of}
 use Rattle.roster_instance.specs.Rosters.{Row, Rows, choice_on}

@@ -2,11 +2,11 @@
 use Rattle.std.proofs.Common.{◌≡◌, ◌∙◌, ◌+◌, ◌*◌, ◌<◌, ◌≤◌, ◌&&◌, ℕ, true, ap, ap₂, arith, refl, sym, List, [], length, nat_lt, slice_index_or}
 use Rattle.std.proofs.lemmas.Bool.{and_parts, eq-eqb, ltb-true}
 use Rattle.std.proofs.lemmas.List.Sums.{count_by-le-length, sum_by-set}
-use Rattle.roster_instance.specs.declared.Choice.{Choice}
-use Rattle.roster_instance.specs.declared.Choice.TheVariants.{Off, Work}
-use Rattle.roster_instance.specs.declared.Limits.{Limits}
-use Rattle.roster_instance.specs.declared.Shift.{Shift}
-use Rattle.roster_instance.specs.declared.Skill.{Skill}
+use Rattle.roster_instance.specs.declared.choice.Choice.{Choice}
+use Rattle.roster_instance.specs.declared.choice.Choice.TheVariants.{Off, Work}
+use Rattle.roster_instance.specs.declared.rules.Limits.{Limits}
+use Rattle.roster_instance.specs.declared.choice.Shift.{Shift}
+use Rattle.roster_instance.specs.declared.choice.Skill.{Skill}
 use Rattle.roster_instance.specs.Choices.{same_choice}
 use Rattle.roster_instance.specs.Counting.{one_if}
 use Rattle.roster_instance.specs.Limits.{most_nurses}

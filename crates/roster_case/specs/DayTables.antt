@@ -1,7 +1,7 @@
 -- A day's table: a number for each shift and skill.
 use Rattle.std.specs.Prelude.{◌≡◌, ◌+◌, ◌*◌, ◌<◌, ℕ, List, slice_index_or}
-use Rattle.roster_instance.specs.declared.Choice.{Choice}
-use Rattle.roster_instance.specs.declared.Choice.TheVariants.{Off, Work}
+use Rattle.roster_instance.specs.declared.choice.Choice.{Choice}
+use Rattle.roster_instance.specs.declared.choice.Choice.TheVariants.{Off, Work}
 
 -- the number at a shift and skill: place 8 s + k
 abbrev pub number_at : List ℕ → ℕ → ℕ → ℕ

@@ -2,8 +2,8 @@
 use Rattle.std.specs.Prelude.{ℕ, ◌+◌, ◌*◌, List, [], map, Option, Some, None, slice_index_or}
 use Rattle.std.specs.List.{join_with_byte, range_with_len}
 use Rattle.roster_bundle.specs.Canonical.{Shown, canonical}
-use Rattle.roster_instance.specs.declared.Choice.{Choice}
-use Rattle.roster_instance.specs.declared.Choice.TheVariants.{Off, Work}
+use Rattle.roster_instance.specs.declared.choice.Choice.{Choice}
+use Rattle.roster_instance.specs.declared.choice.Choice.TheVariants.{Off, Work}
 use Rattle.roster_instance.specs.Meaning.{Meaning, nurse_count, nurse_name, week_count}
 use Rattle.roster_instance.specs.Rosters.{Rows, choice_on, row_of}
 

@@ -5,20 +5,20 @@ use Rattle.std.proofs.lemmas.List.{length-map}
 use Rattle.std.proofs.lemmas.List.Elements.{All-nil}
 use Rattle.roster_text.specs.Grammar.{Spells}
 use Rattle.roster_text.specs.Io.{IsReadFault, Writes, counted, is_read_failure}
-use Rattle.roster_text.specs.Limits.{most_bytes}
-use Rattle.roster_text.specs.Token.{all_seen, tokens_of}
-use Rattle.roster_text.specs.declared.Bundle.{Bundle}
+use Rattle.roster_bundle.specs.Limits.{most_bytes}
+use Rattle.roster_bundle.specs.Token.{all_seen, tokens_of}
+use Rattle.roster_bundle.specs.declared.bundle.Bundle.{Bundle}
 use Rattle.roster_text.specs.declared.fault.TextFault.{TextFault}
 use Rattle.roster_text.specs.declared.fault.TextFault.TheVariants as text
-use Rattle.roster_case.specs.Bundles.{meaning_of, rows_of, week_meant}
-use Rattle.roster_case.specs.Checking.{IsFirst}
-use Rattle.roster_case.specs.Meaning.{Meaning, week_count}
-use Rattle.roster_case.specs.Names.{nurse_names, shift_names, skill_names}
-use Rattle.roster_case.specs.Refusals.{all_faults, case_faults, roster_faults}
-use Rattle.roster_case.specs.declared.CaseFault.{CaseFault}
-use Rattle.roster_case.specs.declared.CaseFault.TheVariants as case
+use Rattle.roster_instance.specs.Bundles.{meaning_of, rows_of, week_meant}
+use Rattle.roster_instance.specs.Checking.{IsFirst}
+use Rattle.roster_instance.specs.Meaning.{Meaning, week_count}
+use Rattle.roster_instance.specs.Names.{nurse_names, shift_names, skill_names}
+use Rattle.roster_instance.specs.Refusals.{all_faults, case_faults, roster_faults}
+use Rattle.roster_instance.specs.declared.fault.CaseFault.{CaseFault}
+use Rattle.roster_instance.specs.declared.fault.CaseFault.TheVariants as case
 use Rattle.roster_case.proofs.Sections.{IsFirst-after}
-use Rattle.roster_case.specs.declared.HardFault.{HardFault}
+use Rattle.roster_rules.specs.declared.fault.HardFault.{HardFault}
 use Rattle.roster_commands.specs.Answer.{Answers, Ends, Input, IsAnswer, IsOutcomeOf, IsReportOf, IsUnheld, IsUnread, IsBoundReport, Leaves, LeavesLog, Outcome, Output, Report, Reports, Says, StopsOutput, StopsReading, Untouched, best_report, bound_report, cost_report, improve_report, outcome_of, plain, roster_of}
 use Rattle.roster_commands.specs.Lines.{Text, sizes_text, status_of}
 use Rattle.roster_commands.specs.declared.fault.Fault.{Fault}
@@ -26,7 +26,7 @@ use Rattle.roster_commands.specs.declared.fault.Fault.TheVariants as fault
 use Rattle.roster_commands.specs.declared.reading.Instance.{Instance}
 use Rattle.roster_request.specs.declared.request.Command.{Command}
 use Rattle.roster_request.specs.declared.request.Command.TheVariants as command
-use Rattle.roster_case.specs.Rosters.{Rows}
+use Rattle.roster_instance.specs.Rosters.{Rows}
 use Rattle.roster_case.specs.Shown.{weeks_text}
 use Rattle.roster_bound.specs.Worths.{IsLowerBound}
 

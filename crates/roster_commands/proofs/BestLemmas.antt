@@ -2,10 +2,10 @@
 use Rattle.std.proofs.Common.{◌≡◌, ◌∙◌, ◌++◌, [], ℕ, List, Option, ap, sym, unwrap_or}
 use Rattle.roster_text.specs.Io.{Watched, Writes}
 use Rattle.roster_text.proofs.Texts.{Stops-after, Stops-append}
-use Rattle.roster_case.specs.AllowedRows.{IsBestRow, allowed_rows, penalty_with}
-use Rattle.roster_case.specs.Meaning.{Meaning}
-use Rattle.roster_case.specs.Penalties.{penalty}
-use Rattle.roster_case.specs.Rosters.{Row, Rows, with_row}
+use Rattle.roster_rules.specs.AllowedRows.{IsBestRow, allowed_rows, penalty_with}
+use Rattle.roster_instance.specs.Meaning.{Meaning}
+use Rattle.roster_rules.specs.Penalties.{penalty}
+use Rattle.roster_instance.specs.Rosters.{Row, Rows, with_row}
 use Rattle.roster_rules.proofs.FirstLeast.{only}
 use Rattle.roster_commands.specs.Answer.{StopsSearch, with_best}
 use Rattle.roster_commands.specs.Lines.{Text}

@@ -3,11 +3,11 @@ use Rattle.std.proofs.Common.{◌≡◌, [], ◌∷◌, ℕ, All, Err, List, Ok,
 use Rattle.std.specs.Prelude.{IfErr, OnOk}
 use Rattle.std.proofs.lemmas.List.Elements.{All-head, All-tail}
 use Rattle.roster_text.specs.Io.{Stops, Writes}
-use Rattle.roster_text.specs.declared.Bundle.{Bundle}
-use Rattle.roster_case.specs.HardRules.{hard_faults}
-use Rattle.roster_case.specs.Meaning.{Meaning}
-use Rattle.roster_case.specs.Penalties.{penalty}
-use Rattle.roster_case.specs.Rosters.{Rows}
+use Rattle.roster_bundle.specs.declared.bundle.Bundle.{Bundle}
+use Rattle.roster_rules.specs.HardRules.{hard_faults}
+use Rattle.roster_instance.specs.Meaning.{Meaning}
+use Rattle.roster_rules.specs.Penalties.{penalty}
+use Rattle.roster_instance.specs.Rosters.{Rows}
 use Rattle.roster_bound.specs.Floors.{FloorLine, IsFloorLog, RaisesFloor, floor_text, last_line, no_line}
 use Rattle.roster_bound.specs.Worths.{IsLowerBound}
 use Rattle.roster_commands.specs.Answer.{IsBoundReport, IsUnheld, Output, Reports, StopsFloors, StopsOutput, Untouched, bound_report, outcome_of}

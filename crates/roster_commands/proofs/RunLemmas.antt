@@ -3,8 +3,8 @@ use Rattle.std.proofs.Common.{◌≡◌, ◌≢◌, ◌⊎◌, ◌∙◌, ℕ, N
 use Rattle.std.proofs.lemmas.Bool.{cases_eq}
 use Rattle.roster_text.specs.Io.{Watched, one_more}
 use Rattle.roster_text.specs.declared.fault.TextFault.TheVariants as text
-use Rattle.roster_case.specs.declared.CaseFault.{CaseFault}
-use Rattle.roster_case.specs.declared.CaseFault.TheVariants as case
+use Rattle.roster_instance.specs.declared.fault.CaseFault.{CaseFault}
+use Rattle.roster_instance.specs.declared.fault.CaseFault.TheVariants as case
 use Rattle.roster_commands.specs.Answer.{Input, IsLogFailed, IsSilent, Logged, Logs, Output, ReadsAndAnswers, Refuses, StopsLog, StopsRun, Tells, TellsOutput, Untouched}
 use Rattle.roster_commands.specs.Lines.{Text, case_status, status_of}
 use Rattle.roster_commands.specs.declared.fault.Fault.{Fault}

@@ -4,24 +4,24 @@ use Rattle.std.specs.Io.KnownBytes.{IsAtEnd}
 use Rattle.roster_text.specs.FirstFault.{IsFirstFault}
 use Rattle.roster_text.specs.Grammar.{Spells}
 use Rattle.roster_text.specs.Io.{Stops, Watched, Writes, one_more}
-use Rattle.roster_text.specs.Limits.{most_bytes}
-use Rattle.roster_text.specs.Token.{all_seen, line_at_end, tokens_of}
-use Rattle.roster_text.specs.declared.Bundle.{Bundle}
+use Rattle.roster_bundle.specs.Limits.{most_bytes}
+use Rattle.roster_bundle.specs.Token.{all_seen, line_at_end, tokens_of}
+use Rattle.roster_bundle.specs.declared.bundle.Bundle.{Bundle}
 use Rattle.roster_text.specs.declared.fault.TextFault.{TextFault}
 use Rattle.roster_text.specs.declared.fault.TextFault.TheVariants as text
-use Rattle.roster_case.specs.AllowedRows.{best_row}
-use Rattle.roster_case.specs.Bundles.{meaning_of, rows_of}
-use Rattle.roster_case.specs.Faults.{first_fault}
-use Rattle.roster_case.specs.HardRules.{hard_faults}
-use Rattle.roster_case.specs.Meaning.{Meaning}
-use Rattle.roster_case.specs.Names.{find_name}
-use Rattle.roster_case.specs.Penalties.{costs_of, penalty}
-use Rattle.roster_case.specs.Refusals.{all_faults}
-use Rattle.roster_case.specs.Rosters.{Rows, fits_case, with_row}
+use Rattle.roster_rules.specs.AllowedRows.{best_row}
+use Rattle.roster_instance.specs.Bundles.{meaning_of, rows_of}
+use Rattle.roster_instance.specs.Faults.{first_fault}
+use Rattle.roster_rules.specs.HardRules.{hard_faults}
+use Rattle.roster_instance.specs.Meaning.{Meaning}
+use Rattle.roster_instance.specs.Names.{find_name}
+use Rattle.roster_rules.specs.Penalties.{costs_of, penalty}
+use Rattle.roster_instance.specs.Refusals.{all_faults}
+use Rattle.roster_instance.specs.Rosters.{Rows, fits_case, with_row}
 use Rattle.roster_case.specs.Shown.{weeks_text}
-use Rattle.roster_case.specs.declared.CaseFault.{CaseFault}
-use Rattle.roster_case.specs.declared.CaseFault.TheVariants.{Memory}
-use Rattle.roster_case.specs.declared.HardFault.{HardFault}
+use Rattle.roster_instance.specs.declared.fault.CaseFault.{CaseFault}
+use Rattle.roster_instance.specs.declared.fault.CaseFault.TheVariants.{Memory}
+use Rattle.roster_rules.specs.declared.fault.HardFault.{HardFault}
 use Rattle.roster_rules.specs.Improver.{log_of, run}
 use Rattle.roster_rounds.specs.RunLogs.{text_of}
 use Rattle.roster_bound.specs.Floors.{FloorLine, IsFloorLog, floor_text, last_line, no_line}

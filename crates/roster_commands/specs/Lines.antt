@@ -1,12 +1,12 @@
 -- The lines of faults, and the statuses. The lines of each kind of fault, and of reports, are those of the crate below.
 use Rattle.std.specs.Prelude.{◌≡◌, ℕ, ◌++◌, List, [], codes, Some}
-use Rattle.roster_text.specs.declared.Bundle.{Bundle}
+use Rattle.roster_bundle.specs.declared.bundle.Bundle.{Bundle}
 use Rattle.roster_text.specs.declared.fault.TextFault.{TextFault}
 use Rattle.roster_text.specs.declared.fault.TextFault.TheVariants as text
-use Rattle.roster_case.specs.Faults.{first_fault}
-use Rattle.roster_case.specs.declared.CaseFault.{CaseFault}
-use Rattle.roster_case.specs.declared.CaseFault.TheVariants as case
-use Rattle.roster_case.specs.declared.HardFault.{HardFault}
+use Rattle.roster_instance.specs.Faults.{first_fault}
+use Rattle.roster_instance.specs.declared.fault.CaseFault.{CaseFault}
+use Rattle.roster_instance.specs.declared.fault.CaseFault.TheVariants as case
+use Rattle.roster_rules.specs.declared.fault.HardFault.{HardFault}
 pub use Rattle.roster_reports.specs.Lines.{AreNamesOf, Text, bound_text, case_line, hard_line, memory_line, nurse_of, report_line, sizes_line, text_line}
 unfoldable pub use Rattle.roster_reports.specs.Lines.{costs_text, sizes_text}
 use Rattle.roster_commands.specs.declared.fault.Fault.{Fault}

@@ -1,11 +1,12 @@
 //! The command `best`: the best row of a nurse, put in.
 
 ghost use Rattle.std.specs.Prelude.{◌≡◌, ◌++◌, codes, ◌<◌, ◌≤◌, true, OnOk, IfErr};
+ghost use Rattle.roster_bundle.specs.Limits.{greatest_u64};
 ghost use Rattle.roster_text.specs.Io.{Writes};
 ghost use Rattle.roster_text.specs.Pieces.{pieces_text};
-ghost use Rattle.roster_case.specs.Meaning.{nurse_count};
-ghost use Rattle.roster_case.specs.Penalties.{penalty};
-ghost use Rattle.roster_case.specs.Rosters.{fits_case};
+ghost use Rattle.roster_instance.specs.Meaning.{nurse_count};
+ghost use Rattle.roster_rules.specs.Penalties.{penalty};
+ghost use Rattle.roster_instance.specs.Rosters.{fits_case};
 ghost use Rattle.roster_commands.specs.Answer.{Ends, LeavesLog, StopsSearch, best_report, outcome_of, with_best};
 ghost use Rattle.roster_commands.specs.Lines.{best_log, report_line};
 ghost use Rattle.roster_laws.specs.Greatest.{extension_count};
@@ -73,7 +74,7 @@ fn put_best_row<'a, Log: Write>(
     requires nurse { nurse < nurse_count held.old.case }
     requires fits { fits_space held.old.case workspace.old ≡ true }
     requires none { meter.old ≡ 0 }
-    requires room { extension_count held.old.case nurse ≤ 18446744073709551615 }
+    requires room { extension_count held.old.case nurse ≤ greatest_u64 }
     ensures put { OnOk result (held.new ≡ record { case = held.old.case; roster = with_best held.old.case from held.old.roster nurse }) }
     ensures ok { OnOk result (Writes Log.contents log.old log.new (best_log (penalty held.old.case held.old.roster) name.now (penalty held.old.case (with_best held.old.case from held.old.roster nurse)))) }
     ensures err { IfErr result (StopsSearch Log.contents log.old log.new (best_log (penalty held.old.case held.old.roster) name.now (penalty held.old.case (with_best held.old.case from held.old.roster nurse)))) }

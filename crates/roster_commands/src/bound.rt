@@ -1,7 +1,8 @@
 //! The command `bound`: a number that no roster costs less than.
 
 ghost use Rattle.std.specs.Prelude.{◌≡◌, ◌+◌, ◌≤◌, true, IfErr, IfOk};
-ghost use Rattle.roster_case.specs.Rosters.{fits_case};
+ghost use Rattle.roster_bundle.specs.Limits.{greatest_u64};
+ghost use Rattle.roster_instance.specs.Rosters.{fits_case};
 ghost use Rattle.roster_rounds.specs.RunLogs.{extensions_in};
 ghost use Rattle.roster_bound.specs.Floors.{RaisesFloor};
 ghost use Rattle.roster_bound.specs.Workspaces.{FitsFloor};
@@ -55,7 +56,7 @@ fn find_bound<'a, Log: Write>(
 ) -> Result<u64, Fault<'a>>
     requires fits { FitsFloor held.now.case workspace.old }
     requires none { meter.old ≡ 0 }
-    requires room { extensions_in held.now.case rounds ≤ 18446744073709551615 }
+    requires room { extensions_in held.now.case rounds ≤ greatest_u64 }
     ensures ok { IfOk result (RaisesFloor Log.contents held.now.case from held.now.roster rounds log.old log.new) }
     ensures err { IfErr result (StopsFloors Log.contents held.now.case from held.now.roster rounds log.old log.new) }
 {

@@ -2,9 +2,9 @@
 
 ghost use Rattle.std.specs.Prelude.{◌≡◌, true, [], OnOk, IfErr};
 ghost use Rattle.roster_text.specs.Io.{Writes};
-ghost use Rattle.roster_case.specs.HardRules.{hard_faults};
-ghost use Rattle.roster_case.specs.Penalties.{costs_of};
-ghost use Rattle.roster_case.specs.Rosters.{fits_case};
+ghost use Rattle.roster_rules.specs.HardRules.{hard_faults};
+ghost use Rattle.roster_rules.specs.Penalties.{costs_of};
+ghost use Rattle.roster_instance.specs.Rosters.{fits_case};
 ghost use Rattle.roster_case.specs.Shown.{weeks_text};
 ghost use Rattle.roster_commands.specs.Answer.{Ends, IsReportOf, Reports, StopsOutput, cost_report, outcome_of};
 ghost use Rattle.roster_commands.specs.Lines.{costs_text, sizes_text};

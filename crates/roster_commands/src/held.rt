@@ -1,8 +1,8 @@
 //! The roster of an instance, held by a command that asks for the hard rules.
 
 ghost use Rattle.std.specs.Prelude.{◌≡◌, true, [], IfOk, IfErr, OnOk};
-ghost use Rattle.roster_case.specs.HardRules.{hard_faults};
-ghost use Rattle.roster_case.specs.Rosters.{fits_case};
+ghost use Rattle.roster_rules.specs.HardRules.{hard_faults};
+ghost use Rattle.roster_instance.specs.Rosters.{fits_case};
 ghost use Rattle.roster_commands.specs.Answer.{IsUnheld};
 
 use crate::fault::Fault;

@@ -1,8 +1,9 @@
 //! The command `improve`: rounds of best rows, put in where they are cheaper.
 
 ghost use Rattle.std.specs.Prelude.{◌≡◌, ◌+◌, ◌≤◌, true, IfErr, OnOk};
+ghost use Rattle.roster_bundle.specs.Limits.{greatest_u64};
 ghost use Rattle.roster_text.specs.Io.{Writes};
-ghost use Rattle.roster_case.specs.Rosters.{fits_case};
+ghost use Rattle.roster_instance.specs.Rosters.{fits_case};
 ghost use Rattle.roster_best.specs.Workspaces.{fits_space};
 ghost use Rattle.roster_rounds.specs.RunLogs.{extensions_in};
 ghost use Rattle.roster_commands.specs.Answer.{Ends, LeavesLog, StopsSearch, improve_report, improved, outcome_of, run_log};
@@ -56,7 +57,7 @@ fn run_rounds<'a, Log: Write>(
 ) -> Result<(), Fault<'a>>
     requires fits { fits_space held.old.case workspace.old ≡ true }
     requires none { meter.old ≡ 0 }
-    requires room { extensions_in held.old.case rounds ≤ 18446744073709551615 }
+    requires room { extensions_in held.old.case rounds ≤ greatest_u64 }
     ensures put { OnOk result (held.new ≡ record { case = held.old.case; roster = improved held.old.case rounds from held.old.roster }) }
     ensures ok { OnOk result (Writes Log.contents log.old log.new (run_log held.old.case rounds from held.old.roster)) }
     ensures err { IfErr result (StopsSearch Log.contents log.old log.new (run_log held.old.case rounds from held.old.roster)) }

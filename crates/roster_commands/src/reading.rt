@@ -1,10 +1,10 @@
 //! What the bytes of an input say: the bundle, and the case and the roster that it means.
 
 ghost use Rattle.std.specs.Prelude.{◌≡◌, ◌≢◌, true, [], Some, OnOk, IfOk, IfErr};
-ghost use Rattle.roster_case.specs.Bundles.{meaning_of, rows_of};
-ghost use Rattle.roster_case.specs.Faults.{first_fault};
-ghost use Rattle.roster_case.specs.Refusals.{all_faults};
-ghost use Rattle.roster_case.specs.Rosters.{fits_case};
+ghost use Rattle.roster_instance.specs.Bundles.{meaning_of, rows_of};
+ghost use Rattle.roster_instance.specs.Faults.{first_fault};
+ghost use Rattle.roster_instance.specs.Refusals.{all_faults};
+ghost use Rattle.roster_instance.specs.Rosters.{fits_case};
 ghost use Rattle.roster_commands.specs.Answer.{HasFault, Says, SpellsBundle, StopsReading};
 
 use crate::fault::Fault;

@@ -7,14 +7,14 @@ use Rattle.std.proofs.lemmas.List.Sums.{count_by_more_no, count_by_more_yes}
 use Rattle.roster_instance.specs.Choices.{same_choice}
 use Rattle.roster_rules.specs.Covers.{AreCovers}
 use Rattle.roster_rules.specs.HardRules.{staffing_fault}
-use Rattle.roster_rules.specs.declared.HardFault.TheVariants.{H2}
+use Rattle.roster_rules.specs.declared.fault.HardFault.TheVariants.{H2}
 use Rattle.roster_instance.specs.Faults.{fault_if}
 use Rattle.roster_instance.specs.Meaning.{Meaning, minimum, shift_at, skill_at}
 use Rattle.roster_instance.specs.Rosters.{Row, Rows, choice_on, cover, row_of}
-use Rattle.roster_instance.specs.declared.Choice.{Choice}
-use Rattle.roster_instance.specs.declared.Choice.TheVariants.{Off, Work}
-use Rattle.roster_instance.specs.declared.Shift.{Shift}
-use Rattle.roster_instance.specs.declared.Skill.{Skill}
+use Rattle.roster_instance.specs.declared.choice.Choice.{Choice}
+use Rattle.roster_instance.specs.declared.choice.Choice.TheVariants.{Off, Work}
+use Rattle.roster_instance.specs.declared.choice.Shift.{Shift}
+use Rattle.roster_instance.specs.declared.choice.Skill.{Skill}
 
 -- nothing is counted at first
 pub none_counted : (i : ℕ) → i < 64 → slice_index_or (replicate {A = ℕ} 64 0) i 0 ≡ 0

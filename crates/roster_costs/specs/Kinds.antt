@@ -1,6 +1,6 @@
 -- The kinds of days that runs are made of.
 use Rattle.std.specs.Prelude.{Bool, not, Option, is_some}
-use Rattle.roster_instance.specs.declared.Shift.{Shift}
+use Rattle.roster_instance.specs.declared.choice.Shift.{Shift}
 use Rattle.roster_costs.specs.declared.runs.Kind.{Kind}
 use Rattle.roster_costs.specs.declared.runs.Kind.TheVariants.{Working, Free, Of}
 use Rattle.roster_instance.specs.Days.{is_shift}

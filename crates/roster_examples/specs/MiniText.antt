@@ -1,20 +1,20 @@
 -- The text of the small instance, line by line, and what a text says.
 use Rattle.std.specs.Prelude.{take, drop, ℕ, ◌-◌, ◌++◌, List, [], ◌∷◌, codes, flat_map, map, slice_set, insert, Option, Some, None, option_map, Ok, Err}
 use Rattle.std.specs.List.{range_with_len}
-use Rattle.roster_text.specs.declared.Bundle.{Bundle}
+use Rattle.roster_bundle.specs.declared.bundle.Bundle.{Bundle}
 use Rattle.roster_text.specs.Reading.{Read, bundle_at}
-use Rattle.roster_text.specs.Token.{all_seen, tokens_of}
-use Rattle.roster_rules.specs.declared.Costs.{Costs}
-use Rattle.roster_rules.specs.declared.CaseFault.{CaseFault}
-use Rattle.roster_rules.specs.declared.HardFault.{HardFault}
-use Rattle.roster_rules.specs.Bundles.{meaning_of, rows_of}
-use Rattle.roster_rules.specs.Faults.{first_fault}
+use Rattle.roster_bundle.specs.Token.{all_seen, tokens_of}
+use Rattle.roster_rules.specs.declared.penalties.Costs.{Costs}
+use Rattle.roster_instance.specs.declared.fault.CaseFault.{CaseFault}
+use Rattle.roster_rules.specs.declared.fault.HardFault.{HardFault}
+use Rattle.roster_instance.specs.Bundles.{meaning_of, rows_of}
+use Rattle.roster_instance.specs.Faults.{first_fault}
 use Rattle.roster_rules.specs.HardRules.{hard_faults}
-use Rattle.roster_rules.specs.Meaning.{Meaning, nurse_count}
+use Rattle.roster_instance.specs.Meaning.{Meaning, nurse_count}
 use Rattle.roster_rules.specs.Penalties.{costs_of, total_cost}
-use Rattle.roster_rules.specs.Refusals.{all_faults}
-use Rattle.roster_rules.specs.Rosters.{Rows}
-use Rattle.roster_rules.specs.Sizes.{state_count, choice_count}
+use Rattle.roster_instance.specs.Refusals.{all_faults}
+use Rattle.roster_instance.specs.Rosters.{Rows}
+use Rattle.roster_instance.specs.Sizes.{state_count, choice_count}
 
 abbrev pub Lines : Type 0
 Lines = List (List ℕ)

@@ -2,15 +2,15 @@
 #![tactic(auto, unfolding(roster_bundle::specs::Token::tokens_from, roster_bundle::specs::Token::token_at, roster_bundle::specs::Token::begins_at, roster_bundle::specs::Token::end_from, roster_bundle::specs::Token::is_separator, roster_bundle::specs::Token::is_mark, roster_bundle::specs::Token::is_word_byte, roster_bundle::specs::Token::follows_word_byte, roster_bundle::specs::Token::line_feeds, roster_text::specs::Reading::bundle_at, roster_text::specs::Reading::title_at, roster_text::specs::Reading::scenario_at, roster_text::specs::Reading::section_at, roster_text::specs::Reading::listed_at, roster_text::specs::Reading::times_at, roster_text::specs::Reading::shift_type_at, roster_text::specs::Reading::pair_at, roster_text::specs::Reading::until_with, roster_text::specs::Reading::succession_at, roster_text::specs::Reading::names_at, roster_text::specs::Reading::contract_at, roster_text::specs::Reading::nurse_at, roster_text::specs::Reading::history_at, roster_text::specs::Reading::nurse_history_at, roster_text::specs::Reading::week_data_at, roster_text::specs::Reading::requirement_at, roster_text::specs::Reading::week_pairs_at, roster_text::specs::Reading::solution_at, roster_text::specs::Reading::assignment_at, roster_text::specs::Reading::request_at, roster_text::specs::Reading::optional_at, roster_instance::specs::Tables::table_of, roster_instance::specs::Bundles::requests_meant, roster_instance::specs::Bundles::meaning_of, roster_instance::specs::Bundles::rows_of, roster_instance::specs::Refusals::case_faults, roster_instance::specs::Refusals::roster_faults, roster_instance::specs::Sizes::state_count, roster_instance::specs::Sizes::choice_count, roster_rules::specs::HardRules::hard_faults, roster_rules::specs::Penalties::costs_of, roster_rules::specs::Penalties::penalty, roster_rules::specs::Runs::run_violations, roster_rules::specs::Runs::open_run))]
 
 ghost use Rattle.std.specs.Prelude.{◌≡◌, [], ◌∷◌, codes, take, true, false};
-ghost use Rattle.roster_rules.specs.declared.CaseFault.{CaseFault};
-ghost use Rattle.roster_rules.specs.declared.HardFault.{HardFault};
+ghost use Rattle.roster_instance.specs.declared.fault.CaseFault.{CaseFault};
+ghost use Rattle.roster_rules.specs.declared.fault.HardFault.{HardFault};
 ghost use Rattle.roster_run_examples.specs.Mini.{mini, big, limits, is_among, early_on, early_but, free_week, all_free, ann, bob, costs, costs_with_wishes};
 ghost use Rattle.roster_examples.specs.MiniText.{mini_lines, two_weeks, line, line_after, solved, early_lines, case_in, roster_in, refusals_in, refusal_in, breaches_in, costs_in, total_in, sizes_in};
-ghost use Rattle.roster_rules.specs.Meaning.{shift_at, skill_at};
+ghost use Rattle.roster_instance.specs.Meaning.{shift_at, skill_at};
 ghost use Rattle.roster_rules.specs.Penalties.{penalty};
-ghost use Rattle.roster_rules.specs.Rosters.{fits_case};
+ghost use Rattle.roster_instance.specs.Rosters.{fits_case};
 ghost use Rattle.roster_rules.specs.Runs.{run_violations, open_run};
-ghost use Rattle.roster_rules.specs.Sizes.{state_count, choice_count};
+ghost use Rattle.roster_instance.specs.Sizes.{state_count, choice_count};
 
 /// The text of the small instance means that instance, and nothing is refused in it.
 pub fn text_of_the_small_instance()

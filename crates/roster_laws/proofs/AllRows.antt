@@ -5,15 +5,15 @@ use Rattle.std.proofs.lemmas.Bool.{ne_eqb}
 use Rattle.std.proofs.lemmas.Bool.Decides.{nat_tests}
 use Rattle.std.proofs.lemmas.List.Elements.{All-cons, All-contains, All-nil, Contains-append_right}
 use Rattle.std.proofs.lemmas.List.Sums.{sum_by-append, sum_by-cons}
-use Rattle.roster_rules.specs.declared.Choice.{Choice}
-use Rattle.roster_rules.specs.declared.Choice.TheVariants.{Off, Work}
-use Rattle.roster_rules.specs.declared.Shift.{Shift}
-use Rattle.roster_rules.specs.declared.Skill.{Skill}
-use Rattle.roster_rules.specs.Choices.{all_choices, all_rows, same_choice}
-use Rattle.roster_rules.specs.Counting.{one_if}
+use Rattle.roster_instance.specs.declared.choice.Choice.{Choice}
+use Rattle.roster_instance.specs.declared.choice.Choice.TheVariants.{Off, Work}
+use Rattle.roster_instance.specs.declared.choice.Shift.{Shift}
+use Rattle.roster_instance.specs.declared.choice.Skill.{Skill}
+use Rattle.roster_instance.specs.Choices.{all_choices, all_rows, same_choice}
+use Rattle.roster_instance.specs.Counting.{one_if}
 use Rattle.roster_rules.specs.Improver.{same_row}
-use Rattle.roster_rules.specs.Meaning.{Meaning, day_count, shift_at, shift_count, skill_at, skill_count}
-use Rattle.roster_rules.specs.Rosters.{Row, is_choice_of, is_row_of}
+use Rattle.roster_instance.specs.Meaning.{Meaning, day_count, shift_at, shift_count, skill_at, skill_count}
+use Rattle.roster_instance.specs.Rosters.{Row, is_choice_of, is_row_of}
 use Rattle.roster_laws.proofs.SameRows.{same_choice_is, same_choice_self, same_row_is, same_row_self}
 
 -- ---- how often a test passes

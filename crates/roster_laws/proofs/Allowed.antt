@@ -4,10 +4,10 @@ use Rattle.std.specs.List.{All, filter}
 use Rattle.std.proofs.lemmas.Bool.{and_from, and_parts, le-ltb}
 use Rattle.std.proofs.lemmas.List.{set-get_or}
 use Rattle.std.proofs.lemmas.List.Elements.{All-cons, All-contains, All-contains_itself, All-filter, All-nil, All-weaker, Contains-append_right, filter_passes}
-use Rattle.roster_rules.specs.Choices.{all_choices, all_rows, same_choice}
+use Rattle.roster_instance.specs.Choices.{all_choices, all_rows, same_choice}
 use Rattle.roster_rules.specs.HardRules.{keeps_hard}
-use Rattle.roster_rules.specs.Meaning.{Meaning, day_count, nurse_count}
-use Rattle.roster_rules.specs.Rosters.{Row, Rows, choice_on, fits_case, is_row_of, row_of, with_row}
+use Rattle.roster_instance.specs.Meaning.{Meaning, day_count, nurse_count}
+use Rattle.roster_instance.specs.Rosters.{Row, Rows, choice_on, fits_case, is_row_of, row_of, with_row}
 use Rattle.roster_rules.specs.AllowedRows.{allowed_rows, best_row, first_least, is_frozen, keeps_frozen_day, keeps_frozen_days, penalty_with, row_keeps}
 use Rattle.roster_rules.proofs.RosterFacts.{row_fits}
 use Rattle.roster_laws.proofs.AllRows.{member_is_row, row_is_member}

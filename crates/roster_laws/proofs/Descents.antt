@@ -5,9 +5,9 @@ use Rattle.std.proofs.lemmas.Bool.{cases_Bool, true≢false}
 use Rattle.std.proofs.lemmas.List.Elements.{All-cons, All-nil}
 use Rattle.std.proofs.lemmas.List.Kept.{AllPairs-cons}
 use Rattle.roster_rules.specs.Improver.{BestRows, Entry, changed, changes, entries_from, entry, log_of, round, round_done, round_log, same_rows, settled, started, step, stopped}
-use Rattle.roster_rules.specs.Meaning.{Meaning, nurse_count}
+use Rattle.roster_instance.specs.Meaning.{Meaning, nurse_count}
 use Rattle.roster_rules.specs.Penalties.{penalty}
-use Rattle.roster_rules.specs.Rosters.{Rows}
+use Rattle.roster_instance.specs.Rosters.{Rows}
 use Rattle.roster_laws.specs.Logs.{Descends, is_change}
 use Rattle.roster_laws.proofs.Runs.{entries-goes_on, entries-settled}
 use Rattle.roster_laws.proofs.SameRows.{same_rows_is}

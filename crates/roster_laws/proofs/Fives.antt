@@ -1,11 +1,11 @@
 -- Each penalty is a multiple of 5, since each weight is.
 use Rattle.std.proofs.Common.{◌≡◌, ◌+◌, ◌*◌, ◌%◌, ℕ, zero, suc, Bool, true, false, arith, refl, if◌then◌else◌}
-use Rattle.roster_rules.specs.Counting.{sum_below}
-use Rattle.roster_rules.specs.Days.{Days, split_weekends}
-use Rattle.roster_rules.specs.Meaning.{Meaning, contract_of, day_count, nurse_count, shift_count, skill_count}
+use Rattle.roster_instance.specs.Counting.{sum_below}
+use Rattle.roster_instance.specs.Days.{Days, split_weekends}
+use Rattle.roster_instance.specs.Meaning.{Meaning, contract_of, day_count, nurse_count, shift_count, skill_count}
 use Rattle.roster_rules.specs.Penalties.{breaks_off_request, meets_wishes, costs_of, free_run_cost, off_request_cost, over_nurses, penalty, run_cost_of_shift, shift_run_cost, split_cost, staffing_cost, staffing_cost_of_day, staffing_cost_of_place, totals_cost, weekends_cost, wish_cost, working_run_cost}
 use Rattle.roster_rules.specs.Weights.{staffing_weight, working_run_weight, shift_run_weight, free_run_weight, off_request_weight, split_weight, assignment_weight, weekend_weight, wish_weight}
-use Rattle.roster_rules.specs.Rosters.{Rows, days_of_nurse}
+use Rattle.roster_instance.specs.Rosters.{Rows, days_of_nurse}
 
 abbrev pub IsFive : ℕ → Type 0
 IsFive n = n % 5 ≡ 0

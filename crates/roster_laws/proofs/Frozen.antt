@@ -4,15 +4,15 @@ use Rattle.std.specs.List.{list_all}
 use Rattle.std.proofs.lemmas.Bool.{and_parts, cases_eq, cases_lt, eqb-true, lt-ltb}
 use Rattle.std.proofs.lemmas.List.{ext_get_or, set-get_or, set_past}
 use Rattle.std.proofs.lemmas.List.Elements.{Contains-append_right}
-use Rattle.roster_rules.specs.declared.Choice.{Choice}
-use Rattle.roster_rules.specs.declared.Choice.TheVariants.{Off}
+use Rattle.roster_instance.specs.declared.choice.Choice.{Choice}
+use Rattle.roster_instance.specs.declared.choice.Choice.TheVariants.{Off}
 use Rattle.roster_rules.specs.AllowedRows.{IsBestRow, allowed_rows, best_row, is_frozen, keeps_frozen_day, keeps_frozen_days}
-use Rattle.roster_rules.specs.Choices.{same_choice}
+use Rattle.roster_instance.specs.Choices.{same_choice}
 use Rattle.roster_rules.specs.HardRules.{keeps_hard}
 use Rattle.roster_rules.specs.Improver.{if_cheaper, run, step, step_with}
-use Rattle.roster_rules.specs.Meaning.{Meaning, day_count, nurse_count, week_count}
+use Rattle.roster_instance.specs.Meaning.{Meaning, day_count, nurse_count, week_count}
 use Rattle.roster_rules.specs.Penalties.{penalty}
-use Rattle.roster_rules.specs.Rosters.{Row, Rows, choice_on, fits_case, is_choice_of, is_row_of, row_of, with_row}
+use Rattle.roster_instance.specs.Rosters.{Row, Rows, choice_on, fits_case, is_choice_of, is_row_of, row_of, with_row}
 use Rattle.roster_rules.proofs.RosterFacts.{row-length}
 use Rattle.roster_laws.specs.FrozenDays.{FrozenDaysStay}
 use Rattle.roster_laws.proofs.Allowed.{allowed_keeps}

@@ -2,8 +2,8 @@
 use Rattle.std.proofs.Common.{◌≡◌, ◌+◌, ◌<◌, ◌≤◌, ◌⊎◌, ℕ, zero, suc, inl, inr, max, arith, ap, map}
 use Rattle.std.specs.List.{range_with_len}
 use Rattle.std.proofs.lemmas.Bool.{cases_lt}
-use Rattle.roster_rules.specs.Meaning.{Meaning, nurse_count}
-use Rattle.roster_rules.specs.Sizes.{greatest_of, state_count}
+use Rattle.roster_instance.specs.Meaning.{Meaning, nurse_count}
+use Rattle.roster_instance.specs.Sizes.{greatest_of, state_count}
 use Rattle.roster_laws.specs.Greatest.{IsGreatest, extension_count, greatest_extension_count, greatest_state_count}
 
 abbrev greatest_from : (ℕ → ℕ) → ℕ → ℕ → ℕ

@@ -3,7 +3,7 @@ use Rattle.std.proofs.Common.{◌≡◌, ◌∙◌, ℕ, zero, suc, ap, arith, s
 use Rattle.std.specs.List.{All, AllPairs, flat_map}
 use Rattle.std.proofs.lemmas.List.Elements.{All-append, All-cons, All-head, All-map, All-nil, All-tail}
 use Rattle.std.proofs.lemmas.List.Kept.{AllPairs-cons}
-use Rattle.roster_rules.specs.Choices.{all_rows}
+use Rattle.roster_instance.specs.Choices.{all_rows}
 use Rattle.roster_laws.specs.RowOrder.{IsEarlier, StandsBefore}
 
 -- ---- pairs of a list

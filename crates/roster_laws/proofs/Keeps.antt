@@ -3,12 +3,12 @@ use Rattle.std.proofs.Common.{◌≡◌, ◌∙◌, ◌+◌, ◌<◌, ◌&&◌, 
 use Rattle.std.proofs.lemmas.Bool.{and_parts}
 use Rattle.roster_bundle.proofs.Ranges.{flat_map-range_more}
 use Rattle.roster_rules.specs.AllowedRows.{keeps_frozen_day, keeps_frozen_days}
-use Rattle.roster_rules.specs.Choices.{days_of}
-use Rattle.roster_rules.specs.Counting.{all_below}
-use Rattle.roster_rules.specs.Faults.{below, fault_if, is_none_of}
+use Rattle.roster_instance.specs.Choices.{days_of}
+use Rattle.roster_instance.specs.Counting.{all_below}
+use Rattle.roster_instance.specs.Faults.{below, fault_if, is_none_of}
 use Rattle.roster_rules.specs.HardRules.{breaks_succession, hard_faults, is_able_on, keeps_hard, keeps_skills, keeps_successions, skill_faults, staffing_faults, succession_faults}
-use Rattle.roster_rules.specs.Meaning.{Meaning, day_count, nurse_count, shift_count, skill_count, minimum}
-use Rattle.roster_rules.specs.Rosters.{Row, Rows, choice_on, cover, days_of_nurse, row_of, with_row}
+use Rattle.roster_instance.specs.Meaning.{Meaning, day_count, nurse_count, shift_count, skill_count, minimum}
+use Rattle.roster_instance.specs.Rosters.{Row, Rows, choice_on, cover, days_of_nurse, row_of, with_row}
 use Rattle.roster_laws.specs.OneRow.{is_offered_row, is_open, is_open_row, keeps_by_parts, others}
 use Rattle.roster_laws.specs.Staffing.{meets, with_choice}
 use Rattle.roster_laws.proofs.Below.{all_at, all_both, all_elim, all_same}

@@ -5,9 +5,9 @@ use Rattle.std.proofs.lemmas.Bool.{and_parts, cases_Bool}
 use Rattle.std.proofs.lemmas.List.Elements.{All-append, All-cons, All-nil, Contains-append_right}
 use Rattle.roster_rules.specs.HardRules.{keeps_hard}
 use Rattle.roster_rules.specs.Improver.{BestRows, Entry, changed, changes, entries_from, entry, log_of, round, round_done, round_log, run, same_rows, settled, started, step, step_with, stopped}
-use Rattle.roster_rules.specs.Meaning.{Meaning, nurse_count}
+use Rattle.roster_instance.specs.Meaning.{Meaning, nurse_count}
 use Rattle.roster_rules.specs.Penalties.{penalty}
-use Rattle.roster_rules.specs.Rosters.{Row, Rows, fits_case, is_row_of, with_row}
+use Rattle.roster_instance.specs.Rosters.{Row, Rows, fits_case, is_row_of, with_row}
 use Rattle.roster_rules.specs.AllowedRows.{allowed_rows, best_row, penalty_with, row_keeps}
 use Rattle.roster_rules.proofs.FirstLeast.{found}
 use Rattle.roster_rules.proofs.RowFits.{fits-with_row}

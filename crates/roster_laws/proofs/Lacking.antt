@@ -1,11 +1,11 @@
 -- What a day lacks with one nurse more, and that a day which lacks none meets each number.
 use Rattle.std.proofs.Common.{◌≡◌, ◌∙◌, ◌+◌, ◌-◌, ◌*◌, ◌<◌, ◌≤◌, ◌&&◌, ◌==◌, ◌⊎◌, ℕ, zero, suc, Bool, true, false, not, inl, inr, ap, ap₂, arith, refl, sym, nat_lt}
 use Rattle.std.proofs.lemmas.Bool.{cases_lt, eq-eqb, ne_eqb, le-ltb, lt-ltb}
-use Rattle.roster_rules.specs.declared.Choice.TheVariants.{Off, Work}
-use Rattle.roster_rules.specs.declared.Shift.{Shift}
-use Rattle.roster_rules.specs.declared.Skill.{Skill}
-use Rattle.roster_rules.specs.Counting.{all_below, one_if, sum_below}
-use Rattle.roster_rules.specs.Meaning.{Meaning, day_count, minimum, optimum, shift_count, skill_count}
+use Rattle.roster_instance.specs.declared.choice.Choice.TheVariants.{Off, Work}
+use Rattle.roster_instance.specs.declared.choice.Shift.{Shift}
+use Rattle.roster_instance.specs.declared.choice.Skill.{Skill}
+use Rattle.roster_instance.specs.Counting.{all_below, one_if, sum_below}
+use Rattle.roster_instance.specs.Meaning.{Meaning, day_count, minimum, optimum, shift_count, skill_count}
 use Rattle.roster_instance.specs.Rosters.{Rows, cover}
 use Rattle.roster_rules.specs.Penalties.{staffing_cost}
 use Rattle.roster_rules.specs.Weights.{staffing_weight}

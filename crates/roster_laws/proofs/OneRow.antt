@@ -3,12 +3,12 @@ use Rattle.std.proofs.Common.{◌≡◌, ◌∙◌, ◌+◌, ◌<◌, ℕ, zero,
 use Rattle.std.proofs.lemmas.List.{get_or-set_other, get_or-set_same, length-map}
 use Rattle.std.proofs.lemmas.List.Sums.{sum_by-set}
 use Rattle.std.proofs.Math.ListN.{get_or-map}
-use Rattle.roster_rules.specs.declared.Choice.TheVariants.{Off, Work}
-use Rattle.roster_rules.specs.Choices.{days_of, same_choice, shift_of}
-use Rattle.roster_rules.specs.Counting.{sum_below, one_if}
-use Rattle.roster_rules.specs.Meaning.{Meaning, day_count, nurse_count, shift_at, skill_at}
+use Rattle.roster_instance.specs.declared.choice.Choice.TheVariants.{Off, Work}
+use Rattle.roster_instance.specs.Choices.{days_of, same_choice, shift_of}
+use Rattle.roster_instance.specs.Counting.{sum_below, one_if}
+use Rattle.roster_instance.specs.Meaning.{Meaning, day_count, nurse_count, shift_at, skill_at}
 use Rattle.roster_rules.specs.Penalties.{costs_of, free_run_cost, nurse_cost, off_request_cost, off_request_cost_on, over_nurses, own_cost, penalty, request_cost, shift_run_cost, split_cost, staffing_cost, totals_cost, weekends_cost, wish_cost, wish_cost_on, working_run_cost}
-use Rattle.roster_rules.specs.Rosters.{Row, Rows, choice_on, cover, days_of_nurse, row_of, with_row}
+use Rattle.roster_instance.specs.Rosters.{Row, Rows, choice_on, cover, days_of_nurse, row_of, with_row}
 use Rattle.roster_laws.specs.OneRow.{others, prices, rest_of}
 use Rattle.roster_laws.specs.Staffing.{staffing_cost_by, with_choice}
 use Rattle.roster_laws.proofs.Below.{sum_at, sum_both}

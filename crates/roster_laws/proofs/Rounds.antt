@@ -4,9 +4,9 @@ use Rattle.std.specs.List.{fold, range_with_len}
 use Rattle.std.proofs.lemmas.Bool.{true≢false}
 use Rattle.std.proofs.lemmas.List.Sums.{sum_by-append}
 use Rattle.roster_rules.specs.Improver.{BestRows, Entry, changed, changes, entry, round, round_done, round_log, same_rows, step}
-use Rattle.roster_rules.specs.Meaning.{Meaning, nurse_count}
+use Rattle.roster_instance.specs.Meaning.{Meaning, nurse_count}
 use Rattle.roster_rules.specs.Penalties.{penalty}
-use Rattle.roster_rules.specs.Rosters.{Rows}
+use Rattle.roster_instance.specs.Rosters.{Rows}
 use Rattle.roster_laws.specs.Logs.{changes_in, is_change, is_round, rounds_in}
 use Rattle.roster_laws.proofs.SameRows.{same_rows_is, same_rows_self}
 use Rattle.roster_laws.proofs.Steps.{falls_by_five}

@@ -4,9 +4,9 @@ use Rattle.std.specs.List.{All}
 use Rattle.std.proofs.Math.Nat.{mul-le-mul_left}
 use Rattle.std.proofs.lemmas.Bool.{cases_Bool, true≢false}
 use Rattle.roster_rules.specs.Improver.{BestRows, Entry, Run, entries_from, entry, log_of, round, round_log, run, same_rows, settled, started, step}
-use Rattle.roster_rules.specs.Meaning.{Meaning, nurse_count}
+use Rattle.roster_instance.specs.Meaning.{Meaning, nurse_count}
 use Rattle.roster_rules.specs.Penalties.{penalty}
-use Rattle.roster_rules.specs.Rosters.{Rows}
+use Rattle.roster_instance.specs.Rosters.{Rows}
 use Rattle.roster_rules.specs.AllowedRows.{allowed_rows, best_row, penalty_with}
 use Rattle.roster_laws.specs.Logs.{EndsWith, changes_in, ending, rounds_in}
 use Rattle.roster_laws.proofs.Rounds.{changes_in-append, changes_in-round, moves_some, none_steps, round_falls, rounds_in-append, rounds_in-round, stays_none}

@@ -1,12 +1,12 @@
 -- The test whether two rosters have the same rows tells whether they are one.
 use Rattle.std.proofs.Common.{◌≡◌, ◌∙◌, ◌==◌, true, ap, ap₂, sym, refl, [], ◌∷◌}
 use Rattle.std.proofs.lemmas.Bool.{and_from, and_parts, eq-eqb, eqb-true, true≢false}
-use Rattle.roster_rules.specs.declared.Choice.{Choice}
-use Rattle.roster_rules.specs.declared.Choice.TheVariants.{Off, Work}
-use Rattle.roster_rules.specs.Choices.{same_choice}
+use Rattle.roster_instance.specs.declared.choice.Choice.{Choice}
+use Rattle.roster_instance.specs.declared.choice.Choice.TheVariants.{Off, Work}
+use Rattle.roster_instance.specs.Choices.{same_choice}
 use Rattle.roster_rules.specs.Improver.{same_row, same_rows}
-use Rattle.roster_rules.specs.Meaning.{shift_at, skill_at}
-use Rattle.roster_rules.specs.Rosters.{Row, Rows}
+use Rattle.roster_instance.specs.Meaning.{shift_at, skill_at}
+use Rattle.roster_instance.specs.Rosters.{Row, Rows}
 
 pub same_choice_is : (a b : Choice) → same_choice a b ≡ true → a ≡ b
 same_choice_is Off Off e = refl

@@ -4,9 +4,9 @@ use Rattle.std.specs.List.{All}
 use Rattle.std.proofs.lemmas.Bool.{false_from_ne_true, le-ltb, lt-ltb, ltb-false, ltb-true, true≢false}
 use Rattle.std.proofs.lemmas.List.Elements.{All-append, All-cons, All-nil}
 use Rattle.roster_rules.specs.Improver.{BestRows, if_cheaper, same_rows, step, step_with}
-use Rattle.roster_rules.specs.Meaning.{Meaning}
+use Rattle.roster_instance.specs.Meaning.{Meaning}
 use Rattle.roster_rules.specs.Penalties.{penalty}
-use Rattle.roster_rules.specs.Rosters.{Row, Rows, with_row}
+use Rattle.roster_instance.specs.Rosters.{Row, Rows, with_row}
 use Rattle.roster_rules.specs.AllowedRows.{IsBestRow, allowed_rows, best_row, first_least, penalty_with}
 use Rattle.roster_rules.proofs.FirstLeast.{found, only}
 use Rattle.roster_laws.proofs.Fives.{penalty_is}

@@ -1,8 +1,8 @@
 -- The greatest sizes of the searches of a case, over its nurses.
 use Rattle.std.specs.Prelude.{◌≡◌, ◌<◌, ◌≤◌, ℕ, ◌*◌, map}
 use Rattle.std.specs.List.{range_with_len}
-use Rattle.roster_rules.specs.Meaning.{Meaning, day_count, nurse_count}
-use Rattle.roster_rules.specs.Sizes.{choice_count, greatest_of, state_count}
+use Rattle.roster_instance.specs.Meaning.{Meaning, day_count, nurse_count}
+use Rattle.roster_instance.specs.Sizes.{choice_count, greatest_of, state_count}
 
 -- how often the search for a nurse's best row extends a label, at most: each state on each day by each choice
 unfoldable pub extension_count : Meaning → ℕ → ℕ

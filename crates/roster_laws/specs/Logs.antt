@@ -1,9 +1,9 @@
 -- What the log of a run tells.
 use Rattle.std.specs.Prelude.{◌≡◌, ℕ, ◌+◌, ◌≤◌, Bool, true, false, List, [], ◌∷◌, ◌++◌, count_by, if◌then◌else◌}
 use Rattle.roster_rules.specs.Improver.{BestRows, Entry, Event, Run, changed, log_of, round_done, run, settled, stopped}
-use Rattle.roster_rules.specs.Meaning.{Meaning}
+use Rattle.roster_instance.specs.Meaning.{Meaning}
 use Rattle.roster_rules.specs.Penalties.{penalty}
-use Rattle.roster_rules.specs.Rosters.{Rows}
+use Rattle.roster_instance.specs.Rosters.{Rows}
 
 -- ---- what is counted: the steps that replaced a row, and the rounds that were made
 

@@ -1,6 +1,6 @@
 -- A roster with one nurse's row replaced: what the other rows give, and what each day of the row adds.
 use Rattle.std.specs.Prelude.{ℕ, ◌+◌, Bool, not, ◌&&◌, ◌==◌, [], length, if◌then◌else◌}
-use Rattle.roster_instance.specs.declared.Choice.{Choice}
+use Rattle.roster_instance.specs.declared.choice.Choice.{Choice}
 use Rattle.roster_instance.specs.Choices.{days_of, shift_of}
 use Rattle.roster_instance.specs.Counting.{all_below, sum_below}
 use Rattle.roster_instance.specs.Meaning.{Meaning, day_count, nurse_at, nurse_count}

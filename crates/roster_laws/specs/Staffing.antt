@@ -1,7 +1,7 @@
 -- The staffing of a day, by how many nurses work each shift with each skill.
 use Rattle.std.specs.Prelude.{ℕ, ◌+◌, ◌-◌, ◌*◌, Bool, not, nat_lt}
-use Rattle.roster_instance.specs.declared.Choice.{Choice}
-use Rattle.roster_instance.specs.declared.Choice.TheVariants.{Work}
+use Rattle.roster_instance.specs.declared.choice.Choice.{Choice}
+use Rattle.roster_instance.specs.declared.choice.Choice.TheVariants.{Work}
 use Rattle.roster_instance.specs.Choices.{same_choice}
 use Rattle.roster_instance.specs.Counting.{all_below, one_if, sum_below}
 use Rattle.roster_instance.specs.Meaning.{Meaning, minimum, optimum, shift_at, shift_count, skill_at, skill_count}

@@ -3,9 +3,9 @@
 ghost use Rattle.std.specs.Prelude.{◌≡◌, ℕ, ◌+◌, ◌*◌, ◌<◌, ◌≤◌, ◌%◌, ◌↔◌, suc, nat_lt, not, true, false, All, AllPairs};
 ghost use Rattle.roster_rules.specs.HardRules.{keeps_hard};
 ghost use Rattle.roster_rules.specs.Improver.{BestRows, entry, log_of, round, run, same_rows, step};
-ghost use Rattle.roster_rules.specs.Meaning.{Meaning, nurse_count, week_count};
+ghost use Rattle.roster_instance.specs.Meaning.{Meaning, nurse_count, week_count};
 ghost use Rattle.roster_rules.specs.Penalties.{penalty};
-ghost use Rattle.roster_rules.specs.Rosters.{Row, Rows, fits_case, with_row};
+ghost use Rattle.roster_instance.specs.Rosters.{Row, Rows, fits_case, with_row};
 ghost use Rattle.roster_rules.specs.AllowedRows.{IsBestRow, allowed_rows, best_row, penalty_with};
 ghost use Rattle.roster_laws.specs.FrozenDays.{FrozenDaysStay};
 ghost use Rattle.roster_laws.specs.Logs.{Descends, EndsWith, changes_in, ending, outcome_of, rounds_in};

@@ -1,15 +1,15 @@
 //! A roster's penalty and the hard rules by parts, and with one nurse's row replaced.
 
 ghost use Rattle.std.specs.Prelude.{◌≡◌, ◌+◌, ◌*◌, ◌<◌, ◌==◌, ◌&&◌, ℕ, true, length, nat_lt};
-ghost use Rattle.roster_rules.specs.declared.Choice.TheVariants.{Off, Work};
-ghost use Rattle.roster_rules.specs.declared.Shift.{Shift};
-ghost use Rattle.roster_rules.specs.declared.Skill.{Skill};
-ghost use Rattle.roster_rules.specs.Choices.{days_of};
-ghost use Rattle.roster_rules.specs.Counting.{one_if, sum_below};
+ghost use Rattle.roster_instance.specs.declared.choice.Choice.TheVariants.{Off, Work};
+ghost use Rattle.roster_instance.specs.declared.choice.Shift.{Shift};
+ghost use Rattle.roster_instance.specs.declared.choice.Skill.{Skill};
+ghost use Rattle.roster_instance.specs.Choices.{days_of};
+ghost use Rattle.roster_instance.specs.Counting.{one_if, sum_below};
 ghost use Rattle.roster_rules.specs.HardRules.{keeps_hard};
-ghost use Rattle.roster_rules.specs.Meaning.{Meaning, day_count, minimum, nurse_count, optimum, shift_count, skill_count};
+ghost use Rattle.roster_instance.specs.Meaning.{Meaning, day_count, minimum, nurse_count, optimum, shift_count, skill_count};
 ghost use Rattle.roster_rules.specs.Penalties.{over_nurses, own_cost, penalty, request_cost, staffing_cost};
-ghost use Rattle.roster_rules.specs.Rosters.{Row, Rows, choice_on, cover, with_row};
+ghost use Rattle.roster_instance.specs.Rosters.{Row, Rows, choice_on, cover, with_row};
 ghost use Rattle.roster_rules.specs.AllowedRows.{keeps_frozen_days, penalty_with};
 ghost use Rattle.roster_rules.specs.Weights.{staffing_weight};
 ghost use Rattle.roster_laws.specs.OneRow.{is_offered_row, is_open_row, keeps_by_parts, others, prices, rest_of};

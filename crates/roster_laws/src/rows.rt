@@ -1,12 +1,12 @@
 //! The rows of a case, those that are allowed, and the best of them.
 
 ghost use Rattle.std.specs.Prelude.{◌≡◌, ◌<◌, ◌↔◌, ℕ, true, AllPairs, Contains, IsSome, count_by, filter};
-ghost use Rattle.roster_rules.specs.Choices.{all_choices, all_rows};
-ghost use Rattle.roster_rules.specs.Counting.{one_if};
+ghost use Rattle.roster_instance.specs.Choices.{all_choices, all_rows};
+ghost use Rattle.roster_instance.specs.Counting.{one_if};
 ghost use Rattle.roster_rules.specs.HardRules.{keeps_hard};
 ghost use Rattle.roster_rules.specs.Improver.{same_row};
-ghost use Rattle.roster_rules.specs.Meaning.{Meaning, day_count, nurse_count};
-ghost use Rattle.roster_rules.specs.Rosters.{Row, Rows, fits_case, is_row_of, row_of, with_row};
+ghost use Rattle.roster_instance.specs.Meaning.{Meaning, day_count, nurse_count};
+ghost use Rattle.roster_instance.specs.Rosters.{Row, Rows, fits_case, is_row_of, row_of, with_row};
 ghost use Rattle.roster_rules.specs.AllowedRows.{allowed_rows, best_row, keeps_frozen_days, row_keeps};
 ghost use Rattle.roster_laws.specs.RowOrder.{IsEarlier};
 

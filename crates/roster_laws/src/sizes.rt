@@ -1,8 +1,8 @@
 //! The greatest sizes of the searches of a case.
 
 ghost use Rattle.std.specs.Prelude.{◌<◌, ℕ};
-ghost use Rattle.roster_rules.specs.Meaning.{Meaning, nurse_count};
-ghost use Rattle.roster_rules.specs.Sizes.{state_count};
+ghost use Rattle.roster_instance.specs.Meaning.{Meaning, nurse_count};
+ghost use Rattle.roster_instance.specs.Sizes.{state_count};
 ghost use Rattle.roster_laws.specs.Greatest.{IsGreatest, extension_count, greatest_extension_count, greatest_state_count};
 
 /// The greatest numbers of states and of extensions are at least those of each nurse, and those of one of them.

@@ -1,8 +1,8 @@
 -- A name of the scenario, by its number.
 use Rattle.std.proofs.Common.{◌≡◌, ◌∙◌, ◌∷◌, [], ◌<◌, ℕ, List, ap, arith, get_or, length, map, nat_lt, sym, true, zero, suc}
 use Rattle.std.proofs.lemmas.Bool.{ltb-true}
-use Rattle.roster_text.specs.Token.{text_of}
-use Rattle.roster_text.specs.declared.Token.{Token}
+use Rattle.roster_bundle.specs.Token.{text_of}
+use Rattle.roster_bundle.specs.declared.token.Token.{Token}
 use Rattle.roster_reports.specs.Lines.{Text}
 
 -- the name of an item of the scenario, by its number

@@ -3,11 +3,11 @@ use Rattle.std.proofs.Common.{◌≡◌, ◌∙◌, ◌+◌, ◌-◌, ◌*◌, �
 use Rattle.std.proofs.Math.Nat.{min-eq_left}
 use Rattle.std.specs.List.{range_with_len}
 use Rattle.roster_text.proofs.Texts.{flat_map-range_split}
-use Rattle.roster_case.specs.Meaning.{Meaning, day_count, nurse_count, nurse_name}
-use Rattle.roster_case.specs.Penalties.{total_cost}
-use Rattle.roster_case.specs.Room.{penalty_room}
-use Rattle.roster_case.specs.Sizes.{choice_count, state_count}
-use Rattle.roster_case.specs.declared.Costs.{Costs}
+use Rattle.roster_instance.specs.Meaning.{Meaning, day_count, nurse_count, nurse_name}
+use Rattle.roster_rules.specs.Penalties.{total_cost}
+use Rattle.roster_rules.specs.Room.{penalty_room}
+use Rattle.roster_instance.specs.Sizes.{choice_count, state_count}
+use Rattle.roster_rules.specs.declared.penalties.Costs.{Costs}
 use Rattle.roster_reports.specs.Lines.{Text, costs_text, search_line, sizes_line, sizes_text}
 
 -- what is expected on a line

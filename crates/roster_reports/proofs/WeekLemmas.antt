@@ -4,13 +4,13 @@ use Rattle.std.specs.Prelude.{IfErr, OnErr, OnOk}
 use Rattle.std.specs.List.{join_with_byte, range_with_len}
 use Rattle.std.proofs.lemmas.List.{length-map, map-append}
 use Rattle.std.proofs.lemmas.List.FromFn.{length-range_with_len, map-range_with_len_more}
-use Rattle.roster_text.specs.Canonical.{canonical}
+use Rattle.roster_bundle.specs.Canonical.{canonical}
 use Rattle.roster_text.specs.Io.{Stops, StopsIn, Watched, Writes}
 use Rattle.roster_text.specs.declared.fault.WriteFault.{WriteFault}
 use Rattle.roster_text.proofs.Texts.{Stops-after, Stops-from_in, Writes-append}
 use Rattle.roster_text.proofs.Ranges.{range_with_len-add}
-use Rattle.roster_case.specs.Meaning.{Meaning, week_count}
-use Rattle.roster_case.specs.Rosters.{Rows}
+use Rattle.roster_instance.specs.Meaning.{Meaning, week_count}
+use Rattle.roster_instance.specs.Rosters.{Rows}
 use Rattle.roster_case.specs.Shown.{shown_week, weeks_text}
 use Rattle.roster_reports.specs.Lines.{Text}
 

@@ -1,22 +1,22 @@
 -- The lines of faults and reports.
 use Rattle.std.specs.Prelude.{◌≡◌, ℕ, ◌*◌, ◌/◌, ◌%◌, ◌++◌, List, [], codes, decimal, flat_map, slice_index_or}
 use Rattle.std.specs.List.{range_with_len}
-use Rattle.roster_text.specs.Canonical.{weekday_text}
-use Rattle.roster_text.specs.Limits.{most_bytes}
-use Rattle.roster_text.specs.Token.{text_of}
+use Rattle.roster_bundle.specs.Canonical.{weekday_text}
+use Rattle.roster_bundle.specs.Limits.{most_bytes}
+use Rattle.roster_bundle.specs.Token.{text_of}
 use Rattle.roster_text.specs.Words.{what_text}
-use Rattle.roster_text.specs.declared.Bundle.{Bundle}
+use Rattle.roster_bundle.specs.declared.bundle.Bundle.{Bundle}
 use Rattle.roster_text.specs.declared.fault.TextFault.{TextFault}
 use Rattle.roster_text.specs.declared.fault.TextFault.TheVariants as text
-use Rattle.roster_case.specs.Meaning.{Meaning, day_count, nurse_count, nurse_name}
-use Rattle.roster_case.specs.Names.{nurse_names, shift_names, skill_names}
-use Rattle.roster_case.specs.Penalties.{total_cost}
-use Rattle.roster_case.specs.Sizes.{choice_count, state_count}
-use Rattle.roster_case.specs.declared.CaseFault.{CaseFault}
-use Rattle.roster_case.specs.declared.CaseFault.TheVariants as case
-use Rattle.roster_case.specs.declared.HardFault.{HardFault}
-use Rattle.roster_case.specs.declared.HardFault.TheVariants.{H2, H3, H4}
-use Rattle.roster_case.specs.declared.Costs.{Costs}
+use Rattle.roster_instance.specs.Meaning.{Meaning, day_count, nurse_count, nurse_name}
+use Rattle.roster_instance.specs.Names.{nurse_names, shift_names, skill_names}
+use Rattle.roster_rules.specs.Penalties.{total_cost}
+use Rattle.roster_instance.specs.Sizes.{choice_count, state_count}
+use Rattle.roster_instance.specs.declared.fault.CaseFault.{CaseFault}
+use Rattle.roster_instance.specs.declared.fault.CaseFault.TheVariants as case
+use Rattle.roster_rules.specs.declared.fault.HardFault.{HardFault}
+use Rattle.roster_rules.specs.declared.fault.HardFault.TheVariants.{H2, H3, H4}
+use Rattle.roster_rules.specs.declared.penalties.Costs.{Costs}
 use Rattle.roster_reports.specs.declared.names.BreachNames.{BreachNames}
 
 abbrev pub Text : Type 0

@@ -2,8 +2,8 @@
 
 ghost use Rattle.std.specs.Prelude.{◌<◌, OnOk, IfErr};
 ghost use Rattle.roster_text.specs.Io.{StopsIn, Writes};
-ghost use Rattle.roster_case.specs.Penalties.{total_cost};
-ghost use Rattle.roster_case.specs.Room.{penalty_room};
+ghost use Rattle.roster_rules.specs.Penalties.{total_cost};
+ghost use Rattle.roster_rules.specs.Room.{penalty_room};
 ghost use Rattle.roster_reports.specs.Lines.{costs_text};
 
 use roster_case::Costs;

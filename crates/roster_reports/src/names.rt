@@ -1,7 +1,7 @@
 //! The names that fault lines print, from the texts of the scenario.
 
 ghost use Rattle.std.specs.Prelude.{◌≡◌, [], slice_index_or};
-ghost use Rattle.roster_case.specs.Names.{nurse_names, shift_names, skill_names};
+ghost use Rattle.roster_instance.specs.Names.{nurse_names, shift_names, skill_names};
 ghost use Rattle.roster_reports.specs.Lines.{AreNamesOf, nurse_of};
 
 use roster_case::{CaseFault, HardFault, Shift, Skill};

@@ -1,10 +1,10 @@
 //! The weeks of a roster, written one after the other.
 
 ghost use Rattle.std.specs.Prelude.{◌≡◌, ◌<◌, ◌++◌, [], OnOk, OnErr, true, codes, if◌then◌else◌, nat_lt};
-ghost use Rattle.roster_text.specs.Canonical.{canonical};
+ghost use Rattle.roster_bundle.specs.Canonical.{canonical};
 ghost use Rattle.roster_text.specs.Io.{Stops, Writes};
-ghost use Rattle.roster_case.specs.Meaning.{week_count};
-ghost use Rattle.roster_case.specs.Rosters.{fits_case};
+ghost use Rattle.roster_instance.specs.Meaning.{week_count};
+ghost use Rattle.roster_instance.specs.Rosters.{fits_case};
 ghost use Rattle.roster_case.specs.Shown.{shown_week, weeks_text};
 
 use roster_case::{Case, Roster, WeekView};

@@ -1,6 +1,7 @@
 //! One nurse's row, replaced where that is cheaper.
 
 ghost use Rattle.std.specs.Prelude.{◌≡◌, ◌+◌, ◌<◌, ◌≤◌, true, not};
+ghost use Rattle.roster_bundle.specs.Limits.{greatest_u64};
 ghost use Rattle.roster_instance.specs.Meaning.{nurse_count};
 ghost use Rattle.roster_rules.specs.AllowedRows.{best_row};
 ghost use Rattle.roster_rules.specs.Improver.{same_rows, step};
@@ -24,7 +25,7 @@ pub fn step(
 ) -> Step
     requires nurse { nurse < nurse_count held.old.case }
     requires fits { fits_space held.old.case workspace.old ≡ true }
-    requires room { meter.old + extension_count held.old.case nurse ≤ 18446744073709551615 }
+    requires room { meter.old + extension_count held.old.case nurse ≤ greatest_u64 }
     ensures case { held.new.case ≡ held.old.case }
     ensures roster { held.new.roster ≡ step held.old.case (best_row held.old.case from) held.old.roster nurse }
     ensures frozen { FrozenDaysStay held.old.case from held.old.roster held.new.roster }

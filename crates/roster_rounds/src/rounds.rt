@@ -1,6 +1,7 @@
 //! Rounds of steps.
 
 ghost use Rattle.std.specs.Prelude.{◌≡◌, ◌+◌, ◌*◌, ◌<◌, ◌≤◌, true, IfErr, IfOk};
+ghost use Rattle.roster_bundle.specs.Limits.{greatest_u64};
 ghost use Rattle.roster_instance.specs.Meaning.{nurse_count};
 ghost use Rattle.roster_rules.specs.AllowedRows.{best_row};
 ghost use Rattle.roster_rules.specs.Improver.{round_log};
@@ -33,7 +34,7 @@ pub fn improve<W: Write>(
     log: &mut Watch<W>,
 ) -> Result<Outcome, LogFault>
     requires fits { fits_space held.old.case workspace.old ≡ true }
-    requires room { meter.old + extensions_in held.old.case rounds ≤ 18446744073709551615 }
+    requires room { meter.old + extensions_in held.old.case rounds ≤ greatest_u64 }
     ensures case { held.new.case ≡ held.old.case }
     ensures ok { IfOk result (Ran W.contents held.old.case (best_row held.old.case from) rounds held.old.roster held.new.roster log.old log.new) }
     ensures err { IfErr result (LogStops W.contents held.old.case (best_row held.old.case from) rounds held.old.roster held.new.roster log.old log.new) }
@@ -87,7 +88,7 @@ fn make_round<W: Write>(
     mut sent: usize,
 ) -> Result<Round, WriteFault>
     requires fits { fits_space held.old.case workspace.old ≡ true }
-    requires room { meter.old + nurse_count held.old.case * greatest_extension_count held.old.case ≤ 18446744073709551615 }
+    requires room { meter.old + nurse_count held.old.case * greatest_extension_count held.old.case ≤ greatest_u64 }
     ensures case { held.new.case ≡ held.old.case }
     ensures ok { IfOk result (λ made. RoundMade W.contents held.old.case (best_row held.old.case from) round held.old.roster held.new.roster log.old log.new sent made.sent made.changes) }
     ensures err { IfErr result (BreaksAmong W.contents held.old.case (round_log held.old.case (best_row held.old.case from) round held.old.roster) held.new.roster log.old log.new sent) }

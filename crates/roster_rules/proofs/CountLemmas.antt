@@ -7,9 +7,9 @@ use Rattle.roster_instance.specs.Days.{shift_on}
 use Rattle.roster_instance.specs.RunLaw.{day_violations}
 use Rattle.roster_rules.specs.Runs.{open_run, run_violations}
 use Rattle.roster_instance.specs.Rosters.{Row, choice_on}
-use Rattle.roster_instance.specs.declared.Choice.TheVariants.{Off}
-use Rattle.roster_instance.specs.declared.Shift.{Shift}
-use Rattle.roster_instance.specs.declared.Limits.{Limits}
+use Rattle.roster_instance.specs.declared.choice.Choice.TheVariants.{Off}
+use Rattle.roster_instance.specs.declared.choice.Shift.{Shift}
+use Rattle.roster_instance.specs.declared.rules.Limits.{Limits}
 use Rattle.roster_rules.proofs.RunLaw as law
 
 -- a sum with one number more

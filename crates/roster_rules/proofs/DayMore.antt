@@ -1,7 +1,7 @@
 -- A row of days with one day more.
 use Rattle.std.proofs.Common.{◌≡◌, refl, arith, ℕ, suc, ◌<◌, ◌≤◌, [], ◌∷◌, ◌++◌, length, Option, None}
 use Rattle.std.proofs.lemmas.List.{get_or_append_left, get_or_push, get_or_past, length-append}
-use Rattle.roster_instance.specs.declared.Shift.{Shift}
+use Rattle.roster_instance.specs.declared.choice.Shift.{Shift}
 use Rattle.roster_instance.specs.Days.{Days, shift_on}
 
 pub length_more : (days : Days) (c : Option Shift) → length (days ++ c ∷ []) ≡ suc (length days)

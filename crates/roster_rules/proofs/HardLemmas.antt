@@ -10,8 +10,8 @@ use Rattle.roster_instance.specs.Days.{Days, shift_on}
 use Rattle.roster_instance.specs.Faults.{below, fault_if, first_fault}
 use Rattle.roster_rules.specs.HardRules.{shift_before}
 use Rattle.roster_instance.specs.Rosters.{Row, Rows, choice_on, days_of_nurse, row_of}
-use Rattle.roster_instance.specs.declared.Choice.TheVariants.{Off}
-use Rattle.roster_instance.specs.declared.Shift.{Shift}
+use Rattle.roster_instance.specs.declared.choice.Choice.TheVariants.{Off}
+use Rattle.roster_instance.specs.declared.choice.Shift.{Shift}
 use Rattle.roster_instance.proofs.Sections.{both_none, first-after, first-front}
 
 none_of-none : {F : Type 0} (faults : List F) → first_fault faults ≡ None → faults ≡ []

@@ -1,7 +1,7 @@
 -- The violations of runs of a row with one day more: those of its first days don't depend on the days after them.
 use Rattle.std.proofs.Common.{◌≡◌, ap, sym, ◌∙◌, arith, ℕ, zero, suc, ◌+◌, ◌<◌, Bool, [], ◌∷◌, ◌++◌, length, if◌then◌else◌, Option}
-use Rattle.roster_instance.specs.declared.Shift.{Shift}
-use Rattle.roster_instance.specs.declared.Limits.{Limits}
+use Rattle.roster_instance.specs.declared.choice.Shift.{Shift}
+use Rattle.roster_instance.specs.declared.rules.Limits.{Limits}
 use Rattle.roster_instance.specs.Days.{Days, shift_on}
 use Rattle.roster_instance.specs.RunLaw.{day_violations}
 use Rattle.roster_rules.specs.Runs.{run_violations, open_run}

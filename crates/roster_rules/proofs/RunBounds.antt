@@ -3,10 +3,10 @@
 -- shift at most, and those of working days and of days off together no more than those of one, since a day is one of them.
 use Rattle.std.proofs.Common.{◌≡◌, refl, arith, ℕ, zero, suc, ◌+◌, ◌-◌, ◌*◌, ◌<◌, ◌≤◌, Bool, true, false, not, nat_lt, ◌==◌, mul-add, length, if◌then◌else◌, Option, Some, None}
 use Rattle.std.proofs.lemmas.Bool.{eqb-true, ne_eqb}
-use Rattle.roster_instance.specs.declared.Shift.{Shift}
-use Rattle.roster_instance.specs.declared.Border.{Border}
-use Rattle.roster_instance.specs.declared.Border.TheVariants.{Free, Working}
-use Rattle.roster_instance.specs.declared.Limits.{Limits}
+use Rattle.roster_instance.specs.declared.choice.Shift.{Shift}
+use Rattle.roster_instance.specs.declared.rules.Border.{Border}
+use Rattle.roster_instance.specs.declared.rules.Border.TheVariants.{Free, Working}
+use Rattle.roster_instance.specs.declared.rules.Limits.{Limits}
 use Rattle.roster_instance.specs.Counting.{sum_below, one_if, count_below}
 use Rattle.roster_instance.specs.Days.{Days, shift_on, works, is_off, is_shift, has_shift}
 use Rattle.roster_instance.specs.Limits.{most_small}

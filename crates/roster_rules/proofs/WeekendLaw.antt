@@ -1,7 +1,7 @@
 -- How the worked days and weekends, and the split ones, grow by one day.
 use Rattle.std.proofs.Common.{◌≡◌, ◌≢◌, refl, ap, ◌∙◌, arith, ℕ, suc, ◌+◌, ◌-◌, ◌*◌, ◌/◌, ◌%◌, ◌<◌, ◌≤◌, Bool, true, false, not, ◌&&◌, ◌||◌, [], ◌∷◌, ◌++◌, length, if◌then◌else◌, Option, is_some}
 use Rattle.std.proofs.lemmas.Bool.{eqb-true, eqb-false}
-use Rattle.roster_instance.specs.declared.Shift.{Shift}
+use Rattle.roster_instance.specs.declared.choice.Shift.{Shift}
 use Rattle.roster_instance.specs.Counting.{sum_below, one_if, count_below}
 use Rattle.roster_instance.specs.Days.{Days, works, days_worked, saturday, worked_weekends, split_weekends, one_alone}
 use Rattle.roster_rules.specs.DayLaw.{is_saturday, is_sunday, weekends_more, splits_more}

@@ -1,6 +1,6 @@
 -- A nurse's allowed rows from a week on, and the best of them (our own: the first of least penalty, the other rows fixed).
 use Rattle.std.specs.Prelude.{◌≡◌, ℕ, ◌/◌, Bool, not, ◌&&◌, ◌||◌, ◌<◌, ◌≤◌, nat_lt, if◌then◌else◌, List, [], ◌∷◌, ◌++◌, All, filter, Option, Some, None}
-use Rattle.roster_instance.specs.declared.Choice.{Choice}
+use Rattle.roster_instance.specs.declared.choice.Choice.{Choice}
 use Rattle.roster_instance.specs.Choices.{all_choices, all_rows, same_choice}
 use Rattle.roster_instance.specs.Counting.{all_below}
 use Rattle.roster_rules.specs.HardRules.{keeps_hard}

@@ -3,10 +3,10 @@
 -- lacks, by nurse and day. That a nurse works one shift a day holds of each roster by its form.
 use Rattle.std.specs.Prelude.{◌≡◌, ℕ, ◌-◌, Bool, true, not, ◌==◌, nat_lt, List, [], ◌++◌, if◌then◌else◌, Option}
 use Rattle.std.specs.List.{list_any}
-use Rattle.roster_instance.specs.declared.Choice.{Choice}
-use Rattle.roster_instance.specs.declared.Choice.TheVariants.{Off, Work}
-use Rattle.roster_instance.specs.declared.Shift.{Shift}
-use Rattle.roster_instance.specs.declared.Skill.{Skill}
+use Rattle.roster_instance.specs.declared.choice.Choice.{Choice}
+use Rattle.roster_instance.specs.declared.choice.Choice.TheVariants.{Off, Work}
+use Rattle.roster_instance.specs.declared.choice.Shift.{Shift}
+use Rattle.roster_instance.specs.declared.choice.Skill.{Skill}
 use Rattle.roster_rules.specs.declared.fault.HardFault.{HardFault}
 use Rattle.roster_rules.specs.declared.fault.HardFault.TheVariants.{H2, H3, H4}
 use Rattle.roster_instance.specs.Counting.{all_below}

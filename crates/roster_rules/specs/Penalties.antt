@@ -1,10 +1,10 @@
 -- The penalties of the soft rules with their weights, and the penalty of a roster (INRC-II; totals and weekends are counted
 -- once, at the end of the horizon, with the history's: our profile; wishes to work are our own rule).
 use Rattle.std.specs.Prelude.{ℕ, ◌+◌, ◌-◌, ◌*◌, Bool, false, not, ◌&&◌, ◌||◌, ◌==◌, if◌then◌else◌, length, Option, Some, None, is_some}
-use Rattle.roster_instance.specs.declared.Shift.{Shift}
+use Rattle.roster_instance.specs.declared.choice.Shift.{Shift}
 use Rattle.roster_rules.specs.declared.penalties.Costs.{Costs}
-use Rattle.roster_instance.specs.declared.Border.{Border}
-use Rattle.roster_instance.specs.declared.Border.TheVariants.{Free, Working}
+use Rattle.roster_instance.specs.declared.rules.Border.{Border}
+use Rattle.roster_instance.specs.declared.rules.Border.TheVariants.{Free, Working}
 use Rattle.roster_instance.specs.Counting.{all_below, sum_below}
 use Rattle.roster_instance.specs.Days.{Days, shift_on, works, is_off, is_shift, has_shift, days_worked, worked_weekends, split_weekends}
 use Rattle.roster_instance.specs.Meaning.{Meaning, day_count, shift_count, skill_count, nurse_count, run_of_shift, past_of, contract_of, has_off_request, has_wish, has_wish_for_any, optimum}

@@ -1,6 +1,6 @@
 -- What the first days of a row owe, and the five numbers on which their further costs depend (our own, for the search).
 use Rattle.std.specs.Prelude.{ℕ, ◌+◌, length, min, Option, Some, None}
-use Rattle.roster_instance.specs.declared.Shift.{Shift}
+use Rattle.roster_instance.specs.declared.choice.Shift.{Shift}
 use Rattle.roster_instance.specs.Days.{Days, works, is_off, has_shift}
 use Rattle.roster_rules.specs.HardRules.{shift_before}
 use Rattle.roster_instance.specs.Meaning.{Meaning, run_of_shift, past_of, contract_of, last_shift}

@@ -3,7 +3,7 @@
 -- has b days more. One that ends before day 0 owes its least; one that is open on the last day doesn't (INRC-II; the
 -- border is our profile).
 use Rattle.std.specs.Prelude.{ℕ, suc, ◌+◌, ◌-◌, Bool, not, ◌&&◌, ◌||◌, ◌==◌, nat_lt, nat_le, if◌then◌else◌}
-use Rattle.roster_instance.specs.declared.Limits.{Limits}
+use Rattle.roster_instance.specs.declared.rules.Limits.{Limits}
 use Rattle.roster_instance.specs.Counting.{sum_below, all_below, one_if}
 
 -- all days from i to j are of the kind

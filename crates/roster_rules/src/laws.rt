@@ -6,8 +6,8 @@ ghost use Rattle.roster_rules.specs.DayLaw.{splits_more, weekends_more};
 ghost use Rattle.roster_instance.specs.Days.{Days, days_worked, shift_on, split_weekends, worked_weekends, works};
 ghost use Rattle.roster_instance.specs.RunLaw.{day_violations};
 ghost use Rattle.roster_rules.specs.Runs.{open_run, run_violations};
-ghost use Rattle.roster_instance.specs.declared.Shift.{Shift};
-ghost use Rattle.roster_instance.specs.declared.Limits.{Limits};
+ghost use Rattle.roster_instance.specs.declared.choice.Shift.{Shift};
+ghost use Rattle.roster_instance.specs.declared.rules.Limits.{Limits};
 
 /// The violations of the runs of a kind of days, and the run that is open, after one day more. They begin with none and
 /// with the run of the border.

@@ -1,6 +1,7 @@
 //! The penalty of a roster by its rules.
 
 ghost use Rattle.std.specs.Prelude.{◌≡◌, min};
+ghost use Rattle.roster_bundle.specs.Limits.{greatest_u64};
 ghost use Rattle.roster_rules.specs.Penalties.{total_cost};
 
 /// What each soft rule costs, in penalty points, weights included: staffing below the optimum, runs of work and of shifts,
@@ -21,7 +22,7 @@ impl Costs {
     /// The sum of all rules. Numbers that no roster costs may add up to more than there is room for; then it is the greatest
     /// number.
     pub fn total(&self) -> u64
-        ensures { result ≡ min (total_cost self.now) 18446744073709551615 }
+        ensures { result ≡ min (total_cost self.now) greatest_u64 }
     {
         self.s1
             .saturating_add(self.s2)

@@ -1,12 +1,12 @@
 -- The run of the worked example, a round at a time.
 use Rattle.std.proofs.Common.{◌≡◌, ◌∙◌, ◌+◌, ℕ, suc, false, true, ap, ap₂, refl, List, [], ◌∷◌, ◌++◌}
-use Rattle.roster_rules.specs.Choices.{all_rows}
+use Rattle.roster_instance.specs.Choices.{all_rows}
 use Rattle.roster_rules.specs.HardRules.{hard_faults}
 use Rattle.roster_rules.specs.Improver.{BestRows, Entry, changed, entries_from, entry, log_of, round, round_done, round_log, run, same_rows, settled, started, step, stopped}
-use Rattle.roster_rules.specs.Meaning.{Meaning}
+use Rattle.roster_instance.specs.Meaning.{Meaning}
 use Rattle.roster_run_examples.specs.Mini.{all_free, ann, bob, early_but, early_on, mini_of_one_shift}
 use Rattle.roster_rules.specs.Penalties.{costs_of, penalty}
-use Rattle.roster_rules.specs.Rosters.{Rows}
+use Rattle.roster_instance.specs.Rosters.{Rows}
 use Rattle.roster_rules.specs.AllowedRows.{best_row}
 use Rattle.roster_rules.specs.Runs.{run_violations}
 

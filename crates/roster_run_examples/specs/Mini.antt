@@ -1,15 +1,15 @@
 -- The small instance of the worked examples, as a meaning.
 use Rattle.std.specs.Prelude.{ℕ, ◌*◌, ◌%◌, Bool, true, false, ◌==◌, List, [], ◌∷◌, ◌++◌, codes, replicate, flat_map, map, if◌then◌else◌, Option, Some, None}
 use Rattle.std.specs.List.{list_any, range_with_len}
-use Rattle.roster_rules.specs.declared.Choice.{Choice}
-use Rattle.roster_rules.specs.declared.Choice.TheVariants.{Off, Work}
-use Rattle.roster_rules.specs.declared.Costs.{Costs}
-use Rattle.roster_rules.specs.declared.Border.TheVariants.{Free}
-use Rattle.roster_rules.specs.declared.ContractRules.{ContractRules}
-use Rattle.roster_rules.specs.declared.Limits.{Limits}
-use Rattle.roster_rules.specs.declared.Past.{Past}
-use Rattle.roster_rules.specs.Meaning.{Meaning, NurseFacts, WeekFacts, no_requests, shift_at, skill_at}
-use Rattle.roster_rules.specs.Rosters.{Row, Rows}
+use Rattle.roster_instance.specs.declared.choice.Choice.{Choice}
+use Rattle.roster_instance.specs.declared.choice.Choice.TheVariants.{Off, Work}
+use Rattle.roster_rules.specs.declared.penalties.Costs.{Costs}
+use Rattle.roster_instance.specs.declared.rules.Border.TheVariants.{Free}
+use Rattle.roster_instance.specs.declared.rules.ContractRules.{ContractRules}
+use Rattle.roster_instance.specs.declared.rules.Limits.{Limits}
+use Rattle.roster_instance.specs.declared.rules.Past.{Past}
+use Rattle.roster_instance.specs.Meaning.{Meaning, NurseFacts, WeekFacts, no_requests, shift_at, skill_at}
+use Rattle.roster_instance.specs.Rosters.{Row, Rows}
 
 abbrev pub limits : ℕ → ℕ → Limits
 limits least greatest = record { least = least; greatest = greatest }

@@ -1,12 +1,12 @@
 -- The small instance, where minimums, successions, the history or skills leave a nurse few rows.
 use Rattle.std.specs.Prelude.{ℕ, true, false, List, [], ◌∷◌, ◌++◌, codes, map, replicate, take, if◌then◌else◌, Some, None}
 use Rattle.std.specs.List.{range_with_len}
-use Rattle.roster_rules.specs.declared.Choice.{Choice}
-use Rattle.roster_rules.specs.declared.Choice.TheVariants.{Work}
-use Rattle.roster_rules.specs.declared.Border.TheVariants.{Working}
-use Rattle.roster_rules.specs.Meaning.{Meaning, no_requests, shift_at, skill_at}
+use Rattle.roster_instance.specs.declared.choice.Choice.{Choice}
+use Rattle.roster_instance.specs.declared.choice.Choice.TheVariants.{Work}
+use Rattle.roster_instance.specs.declared.rules.Border.TheVariants.{Working}
+use Rattle.roster_instance.specs.Meaning.{Meaning, no_requests, shift_at, skill_at}
 use Rattle.roster_run_examples.specs.Mini.{a_nurse, free_week, is_among, limits, mini_of_one_shift, off_for}
-use Rattle.roster_rules.specs.Rosters.{Row}
+use Rattle.roster_instance.specs.Rosters.{Row}
 
 -- these days need a nurse at least
 abbrev pub needing : List ℕ → Meaning

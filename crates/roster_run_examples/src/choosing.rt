@@ -2,7 +2,7 @@
 #![tactic(auto, unfolding(roster_instance::specs::Choices::all_rows, roster_rules::specs::HardRules::hard_faults, roster_rules::specs::Penalties::costs_of, roster_rules::specs::Penalties::penalty, roster_rules::specs::Runs::run_violations))]
 
 ghost use Rattle.std.specs.Prelude.{◌≡◌, [], ◌∷◌, Some, None, codes, filter, flat_map, map, true, false};
-ghost use Rattle.roster_rules.specs.declared.Choice.TheVariants.{Off};
+ghost use Rattle.roster_instance.specs.declared.choice.Choice.TheVariants.{Off};
 ghost use Rattle.roster_rules.specs.Improver.{line_of, log_of, run};
 ghost use Rattle.roster_run_examples.specs.Mini.{all_free, ann, early_but, early_on, early_shift, free_week, mini, mini_of_one_shift};
 ghost use Rattle.roster_rules.specs.AllowedRows.{allowed_rows, best_row, penalty_with, row_keeps};

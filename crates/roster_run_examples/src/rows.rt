@@ -2,9 +2,9 @@
 #![tactic(auto, unfolding(roster_instance::specs::Choices::all_rows, roster_rules::specs::HardRules::hard_faults, roster_rules::specs::Improver::log_of, roster_rules::specs::Penalties::costs_of, roster_rules::specs::Penalties::own_cost, roster_rules::specs::Penalties::penalty, roster_rules::specs::Prefix::due, roster_rules::specs::Prefix::summary_of, roster_rules::specs::Runs::open_run, roster_rules::specs::Runs::run_violations))]
 
 ghost use Rattle.std.specs.Prelude.{◌≡◌, ℕ, [], ◌∷◌, Some, None, codes, flat_map, map, replicate};
-ghost use Rattle.roster_rules.specs.Choices.{all_rows, days_of};
+ghost use Rattle.roster_instance.specs.Choices.{all_rows, days_of};
 ghost use Rattle.roster_rules.specs.Improver.{line_of, log_of};
-ghost use Rattle.roster_rules.specs.Meaning.{shift_at};
+ghost use Rattle.roster_instance.specs.Meaning.{shift_at};
 ghost use Rattle.roster_rules.specs.Penalties.{own_cost};
 ghost use Rattle.roster_rules.specs.Prefix.{due, summary_of};
 ghost use Rattle.roster_rules.specs.AllowedRows.{best_row, first_least, penalty_with};

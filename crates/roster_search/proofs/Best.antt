@@ -3,9 +3,9 @@ use Rattle.std.proofs.Common.{◌≡◌, ◌∙◌, ◌+◌, ◌<◌, ◌&&◌, 
 use Rattle.std.specs.Prelude.{option_map}
 use Rattle.std.proofs.lemmas.Bool.{true≢false}
 use Rattle.roster_rules.specs.HardRules.{keeps_hard}
-use Rattle.roster_rules.specs.Meaning.{Meaning, nurse_count}
+use Rattle.roster_instance.specs.Meaning.{Meaning, nurse_count}
 use Rattle.roster_rules.specs.Prefix.{due}
-use Rattle.roster_rules.specs.Rosters.{Row, Rows, fits_case, with_row}
+use Rattle.roster_instance.specs.Rosters.{Row, Rows, fits_case, with_row}
 use Rattle.roster_rules.specs.AllowedRows.{IsBestRow, allowed_rows, best_row, keeps_frozen_days, penalty_with}
 use Rattle.roster_rules.proofs.FirstLeast.{found}
 use Rattle.roster_rules.proofs.RosterFacts.{has_row}

@@ -1,14 +1,14 @@
 -- Whatever is offered at whatever prices: the first of the cheapest rows is the one that the search from state to state gives.
 use Rattle.std.proofs.Common.{◌≡◌, ◌∙◌, ◌+◌, ◌<◌, ℕ, Bool, true, false, ap, arith, refl, sym, List, [], ◌∷◌, Contains, filter, length, Option, Some, None, IsSome, if◌then◌else◌}
 use Rattle.std.specs.Prelude.{option_map}
-use Rattle.roster_rules.specs.declared.Choice.{Choice}
+use Rattle.roster_instance.specs.declared.choice.Choice.{Choice}
 use Rattle.roster_rules.specs.AllowedRows.{IsFirstLeast, first_least}
 use Rattle.roster_rules.proofs.FirstLeast.{found}
 use Rattle.std.proofs.lemmas.Bool.{true≢false}
-use Rattle.roster_rules.specs.Choices.{all_choices, all_rows}
-use Rattle.roster_rules.specs.Meaning.{Meaning, day_count}
+use Rattle.roster_instance.specs.Choices.{all_choices, all_rows}
+use Rattle.roster_instance.specs.Meaning.{Meaning, day_count}
 use Rattle.roster_rules.specs.Prefix.{due, summary_of}
-use Rattle.roster_rules.specs.Rosters.{Row}
+use Rattle.roster_instance.specs.Rosters.{Row}
 use Rattle.roster_state.specs.Step.{end_cost_of}
 use Rattle.roster_search.specs.Cheapest.{Priced, cheapest, plus, raised, with_cost}
 use Rattle.roster_search.specs.ByStates.{cost_from, rows_from}

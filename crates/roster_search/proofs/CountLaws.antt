@@ -1,10 +1,10 @@
 -- How many states stand: of a group, and of the groups so far.
 use Rattle.std.proofs.Common.{◌≡◌, ◌∙◌, ◌+◌, ◌-◌, ◌*◌, ◌≤◌, ℕ, suc, Bool, true, false, ap, arith, sym, List, min, if◌then◌else◌}
-use Rattle.roster_rules.specs.Counting.{sum_below}
-use Rattle.roster_rules.specs.Meaning.{Meaning}
+use Rattle.roster_instance.specs.Counting.{sum_below}
+use Rattle.roster_instance.specs.Meaning.{Meaning}
 use Rattle.roster_rules.specs.Prefix.{Summary}
-use Rattle.roster_state.specs.declared.Area.{Area}
-use Rattle.roster_state.specs.declared.Span.{Span}
+use Rattle.roster_state.specs.declared.area.Area.{Area}
+use Rattle.roster_state.specs.declared.area.Span.{Span}
 use Rattle.roster_state.specs.Areas.{area_at}
 use Rattle.roster_state.specs.Codes.{shift_digit, sizes_of}
 use Rattle.roster_state.specs.Standing.{can_be}

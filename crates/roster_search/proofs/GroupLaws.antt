@@ -3,10 +3,10 @@
 use Rattle.std.proofs.Common.{◌≡◌, ◌∙◌, ◌+◌, ◌*◌, ◌<◌, ◌≤◌, ◌⊎◌, ℕ, true, inl, inr, ap, arith, subst, sym, List, slice_index_or, Option}
 use Rattle.std.proofs.lemmas.Bool.{cases_lt}
 use Rattle.std.proofs.lemmas.Nat.{mul-le}
-use Rattle.roster_rules.specs.declared.Shift.{Shift}
-use Rattle.roster_rules.specs.Meaning.{Meaning, past_of}
+use Rattle.roster_instance.specs.declared.choice.Shift.{Shift}
+use Rattle.roster_instance.specs.Meaning.{Meaning, past_of}
 use Rattle.roster_rules.specs.Prefix.{Summary}
-use Rattle.roster_state.specs.declared.Area.{Area}
+use Rattle.roster_state.specs.declared.area.Area.{Area}
 use Rattle.roster_state.specs.Areas.{InArea, InSpan, area_at}
 use Rattle.roster_state.specs.Codes.{Sizes, code_of, fits_sizes, shift_digit, sizes_of}
 use Rattle.roster_state.specs.Standing.{can_be, can_be_with, excess}

@@ -7,19 +7,19 @@ use Rattle.std.proofs.lemmas.List.{length-map, set-get_or}
 use Rattle.std.proofs.lemmas.List.Elements.{All-contains_itself, All-filter, All-get_or, All-head, All-map, All-weaker, filter_passes}
 use Rattle.std.proofs.lemmas.List.FromFn.{length-range_with_len}
 use Rattle.std.proofs.lemmas.List.Sums.{AllPass-from_list_all, length-filter, sum_by-append}
-use Rattle.roster_rules.specs.declared.Choice.{Choice}
-use Rattle.roster_rules.specs.declared.Choice.TheVariants.{Off, Work}
-use Rattle.roster_rules.specs.declared.Skill.{Skill}
-use Rattle.roster_rules.specs.Choices.{all_choices, days_of, same_choice, shift_of}
+use Rattle.roster_instance.specs.declared.choice.Choice.{Choice}
+use Rattle.roster_instance.specs.declared.choice.Choice.TheVariants.{Off, Work}
+use Rattle.roster_instance.specs.declared.choice.Skill.{Skill}
+use Rattle.roster_instance.specs.Choices.{all_choices, days_of, same_choice, shift_of}
 use Rattle.roster_rules.specs.AllowedRows.{is_frozen, keeps_frozen_day}
-use Rattle.roster_rules.specs.Counting.{one_if, sum_below}
+use Rattle.roster_instance.specs.Counting.{one_if, sum_below}
 use Rattle.roster_rules.specs.HardRules.{breaks_succession, is_able, keeps_hard}
-use Rattle.roster_rules.specs.Limits.{most_shifts, most_skills, most_small}
-use Rattle.roster_rules.specs.Meaning.{Meaning, day_count, nurse_at, nurse_count, optimum, shift_at, shift_count, skill_at, skill_count}
+use Rattle.roster_instance.specs.Limits.{most_shifts, most_skills, most_small}
+use Rattle.roster_instance.specs.Meaning.{Meaning, day_count, nurse_at, nurse_count, optimum, shift_at, shift_count, skill_at, skill_count}
 use Rattle.roster_rules.specs.Penalties.{breaks_off_request, meets_wishes}
-use Rattle.roster_rules.specs.Rosters.{Rows, choice_on, fits_case, is_choice_of, row_of}
-use Rattle.roster_rules.specs.Sizes.{choice_count}
-use Rattle.roster_rules.specs.Small.{HasSmallNumbers}
+use Rattle.roster_instance.specs.Rosters.{Rows, choice_on, fits_case, is_choice_of, row_of}
+use Rattle.roster_instance.specs.Sizes.{choice_count}
+use Rattle.roster_instance.specs.Small.{HasSmallNumbers}
 use Rattle.roster_rules.specs.Weights.{off_request_weight, staffing_weight, wish_weight}
 use Rattle.roster_rules.proofs.RosterFacts.{has_row, row-length, row_fits}
 use Rattle.roster_rules.proofs.RunBounds.{sum_within}

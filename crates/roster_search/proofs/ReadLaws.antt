@@ -2,11 +2,11 @@
 use Rattle.std.proofs.Common.{◌≡◌, ◌∙◌, ◌+◌, ◌<◌, ℕ, Bool, true, false, ap, arith, refl, sym, List, [], ◌∷◌, length, length-append, slice_index_or, subst, Option, Some, None, IfSome, IsSome, if◌then◌else◌}
 use Rattle.std.proofs.lemmas.Bool.{true≢false}
 use Rattle.std.proofs.Math.Seq.{get_or-append_seam}
-use Rattle.roster_rules.specs.declared.Shift.{Shift}
-use Rattle.roster_rules.specs.Choices.{shift_of}
-use Rattle.roster_rules.specs.Meaning.{Meaning, forbids}
+use Rattle.roster_instance.specs.declared.choice.Shift.{Shift}
+use Rattle.roster_instance.specs.Choices.{shift_of}
+use Rattle.roster_instance.specs.Meaning.{Meaning, forbids}
 use Rattle.roster_rules.specs.Prefix.{Summary}
-use Rattle.roster_state.specs.declared.Area.{Area}
+use Rattle.roster_state.specs.declared.area.Area.{Area}
 use Rattle.roster_state.specs.Codes.{code_of}
 use Rattle.roster_state.specs.Step.{next_of, step_cost, step_of}
 use Rattle.roster_search.specs.declared.day.SearchDay.{SearchDay}

@@ -1,17 +1,17 @@
 -- What a row costs from state to state: its own cost and its prices, where it is offered.
 use Rattle.std.proofs.Common.{◌≡◌, ◌∙◌, ◌+◌, ◌-◌, ◌<◌, ◌≤◌, ◌==◌, ◌&&◌, ℕ, zero, suc, Bool, true, false, not, ap, ap₂, arith, refl, sym, [], ◌∷◌, ◌++◌, append_assoc, length, Option, Some, None, if◌then◌else◌}
 use Rattle.std.proofs.lemmas.List.{append-nil, get_or_append_left, get_or_push, length-append, length-map, map-append}
-use Rattle.roster_rules.specs.declared.Choice.{Choice}
-use Rattle.roster_rules.specs.declared.Choice.TheVariants.{Off}
-use Rattle.roster_rules.specs.declared.Shift.{Shift}
-use Rattle.roster_rules.specs.Choices.{days_of, shift_of}
-use Rattle.roster_rules.specs.Counting.{all_below, sum_below}
-use Rattle.roster_rules.specs.Days.{Days}
+use Rattle.roster_instance.specs.declared.choice.Choice.{Choice}
+use Rattle.roster_instance.specs.declared.choice.Choice.TheVariants.{Off}
+use Rattle.roster_instance.specs.declared.choice.Shift.{Shift}
+use Rattle.roster_instance.specs.Choices.{days_of, shift_of}
+use Rattle.roster_instance.specs.Counting.{all_below, sum_below}
+use Rattle.roster_instance.specs.Days.{Days}
 use Rattle.roster_rules.specs.HardRules.{breaks_succession, shift_before}
-use Rattle.roster_rules.specs.Meaning.{Meaning, forbids, last_shift, past_of}
+use Rattle.roster_instance.specs.Meaning.{Meaning, forbids, last_shift, past_of}
 use Rattle.roster_rules.specs.Penalties.{own_cost}
 use Rattle.roster_rules.specs.Prefix.{Summary, due, last_of, summary_of}
-use Rattle.roster_rules.specs.Rosters.{Row, choice_on}
+use Rattle.roster_instance.specs.Rosters.{Row, choice_on}
 use Rattle.roster_rules.proofs.DayMore.{shift_before_it, shift_of_it}
 use Rattle.roster_rules.proofs.RunSums.{sum_same}
 use Rattle.roster_laws.proofs.Below.{all_same}

@@ -1,7 +1,7 @@
 -- The cheapest of all rows is found by states.
 use Rattle.std.proofs.Common.{◌≡◌, ◌∙◌, ◌+◌, ℕ, zero, suc, Bool, ap, arith, refl, sym, List, [], ◌∷◌, filter, length, map, Option, Some, None, if◌then◌else◌}
 use Rattle.std.specs.List.{flat_map}
-use Rattle.roster_rules.specs.Choices.{all_rows}
+use Rattle.roster_instance.specs.Choices.{all_rows}
 use Rattle.roster_search.specs.Cheapest.{Priced, cheaper, cheapest, raised, with_cost}
 use Rattle.roster_search.specs.ByStates.{Steps, best_after, best_from, cost_after, cost_from, rows_from}
 use Rattle.roster_search.proofs.Cheapest.{cheapest_filter, cheapest_flat, cheapest_map, cheapest_none, cheapest_raised, cost-raised, raised_twice}

@@ -8,14 +8,14 @@ use Rattle.std.proofs.lemmas.List.Elements.{All-head, All-tail}
 use Rattle.std.specs.Vec.{with_items}
 use Rattle.std.proofs.lemmas.List.{append-nil, get_or_default, take_more_set, with_items_is}
 use Rattle.std.proofs.lemmas.Nat.{mul-le}
-use Rattle.roster_instance.specs.declared.Choice.{Choice}
+use Rattle.roster_instance.specs.declared.choice.Choice.{Choice}
 use Rattle.roster_instance.specs.Meaning.{Meaning, day_count}
 use Rattle.roster_instance.specs.Sizes.{choice_count, state_count}
 use Rattle.roster_instance.specs.Rosters.{Row}
 use Rattle.roster_rules.specs.Prefix.{Summary, summary_of}
 use Rattle.roster_laws.specs.Greatest.{extension_count}
 use Rattle.roster_instance.specs.Choices.{shift_of}
-use Rattle.roster_state.specs.declared.Area.{Area}
+use Rattle.roster_state.specs.declared.area.Area.{Area}
 use Rattle.roster_state.specs.Codes.{Sizes, code_of, product, sizes_of}
 use Rattle.roster_state.specs.Step.{step_of}
 use Rattle.roster_search.specs.declared.offer.Offer.{Offer}

@@ -1,12 +1,12 @@
 -- Which states stand after a day, by one offer more.
 use Rattle.std.proofs.Common.{◌≡◌, ◌+◌, ◌<◌, ℕ, Bool, true, false, subst, sym, List, if◌then◌else◌, Option, Some, None, IfSome}
 use Rattle.std.specs.List.{All}
-use Rattle.roster_rules.specs.declared.Choice.TheVariants.{Off}
-use Rattle.roster_rules.specs.declared.Shift.{Shift}
-use Rattle.roster_rules.specs.Choices.{shift_of}
-use Rattle.roster_rules.specs.Meaning.{Meaning, forbids, shift_count}
+use Rattle.roster_instance.specs.declared.choice.Choice.TheVariants.{Off}
+use Rattle.roster_instance.specs.declared.choice.Shift.{Shift}
+use Rattle.roster_instance.specs.Choices.{shift_of}
+use Rattle.roster_instance.specs.Meaning.{Meaning, forbids, shift_count}
 use Rattle.roster_rules.specs.Prefix.{Summary}
-use Rattle.roster_state.specs.declared.Area.{Area}
+use Rattle.roster_state.specs.declared.area.Area.{Area}
 use Rattle.roster_state.specs.Areas.{InArea, area_at}
 use Rattle.roster_state.specs.Codes.{shift_digit, sizes_of}
 use Rattle.roster_state.specs.Step.{next_of, step_cost, step_of}

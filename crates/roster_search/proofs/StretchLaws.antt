@@ -3,12 +3,12 @@ use Rattle.std.proofs.Common.{◌≡◌, ◌∙◌, ◌+◌, ◌-◌, ◌*◌, �
 use Rattle.std.proofs.Math.Nat.{mod-eq_of_lt}
 use Rattle.std.proofs.lemmas.Bool.{cases_lt}
 use Rattle.std.proofs.lemmas.Nat.{mul-le}
-use Rattle.roster_rules.specs.declared.Shift.{Shift}
-use Rattle.roster_rules.specs.Choices.{shift_of}
-use Rattle.roster_rules.specs.Meaning.{Meaning}
+use Rattle.roster_instance.specs.declared.choice.Shift.{Shift}
+use Rattle.roster_instance.specs.Choices.{shift_of}
+use Rattle.roster_instance.specs.Meaning.{Meaning}
 use Rattle.roster_rules.specs.Prefix.{Summary}
-use Rattle.roster_state.specs.declared.Area.{Area}
-use Rattle.roster_state.specs.declared.Stretch.{Stretch}
+use Rattle.roster_state.specs.declared.area.Area.{Area}
+use Rattle.roster_state.specs.declared.stretch.Stretch.{Stretch}
 use Rattle.roster_state.specs.Codes.{Sizes, code_of, fits_sizes, product, shift_digit}
 use Rattle.roster_state.specs.Room.{most_of_step}
 use Rattle.roster_state.specs.Step.{step_of, with_assignments, with_weekends}

@@ -1,14 +1,14 @@
 -- What is offered to a nurse, each choice with its price, and the search over it from state to state (our own).
 use Rattle.std.specs.Prelude.{ℕ, ◌+◌, ◌==◌, ◌&&◌, Bool, true, false, not, nat_lt, if◌then◌else◌, List, [], ◌∷◌, filter, length, map, Option, Some, None, option_map}
-use Rattle.roster_rules.specs.declared.Choice.{Choice}
-use Rattle.roster_rules.specs.declared.Shift.{Shift}
-use Rattle.roster_rules.specs.Choices.{all_choices, all_rows, days_of, shift_of}
-use Rattle.roster_rules.specs.Counting.{all_below, sum_below}
+use Rattle.roster_instance.specs.declared.choice.Choice.{Choice}
+use Rattle.roster_instance.specs.declared.choice.Shift.{Shift}
+use Rattle.roster_instance.specs.Choices.{all_choices, all_rows, days_of, shift_of}
+use Rattle.roster_instance.specs.Counting.{all_below, sum_below}
 use Rattle.roster_rules.specs.HardRules.{breaks_succession}
-use Rattle.roster_rules.specs.Meaning.{Meaning, day_count}
+use Rattle.roster_instance.specs.Meaning.{Meaning, day_count}
 use Rattle.roster_rules.specs.Penalties.{own_cost}
 use Rattle.roster_rules.specs.Prefix.{Summary, summary_of}
-use Rattle.roster_rules.specs.Rosters.{Row, Rows, choice_on}
+use Rattle.roster_instance.specs.Rosters.{Row, Rows, choice_on}
 use Rattle.roster_laws.specs.OneRow.{is_offered, is_open, price}
 use Rattle.roster_state.specs.Step.{end_cost_of, step_of}
 use Rattle.roster_search.specs.declared.offer.Offer.{Offer}

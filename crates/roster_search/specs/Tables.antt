@@ -1,12 +1,12 @@
 -- The tables of a day: at the number of each state its label, what the best row from there on costs, and its pointer, the place
 -- of the offer with which that row begins (our own).
 use Rattle.std.specs.Prelude.{◌≡◌, ◌+◌, ◌-◌, ◌*◌, ◌<◌, ◌≤◌, ℕ, All, true, List, [], ◌∷◌, ◌++◌, length, min, Some, None, slice_index_or}
-use Rattle.roster_rules.specs.declared.Choice.{Choice}
-use Rattle.roster_rules.specs.Choices.{shift_of}
-use Rattle.roster_rules.specs.Limits.{most_shifts, most_skills, most_small}
-use Rattle.roster_rules.specs.Meaning.{Meaning, day_count, nurse_count}
+use Rattle.roster_instance.specs.declared.choice.Choice.{Choice}
+use Rattle.roster_instance.specs.Choices.{shift_of}
+use Rattle.roster_instance.specs.Limits.{most_shifts, most_skills, most_small}
+use Rattle.roster_instance.specs.Meaning.{Meaning, day_count, nurse_count}
 use Rattle.roster_rules.specs.Prefix.{Summary}
-use Rattle.roster_rules.specs.Rosters.{is_choice_of}
+use Rattle.roster_instance.specs.Rosters.{is_choice_of}
 use Rattle.roster_rules.specs.Weights.{off_request_weight, staffing_weight, wish_weight}
 use Rattle.roster_state.specs.declared.area.Area.{Area}
 use Rattle.roster_state.specs.declared.stretch.Stretch.{Stretch}

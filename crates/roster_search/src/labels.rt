@@ -1,10 +1,11 @@
 //! The labels and pointers of a day: for each state what the best row from there on costs, and with which offer it begins.
 
 ghost use Rattle.std.specs.Prelude.{◌≡◌, ◌+◌, ◌-◌, ◌*◌, ◌<◌, ◌≤◌, true, false, ℕ, List, is_some, length, replicate, slice_index_or, take};
+ghost use Rattle.roster_bundle.specs.Limits.{greatest_u64};
 ghost use Rattle.roster_rules.specs.DayLaw.{weekends_more};
-ghost use Rattle.roster_rules.specs.Meaning.{contract_of, nurse_count};
+ghost use Rattle.roster_instance.specs.Meaning.{contract_of, nurse_count};
 ghost use Rattle.roster_rules.specs.Prefix.{Summary};
-ghost use Rattle.roster_state.specs.declared.Area.{Area};
+ghost use Rattle.roster_state.specs.declared.area.Area.{Area};
 ghost use Rattle.roster_state.specs.Areas.{InSpan, area_at};
 ghost use Rattle.roster_state.specs.Codes.{code_of, fits_sizes, product, shift_digit, sizes_of};
 ghost use Rattle.roster_state.specs.Step.{with_assignments};
@@ -97,7 +98,7 @@ pub fn label_day(day: &OpenDay<'_>, labels: &mut [u32], pointers: &mut Pointers,
     requires here { rest.here ≡ day.now.areas.now }
     requires labels_room { product day.now.at.ranges ≤ length labels.old }
     requires pointers_room { day.now.first + product day.now.at.ranges ≤ length pointers.old }
-    requires room { meter.old + product day.now.at.ranges * length day.now.offers.now ≤ 18446744073709551615 }
+    requires room { meter.old + product day.now.at.ranges * length day.now.offers.now ≤ greatest_u64 }
     ensures labels { AreLabels day.now.case.now day.now.at.nurse rest.here (best_on day.now.case.now day.now.at day.now.offers.now rest.best) labels.new }
     ensures pointers { ArePointers day.now.case.now day.now.at rest.here day.now.offers.now rest.best day.now.first pointers.new }
     ensures others { SameOutside day.now.first (day.now.first + product day.now.at.ranges) pointers.old pointers.new }
@@ -161,7 +162,7 @@ fn label_group(
     requires runs { (InSpan (area_at rest.here (shift_digit group.last)).run group.run) × (InSpan (area_at rest.here (shift_digit group.last)).shift_run group.shift_run) }
     requires labels_room { product day.now.at.ranges ≤ length labels.old }
     requires pointers_room { day.now.first + product day.now.at.ranges ≤ length pointers.old }
-    requires room { meter.old + day.now.at.ranges.weekends * (length day.now.offers.now * day.now.at.ranges.assignments) ≤ 18446744073709551615 }
+    requires room { meter.old + day.now.at.ranges.weekends * (length day.now.offers.now * day.now.at.ranges.assignments) ≤ greatest_u64 }
     ensures labels { LabelsOf (StandsLike day.now.case.now day.now.at.nurse rest.here group) day.now.case.now day.now.at.nurse (best_on day.now.case.now day.now.at day.now.offers.now rest.best) labels.new }
     ensures pointers { PointersOf (StandsLike day.now.case.now day.now.at.nurse rest.here group) day.now.case.now day.now.at day.now.offers.now rest.best day.now.first pointers.new }
     ensures labels_others { SameOutside (code_of day.now.at.ranges group) (code_of day.now.at.ranges group + day.now.at.ranges.weekends * day.now.at.ranges.assignments) labels.old labels.new }
@@ -229,7 +230,7 @@ fn label_rows(
     requires alike { 1 < rows.now.rows → rows.now.block.weekends + rows.now.rows + weekends_more day.now.at.day (is_some rows.now.block.last) true ≤ (contract_of day.now.case.now day.now.at.nurse).weekends + 1 }
     requires labels_room { product day.now.at.ranges ≤ length labels.old }
     requires pointers_room { day.now.first + product day.now.at.ranges ≤ length pointers.old }
-    requires room { meter.old + length day.now.offers.now * (rows.now.rows * (rows.now.end - rows.now.from)) ≤ 18446744073709551615 }
+    requires room { meter.old + length day.now.offers.now * (rows.now.rows * (rows.now.end - rows.now.from)) ≤ greatest_u64 }
     ensures least { StretchCells day.now.case.now day.now.at rest.best rows.now.block day.now.offers.now rows.now.rows rows.now.from rows.now.end (code_of day.now.at.ranges rows.now.block) (day.now.first + code_of day.now.at.ranges rows.now.block) labels.new pointers.new }
     ensures labels_others { SameOutside (code_of day.now.at.ranges rows.now.block) (code_of day.now.at.ranges rows.now.block + rows.now.rows * day.now.at.ranges.assignments) labels.old labels.new }
     ensures pointers_others { SameOutside (day.now.first + code_of day.now.at.ranges rows.now.block) (day.now.first + code_of day.now.at.ranges rows.now.block + rows.now.rows * day.now.at.ranges.assignments) pointers.old pointers.new }
@@ -267,7 +268,7 @@ fn label_stretch(
     requires labels_room { product day.now.at.ranges ≤ length labels.old }
     requires pointers_room { day.now.first + product day.now.at.ranges ≤ length pointers.old }
     requires numbers_room { 1000 ≤ length numbers.old }
-    requires room { meter.old + length day.now.offers.now * (stretch.now.rows * (stretch.now.end - stretch.now.from)) ≤ 18446744073709551615 }
+    requires room { meter.old + length day.now.offers.now * (stretch.now.rows * (stretch.now.end - stretch.now.from)) ≤ greatest_u64 }
     ensures least { StretchCells day.now.case.now day.now.at rest.best stretch.now.block day.now.offers.now stretch.now.rows stretch.now.from stretch.now.end (code_of day.now.at.ranges stretch.now.block) (day.now.first + code_of day.now.at.ranges stretch.now.block) labels.new pointers.new }
     ensures labels_others { SameOutside (code_of day.now.at.ranges stretch.now.block) (code_of day.now.at.ranges stretch.now.block + stretch.now.rows * day.now.at.ranges.assignments) labels.old labels.new }
     ensures pointers_others { SameOutside (day.now.first + code_of day.now.at.ranges stretch.now.block) (day.now.first + code_of day.now.at.ranges stretch.now.block + stretch.now.rows * day.now.at.ranges.assignments) pointers.old pointers.new }
@@ -305,7 +306,7 @@ fn label_apart(
     requires alike { IsAlike day.now.case.now day.now.at.nurse day.now.at.day stretch.now.block stretch.now.rows stretch.now.from stretch.now.end }
     requires labels_room { product day.now.at.ranges ≤ length labels.old }
     requires pointers_room { day.now.first + product day.now.at.ranges ≤ length pointers.old }
-    requires room { meter.old + length day.now.offers.now * (stretch.now.rows * (stretch.now.end - stretch.now.from)) ≤ 18446744073709551615 }
+    requires room { meter.old + length day.now.offers.now * (stretch.now.rows * (stretch.now.end - stretch.now.from)) ≤ greatest_u64 }
     ensures least { StretchCells day.now.case.now day.now.at rest.best stretch.now.block day.now.offers.now stretch.now.rows stretch.now.from stretch.now.end (code_of day.now.at.ranges stretch.now.block) (day.now.first + code_of day.now.at.ranges stretch.now.block) labels.new pointers.new }
     ensures labels_kept { PlacesKept stretch.now.rows stretch.now.from day.now.at.ranges.assignments (code_of day.now.at.ranges stretch.now.block) labels.old labels.new }
     ensures pointers_kept { PlacesKept stretch.now.rows stretch.now.from day.now.at.ranges.assignments (day.now.first + code_of day.now.at.ranges stretch.now.block) pointers.old pointers.new }
@@ -336,7 +337,7 @@ fn label_room(
     requires alike { IsAlike day.now.case.now day.now.at.nurse day.now.at.day stretch.now.block stretch.now.rows stretch.now.from stretch.now.end }
     requires apart_room { 1000 ≤ length apart.old }
     requires numbers_room { 1000 ≤ length numbers.old }
-    requires room { meter.old + length day.now.offers.now * (stretch.now.rows * (stretch.now.end - stretch.now.from)) ≤ 18446744073709551615 }
+    requires room { meter.old + length day.now.offers.now * (stretch.now.rows * (stretch.now.end - stretch.now.from)) ≤ greatest_u64 }
     ensures least { RunCells day.now.case.now day.now.at rest.best stretch.now day.now.offers.now apart.new numbers.new }
     ensures small { (a : ℕ) → a < (stretch.now.rows - 1) * day.now.at.ranges.assignments + (stretch.now.end - stretch.now.from) → slice_index_or numbers.new a 0 < 16 }
     ensures lengths { (length apart.new ≡ length apart.old) × (length numbers.new ≡ length numbers.old) }
@@ -410,7 +411,7 @@ fn label_run(
     requires alike { IsAlike day.now.case.now day.now.at.nurse day.now.at.day stretch.now.block stretch.now.rows stretch.now.from stretch.now.end }
     requires labels_length { length labels.old ≡ (stretch.now.rows - 1) * day.now.at.ranges.assignments + (stretch.now.end - stretch.now.from) }
     requires numbers_length { length numbers.old ≡ (stretch.now.rows - 1) * day.now.at.ranges.assignments + (stretch.now.end - stretch.now.from) }
-    requires room { meter.old + length day.now.offers.now * (stretch.now.rows * (stretch.now.end - stretch.now.from)) ≤ 18446744073709551615 }
+    requires room { meter.old + length day.now.offers.now * (stretch.now.rows * (stretch.now.end - stretch.now.from)) ≤ greatest_u64 }
     ensures least { RunCells day.now.case.now day.now.at rest.best stretch.now day.now.offers.now labels.new numbers.new }
     ensures small { (a : ℕ) → a < length numbers.new → slice_index_or numbers.new a 0 < 16 }
     ensures lengths { (length labels.new ≡ length labels.old) × (length numbers.new ≡ length numbers.old) }
@@ -448,7 +449,7 @@ fn set_run(
     requires labels_length { length labels.old ≡ (stretch.now.rows - 1) * day.now.at.ranges.assignments + (stretch.now.end - stretch.now.from) }
     requires numbers_length { length numbers.old ≡ (stretch.now.rows - 1) * day.now.at.ranges.assignments + (stretch.now.end - stretch.now.from) }
     requires none { RunCells day.now.case.now day.now.at rest.best stretch.now (take place day.now.offers.now) (replicate (length labels.old) no_row) (replicate (length labels.old) 0) }
-    requires room { meter.old + stretch.now.rows * (stretch.now.end - stretch.now.from) ≤ 18446744073709551615 }
+    requires room { meter.old + stretch.now.rows * (stretch.now.end - stretch.now.from) ≤ greatest_u64 }
     ensures least { result ≡ true → RunCells day.now.case.now day.now.at rest.best stretch.now (take (place + 1) day.now.offers.now) labels.new numbers.new }
     ensures small { result ≡ true → (a : ℕ) → a < length numbers.new → slice_index_or numbers.new a 0 < 16 }
     ensures none { result ≡ false → RunCells day.now.case.now day.now.at rest.best stretch.now (take (place + 1) day.now.offers.now) (replicate (length labels.new) no_row) (replicate (length labels.new) 0) }
@@ -487,7 +488,7 @@ fn lower_run(
     requires numbers_length { length numbers.old ≡ (stretch.now.rows - 1) * day.now.at.ranges.assignments + (stretch.now.end - stretch.now.from) }
     requires least { RunCells day.now.case.now day.now.at rest.best stretch.now (take place day.now.offers.now) labels.old numbers.old }
     requires small { (a : ℕ) → a < length numbers.old → slice_index_or numbers.old a 0 < 16 }
-    requires room { meter.old + stretch.now.rows * (stretch.now.end - stretch.now.from) ≤ 18446744073709551615 }
+    requires room { meter.old + stretch.now.rows * (stretch.now.end - stretch.now.from) ≤ greatest_u64 }
     ensures least { RunCells day.now.case.now day.now.at rest.best stretch.now (take (place + 1) day.now.offers.now) labels.new numbers.new }
     ensures small { (a : ℕ) → a < length numbers.new → slice_index_or numbers.new a 0 < 16 }
     ensures lengths { (length labels.new ≡ length labels.old) × (length numbers.new ≡ length numbers.old) }

@@ -1,15 +1,15 @@
 //! The best row is found from state to state. The functions here do nothing: each is a law, and its clauses say it.
 
 ghost use Rattle.std.specs.Prelude.{◌≡◌, ◌+◌, ◌<◌, ◌≤◌, ℕ, Bool, true, false, [], ◌∷◌, All, Contains, List, IsSome, Some, length};
-ghost use Rattle.roster_rules.specs.declared.Choice.{Choice};
+ghost use Rattle.roster_instance.specs.declared.choice.Choice.{Choice};
 ghost use Rattle.roster_rules.specs.AllowedRows.{IsBestRow, IsFirstLeast, is_frozen, penalty_with};
 ghost use Rattle.roster_rules.specs.HardRules.{keeps_hard};
-ghost use Rattle.roster_rules.specs.Limits.{most_shifts, most_skills, most_weeks};
-ghost use Rattle.roster_rules.specs.Meaning.{Meaning, day_count, nurse_count, shift_count, skill_count, week_count};
+ghost use Rattle.roster_instance.specs.Limits.{most_shifts, most_skills, most_weeks};
+ghost use Rattle.roster_instance.specs.Meaning.{Meaning, day_count, nurse_count, shift_count, skill_count, week_count};
 ghost use Rattle.roster_rules.specs.Prefix.{Summary, due};
-ghost use Rattle.roster_rules.specs.Rosters.{Row, Rows, choice_on, fits_case, row_of};
-ghost use Rattle.roster_rules.specs.Sizes.{choice_count};
-ghost use Rattle.roster_rules.specs.Small.{HasSmallNumbers};
+ghost use Rattle.roster_instance.specs.Rosters.{Row, Rows, choice_on, fits_case, row_of};
+ghost use Rattle.roster_instance.specs.Sizes.{choice_count};
+ghost use Rattle.roster_instance.specs.Small.{HasSmallNumbers};
 ghost use Rattle.roster_laws.specs.OneRow.{rest_of};
 ghost use Rattle.roster_search.specs.ByStates.{Steps, best_from, cost_from, rows_from};
 ghost use Rattle.roster_search.specs.Cheapest.{cheapest, with_cost};

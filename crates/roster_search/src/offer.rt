@@ -12,7 +12,7 @@ pub struct Offer {
 
 impl Default for Offer {
     ghost use Rattle.std.specs.Prelude.{◌≡◌};
-    ghost use Rattle.roster_instance.specs.declared.Choice.TheVariants.{Off};
+    ghost use Rattle.roster_instance.specs.declared.choice.Choice.TheVariants.{Off};
 
     /// To be off, at no price.
     ghost is_default = { λ offer. offer ≡ record { choice = Off; price = 0 } };

@@ -1,10 +1,11 @@
 //! The search over a table of offers.
 
 ghost use Rattle.std.specs.Prelude.{◌≡◌, ◌+◌, ◌*◌, ◌<◌, ◌≤◌, ℕ, [], All, IfSome, IsSome, List, Some, length, take};
+ghost use Rattle.roster_bundle.specs.Limits.{greatest_u64};
 ghost use Rattle.roster_instance.specs.Meaning.{day_count, nurse_count};
 ghost use Rattle.roster_instance.specs.Sizes.{choice_count};
 ghost use Rattle.roster_laws.specs.Greatest.{extension_count};
-ghost use Rattle.roster_rules.specs.Counting.{sum_below};
+ghost use Rattle.roster_instance.specs.Counting.{sum_below};
 ghost use Rattle.roster_rules.specs.Prefix.{summary_of};
 ghost use Rattle.roster_state.specs.Codes.{product, sizes_of};
 ghost use Rattle.roster_lanes.specs.Lanes.{SameOutside};
@@ -52,7 +53,7 @@ pub fn search_row(
     requires some { IsSome (best_over search.now.case.now search.now.nurse (offers_on search.now.offers.now)) }
     requires tables { HasTables search.now.case.now search.now.nurse tables.old }
     requires row_room { day_count search.now.case.now ≤ length row.old }
-    requires room { meter.old + extension_count search.now.case.now search.now.nurse ≤ 18446744073709551615 }
+    requires room { meter.old + extension_count search.now.case.now search.now.nurse ≤ greatest_u64 }
 
     // The row, and its cost.
     ensures best { IsFound (best_over search.now.case.now search.now.nurse (offers_on search.now.offers.now)) result (take (day_count search.now.case.now) row.new) }
@@ -144,7 +145,7 @@ fn label_days(
     requires labels_room { product days.now.ranges ≤ length labels.old.items }
     requires same_room { length later.old.items ≡ length labels.old.items }
     requires pointers_room { day_count days.now.case.now * product days.now.ranges ≤ length pointers.old }
-    requires room { meter.old + extension_count days.now.case.now days.now.nurse ≤ 18446744073709551615 }
+    requires room { meter.old + extension_count days.now.case.now days.now.nurse ≤ greatest_u64 }
     ensures labels { AreLabels days.now.case.now days.now.nurse (areas_on days.now.areas.now 0) (onward days.now.case.now days.now.nurse (offers_on days.now.offers.now) 0) later.new.items }
     ensures pointers { PointersFrom days.now.case.now days.now.nurse (offers_on days.now.offers.now) days.now.areas.now 0 pointers.new }
     ensures lengths { (length labels.new.items ≡ length labels.old.items) × (length later.new.items ≡ length later.old.items) × (length pointers.new ≡ length pointers.old) }
@@ -187,7 +188,7 @@ fn label_before(
     requires all { product at.now.ranges ≤ length later.now }
     requires labels_room { product at.now.ranges ≤ length labels.old }
     requires pointers_room { day_count days.now.case.now * product at.now.ranges ≤ length pointers.old }
-    requires room { meter.old + product at.now.ranges * choice_count days.now.case.now at.now.nurse ≤ 18446744073709551615 }
+    requires room { meter.old + product at.now.ranges * choice_count days.now.case.now at.now.nurse ≤ greatest_u64 }
     ensures labels { AreLabels days.now.case.now at.now.nurse rest.here (best_on days.now.case.now at.now (offers_on days.now.offers.now at.now.day) rest.best) labels.new }
     ensures pointers { ArePointers days.now.case.now at.now rest.here (offers_on days.now.offers.now at.now.day) rest.best (at.now.day * product at.now.ranges) pointers.new }
     ensures others { SameOutside (at.now.day * product at.now.ranges) (at.now.day * product at.now.ranges + product at.now.ranges) pointers.old pointers.new }

@@ -1,6 +1,7 @@
 //! The tables of a search.
 
 ghost use Rattle.std.specs.Prelude.{◌≡◌, ◌*◌, ◌≤◌, IfOk};
+ghost use Rattle.roster_bundle.specs.Limits.{greatest_u64};
 
 use crate::pointers::Pointers;
 use std::alloc::{AllocError, Global};
@@ -43,7 +44,7 @@ impl Tables {
     ///
     /// A growth was refused.
     pub fn new(alloc: Global, states: usize, days: usize) -> Result<Tables, AllocError>
-        requires room { states * days ≤ 18446744073709551615 }
+        requires room { states * days ≤ greatest_u64 }
         ensures labels { IfOk result (λ tables. tables.labels ≡ 2 * states) }
         ensures pointers { IfOk result (λ tables. tables.pointers ≡ states * days) }
     {

@@ -1,11 +1,11 @@
 -- What a day does to the places of a block is what it does to their states.
 use Rattle.std.proofs.Common.{◌≡◌, ◌∙◌, ap, ap₂, arith, refl, subst, sym, ℕ, ◌+◌, ◌*◌, ◌<◌, ◌≤◌, Bool, true, false, min, nat_le, if◌then◌else◌, Option, Some, None, is_some, IfSome, option_map}
-use Rattle.roster_rules.specs.declared.Shift.{Shift}
-use Rattle.roster_rules.specs.Counting.{one_if}
-use Rattle.roster_rules.specs.Meaning.{Meaning, contract_of, forbids, shift_count}
+use Rattle.roster_instance.specs.declared.choice.Shift.{Shift}
+use Rattle.roster_instance.specs.Counting.{one_if}
+use Rattle.roster_instance.specs.Meaning.{Meaning, contract_of, forbids, shift_count}
 use Rattle.roster_rules.specs.Prefix.{Summary}
-use Rattle.roster_rules.specs.Sizes.{cap}
-use Rattle.roster_rules.specs.Small.{HasSmallNumbers}
+use Rattle.roster_instance.specs.Sizes.{cap}
+use Rattle.roster_instance.specs.Small.{HasSmallNumbers}
 use Rattle.roster_rules.specs.Weights.{assignment_weight}
 use Rattle.roster_state.specs.declared.block.BlockStep.{BlockStep}
 use Rattle.roster_state.specs.Blocks.{place_after, place_step}

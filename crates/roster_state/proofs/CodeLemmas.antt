@@ -2,11 +2,11 @@
 use Rattle.std.proofs.Common.{◌≡◌, ◌∙◌, ◌+◌, ◌-◌, ◌*◌, ◌/◌, ◌%◌, ◌<◌, ◌≤◌, ℕ, zero, suc, Option, Some, None, ap, ap₂, arith, cond, le-ltb, lt-ltb, mul-pos, mul_comm, mul_right_comm, refl, subst, sym, true}
 use Rattle.std.proofs.lemmas.Bool.{and_from, and_parts, ltb-true}
 use Rattle.std.proofs.lemmas.Nat.{div-add-mod', div-mul-add, div_below, mod-mul-add, mod_below, mul-add-lt}
-use Rattle.roster_rules.specs.declared.Shift.{Shift}
-use Rattle.roster_rules.specs.Meaning.{Meaning, shift_at}
+use Rattle.roster_instance.specs.declared.choice.Shift.{Shift}
+use Rattle.roster_instance.specs.Meaning.{Meaning, shift_at}
 use Rattle.roster_rules.specs.Prefix.{Summary}
-use Rattle.roster_rules.specs.Limits.{most_states}
-use Rattle.roster_rules.specs.Sizes.{state_count}
+use Rattle.roster_instance.specs.Limits.{most_states}
+use Rattle.roster_instance.specs.Sizes.{state_count}
 use Rattle.roster_state.specs.Codes.{KeepLimits, Sizes, blocks, code_of, fits_sizes, product, shift_digit, shift_numbered, sizes_of, state_at, state_numbered}
 use Rattle.roster_state.specs.Step.{with_assignments}
 

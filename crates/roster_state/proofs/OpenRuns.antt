@@ -2,18 +2,18 @@
 -- where the last day isn't of the kind. A day costs as much after a run as after that number.
 use Rattle.std.proofs.Common.{◌≡◌, ◌⊎◌, refl, sym, ap, ◌∙◌, arith, ℕ, zero, suc, ◌+◌, ◌-◌, ◌<◌, ◌≤◌, Bool, true, false, not, min, nat_lt, length, if◌then◌else◌, true≢false, Option, Some, None, is_some, inl, inr}
 use Rattle.std.proofs.lemmas.Bool.{cases_lt, eqb-true, lt-ltb, le-ltb, ne_eqb}
-use Rattle.roster_rules.specs.declared.Shift.{Shift}
-use Rattle.roster_rules.specs.declared.Border.{Border}
-use Rattle.roster_rules.specs.declared.Border.TheVariants.{Free, Working}
-use Rattle.roster_rules.specs.declared.Limits.{Limits}
-use Rattle.roster_rules.specs.Counting.{one_if}
-use Rattle.roster_rules.specs.Days.{Days, shift_on, is_shift, works, is_off, has_shift}
+use Rattle.roster_instance.specs.declared.choice.Shift.{Shift}
+use Rattle.roster_instance.specs.declared.rules.Border.{Border}
+use Rattle.roster_instance.specs.declared.rules.Border.TheVariants.{Free, Working}
+use Rattle.roster_instance.specs.declared.rules.Limits.{Limits}
+use Rattle.roster_instance.specs.Counting.{one_if}
+use Rattle.roster_instance.specs.Days.{Days, shift_on, is_shift, works, is_off, has_shift}
 use Rattle.roster_rules.specs.HardRules.{shift_before}
-use Rattle.roster_rules.specs.Meaning.{Meaning, contract_of, last_shift, past_of, run_of_shift}
+use Rattle.roster_instance.specs.Meaning.{Meaning, contract_of, last_shift, past_of, run_of_shift}
 use Rattle.roster_rules.specs.Penalties.{free_before, worked_before, shift_run_before}
 use Rattle.roster_rules.specs.Prefix.{last_of, last_run_of, shift_run_of, summary_of}
-use Rattle.roster_rules.specs.Sizes.{cap}
-use Rattle.roster_rules.specs.RunLaw.{day_violations}
+use Rattle.roster_instance.specs.Sizes.{cap}
+use Rattle.roster_instance.specs.RunLaw.{day_violations}
 use Rattle.roster_rules.specs.Runs.{open_run}
 use Rattle.roster_rules.proofs.RunLaw.{border, grown}
 use Rattle.roster_state.specs.Step as step

@@ -1,11 +1,11 @@
 -- The state after one day more fits the ranges, and so does the summary of any days.
 use Rattle.std.proofs.Common.{◌≡◌, ◌+◌, ◌<◌, ◌≤◌, ℕ, zero, suc, true, arith, lt-ltb, max, List, [], ◌∷◌, map, slice_index_or, IfSome, Option, Some, None}
-use Rattle.roster_rules.specs.declared.Shift.{Shift}
-use Rattle.roster_rules.specs.declared.Limits.{Limits}
-use Rattle.roster_rules.specs.Days.{Days}
-use Rattle.roster_rules.specs.Meaning.{Meaning, contract_of, no_limits, shift_count}
+use Rattle.roster_instance.specs.declared.choice.Shift.{Shift}
+use Rattle.roster_instance.specs.declared.rules.Limits.{Limits}
+use Rattle.roster_instance.specs.Days.{Days}
+use Rattle.roster_instance.specs.Meaning.{Meaning, contract_of, no_limits, shift_count}
 use Rattle.roster_rules.specs.Prefix.{Summary, last_of, last_run_of, shift_run_of, summary_of}
-use Rattle.roster_rules.specs.Sizes.{greatest_of, cap}
+use Rattle.roster_instance.specs.Sizes.{greatest_of, cap}
 use Rattle.roster_state.specs.Codes.{Sizes, fits_sizes, shift_digit, sizes_of}
 use Rattle.roster_state.specs.Step.{next_of}
 

@@ -4,14 +4,14 @@ use Rattle.std.proofs.Math.ListN.{get_or-map}
 use Rattle.std.proofs.Math.Seq.{take-suc}
 use Rattle.std.proofs.lemmas.Bool.{cases_eq}
 use Rattle.std.proofs.lemmas.List.{get_or-take, length-map, length-take-le, map-append}
-use Rattle.roster_rules.specs.declared.Choice.TheVariants.{Off}
-use Rattle.roster_rules.specs.declared.Shift.{Shift}
-use Rattle.roster_rules.specs.Choices.{days_of, shift_of}
-use Rattle.roster_rules.specs.Days.{Days, shift_on}
+use Rattle.roster_instance.specs.declared.choice.Choice.TheVariants.{Off}
+use Rattle.roster_instance.specs.declared.choice.Shift.{Shift}
+use Rattle.roster_instance.specs.Choices.{days_of, shift_of}
+use Rattle.roster_instance.specs.Days.{Days, shift_on}
 use Rattle.roster_rules.specs.HardRules.{shift_before}
-use Rattle.roster_rules.specs.Meaning.{Meaning, last_shift, past_of, forbids}
+use Rattle.roster_instance.specs.Meaning.{Meaning, last_shift, past_of, forbids}
 use Rattle.roster_rules.specs.Prefix.{Summary, last_of, summary_of}
-use Rattle.roster_rules.specs.Rosters.{Row, choice_on}
+use Rattle.roster_instance.specs.Rosters.{Row, choice_on}
 
 abbrev pub front : ℕ → Row → Days
 front day row = days_of (take day row)

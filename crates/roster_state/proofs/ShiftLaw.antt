@@ -2,13 +2,13 @@
 -- one that is worked.
 use Rattle.std.proofs.Common.{◌≡◌, ◌≢◌, ◌⊎◌, refl, sym, ap, arith, ℕ, zero, suc, ◌+◌, ◌*◌, ◌<◌, true, false, if◌then◌else◌, Option, Some, None, IfSome, inl, inr}
 use Rattle.std.proofs.lemmas.Bool.{cases_eq, eq-eqb, ne_eqb}
-use Rattle.roster_rules.specs.declared.Shift.{Shift}
-use Rattle.roster_rules.specs.declared.Limits.{Limits}
-use Rattle.roster_rules.specs.Counting.{sum_below}
-use Rattle.roster_rules.specs.Days.{is_shift}
-use Rattle.roster_rules.specs.Meaning.{Meaning, run_of_shift, shift_count}
+use Rattle.roster_instance.specs.declared.choice.Shift.{Shift}
+use Rattle.roster_instance.specs.declared.rules.Limits.{Limits}
+use Rattle.roster_instance.specs.Counting.{sum_below}
+use Rattle.roster_instance.specs.Days.{is_shift}
+use Rattle.roster_instance.specs.Meaning.{Meaning, run_of_shift, shift_count}
 use Rattle.roster_rules.specs.Prefix.{Summary}
-use Rattle.roster_rules.specs.RunLaw.{day_violations}
+use Rattle.roster_instance.specs.RunLaw.{day_violations}
 use Rattle.roster_rules.specs.Weights.{shift_run_weight}
 use Rattle.roster_rules.proofs.RunSums.{sum_zero}
 use Rattle.roster_state.specs.Step.{ended, shifts_more, worked}

@@ -2,15 +2,15 @@
 use Rattle.std.proofs.Common.{◌≡◌, ◌∙◌, ◌+◌, ◌<◌, ◌≤◌, ◌⊎◌, ◌&&◌, ◌||◌, ◌==◌, ℕ, Bool, true, false, inl, inr, arith, subst, [], min, nat_le, if◌then◌else◌, Option, Some, None, is_some}
 use Rattle.std.proofs.Math.Bool.{or-true}
 use Rattle.std.proofs.lemmas.Bool.{and_parts, cases_lt, le-leb, leb-true, lt-leb}
-use Rattle.roster_rules.specs.declared.Border.{Border}
-use Rattle.roster_rules.specs.declared.Border.TheVariants.{Free, Working}
-use Rattle.roster_rules.specs.declared.Shift.{Shift}
-use Rattle.roster_rules.specs.Days.{has_shift, is_off, is_shift, works}
-use Rattle.roster_rules.specs.Meaning.{Meaning, contract_of, last_shift, past_of, run_of_shift}
+use Rattle.roster_instance.specs.declared.rules.Border.{Border}
+use Rattle.roster_instance.specs.declared.rules.Border.TheVariants.{Free, Working}
+use Rattle.roster_instance.specs.declared.choice.Shift.{Shift}
+use Rattle.roster_instance.specs.Days.{has_shift, is_off, is_shift, works}
+use Rattle.roster_instance.specs.Meaning.{Meaning, contract_of, last_shift, past_of, run_of_shift}
 use Rattle.roster_rules.specs.Penalties.{free_before, shift_run_before, worked_before}
 use Rattle.roster_rules.specs.Prefix.{Summary, summary_of}
 use Rattle.roster_rules.specs.Runs.{open_run}
-use Rattle.roster_rules.specs.Sizes.{cap}
+use Rattle.roster_instance.specs.Sizes.{cap}
 use Rattle.roster_state.specs.Standing.{can_be, can_be_with, excess}
 use Rattle.roster_state.specs.Step.{next_of, run_with, shift_run_with}
 

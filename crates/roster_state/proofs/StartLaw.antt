@@ -1,9 +1,9 @@
 -- The start of the sum law: what is owed on no days.
 use Rattle.std.proofs.Common.{◌≡◌, refl, arith, ℕ, ◌+◌, ◌-◌, ◌*◌, Bool, true, false, [], if◌then◌else◌}
-use Rattle.roster_rules.specs.declared.Border.{Border}
-use Rattle.roster_rules.specs.declared.ContractRules.{ContractRules}
-use Rattle.roster_rules.specs.Days.{works, is_off, has_shift, split_weekends}
-use Rattle.roster_rules.specs.Meaning.{Meaning, contract_of, past_of, run_of_shift, shift_count}
+use Rattle.roster_instance.specs.declared.rules.Border.{Border}
+use Rattle.roster_instance.specs.declared.rules.ContractRules.{ContractRules}
+use Rattle.roster_instance.specs.Days.{works, is_off, has_shift, split_weekends}
+use Rattle.roster_instance.specs.Meaning.{Meaning, contract_of, past_of, run_of_shift, shift_count}
 use Rattle.roster_rules.specs.Penalties.{free_before, run_cost_of_shift, shift_run_before, split_cost, worked_before}
 use Rattle.roster_rules.specs.Prefix.{due}
 use Rattle.roster_rules.specs.Weights.{assignment_weight, split_weight, weekend_weight}

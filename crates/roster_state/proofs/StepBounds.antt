@@ -1,16 +1,16 @@
 -- A step costs little, where the numbers of an instance are small: one run of working days or of days off ends and the other
 -- begins, the run of one shift ends and that of another goes on, and the rest counts once at most.
 use Rattle.std.proofs.Common.{refl, arith, ℕ, ◌+◌, ◌-◌, ◌*◌, ◌≤◌, Bool, true, false, not, max, nat_le, nat_lt, if◌then◌else◌, Option, Some, None, is_some}
-use Rattle.roster_rules.specs.declared.Shift.{Shift}
-use Rattle.roster_rules.specs.declared.Limits.{Limits}
-use Rattle.roster_rules.specs.Counting.{one_if, sum_below}
+use Rattle.roster_instance.specs.declared.choice.Shift.{Shift}
+use Rattle.roster_instance.specs.declared.rules.Limits.{Limits}
+use Rattle.roster_instance.specs.Counting.{one_if, sum_below}
 use Rattle.roster_rules.specs.DayLaw.{is_saturday, is_sunday, splits_more, weekends_more}
-use Rattle.roster_rules.specs.Days.{is_shift, one_alone}
-use Rattle.roster_rules.specs.Limits.{most_small}
-use Rattle.roster_rules.specs.Meaning.{Meaning, contract_of, run_of_shift, shift_count}
+use Rattle.roster_instance.specs.Days.{is_shift, one_alone}
+use Rattle.roster_instance.specs.Limits.{most_small}
+use Rattle.roster_instance.specs.Meaning.{Meaning, contract_of, run_of_shift, shift_count}
 use Rattle.roster_rules.specs.Prefix.{Summary}
-use Rattle.roster_rules.specs.RunLaw.{day_violations}
-use Rattle.roster_rules.specs.Small.{AreSmall, HasSmallNumbers}
+use Rattle.roster_instance.specs.RunLaw.{day_violations}
+use Rattle.roster_instance.specs.Small.{AreSmall, HasSmallNumbers}
 use Rattle.roster_rules.specs.Weights.{working_run_weight, shift_run_weight, free_run_weight, split_weight, assignment_weight, weekend_weight}
 use Rattle.roster_rules.proofs.RunBounds.{sum_both, sum_compared, sum_of_one, where_within}
 use Rattle.roster_rules.proofs.RunSums.{sum_zero}

@@ -1,12 +1,12 @@
 -- What a day does to the first state of a stretch it does to each.
 use Rattle.std.proofs.Common.{◌≡◌, ◌∙◌, ◌⊎◌, inl, inr, ap, arith, refl, sym, ℕ, zero, suc, ◌+◌, ◌-◌, ◌*◌, ◌<◌, ◌≤◌, Bool, true, false, min, nat_le, if◌then◌else◌, Option, Some, None, is_some, option_map}
 use Rattle.std.proofs.lemmas.Bool.{cases_lt, le-leb, lt-leb}
-use Rattle.roster_rules.specs.declared.Shift.{Shift}
-use Rattle.roster_rules.specs.Counting.{one_if}
+use Rattle.roster_instance.specs.declared.choice.Shift.{Shift}
+use Rattle.roster_instance.specs.Counting.{one_if}
 use Rattle.roster_rules.specs.DayLaw.{weekends_more}
-use Rattle.roster_rules.specs.Meaning.{Meaning, contract_of, forbids}
+use Rattle.roster_instance.specs.Meaning.{Meaning, contract_of, forbids}
 use Rattle.roster_rules.specs.Prefix.{Summary}
-use Rattle.roster_rules.specs.Sizes.{cap}
+use Rattle.roster_instance.specs.Sizes.{cap}
 use Rattle.roster_rules.specs.Weights.{assignment_weight, weekend_weight}
 use Rattle.roster_state.specs.Step.{free_more, next_of, run_with, shift_run_with, shifts_more, split_more, step_cost, step_of, with_assignments, working_more}
 use Rattle.roster_state.specs.Stretches.{IsAlike, moved_on, stretch_state}

@@ -2,17 +2,17 @@
 -- owed more then; the end adds the missing assignments.
 use Rattle.std.proofs.Common.{◌≡◌, ◌⊎◌, refl, sym, ap, ◌∙◌, arith, ℕ, zero, suc, ◌+◌, ◌-◌, ◌*◌, ◌<◌, ◌≤◌, Bool, true, false, not, min, ◌&&◌, nat_le, mul-add, [], ◌∷◌, ◌++◌, length, if◌then◌else◌, Option, Some, None, is_some, inl, inr}
 use Rattle.std.proofs.lemmas.Bool.{cases_lt, eq-eqb, le-leb, lt-leb, ne_eqb}
-use Rattle.roster_rules.specs.declared.Shift.{Shift}
-use Rattle.roster_rules.specs.declared.Limits.{Limits}
-use Rattle.roster_rules.specs.Counting.{one_if}
+use Rattle.roster_instance.specs.declared.choice.Shift.{Shift}
+use Rattle.roster_instance.specs.declared.rules.Limits.{Limits}
+use Rattle.roster_instance.specs.Counting.{one_if}
 use Rattle.roster_rules.specs.DayLaw.{is_saturday, is_sunday, splits_more, weekends_more}
-use Rattle.roster_rules.specs.Days.{Days, shift_on, is_shift, works, worked_weekends, split_weekends}
+use Rattle.roster_instance.specs.Days.{Days, shift_on, is_shift, works, worked_weekends, split_weekends}
 use Rattle.roster_rules.specs.HardRules.{shift_before}
-use Rattle.roster_rules.specs.Meaning.{Meaning, contract_of, last_shift, past_of, run_of_shift, shift_count}
+use Rattle.roster_instance.specs.Meaning.{Meaning, contract_of, last_shift, past_of, run_of_shift, shift_count}
 use Rattle.roster_rules.specs.Penalties.{extra_cost, free_before, free_run_cost, missing_cost, own_cost, run_cost_of_shift, shift_run_before, shift_run_cost, split_cost, total_of, weekends_cost, weekends_of, worked_before, working_run_cost}
 use Rattle.roster_rules.specs.Prefix.{Summary, due, last_of, last_run_of, shift_run_of, summary_of}
-use Rattle.roster_rules.specs.Sizes.{cap}
-use Rattle.roster_rules.specs.RunLaw.{day_violations}
+use Rattle.roster_instance.specs.Sizes.{cap}
+use Rattle.roster_instance.specs.RunLaw.{day_violations}
 use Rattle.roster_rules.specs.Weights.{assignment_weight, split_weight, weekend_weight}
 use Rattle.roster_rules.proofs.DayMore.{length_more, shift_of_it}
 use Rattle.roster_rules.proofs.RowLaw.{row_grown, row_violations}

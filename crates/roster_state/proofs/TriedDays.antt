@@ -1,7 +1,7 @@
 -- Days that are gone through until one of them breaks a rule.
 use Rattle.std.proofs.Common.{◌≡◌, ◌∙◌, ◌+◌, ◌<◌, ◌⊎◌, ◌&&◌, ℕ, zero, suc, Bool, true, false, ap, ap₂, arith, inl, inr, not, refl, sym}
 use Rattle.std.proofs.lemmas.Bool.{cases_eq}
-use Rattle.roster_rules.specs.Counting.{all_below, count_below, one_if}
+use Rattle.roster_instance.specs.Counting.{all_below, count_below, one_if}
 
 module _ (breaks : ℕ → Bool) where
   abbrev keeps : ℕ → Bool

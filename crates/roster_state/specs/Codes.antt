@@ -1,11 +1,11 @@
 -- The numbers of the states of a nurse's search: a state is a digit of each of its five numbers, with the assignments last.
 -- So states that differ in their assignments alone stand beside one another (our own).
 use Rattle.std.specs.Prelude.{ℕ, ◌+◌, ◌-◌, ◌*◌, ◌/◌, ◌%◌, Bool, ◌&&◌, ◌<◌, ◌≤◌, max, nat_lt, if◌then◌else◌, map, Option, Some, None}
-use Rattle.roster_rules.specs.declared.Shift.{Shift}
-use Rattle.roster_rules.specs.Meaning.{Meaning, contract_of, shift_at, shift_count}
+use Rattle.roster_instance.specs.declared.choice.Shift.{Shift}
+use Rattle.roster_instance.specs.Meaning.{Meaning, contract_of, shift_at, shift_count}
 use Rattle.roster_rules.specs.Prefix.{Summary}
-use Rattle.roster_rules.specs.Limits.{most_shifts, most_small, most_states}
-use Rattle.roster_rules.specs.Sizes.{greatest_of, cap}
+use Rattle.roster_instance.specs.Limits.{most_shifts, most_small, most_states}
+use Rattle.roster_instance.specs.Sizes.{greatest_of, cap}
 
 -- how many values each of the five numbers has
 pub record Sizes : Type 0 where

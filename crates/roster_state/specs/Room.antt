@@ -1,6 +1,6 @@
 -- How much the start, a step and the end can cost, by the greatest small number and the weights.
 use Rattle.std.specs.Prelude.{ℕ, ◌+◌, ◌*◌, max}
-use Rattle.roster_rules.specs.Limits.{most_small}
+use Rattle.roster_instance.specs.Limits.{most_small}
 use Rattle.roster_rules.specs.Weights.{working_run_weight, shift_run_weight, free_run_weight, split_weight, assignment_weight, weekend_weight}
 
 -- the assignments and the worked weekends of the history: 49,950

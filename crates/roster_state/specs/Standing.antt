@@ -1,12 +1,12 @@
 -- States that no row leads to, and that a search may leave out (our own). What tells them depends on the last shift and the two
 -- runs alone.
 use Rattle.std.specs.Prelude.{ℕ, ◌+◌, ◌-◌, ◌==◌, ◌&&◌, ◌||◌, Bool, nat_le, Option, Some, None}
-use Rattle.roster_rules.specs.declared.Border.{Border}
-use Rattle.roster_rules.specs.declared.Border.TheVariants.{Free, Working}
-use Rattle.roster_rules.specs.declared.Shift.{Shift}
-use Rattle.roster_rules.specs.Meaning.{Meaning, contract_of, past_of, run_of_shift}
+use Rattle.roster_instance.specs.declared.rules.Border.{Border}
+use Rattle.roster_instance.specs.declared.rules.Border.TheVariants.{Free, Working}
+use Rattle.roster_instance.specs.declared.choice.Shift.{Shift}
+use Rattle.roster_instance.specs.Meaning.{Meaning, contract_of, past_of, run_of_shift}
 use Rattle.roster_rules.specs.Prefix.{Summary}
-use Rattle.roster_rules.specs.Sizes.{cap}
+use Rattle.roster_instance.specs.Sizes.{cap}
 
 -- how many days more the history counts of its last shift than of working days
 abbrev pub excess : Border → ℕ

@@ -1,17 +1,17 @@
 -- One day more, seen from the summary of the days before it (our own, for the search). Of each run that may be open there
 -- is one number: the summary's where its kind is that of the last day, else 0.
 use Rattle.std.specs.Prelude.{◌≡◌, ℕ, ◌+◌, ◌*◌, ◌<◌, not, true, false, length, min, nat_le, if◌then◌else◌, Option, Some, None, is_some}
-use Rattle.roster_rules.specs.declared.Shift.{Shift}
-use Rattle.roster_rules.specs.declared.Limits.{Limits}
-use Rattle.roster_rules.specs.Counting.{count_below, one_if, sum_below}
+use Rattle.roster_instance.specs.declared.choice.Shift.{Shift}
+use Rattle.roster_instance.specs.declared.rules.Limits.{Limits}
+use Rattle.roster_instance.specs.Counting.{count_below, one_if, sum_below}
 use Rattle.roster_rules.specs.DayLaw.{splits_more, weekends_more}
-use Rattle.roster_rules.specs.Days.{Days, is_shift}
+use Rattle.roster_instance.specs.Days.{Days, is_shift}
 use Rattle.roster_rules.specs.HardRules.{breaks_succession, keeps_successions}
-use Rattle.roster_rules.specs.Meaning.{Meaning, contract_of, forbids, run_of_shift, shift_count}
+use Rattle.roster_instance.specs.Meaning.{Meaning, contract_of, forbids, run_of_shift, shift_count}
 use Rattle.roster_rules.specs.Penalties.{missing_cost}
 use Rattle.roster_rules.specs.Prefix.{Summary}
-use Rattle.roster_rules.specs.Sizes.{cap}
-use Rattle.roster_rules.specs.RunLaw.{day_violations}
+use Rattle.roster_instance.specs.Sizes.{cap}
+use Rattle.roster_instance.specs.RunLaw.{day_violations}
 use Rattle.roster_rules.specs.Weights.{working_run_weight, shift_run_weight, free_run_weight, split_weight, assignment_weight, weekend_weight}
 
 -- ---- the runs that are open

@@ -2,9 +2,9 @@
 -- more (our own).
 use Rattle.std.specs.Prelude.{ℕ, ◌+◌, ◌<◌, ◌≤◌, true, is_some}
 use Rattle.roster_rules.specs.DayLaw.{weekends_more}
-use Rattle.roster_rules.specs.Meaning.{Meaning, contract_of}
+use Rattle.roster_instance.specs.Meaning.{Meaning, contract_of}
 use Rattle.roster_rules.specs.Prefix.{Summary}
-use Rattle.roster_rules.specs.Sizes.{cap}
+use Rattle.roster_instance.specs.Sizes.{cap}
 use Rattle.roster_state.specs.Step.{with_assignments, with_weekends}
 
 -- the state at a row and a place after the first one, where the places begin at so many assignments

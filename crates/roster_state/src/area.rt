@@ -1,7 +1,7 @@
 //! Which states may stand between two days: for each last shift an area, a span of each other number.
 
 ghost use Rattle.std.specs.Prelude.{◌≡◌, ℕ, ◌+◌, ◌<◌, ◌≤◌, false, true, IfSome, List, length, min, if◌then◌else◌};
-ghost use Rattle.roster_rules.specs.Meaning.{day_count, forbids, nurse_count, shift_count};
+ghost use Rattle.roster_instance.specs.Meaning.{day_count, forbids, nurse_count, shift_count};
 ghost use Rattle.roster_rules.specs.Prefix.{Summary};
 ghost use Rattle.roster_state.specs.Areas.{InArea, InSpan, area_at};
 ghost use Rattle.roster_state.specs.Codes.{shift_digit};

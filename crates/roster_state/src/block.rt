@@ -1,8 +1,9 @@
 //! The states that differ in their assignments alone, and one day more from all of them at once.
 
 ghost use Rattle.std.specs.Prelude.{◌≡◌, ◌↔◌, ◌+◌, ◌*◌, ◌<◌, ◌≤◌, ◌&&◌, ◌||◌, ℕ, true, nat_le, IfSome, IsNone, Some, if◌then◌else◌, is_some, option_map};
-ghost use Rattle.roster_rules.specs.Meaning.{contract_of, day_count, forbids, nurse_count, shift_count};
-ghost use Rattle.roster_rules.specs.Sizes.{cap};
+ghost use Rattle.roster_bundle.specs.Limits.{greatest_u64};
+ghost use Rattle.roster_instance.specs.Meaning.{contract_of, day_count, forbids, nurse_count, shift_count};
+ghost use Rattle.roster_instance.specs.Sizes.{cap};
 ghost use Rattle.roster_rules.specs.Weights.{assignment_weight};
 ghost use Rattle.roster_state.specs.Blocks.{place_step};
 ghost use Rattle.roster_state.specs.Codes.{blocks, code_of, fits_sizes, product, shift_digit, shift_numbered, sizes_of, state_at};
@@ -260,7 +261,7 @@ pub fn extend_block(
     requires day { day < day_count case.now }
     requires shift { IfSome shift (λ s. s.0 < shift_count case.now) }
     requires fits { fits_sizes (sizes_of case.now nurse) block ≡ true }
-    requires room { meter.old + (sizes_of case.now nurse).assignments ≤ 18446744073709551615 }
+    requires room { meter.old + (sizes_of case.now nurse).assignments ≤ greatest_u64 }
     ensures counted { meter.new ≡ meter.old + (sizes_of case.now nurse).assignments }
     ensures forbidden { IsNone result ↔ forbids case.now.successions block.last shift ≡ true }
 

@@ -1,6 +1,7 @@
 //! How many extensions a search has made.
 
 ghost use Rattle.std.specs.Prelude.{◌≡◌, ◌+◌, ◌<◌, ◌≤◌};
+ghost use Rattle.roster_bundle.specs.Limits.{greatest_u64};
 
 use roster_rules::Case;
 use std::marker::Model;
@@ -46,14 +47,14 @@ impl Meter {
 
     /// How many can still be counted.
     pub fn room(&self) -> u64
-        ensures { result + self.now ≡ 18446744073709551615 }
+        ensures { result + self.now ≡ greatest_u64 }
     {
         u64::MAX - self.count
     }
 
     /// Counts one extension.
     pub(crate) fn add_one(&mut self)
-        requires { self.old < 18446744073709551615 }
+        requires { self.old < greatest_u64 }
         ensures { self.new ≡ self.old + 1 }
     {
         self.count += 1;
@@ -61,7 +62,7 @@ impl Meter {
 
     /// Counts so many extensions.
     pub(crate) fn add(&mut self, more: u64)
-        requires { self.old + more ≤ 18446744073709551615 }
+        requires { self.old + more ≤ greatest_u64 }
         ensures { self.new ≡ self.old + more }
     {
         self.count += more;

@@ -1,9 +1,9 @@
 //! The ranges of the five numbers of a state.
 
 ghost use Rattle.std.specs.Prelude.{◌≡◌, ◌*◌, ◌<◌, ◌≤◌};
-ghost use Rattle.roster_rules.specs.Limits.{most_states};
-ghost use Rattle.roster_rules.specs.Meaning.{nurse_count};
-ghost use Rattle.roster_rules.specs.Sizes.{state_count};
+ghost use Rattle.roster_instance.specs.Limits.{most_states};
+ghost use Rattle.roster_instance.specs.Meaning.{nurse_count};
+ghost use Rattle.roster_instance.specs.Sizes.{state_count};
 ghost use Rattle.roster_state.specs.Codes.{blocks, product, sizes_of};
 
 use roster_rules::{Case, MAX_STATES};

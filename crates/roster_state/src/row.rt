@@ -1,10 +1,11 @@
 //! A row from day to day: the start, a step for each day and the end add up to what it costs.
 
 ghost use Rattle.std.specs.Prelude.{◌≡◌, ◌+◌, ◌<◌, ◌≤◌, IfSome, IsNone, true, length};
-ghost use Rattle.roster_rules.specs.Choices.{days_of};
-ghost use Rattle.roster_rules.specs.Meaning.{day_count, nurse_count};
+ghost use Rattle.roster_bundle.specs.Limits.{greatest_u64};
+ghost use Rattle.roster_instance.specs.Choices.{days_of};
+ghost use Rattle.roster_instance.specs.Meaning.{day_count, nurse_count};
 ghost use Rattle.roster_rules.specs.Penalties.{own_cost};
-ghost use Rattle.roster_rules.specs.Rosters.{is_row_of};
+ghost use Rattle.roster_instance.specs.Rosters.{is_row_of};
 ghost use Rattle.roster_state.specs.Step.{days_tried, KeepsSuccessions};
 
 use crate::meter::Meter;
@@ -17,7 +18,7 @@ use roster_rules::{Case, Choice};
 pub fn row_cost(case: &Case, nurse: usize, row: &[Choice], meter: &mut Meter) -> Option<u64>
     requires nurse { nurse < nurse_count case.now }
     requires row { is_row_of case.now row.now ≡ true }
-    requires room { meter.old + day_count case.now ≤ 18446744073709551615 }
+    requires room { meter.old + day_count case.now ≤ greatest_u64 }
     ensures cost { IfSome result (λ cost. cost ≡ own_cost case.now nurse (days_of row.now)) }
     ensures kept { IfSome result (λ cost. KeepsSuccessions case.now nurse (days_of row.now)) }
     ensures forbidden { IsNone result → KeepsSuccessions case.now nurse (days_of row.now) → ⊥ }

@@ -1,19 +1,20 @@
 //! One day more: what it costs, and the state after it.
 
 ghost use Rattle.std.specs.Prelude.{◌≡◌, ◌↔◌, ◌+◌, ◌*◌, ◌<◌, ◌≤◌, ◌++◌, ◌∷◌, [], true, false, length, IfSome, IsNone, None, Some, if◌then◌else◌, is_some, min, nat_le, not};
-ghost use Rattle.roster_rules.specs.Days.{Days};
-ghost use Rattle.roster_rules.specs.Meaning.{contract_of, day_count, nurse_count, past_of, run_of_shift, shift_count, forbids};
+ghost use Rattle.roster_bundle.specs.Limits.{greatest_u64};
+ghost use Rattle.roster_instance.specs.Days.{Days};
+ghost use Rattle.roster_instance.specs.Meaning.{contract_of, day_count, nurse_count, past_of, run_of_shift, shift_count, forbids};
 ghost use Rattle.roster_rules.specs.Penalties.{own_cost};
 ghost use Rattle.roster_rules.specs.DayLaw.{splits_more, weekends_more};
-ghost use Rattle.roster_rules.specs.Small.{IsSmallPast};
+ghost use Rattle.roster_instance.specs.Small.{IsSmallPast};
 ghost use Rattle.roster_rules.specs.Prefix.{due, summary_of};
-ghost use Rattle.roster_rules.specs.Sizes.{cap};
+ghost use Rattle.roster_instance.specs.Sizes.{cap};
 ghost use Rattle.roster_state.specs.Codes.{fits_sizes, sizes_of};
 ghost use Rattle.roster_rules.specs.Weights.{assignment_weight, free_run_weight, shift_run_weight, split_weight, weekend_weight, working_run_weight};
 ghost use Rattle.roster_state.specs.Room.{most_at_end, most_at_start, most_of_step};
 ghost use Rattle.roster_state.specs.Standing.{can_be};
 ghost use Rattle.roster_state.specs.Step.{cost_apart, end_cost_of, ended, free_more, free_run, next_of, open_shift_run, shifts_more, split_more, step_of, weekend_more, worked, working_more, working_run};
-ghost use Rattle.roster_rules.specs.RunLaw.{day_violations};
+ghost use Rattle.roster_instance.specs.RunLaw.{day_violations};
 
 use crate::block::{Block, block_step};
 use crate::meter::Meter;
@@ -53,7 +54,7 @@ pub fn extend(
     requires day { day < day_count case.now }
     requires shift { IfSome shift (λ s. s.0 < shift_count case.now) }
     requires fits { fits_sizes (sizes_of case.now nurse) state ≡ true }
-    requires room { meter.old < 18446744073709551615 }
+    requires room { meter.old < greatest_u64 }
     ensures counted { meter.new ≡ meter.old + 1 }
     ensures step { result ≡ step_of case.now nurse day state shift }
     ensures forbidden { IsNone result ↔ forbids case.now.successions state.last shift ≡ true }

@@ -1,9 +1,10 @@
 //! Stretches of states, from which a day is taken at once.
 
 ghost use Rattle.std.specs.Prelude.{◌≡◌, ◌+◌, ◌-◌, ◌*◌, ◌<◌, ◌≤◌, ℕ, true, IfSome, is_some, option_map};
-ghost use Rattle.roster_rules.specs.Meaning.{contract_of, day_count, nurse_count, shift_count};
+ghost use Rattle.roster_bundle.specs.Limits.{greatest_u64};
+ghost use Rattle.roster_instance.specs.Meaning.{contract_of, day_count, nurse_count, shift_count};
 ghost use Rattle.roster_rules.specs.DayLaw.{weekends_more};
-ghost use Rattle.roster_rules.specs.Sizes.{cap};
+ghost use Rattle.roster_instance.specs.Sizes.{cap};
 ghost use Rattle.roster_state.specs.Codes.{fits_sizes, sizes_of};
 ghost use Rattle.roster_state.specs.Room.{most_of_step};
 ghost use Rattle.roster_state.specs.Stretches.{IsAlike, moved_on, stretch_state};
@@ -82,7 +83,7 @@ pub fn extend_stretch(
     requires fits { fits_sizes (sizes_of case.now nurse) stretch.block ≡ true }
     requires places { stretch.from < (sizes_of case.now nurse).assignments }
     requires alike { IsAlike case.now nurse day stretch.block stretch.rows stretch.from stretch.end }
-    requires room { meter.old + stretch.rows * (stretch.end - stretch.from) ≤ 18446744073709551615 }
+    requires room { meter.old + stretch.rows * (stretch.end - stretch.from) ≤ greatest_u64 }
     ensures counted { meter.new ≡ meter.old + stretch.rows * (stretch.end - stretch.from) }
     ensures steps { (i b : ℕ) → i < stretch.rows → b < stretch.end - stretch.from → option_map (moved_on i b) result ≡ step_of case.now nurse day (stretch_state stretch.block stretch.from i b) shift }
     ensures next_fits { IfSome result (λ step. fits_sizes (sizes_of case.now nurse) step.0 ≡ true) }

@@ -1,7 +1,7 @@
 //! One day more from blocks of states, beside one day more from each of their states.
 
 ghost use Rattle.std.specs.Prelude.{◌≡◌, ◌+◌, ◌<◌, ◌≤◌, true, IfSome};
-ghost use Rattle.roster_case.specs.Meaning.{day_count, nurse_count, shift_count};
+ghost use Rattle.roster_instance.specs.Meaning.{day_count, nurse_count, shift_count};
 ghost use Rattle.roster_rules.specs.Weights.{assignment_weight};
 ghost use Rattle.roster_state.specs.Codes.{fits_sizes, sizes_of};
 ghost use Rattle.roster_state.specs.Room.{most_of_step};

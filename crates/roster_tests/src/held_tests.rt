@@ -1,7 +1,7 @@
 //! A held roster, and what its nurses may do.
 
 ghost use Rattle.std.specs.Prelude.{◌≡◌, ◌<◌};
-ghost use Rattle.roster_case.specs.Meaning.{nurse_count};
+ghost use Rattle.roster_instance.specs.Meaning.{nurse_count};
 
 use crate::texts::{big, changed, read};
 use roster_best::{Offer, choices};

@@ -1,7 +1,7 @@
 //! The states of nurses along the rows of worked instances.
 
 ghost use Rattle.std.specs.Prelude.{◌≡◌, true};
-ghost use Rattle.roster_case.specs.Rosters.{fits_case};
+ghost use Rattle.roster_instance.specs.Rosters.{fits_case};
 
 use crate::texts::{MINI, changed, read};
 use roster_case::{Case, Roster, costs};

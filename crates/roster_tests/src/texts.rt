@@ -1,7 +1,7 @@
 //! The instances mini and big, and the case and the roster of a text.
 
 ghost use Rattle.std.specs.Prelude.{◌≡◌, true, IfOk};
-ghost use Rattle.roster_case.specs.Rosters.{fits_case};
+ghost use Rattle.roster_instance.specs.Rosters.{fits_case};
 
 use roster_case::{Case, Roster};
 use roster_text::{parse_bundle, tokens};

@@ -1,5 +1,5 @@
 use Rattle.std.proofs.Common.{◌∙◌, ap}
-use Rattle.roster_instance.specs.declared.Limits.{Limits}
+use Rattle.roster_instance.specs.declared.rules.Limits.{Limits}
 use Rattle.roster_instance.specs.Meaning.{Meaning, minimum, optimum}
 use Rattle.roster_best.proofs.OfferLemmas.{lacking_one_less}
 use Rattle.roster_best.proofs.offer.lacking_with.Goals as goal

@@ -2,7 +2,7 @@ use Rattle.std.proofs.Common.{◌≡◌, ◌*◌, ◌+◌, ◌-◌, ◌≤◌}
 use Rattle.roster_instance.specs.Counting.{sum_below}
 use Rattle.roster_instance.specs.Limits.{most_skills, most_small}
 use Rattle.roster_instance.specs.Meaning.{minimum, optimum, skill_count}
-use Rattle.roster_case.specs.OneRow.{others}
+use Rattle.roster_laws.specs.OneRow.{others}
 use Rattle.roster_best.proofs.offer.lacking_without.Given as goal
 
 abbrev pub invariant-loop-shift : goal.invariant-loop-shift

@@ -1,5 +1,5 @@
 use Rattle.std.proofs.Common.{◌∙◌, List, ap}
-use Rattle.roster_instance.specs.declared.Skill.{Skill}
+use Rattle.roster_instance.specs.declared.choice.Skill.{Skill}
 use Rattle.roster_instance.specs.Meaning.{Meaning, nurse_at}
 use Rattle.roster_rules.specs.HardRules.{is_able}
 use Rattle.roster_rules.specs.Penalties.{request_cost_on}

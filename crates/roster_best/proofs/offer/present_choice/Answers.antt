@@ -1,6 +1,6 @@
 use Rattle.std.proofs.Common.{ap, List, slice_index_or}
-use Rattle.roster_instance.specs.declared.Choice.{Choice}
-use Rattle.roster_instance.specs.declared.Choice.TheVariants.{Off}
+use Rattle.roster_instance.specs.declared.choice.Choice.{Choice}
+use Rattle.roster_instance.specs.declared.choice.Choice.TheVariants.{Off}
 use Rattle.roster_instance.specs.Rosters.{choice_on, row_of}
 use Rattle.roster_search.proofs.OfferLaws.{present_open}
 use Rattle.roster_best.proofs.OfferLemmas.{offer_alone}

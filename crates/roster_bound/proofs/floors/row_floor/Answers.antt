@@ -5,7 +5,7 @@ use Rattle.arrayvec.specs.ArrayVec.{ArrayVec}
 use Rattle.roster_instance.specs.Meaning.{day_count}
 use Rattle.roster_instance.specs.Sizes.{state_count}
 use Rattle.roster_laws.specs.Greatest.{greatest_state_count}
-use Rattle.roster_search.specs.declared.Offer.{Offer}
+use Rattle.roster_search.specs.declared.offer.Offer.{Offer}
 use Rattle.roster_search.specs.Search.{AreOffers, IsFound, best_over, offers_on}
 use Rattle.roster_best.proofs.BestLaws.{states_within}
 use Rattle.roster_bound.specs.Tables.{worths_of}

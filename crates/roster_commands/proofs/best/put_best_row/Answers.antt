@@ -2,10 +2,10 @@ use Rattle.std.proofs.Common.{◌≡◌, ◌∙◌, ◌++◌, ap, codes, subst, 
 use Rattle.std.proofs.lemmas.Result.{err_from_is_err_and}
 use Rattle.roster_text.specs.Io.{Writes}
 use Rattle.roster_text.proofs.Texts.{Writes-append}
-use Rattle.roster_case.specs.AllowedRows.{row_keeps}
+use Rattle.roster_rules.specs.AllowedRows.{row_keeps}
 use Rattle.roster_case.specs.Held.{HeldRoster}
-use Rattle.roster_case.specs.Penalties.{penalty}
-use Rattle.roster_case.specs.Rosters.{Rows, with_row}
+use Rattle.roster_rules.specs.Penalties.{penalty}
+use Rattle.roster_instance.specs.Rosters.{Rows, with_row}
 use Rattle.roster_commands.specs.Answer.{StopsSearch, with_best}
 use Rattle.roster_commands.specs.Lines.{report_line}
 use Rattle.roster_commands.proofs.BestLemmas.{best_put, stops_before, stops_after, total_put}

@@ -2,9 +2,9 @@ use Rattle.std.proofs.Common.{◌≡◌, ◌∙◌, [], ap, refl, subst, Err, Ok
 use Rattle.std.proofs.lemmas.Result.{err_from_is_err_and}
 use Rattle.roster_text.specs.Io.{Stops, Writes}
 use Rattle.roster_case.specs.Held.{HeldRoster}
-use Rattle.roster_case.specs.HardRules.{hard_faults}
-use Rattle.roster_case.specs.Meaning.{Meaning}
-use Rattle.roster_case.specs.Penalties.{penalty}
+use Rattle.roster_rules.specs.HardRules.{hard_faults}
+use Rattle.roster_instance.specs.Meaning.{Meaning}
+use Rattle.roster_rules.specs.Penalties.{penalty}
 use Rattle.roster_bound.specs.Floors.{RaisesFloor}
 use Rattle.roster_commands.specs.Answer.{IsUnheld, Output, StopsFloors}
 use Rattle.roster_commands.specs.Lines.{bound_text}

@@ -1,5 +1,5 @@
 use Rattle.std.proofs.lemmas.Result.{err_from_is_err_and}
-use Rattle.roster_text.specs.Token.{all_seen, tokens_of}
+use Rattle.roster_bundle.specs.Token.{all_seen, tokens_of}
 use Rattle.roster_text.proofs.SmallNumbers.{small_numbers}
 use Rattle.roster_commands.proofs.AnswerLemmas.{as_many_solutions, first_of_roster}
 use Rattle.roster_commands.proofs.reading.roster_of.Goals as goal

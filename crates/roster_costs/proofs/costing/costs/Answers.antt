@@ -1,7 +1,7 @@
 use Rattle.std.proofs.Common.{◌≤◌, ◌<◌, arith, subst, sym}
 use Rattle.roster_rules.specs.Penalties.{costs_of, total_cost}
 use Rattle.roster_rules.specs.Room.{most_staffing, penalty_room}
-use Rattle.roster_rules.specs.declared.Costs.{Costs}
+use Rattle.roster_rules.specs.declared.penalties.Costs.{Costs}
 use Rattle.roster_rules.proofs.Bounds.{penalty-within, staffing_cost-within}
 use Rattle.roster_costs.proofs.costing.costs.Goals as goal
 

@@ -1,7 +1,7 @@
 use Rattle.std.proofs.Common.{◌∙◌, ap₂, arith, sym}
 use Rattle.roster_instance.specs.Meaning.{last_shift, past_of, forbids}
 use Rattle.roster_instance.specs.Rosters.{days_of_nurse}
-use Rattle.roster_rules.specs.declared.HardFault.TheVariants.{H3}
+use Rattle.roster_rules.specs.declared.fault.HardFault.TheVariants.{H3}
 use Rattle.roster_rules.proofs.HardLemmas.{below_first, below_more, first_where, none_where, shift_before_more, shift_on_row}
 use Rattle.roster_costs.proofs.hard.succession_of.Goals as goal
 

@@ -2,7 +2,7 @@ use Rattle.std.proofs.Common.{◌≡◌, ◌∙◌, ℕ, List, ap, arith, sym}
 use Rattle.roster_instance.specs.Faults.{below, first_fault}
 use Rattle.roster_instance.specs.Meaning.{skill_count}
 use Rattle.roster_rules.specs.HardRules.{staffing_fault}
-use Rattle.roster_rules.specs.declared.HardFault.{HardFault}
+use Rattle.roster_rules.specs.declared.fault.HardFault.{HardFault}
 use Rattle.roster_rules.proofs.HardLemmas.{below_first, below_more}
 use Rattle.roster_costs.proofs.CoverLemmas.{fault_by_table}
 use Rattle.roster_costs.proofs.hard.understaffed_on.Goals as goal

@@ -2,7 +2,7 @@ use Rattle.std.proofs.Common.{◌≡◌, ◌∙◌, ap, ap₂, arith, not, sym, 
 use Rattle.roster_rules.specs.HardRules.{is_able}
 use Rattle.roster_instance.specs.Meaning.{nurse_at}
 use Rattle.roster_instance.specs.Rosters.{choice_on, row_of}
-use Rattle.roster_rules.specs.declared.HardFault.TheVariants.{H4}
+use Rattle.roster_rules.specs.declared.fault.HardFault.TheVariants.{H4}
 use Rattle.roster_rules.proofs.HardLemmas.{below_first, first_where}
 use Rattle.roster_costs.proofs.hard.unskilled_of.Goals as goal
 

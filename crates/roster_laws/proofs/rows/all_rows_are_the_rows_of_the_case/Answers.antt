@@ -1,5 +1,5 @@
-use Rattle.roster_rules.specs.Choices.{all_choices}
-use Rattle.roster_rules.specs.Meaning.{day_count}
+use Rattle.roster_instance.specs.Choices.{all_choices}
+use Rattle.roster_instance.specs.Meaning.{day_count}
 use Rattle.roster_laws.proofs.AllRows.{count-all_rows, member_is_row, row_is_member}
 use Rattle.roster_laws.proofs.InOrder.{rows_in_order}
 use Rattle.roster_laws.proofs.rows.all_rows_are_the_rows_of_the_case.Goals as goal

@@ -1,5 +1,5 @@
 use Rattle.std.proofs.Common.{◌∙◌}
-use Rattle.roster_text.specs.declared.Nurse.{Nurse}
+use Rattle.roster_bundle.specs.declared.bundle.Nurse.{Nurse}
 use Rattle.roster_reports.proofs.NameLemmas.{name_found}
 use Rattle.roster_reports.proofs.names.nurse_name.Goals as goal
 

@@ -1,5 +1,5 @@
 use Rattle.std.proofs.Common.{◌∙◌}
-use Rattle.roster_text.specs.declared.ShiftType.{ShiftType}
+use Rattle.roster_bundle.specs.declared.bundle.ShiftType.{ShiftType}
 use Rattle.roster_reports.proofs.NameLemmas.{name_found}
 use Rattle.roster_reports.proofs.names.shift_name.Goals as goal
 

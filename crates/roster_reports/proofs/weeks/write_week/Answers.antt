@@ -1,5 +1,5 @@
 use Rattle.std.proofs.Common.{[], ap, codes, cond, nat_lt, sym, subst, lt-ltb, le-ltb}
-use Rattle.roster_text.specs.Canonical.{canonical}
+use Rattle.roster_bundle.specs.Canonical.{canonical}
 use Rattle.roster_text.specs.Io.{Writes}
 use Rattle.roster_text.proofs.Texts.{Writes-nil}
 use Rattle.roster_case.specs.Shown.{WeekOf, shown_week}

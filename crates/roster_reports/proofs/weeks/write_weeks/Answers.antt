@@ -1,7 +1,7 @@
 use Rattle.std.proofs.Common.{◌≡◌, ◌∙◌, ap, arith, subst, sym}
 use Rattle.roster_text.specs.Io.{Stops, Writes}
 use Rattle.roster_text.proofs.Texts.{Stops-after, Stops-append, Writes-append}
-use Rattle.roster_case.specs.Meaning.{week_count}
+use Rattle.roster_instance.specs.Meaning.{week_count}
 use Rattle.roster_reports.proofs.WeekLemmas.{OnErr-always, front_text, front_text-all, front_text-front, front_text-more, week_piece}
 use Rattle.roster_reports.proofs.weeks.write_weeks.Goals as goal
 

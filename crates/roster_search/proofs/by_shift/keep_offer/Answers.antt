@@ -1,5 +1,5 @@
 use Rattle.std.proofs.Common.{◌∙◌, arith, sym}
-use Rattle.roster_instance.specs.declared.Choice.TheVariants.{Off}
+use Rattle.roster_instance.specs.declared.choice.Choice.TheVariants.{Off}
 use Rattle.roster_search.specs.declared.offer.Offer.{Offer}
 use Rattle.roster_search.proofs.ByShift.{begun, kept_both, kept_last, kept_next, one_room, two_room}
 use Rattle.roster_search.proofs.by_shift.keep_offer.Goals as goal

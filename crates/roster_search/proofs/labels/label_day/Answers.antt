@@ -1,7 +1,7 @@
 use Rattle.std.proofs.Common.{◌≡◌, ◌∙◌, ◌+◌, ◌-◌, ◌*◌, ◌<◌, ◌≤◌, ℕ, suc, ap, arith, inl, inr, List, length, min, refl, subst, sym, true}
-use Rattle.roster_rules.specs.Counting.{sum_below}
+use Rattle.roster_instance.specs.Counting.{sum_below}
 use Rattle.roster_rules.specs.Prefix.{Summary}
-use Rattle.roster_state.specs.declared.Area.{Area}
+use Rattle.roster_state.specs.declared.area.Area.{Area}
 use Rattle.roster_state.specs.Areas.{InSpan, area_at}
 use Rattle.roster_state.specs.Codes.{Sizes, code_of, fits_sizes, product, shift_digit, sizes_of}
 use Rattle.roster_search.specs.Counts.{group_of, states_of_last, states_of_run, states_with}

@@ -1,5 +1,5 @@
 use Rattle.std.proofs.Common.{◌≡◌, ◌+◌, ◌-◌, ◌*◌, ◌≤◌, length}
-use Rattle.roster_rules.specs.Counting.{sum_below}
+use Rattle.roster_instance.specs.Counting.{sum_below}
 use Rattle.roster_state.specs.Areas.{area_at}
 use Rattle.roster_search.specs.Counts.{group_of, states_of_last, states_of_run, states_with}
 use Rattle.roster_search.proofs.DayLaws.{DayDone, group_key, group_number}

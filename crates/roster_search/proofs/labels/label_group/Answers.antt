@@ -1,9 +1,9 @@
 use Rattle.std.proofs.Common.{◌≡◌, ◌∙◌, ◌+◌, ◌-◌, ◌*◌, ◌<◌, ◌≤◌, ℕ, ap, arith, false, is_some, List, length, min, mul_comm, refl, slice_index_or, subst, sym, true}
 use Rattle.std.proofs.lemmas.Nat.{mul-le}
 use Rattle.roster_rules.specs.DayLaw.{weekends_more}
-use Rattle.roster_rules.specs.Meaning.{contract_of}
+use Rattle.roster_instance.specs.Meaning.{contract_of}
 use Rattle.roster_rules.specs.Prefix.{Summary}
-use Rattle.roster_state.specs.declared.Area.{Area}
+use Rattle.roster_state.specs.declared.area.Area.{Area}
 use Rattle.roster_state.specs.Areas.{InSpan, area_at}
 use Rattle.roster_state.specs.Codes.{Sizes, code_of, fits_sizes, product, shift_digit, sizes_of}
 use Rattle.roster_state.specs.Standing.{can_be}

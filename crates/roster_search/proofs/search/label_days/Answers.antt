@@ -4,7 +4,7 @@ use Rattle.std.proofs.lemmas.List.{with_items_is}
 use Rattle.std.proofs.lemmas.Nat.{mul-le}
 use Rattle.roster_instance.specs.Meaning.{day_count}
 use Rattle.roster_instance.specs.Sizes.{choice_count}
-use Rattle.roster_rules.specs.Counting.{sum_below}
+use Rattle.roster_instance.specs.Counting.{sum_below}
 use Rattle.roster_state.specs.Codes.{Sizes, product}
 use Rattle.roster_lanes.specs.Lanes.{SameOutside}
 use Rattle.roster_search.specs.Tables.{AreLabels, best_at_end}

@@ -1,7 +1,7 @@
 use Rattle.std.proofs.Common.{◌≡◌, ◌+◌, ◌*◌, ◌≤◌, length}
 use Rattle.roster_instance.specs.Meaning.{day_count}
 use Rattle.roster_instance.specs.Sizes.{choice_count}
-use Rattle.roster_rules.specs.Counting.{sum_below}
+use Rattle.roster_instance.specs.Counting.{sum_below}
 use Rattle.roster_state.specs.Codes.{product}
 use Rattle.roster_search.specs.Tables.{AreLabels}
 use Rattle.roster_search.specs.Search.{PointersFrom, areas_on, offers_on, onward, steps_on}

@@ -2,8 +2,8 @@ use Rattle.std.proofs.Common.{◌<◌, arith, slice_index_or, subst, sym, take, 
 use Rattle.std.proofs.lemmas.List.{take_all}
 use Rattle.std.proofs.lemmas.List.Elements.{All-get_or, All-more}
 use Rattle.std.specs.List.{All}
-use Rattle.roster_rules.specs.declared.Shift.{Shift}
-use Rattle.roster_rules.specs.Meaning.{shift_count}
+use Rattle.roster_instance.specs.declared.choice.Shift.{Shift}
+use Rattle.roster_instance.specs.Meaning.{shift_count}
 use Rattle.roster_search.specs.Tables.{IsOfferOf, LeadsOn}
 use Rattle.roster_search.proofs.LabelLaws.{shift_of_case}
 use Rattle.roster_search.proofs.StandLaws.{leads_by, leads_kept, no_offer}

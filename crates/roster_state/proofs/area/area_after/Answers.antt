@@ -1,11 +1,11 @@
 use Rattle.std.proofs.Common.{◌≡◌, ◌∙◌, ◌+◌, ap, ap₂, min, refl, sym, subst, is_some, Bool, true, false, Option}
 use mir.Val.{bool_byte}
-use Rattle.roster_rules.specs.declared.ContractRules.{ContractRules}
-use Rattle.roster_rules.specs.declared.Shift.{Shift}
-use Rattle.roster_rules.specs.Counting.{one_if}
+use Rattle.roster_instance.specs.declared.rules.ContractRules.{ContractRules}
+use Rattle.roster_instance.specs.declared.choice.Shift.{Shift}
+use Rattle.roster_instance.specs.Counting.{one_if}
 use Rattle.roster_rules.specs.DayLaw.{weekends_more}
-use Rattle.roster_rules.specs.Meaning.{contract_of}
-use Rattle.roster_rules.specs.Sizes.{cap}
+use Rattle.roster_instance.specs.Meaning.{contract_of}
+use Rattle.roster_instance.specs.Sizes.{cap}
 use Rattle.roster_state.specs.Areas.{InSpan}
 use Rattle.roster_state.specs.Step.{next_of}
 use Rattle.roster_state.proofs.area.area_after.Goals as goal

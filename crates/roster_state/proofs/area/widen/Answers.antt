@@ -1,6 +1,6 @@
 use Rattle.std.proofs.Common.{◌≡◌, ◌∙◌, ◌<◌, arith, false, inl, inr, length, subst, sym}
 use Rattle.std.proofs.lemmas.Bool.{cases_lt}
-use Rattle.roster_rules.specs.Meaning.{forbids}
+use Rattle.roster_instance.specs.Meaning.{forbids}
 use Rattle.roster_state.specs.Areas.{InArea, area_at}
 use Rattle.roster_state.specs.Codes.{shift_digit}
 use Rattle.roster_state.specs.Step.{next_of}

@@ -1,5 +1,5 @@
 use Rattle.std.proofs.Common.{◌≡◌, ◌<◌, false}
-use Rattle.roster_rules.specs.Meaning.{forbids}
+use Rattle.roster_instance.specs.Meaning.{forbids}
 use Rattle.roster_rules.specs.Prefix.{Summary}
 use Rattle.roster_state.specs.Areas.{InArea, area_at}
 use Rattle.roster_state.specs.Codes.{shift_digit}

@@ -1,8 +1,8 @@
 use Rattle.std.proofs.Common.{◌≡◌, ◌∙◌, ◌+◌, ap, false, if◌then◌else◌, is_some, sym}
-use Rattle.roster_rules.specs.declared.ContractRules.{ContractRules}
-use Rattle.roster_rules.specs.Meaning.{forbids}
+use Rattle.roster_instance.specs.declared.rules.ContractRules.{ContractRules}
+use Rattle.roster_instance.specs.Meaning.{forbids}
 use Rattle.roster_rules.specs.Prefix.{Summary}
-use Rattle.roster_rules.specs.Sizes.{cap}
+use Rattle.roster_instance.specs.Sizes.{cap}
 use Rattle.roster_state.specs.declared.block.Block.TheInside.{Inside}
 use Rattle.roster_state.specs.Step.{next_of, step_of, with_assignments}
 use Rattle.roster_state.proofs.BlockLaw.{block_fits, dearer, places_step}

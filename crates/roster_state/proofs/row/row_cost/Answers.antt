@@ -2,12 +2,12 @@ use Rattle.std.proofs.Common.{◌≡◌, ◌∙◌, ◌+◌, ◌<◌, Bool, ℕ,
 use Rattle.std.proofs.lemmas.Bool.{and_parts, eqb-true}
 use Rattle.std.proofs.lemmas.List.{length-map}
 use Rattle.std.specs.List.{list_all}
-use Rattle.roster_rules.specs.Choices.{days_of, shift_of}
-use Rattle.roster_rules.specs.Days.{shift_on}
+use Rattle.roster_instance.specs.Choices.{days_of, shift_of}
+use Rattle.roster_instance.specs.Days.{shift_on}
 use Rattle.roster_rules.specs.HardRules.{breaks_succession, shift_before}
-use Rattle.roster_rules.specs.Meaning.{Meaning, day_count, last_shift, past_of, forbids}
+use Rattle.roster_instance.specs.Meaning.{Meaning, day_count, last_shift, past_of, forbids}
 use Rattle.roster_rules.specs.Prefix.{due, summary_of}
-use Rattle.roster_rules.specs.Rosters.{Row, is_choice_of, is_row_of}
+use Rattle.roster_instance.specs.Rosters.{Row, is_choice_of, is_row_of}
 use Rattle.roster_state.proofs.RowLemmas.{forbidden_by, front, front_more, kept_more, length_front, not_both}
 use Rattle.roster_state.proofs.TriedDays.{tried-all, tried-up_to}
 use Rattle.roster_state.proofs.row.row_cost.Goals as goal

@@ -1,8 +1,8 @@
 use Rattle.std.proofs.Common.{◌≡◌, ◌+◌, ◌*◌, ◌<◌, ◌≤◌, false, true, ℕ, take}
-use Rattle.roster_rules.specs.Choices.{days_of}
-use Rattle.roster_rules.specs.Days.{shift_on}
+use Rattle.roster_instance.specs.Choices.{days_of}
+use Rattle.roster_instance.specs.Days.{shift_on}
 use Rattle.roster_rules.specs.HardRules.{shift_before}
-use Rattle.roster_rules.specs.Meaning.{last_shift, past_of, forbids}
+use Rattle.roster_instance.specs.Meaning.{last_shift, past_of, forbids}
 use Rattle.roster_rules.specs.Prefix.{due, summary_of}
 use Rattle.roster_state.specs.Codes.{fits_sizes, sizes_of}
 use Rattle.roster_state.specs.Room.{most_at_start, most_of_step}

@@ -1,7 +1,7 @@
 use Rattle.std.proofs.Common.{◌≡◌, ◌∙◌, ◌+◌, ◌*◌, ap, arith, if◌then◌else◌, is_some, nat_le, not}
-use Rattle.roster_rules.specs.declared.ContractRules.{ContractRules}
+use Rattle.roster_instance.specs.declared.rules.ContractRules.{ContractRules}
 use Rattle.roster_rules.specs.DayLaw.{splits_more, weekends_more}
-use Rattle.roster_rules.specs.RunLaw.{day_violations}
+use Rattle.roster_instance.specs.RunLaw.{day_violations}
 use Rattle.roster_rules.specs.Weights.{free_run_weight, split_weight, weekend_weight, working_run_weight}
 use Rattle.roster_state.specs.Step.{free_more, free_run, split_more, weekend_more, working_more, working_run}
 use Rattle.roster_state.proofs.BlockLaw.{apart_within}

@@ -1,6 +1,6 @@
 use Rattle.std.proofs.Common.{◌≡◌, ◌+◌, ◌++◌, ◌∷◌, [], ℕ, Option, length, refl}
-use Rattle.roster_rules.specs.Days.{Days}
-use Rattle.roster_rules.specs.Meaning.{forbids}
+use Rattle.roster_instance.specs.Days.{Days}
+use Rattle.roster_instance.specs.Meaning.{forbids}
 use Rattle.roster_rules.specs.Prefix.{Summary, due, summary_of}
 use Rattle.roster_state.specs.Step.{next_of, step_cost, step_of}
 use Rattle.roster_state.proofs.BlockLaw.{where_some}

@@ -1,7 +1,7 @@
 use Rattle.std.proofs.Common.{◌≡◌, ◌<◌, [], IfSome, subst, sym, true}
-use Rattle.roster_rules.specs.declared.Shift.{Shift}
-use Rattle.roster_rules.specs.declared.Past.{Past}
-use Rattle.roster_rules.specs.Meaning.{last_shift, shift_count}
+use Rattle.roster_instance.specs.declared.choice.Shift.{Shift}
+use Rattle.roster_instance.specs.declared.rules.Past.{Past}
+use Rattle.roster_instance.specs.Meaning.{last_shift, shift_count}
 use Rattle.roster_rules.specs.Prefix.{Summary}
 use Rattle.roster_state.specs.Codes.{fits_sizes, sizes_of}
 use Rattle.roster_state.specs.Standing.{can_be}

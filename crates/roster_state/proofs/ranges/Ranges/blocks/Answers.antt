@@ -1,5 +1,5 @@
 use Rattle.std.proofs.Common.{◌*◌, ◌≤◌, arith, mul-pos, mul_right_comm, subst}
-use Rattle.roster_rules.specs.Limits.{most_states}
+use Rattle.roster_instance.specs.Limits.{most_states}
 use Rattle.roster_state.specs.Codes.{Sizes, product}
 use Rattle.roster_state.proofs.CodeLemmas.{factor-within}
 use Rattle.roster_state.proofs.ranges.Ranges.blocks.Goals as goal

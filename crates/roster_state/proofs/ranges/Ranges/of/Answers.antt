@@ -1,6 +1,6 @@
 use Rattle.std.proofs.Common.{◌≡◌, ◌+◌, ◌≤◌, arith, max, rules, subst, sym}
-use Rattle.roster_rules.specs.Limits.{most_states}
-use Rattle.roster_rules.specs.Sizes.{state_count}
+use Rattle.roster_instance.specs.Limits.{most_states}
+use Rattle.roster_instance.specs.Sizes.{state_count}
 use Rattle.roster_state.specs.Codes.{Sizes, product, sizes_of}
 use Rattle.roster_state.proofs.CodeLemmas.{product-is_state_count}
 use Rattle.roster_state.proofs.ranges.Ranges.of.Goals as goal

@@ -1,5 +1,5 @@
 use Rattle.std.proofs.Common.{◌*◌, arith}
-use Rattle.roster_rules.specs.Limits.{most_states}
+use Rattle.roster_instance.specs.Limits.{most_states}
 use Rattle.roster_state.proofs.CodeLemmas.{factor-within, product-some}
 use Rattle.roster_state.proofs.ranges.Ranges.product.Goals as goal
 
