@@ -1,5 +1,5 @@
 -- A run that raises a floor: the lines so far are sent.
-use Rattle.std.proofs.Common.{◌≡◌, ◌∙◌, ◌+◌, ◌<◌, ◌≤◌, ℕ, All, List, [], ◌∷◌, ◌++◌, Option, ap, append_assoc, append-nil, arith, codes, flat_map, length, refl, subst, sym, zero-add}
+use Rattle.std.proofs.Common.{◌≡◌, ◌∙◌, ◌+◌, ◌<◌, ◌≤◌, ℕ, List, [], ◌∷◌, ◌++◌, Option, ap, append_assoc, append-nil, arith, codes, flat_map, length, refl, subst, sym, zero-add}
 use Rattle.std.proofs.lemmas.List.Concat.{flat_map-append}
 use Rattle.std.proofs.lemmas.List.Elements.{All-append, All-cons, All-nil}
 use Rattle.roster_text.specs.declared.fault.WriteFault.{WriteFault}

@@ -1,16 +1,15 @@
 -- The least that a nurse costs is what the search finds.
-use Rattle.std.proofs.Common.{◌≡◌, ◌∙◌, ◌+◌, ◌-◌, ◌*◌, ◌<◌, ◌≤◌, ◌&&◌, ℕ, Bool, true, false, not, ap, arith, refl, subst, sym, List, [], ◌∷◌, length, Contains, IsSome, Option, Some, None, if◌then◌else◌}
+use Rattle.std.proofs.Common.{◌≡◌, ◌∙◌, ◌+◌, ◌<◌, ◌≤◌, ◌&&◌, ℕ, Bool, true, false, not, ap, arith, refl, subst, sym, List, [], ◌∷◌, length, Contains, IsSome, Option, Some, None, if◌then◌else◌}
 use Rattle.std.specs.Prelude.{option_map}
 use Rattle.std.specs.List.{All, filter}
 use Rattle.std.specs.Option.{option_map_or}
-use Rattle.std.proofs.lemmas.Bool.{and_from, and_parts, true≢false}
+use Rattle.std.proofs.lemmas.Bool.{and_parts, true≢false}
 use Rattle.std.proofs.lemmas.List.{length-map}
 use Rattle.std.proofs.lemmas.List.Elements.{All-contains_itself, All-filter, All-map, All-weaker}
 use Rattle.arrayvec.specs.ArrayVec.{ArrayVec}
 use Rattle.roster_instance.specs.declared.choice.Choice.{Choice}
 use Rattle.roster_rules.specs.AllowedRows.{first_least, keeps_frozen_day, keeps_frozen_days}
 use Rattle.roster_instance.specs.Choices.{all_choices, all_rows, days_of, shift_of}
-use Rattle.roster_instance.specs.Counting.{all_below}
 use Rattle.roster_rules.specs.HardRules.{breaks_succession, is_able, is_able_on, keeps_hard}
 use Rattle.roster_instance.specs.Meaning.{Meaning, day_count, nurse_at, nurse_count}
 use Rattle.roster_rules.specs.Penalties.{breaks_off_request, meets_wishes}
@@ -19,12 +18,12 @@ use Rattle.roster_instance.specs.Rosters.{Row, Rows, choice_on, fits_case, row_o
 use Rattle.roster_rules.specs.Weights.{off_request_weight, wish_weight}
 use Rattle.roster_rules.proofs.RosterFacts.{row-length, row_fits}
 use Rattle.roster_laws.proofs.AllRows.{choice_is_member, member_is_choice, row_is_member}
-use Rattle.roster_laws.proofs.Allowed.{member_is_kept, present_stays}
+use Rattle.roster_laws.proofs.Allowed.{member_is_kept}
 use Rattle.roster_laws.proofs.Below.{all_both, all_elim, all_same}
 use Rattle.roster_laws.proofs.Frozen.{stays_self}
 use Rattle.roster_search.specs.declared.offer.Offer.{Offer}
 use Rattle.roster_search.specs.Cheapest.{Priced, raised}
-use Rattle.roster_search.specs.Offers.{best_of_offers, choices_of, offer_at, offered_row_by, offers_by}
+use Rattle.roster_search.specs.Offers.{choices_of, offer_at, offered_row_by}
 use Rattle.roster_search.specs.Search.{AreDayOffers, AreOffers, IsFound, best_over, offers_on}
 use Rattle.roster_search.specs.Tables.{IsOfferOf, most_price}
 use Rattle.roster_search.proofs.ByOffers.{found_by_offers}
@@ -33,7 +32,7 @@ use Rattle.roster_search.proofs.Cheapest.{cost_or, thing_or}
 use Rattle.roster_search.proofs.OfferLaws.{offers_few_of, present_of_case}
 use Rattle.roster_search.proofs.SearchLaws.{best_over_same}
 use Rattle.roster_bound.specs.Days.{AreWorthOffers, can_do, offers_by_worth, shift_offers_by_worth}
-use Rattle.roster_bound.specs.Worths.{PlaceWorths, can_work, earned, floor_row, most_worth, own_rows, price_by, row_cost_by, row_floor}
+use Rattle.roster_bound.specs.Worths.{PlaceWorths, can_work, floor_row, own_rows, price_by, row_cost_by, row_floor}
 use Rattle.roster_bound.proofs.Duality.{worked}
 
 -- a choice is one that the nurse is able to do, may follow, and stays

@@ -1,7 +1,7 @@
 -- The log of a run that raises a floor, and a run whose log a writer took, or on which it stopped (our own).
-use Rattle.std.specs.Prelude.{◌≡◌, ℕ, ◌*◌, ◌<◌, ◌≤◌, All, List, [], ◌∷◌, ◌++◌, codes, decimal, flat_map, length, Option}
+use Rattle.std.specs.Prelude.{◌≡◌, ℕ, ◌<◌, ◌≤◌, All, List, [], ◌∷◌, ◌++◌, codes, decimal, flat_map, Option}
 use Rattle.roster_text.specs.Io.{StopsAt, Watched, Writes, saturated}
-use Rattle.roster_instance.specs.Meaning.{Meaning, day_count}
+use Rattle.roster_instance.specs.Meaning.{Meaning}
 use Rattle.roster_instance.specs.Rosters.{Rows}
 use Rattle.roster_rules.specs.Penalties.{penalty}
 use Rattle.roster_rounds.specs.RunLogs.{line}

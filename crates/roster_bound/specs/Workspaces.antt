@@ -1,5 +1,5 @@
 -- What a run that raises a floor has room for.
-use Rattle.std.specs.Prelude.{◌≡◌, ◌*◌, ◌≤◌, length}
+use Rattle.std.specs.Prelude.{◌≡◌, ◌*◌, length}
 use Rattle.roster_instance.specs.Meaning.{Meaning, day_count}
 use Rattle.roster_laws.specs.Greatest.{greatest_state_count}
 use Rattle.roster_bound.specs.declared.workspace.FloorWorkspace.{FloorWorkspace}

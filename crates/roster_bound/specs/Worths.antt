@@ -1,7 +1,7 @@
 -- A floor under the penalty of every roster. A place is a day, a shift and a skill. It pays its worth to each nurse that works there:
 -- what the places pay is what the nurses earn, so that pay changes no penalty. But then each place and each nurse has a least cost of
 -- its own, and no roster costs less than all of these together (our own, by weak duality).
-use Rattle.std.specs.Prelude.{◌≡◌, ℕ, ◌+◌, ◌-◌, ◌*◌, ◌/◌, ◌≤◌, min, max, Bool, true, ◌&&◌, List, length, filter, Option, slice_index_or}
+use Rattle.std.specs.Prelude.{◌≡◌, ℕ, ◌+◌, ◌-◌, ◌*◌, ◌/◌, ◌≤◌, min, max, Bool, true, ◌&&◌, List, length, filter, Option}
 use Rattle.std.specs.Option.{option_map_or}
 use Rattle.roster_instance.specs.declared.choice.Choice.{Choice}
 use Rattle.roster_instance.specs.declared.choice.Choice.TheVariants.{Off, Work}

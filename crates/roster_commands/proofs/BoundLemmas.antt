@@ -1,8 +1,8 @@
 -- How `bound` ends: whatever floors were found, they are floors.
-use Rattle.std.proofs.Common.{◌≡◌, ◌∙◌, ◌++◌, [], ◌∷◌, ◌≤◌, ℕ, All, Err, List, Ok, Option, Result, Some, ap, arith, codes, refl, subst, sym, true}
-use Rattle.std.specs.Prelude.{IfErr, OnOk, decimal}
+use Rattle.std.proofs.Common.{◌≡◌, [], ◌∷◌, ℕ, All, Err, List, Ok, Result, Some, arith, refl, subst}
+use Rattle.std.specs.Prelude.{IfErr, OnOk}
 use Rattle.std.proofs.lemmas.List.Elements.{All-head, All-tail}
-use Rattle.roster_text.specs.Io.{Stops, Watched, Writes}
+use Rattle.roster_text.specs.Io.{Stops, Writes}
 use Rattle.roster_bundle.specs.declared.bundle.Bundle.{Bundle}
 use Rattle.roster_rules.specs.HardRules.{hard_faults}
 use Rattle.roster_instance.specs.Meaning.{Meaning}
@@ -10,7 +10,7 @@ use Rattle.roster_rules.specs.Penalties.{penalty}
 use Rattle.roster_instance.specs.Rosters.{Rows}
 use Rattle.roster_bound.specs.Floors.{FloorLine, IsFloorLog, RaisesFloor, floor_text, last_line, no_line}
 use Rattle.roster_bound.specs.Worths.{IsLowerBound}
-use Rattle.roster_commands.specs.Answer.{Ends, IsBoundReport, IsUnheld, Output, Report, Reports, StopsFloors, StopsOutput, Untouched, bound_report, outcome_of}
+use Rattle.roster_commands.specs.Answer.{IsBoundReport, IsUnheld, Output, Reports, StopsFloors, StopsOutput, Untouched, bound_report, outcome_of}
 use Rattle.roster_commands.specs.Lines.{Text, bound_text}
 use Rattle.roster_commands.specs.declared.fault.Fault.{Fault}
 use Rattle.roster_commands.specs.declared.fault.Fault.TheVariants as fault

@@ -1,11 +1,10 @@
-use Rattle.std.proofs.Common.{◌≡◌, ◌∙◌, ◌+◌, ◌-◌, ◌*◌, ◌<◌, ap, arith, refl, subst, sym}
+use Rattle.std.proofs.Common.{◌≡◌, ◌∙◌, ◌+◌, ◌-◌, ◌<◌, ap, arith, refl, subst, sym}
 use Rattle.roster_instance.specs.Counting.{sum_below}
-use Rattle.roster_instance.specs.Meaning.{day_count, nurse_count}
+use Rattle.roster_instance.specs.Meaning.{nurse_count}
 use Rattle.roster_rules.proofs.CountLemmas.{sum_more}
-use Rattle.roster_laws.specs.Greatest.{greatest_extension_count}
 use Rattle.roster_laws.proofs.Frozen.{stays_self}
 use Rattle.roster_bound.specs.Tables.{worths_of}
-use Rattle.roster_bound.specs.Worths.{IsLowerBound, bound_by, most_worth, places_floor, rounded_up, row_floor}
+use Rattle.roster_bound.specs.Worths.{IsLowerBound, bound_by, places_floor, rounded_up, row_floor}
 use Rattle.roster_bound.proofs.Counted.{counted_more, has_room}
 use Rattle.roster_bound.proofs.Duality.{no_roster_below}
 use Rattle.roster_bound.proofs.floors.lower_bound.Goals as goal

@@ -1,4 +1,4 @@
-use Rattle.std.proofs.Common.{◌≡◌, ◌∙◌, ◌+◌, List, Some, ap, arith, mul_comm, subst, sym, take, IsSome}
+use Rattle.std.proofs.Common.{◌∙◌, ◌+◌, List, Some, ap, arith, mul_comm, subst, sym, take, IsSome}
 use Rattle.std.proofs.lemmas.List.{with_items_is}
 use Rattle.std.proofs.lemmas.Nat.{mul-le}
 use Rattle.arrayvec.specs.ArrayVec.{ArrayVec}

@@ -1,7 +1,7 @@
-use Rattle.std.proofs.Common.{◌≡◌, ◌∙◌, ◌++◌, ℕ, Bool, List, ap, arith, length}
+use Rattle.std.proofs.Common.{◌≡◌, ◌∙◌, ◌++◌, Bool, ap, arith, length}
 use Rattle.std.specs.Option.{option_to_list}
 use Rattle.roster_instance.specs.declared.choice.Choice.{Choice}
-use Rattle.roster_instance.specs.Meaning.{Meaning, shift_count, skill_count}
+use Rattle.roster_instance.specs.Meaning.{shift_count, skill_count}
 use Rattle.roster_search.specs.declared.offer.Offer.{Offer}
 use Rattle.roster_search.specs.Offers.{offer_at}
 use Rattle.roster_bound.specs.Days.{can_do}
