@@ -56,7 +56,8 @@ pub enum HeldFault {
 }
 
 impl Held {
-    /// Holds a roster of the case. The hard rules are looked at before any memory is taken.
+    /// Holds a roster of the case. The hard rules are looked at before any memory is taken. A meter of the search is made before,
+    /// of the case that is held here.
     ///
     /// # Errors
     ///

@@ -11,7 +11,7 @@ use roster_case::{Case, Roster, WeekView};
 use roster_text::{Watch, WriteFault, write_bytes, write_solution};
 use std::io::Write;
 
-/// Writes all weeks, with an empty line between two.
+/// Writes all weeks, with an empty line between two: what `show`, `best` and `improve` write. The output isn't flushed.
 pub fn write_weeks<W: Write>(
     output: &mut Watch<W>,
     case: &Case,

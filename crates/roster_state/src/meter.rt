@@ -26,7 +26,8 @@ impl Model for Meter {
 }
 
 impl Meter {
-    /// A meter that has counted nothing. The case stays as it is.
+    /// A meter that has counted nothing. The case stays as it is. Make it before the case is held: a held roster lends its case
+    /// only to be read.
     pub fn new(case: &mut Case) -> Meter
         ensures none { result ≡ 0 }
         ensures same { case.new ≡ case.old }
