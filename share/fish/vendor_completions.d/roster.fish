@@ -15,6 +15,7 @@ complete -c roster -n __roster_begins -a cost -d 'Write what the roster costs, r
 complete -c roster -n __roster_begins -a sizes -d 'Write how much the search for each nurse takes'
 complete -c roster -n __roster_begins -a best -d 'Put a nurse\'s best row into the rosters, and write them'
 complete -c roster -n __roster_begins -a improve -d 'Make the rosters cheaper, nurse by nurse, and write them'
+complete -c roster -n __roster_begins -a bound -d 'Write a bound below which no roster costs'
 complete -c roster -n __roster_begins -a help -d 'Print this message or the help of the given subcommand(s)'
 complete -c roster -n __roster_begins -s h -l help -d 'Print help'
 complete -c roster -n __roster_begins -s V -l version -d 'Print version'
@@ -32,4 +33,8 @@ complete -c roster -n '__roster_is improve' -F
 complete -c roster -n '__roster_is improve' -l rounds -x -d 'The run makes so many rounds at most, 0 to 1000 [default: 100]'
 complete -c roster -n '__roster_is improve' -l from -x -d 'The first week that may change, 0 to 52: the weeks before it stay as they stand [default: 0]'
 complete -c roster -n '__roster_is improve' -s h -l help -d 'Print help'
-complete -c roster -n '__roster_is help' -a 'show cost sizes best improve help'
+complete -c roster -n '__roster_is bound' -F
+complete -c roster -n '__roster_is bound' -l rounds -x -d 'The run makes so many rounds at most, 0 to 1000 [default: 100]'
+complete -c roster -n '__roster_is bound' -l from -x -d 'The first week that may change, 0 to 52: the weeks before it stay as they stand [default: 0]'
+complete -c roster -n '__roster_is bound' -s h -l help -d 'Print help'
+complete -c roster -n '__roster_is help' -a 'show cost sizes best improve bound help'
