@@ -1,5 +1,5 @@
 -- The offers of a search for a best row, its count, and the greatest number of states.
-use Rattle.std.proofs.Common.{◌≡◌, ◌∙◌, ◌+◌, ◌<◌, ◌≤◌, ℕ, true, IsSome, List, [], ◌∷◌, ap, arith, map, max, subst, sym, take}
+use Rattle.std.proofs.Common.{◌≡◌, ◌∙◌, ◌+◌, ◌<◌, ◌≤◌, ℕ, true, IsSome, List, [], ◌∷◌, ap, arith, map, max, subst, sym}
 use Rattle.std.specs.List.{range_with_len}
 use Rattle.std.proofs.lemmas.List.{map-append}
 use Rattle.arrayvec.specs.ArrayVec.{ArrayVec}
@@ -44,10 +44,10 @@ module _ (c : Meaning) (from : ℕ) (r : Rows) (n : ℕ) (offers : List (ArrayVe
 -- ---- what the search finds, also where the case and the table are known by equations alone
 
 module _ (from : ℕ) (r : Rows) (n : ℕ) (k c : Meaning) (case_is : k ≡ c) (offers table : List (ArrayVec Offer)) (offers_are : offers ≡ table) (are : AreShiftOffers c from r n table) where
-  pub found_is : (cost : ℕ) (row : Row) → IsFound (best_over k n (offers_on offers)) cost (take (day_count k) row) → IsFound (best_by_states c from r n) cost (take (day_count c) row)
+  pub found_is : (cost : ℕ) (row : Row) → IsFound (best_over k n (offers_on offers)) cost row → IsFound (best_by_states c from r n) cost row
   found_is cost row found =
-      subst (λ (p : Priced (List Offer)). IsFound p cost (take (day_count c) row)) (best_is c from r n table are)
-      (transport (λ i. IsFound (best_over (case_is i) n (offers_on (offers_are i))) cost (take (day_count (case_is i)) row)) found)
+      subst (λ (p : Priced (List Offer)). IsFound p cost row) (best_is c from r n table are)
+      (transport (λ i. IsFound (best_over (case_is i) n (offers_on (offers_are i))) cost row) found)
 
   pub counted_is : (before after : ℕ) → CountsStates k n (offers_on offers) before after → CountsStanding c from r n before after
   counted_is before after counts =

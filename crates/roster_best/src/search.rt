@@ -11,7 +11,7 @@ use crate::by_shift::choices_by_shift;
 use crate::workspace::Workspace;
 use arrayvec::ArrayVec;
 use roster_case::Held;
-use roster_search::{MOST_DAYS, Offer, RowSearch, search_row};
+use roster_search::{MOST_DAYS, Offer, RowSearch};
 use roster_state::{Meter, start};
 
 /// What the search for a nurse's best row gives beside the row.
@@ -55,18 +55,12 @@ pub fn best_row(
     held.case().keeps_limits();
     held.keeps_rules();
     let table = offers_of_days(held, nurse, from);
-    let Workspace {
-        tables,
-        choices,
-        filled,
-    } = workspace;
     let search = RowSearch {
         case: held.case(),
         nurse,
         offers: table.as_slice(),
     };
-    let cost = search_row(&search, tables, choices, meter);
-    *filled = held.case().days() as usize;
+    let cost = workspace.search(&search, meter);
     let (_, owed) = start(held.case(), nurse);
     Best {
         total: held.rest(nurse) + owed as u64 + cost as u64,
@@ -74,7 +68,11 @@ pub fn best_row(
 }
 
 /// The offers of each day, one for each shift.
-fn offers_of_days(held: &Held, nurse: usize, from: u16) -> ArrayVec<ArrayVec<Offer, 9>, MOST_DAYS>
+pub(crate) fn offers_of_days(
+    held: &Held,
+    nurse: usize,
+    from: u16,
+) -> ArrayVec<ArrayVec<Offer, 9>, MOST_DAYS>
     requires nurse { nurse < nurse_count held.now.case }
     ensures offers { AreShiftOffers held.now.case from held.now.roster nurse result.items }
 {

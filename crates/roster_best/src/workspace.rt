@@ -1,13 +1,17 @@
 //! The memory of a search.
 
-ghost use Rattle.std.specs.Prelude.{◌≡◌, ◌+◌, ◌*◌, ◌<◌, ◌≤◌, [], true, IfOk, take};
+ghost use Rattle.std.specs.Prelude.{◌≡◌, ◌+◌, ◌*◌, ◌<◌, ◌≤◌, [], true, IfOk, IsSome, take};
+ghost use Rattle.roster_bundle.specs.Limits.{greatest_u64};
 ghost use Rattle.roster_instance.specs.Limits.{most_days, most_shifts, most_skills, most_states};
 ghost use Rattle.roster_instance.specs.Meaning.{day_count, nurse_count};
 ghost use Rattle.roster_laws.specs.Greatest.{extension_count, greatest_state_count};
-ghost use Rattle.roster_best.specs.Workspaces.{fits_space};
+ghost use Rattle.roster_search.specs.Search.{AreOffers, CountsStates, IsFound, best_over, offers_on};
+ghost use Rattle.roster_search.specs.Tables.{no_row};
+ghost use Rattle.roster_best.specs.Workspaces.{SameRoom, fits_space};
 
 use roster_case::{Case, Choice};
-use roster_search::Tables;
+use roster_search::{RowSearch, Tables, search_row};
+use roster_state::Meter;
 use std::alloc::{AllocError, Global};
 use std::marker::Model;
 
@@ -105,7 +109,32 @@ impl Workspace {
             && days <= self.choices.len()
     }
 
-    /// The row of the last `best_row`, with a choice for each day; empty before the first.
+    /// Searches the best row over a table of offers, wherever these come from, as `search_row` does. `row` shows it afterwards, and the
+    /// answer is its cost: its prices, and what the nurse's own rules cost along it beside what the start owes. It takes no memory.
+    pub fn search(&mut self, search: &RowSearch<'_>, meter: &mut Meter) -> u32
+        requires nurse { search.now.nurse < nurse_count search.now.case.now }
+        requires offers { AreOffers search.now.case.now search.now.nurse search.now.offers.now }
+        requires some { IsSome (best_over search.now.case.now search.now.nurse (offers_on search.now.offers.now)) }
+        requires fits { fits_space search.now.case.now self.old ≡ true }
+        requires room { meter.old + extension_count search.now.case.now search.now.nurse ≤ greatest_u64 }
+
+        // The row, and its cost.
+        ensures best { IsFound (best_over search.now.case.now search.now.nurse (offers_on search.now.offers.now)) result self.new.row }
+        ensures below { result < no_row }
+
+        // What it takes.
+        ensures each_day { meter.old + day_count search.now.case.now ≤ meter.new }
+        ensures counted { meter.new ≤ meter.old + extension_count search.now.case.now search.now.nurse }
+        ensures standing { CountsStates search.now.case.now search.now.nurse (offers_on search.now.offers.now) meter.old meter.new }
+        ensures room { SameRoom self.old self.new }
+        ensures fits { fits_space search.now.case.now self.new ≡ true }
+    {
+        let cost = search_row(search, &mut self.tables, &mut self.choices, meter);
+        self.filled = search.case.days() as usize;
+        cost
+    }
+
+    /// The row of the last search, with a choice for each day; empty before the first.
     pub fn row(&self) -> &[Choice]
         ensures { result.now ≡ self.now.row }
     {

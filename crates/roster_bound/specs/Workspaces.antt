@@ -1,15 +1,13 @@
 -- What a run that raises a floor has room for.
-use Rattle.std.specs.Prelude.{◌≡◌, ◌*◌, length}
+use Rattle.std.specs.Prelude.{◌≡◌, ◌*◌, length, true}
 use Rattle.roster_instance.specs.Meaning.{Meaning, day_count}
-use Rattle.roster_laws.specs.Greatest.{greatest_state_count}
+use Rattle.roster_best.specs.Workspaces.{fits_space}
 use Rattle.roster_bound.specs.declared.workspace.FloorWorkspace.{FloorWorkspace}
 use Rattle.roster_bound.specs.declared.workspace.RowSpace.{RowSpace}
 
--- for the search of each nurse, a row, and 64 places for each day
+-- for the search of each nurse, and 64 places for each day
 pub record FitsRows (c : Meaning) (w : RowSpace) : Type 0 where
-  pub labels : w.tables.labels ≡ 2 * greatest_state_count c
-  pub pointers : w.tables.pointers ≡ greatest_state_count c * day_count c
-  pub row : length w.row.items ≡ day_count c
+  pub search : fits_space c w.workspace ≡ true
   pub cover : length w.cover.items ≡ 64 * day_count c
 
 -- and a worth and two covers for each of these places

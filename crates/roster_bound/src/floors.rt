@@ -1,6 +1,6 @@
 //! The least that nurses cost, and the floor under a roster.
 
-ghost use Rattle.std.specs.Prelude.{◌≡◌, ◌+◌, ◌*◌, ◌<◌, ◌≤◌, true, Some, length, take};
+ghost use Rattle.std.specs.Prelude.{◌≡◌, ◌+◌, ◌*◌, ◌<◌, ◌≤◌, true, Some};
 ghost use Rattle.roster_bundle.specs.Limits.{greatest_u64};
 ghost use Rattle.roster_instance.specs.Limits.{most_days, most_nurses};
 ghost use Rattle.roster_instance.specs.Meaning.{day_count, nurse_count};
@@ -20,7 +20,7 @@ use crate::workspace::RowSpace;
 use crate::worths::MOST_WORTH;
 use arrayvec::ArrayVec;
 use roster_rules::Case;
-use roster_search::{MOST_DAYS, Offer, RowSearch, cheapest_by_shift, search_row};
+use roster_search::{MOST_DAYS, Offer, RowSearch, cheapest_by_shift};
 use roster_state::{Meter, start};
 
 /// A floor by worths: no roster costs less that fits the case, keeps the hard rules and agrees with the given one on the days before
@@ -67,7 +67,7 @@ pub fn row_floor(terms: &Terms<'_>, nurse: usize, rows: &mut RowSpace, meter: &m
     requires room { meter.old + extension_count terms.now.case.now nurse ≤ greatest_u64 }
     ensures floor { result ≡ row_floor terms.now.case.now terms.now.from terms.now.given.now (worths_of terms.now.worths.now) nurse }
     ensures within { result ≤ 8589934590 }
-    ensures row { floor_row terms.now.case.now terms.now.from terms.now.given.now (worths_of terms.now.worths.now) nurse ≡ Some (take (day_count terms.now.case.now) rows.new.row.items) }
+    ensures row { floor_row terms.now.case.now terms.now.from terms.now.given.now (worths_of terms.now.worths.now) nurse ≡ Some rows.new.workspace.row }
     ensures rows { FitsRows terms.now.case.now rows.new }
     ensures counted { meter.new ≤ meter.old + extension_count terms.now.case.now nurse }
 {
@@ -79,9 +79,9 @@ pub fn row_floor(terms: &Terms<'_>, nurse: usize, rows: &mut RowSpace, meter: &m
         nurse,
         offers: table.as_slice(),
     };
-    let RowSpace { tables, row, cover } = rows;
-    let cost = search_row(&search, tables, row, meter);
-    count_row(row, cover);
+    let RowSpace { workspace, cover } = rows;
+    let cost = workspace.search(&search, meter);
+    count_row(workspace.row(), cover);
     let (_, owed) = start(case, nurse);
     owed as u64 + cost as u64
 }

@@ -3,7 +3,7 @@
 //! Worths, what places and nurses cost at least by them, and the floor that follows are defined in `specs/Worths.antt`, how worths are
 //! held in `specs/Tables.antt`, what a nurse is offered by them in `specs/Days.antt`, and the log of a run in `specs/Floors.antt`.
 //! `no_roster_is_below_the_bound` promises that the floor by any worths is one. `lower_bound` promises to be it, and `raise_floor`
-//! that all that it tells is a floor.
+//! that all that it tells is a floor. `improve_worths` gives worths alone.
 #![tactic(auto)]
 
 mod floors;
@@ -19,6 +19,6 @@ pub use floors::{lower_bound, row_floor};
 pub use laws::{bounds_are_rounded_up, no_roster_is_below_the_bound};
 pub use offers::{Terms, choices};
 pub use places::places_floor;
-pub use rounds::raise_floor;
+pub use rounds::{improve_worths, raise_floor};
 pub use workspace::{FloorWorkspace, RowSpace};
 pub use worths::{MOST_WORTH, Worths};

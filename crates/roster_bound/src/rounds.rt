@@ -45,8 +45,7 @@ pub fn raise_floor<W: Write>(
     ensures fits { FitsFloor held.now.case workspace.new }
 {
     let case = held.case();
-    workspace.begin();
-    workspace.worths.set_all(case, FIRST);
+    workspace.begin(case);
     let mut best = 0;
     let mut sent = log_word(log, 0, b"start", held.total())?;
     for rounds_before in 0..rounds {
@@ -61,9 +60,30 @@ pub fn raise_floor<W: Write>(
     Ok(best)
 }
 
+/// Improves the worths of a workspace by so many rounds, as `raise_floor` does, but tells no floor. It takes no memory.
+pub fn improve_worths(
+    held: &Held,
+    rounds: u16,
+    from: u16,
+    workspace: &mut FloorWorkspace,
+    meter: &mut Meter,
+)
+    requires fits { FitsFloor held.now.case workspace.old }
+    requires room { meter.old + extensions_in held.now.case rounds ≤ greatest_u64 }
+    ensures counted { meter.new ≤ meter.old + extensions_in held.now.case rounds }
+    ensures fits { FitsFloor held.now.case workspace.new }
+{
+    let case = held.case();
+    workspace.begin(case);
+    for rounds_before in 0..rounds {
+        make_round(held, from, workspace, meter);
+        move_worths(case, rounds_before, rounds, workspace);
+    }
+}
+
 /// What each place that asks for nurses pays in the first round: as much as a missing nurse costs. Its floor is good at once, but steps
 /// from there hardly move.
-const FIRST: u16 = 30;
+pub(crate) const FIRST: u16 = 30;
 
 /// What it pays in the second, from which the worths move.
 const SECOND: u16 = 15;

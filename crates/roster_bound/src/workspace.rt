@@ -5,17 +5,16 @@ ghost use Rattle.roster_instance.specs.Meaning.{day_count};
 ghost use Rattle.roster_bound.specs.Workspaces.{FitsFloor, FitsRows};
 
 use crate::moves::Covers;
+use crate::rounds::FIRST;
 use crate::worths::Worths;
-use roster_best::{BestFault, greatest_states};
-use roster_case::{Case, Choice};
-use roster_search::Tables;
+use roster_best::{BestFault, Workspace};
+use roster_case::Case;
 use std::alloc::Global;
 
-/// What the searches for the nurses' cheapest rows write into: the tables of a search, a row, and how many of these rows are at each
-/// place, 64 places for each day.
+/// What the searches for the nurses' cheapest rows write into: the workspace of a search, and how many of these rows are at each place,
+/// 64 places for each day.
 pub struct RowSpace {
-    pub(crate) tables: Tables,
-    pub(crate) row: Vec<Choice>,
+    pub workspace: Workspace,
     pub(crate) cover: Vec<u16>,
 }
 
@@ -23,8 +22,7 @@ pub struct RowSpace {
 impl Drop for RowSpace {
     fn drop(self) {
         let RowSpace {
-            tables: _,
-            row: _,
+            workspace: _,
             cover: _,
         } = self;
     }
@@ -33,8 +31,8 @@ impl Drop for RowSpace {
 /// What a run that raises a floor writes into: what its searches do, the worths, and the covers by which they move. For each day that
 /// is 64 times 14 bytes beside the tables of a search and a row: 326 kB at most. One serves one run after another.
 pub struct FloorWorkspace {
-    pub(crate) rows: RowSpace,
-    pub(crate) worths: Worths,
+    pub rows: RowSpace,
+    pub worths: Worths,
     pub(crate) covers: Covers,
 }
 
@@ -58,19 +56,15 @@ impl RowSpace {
     pub fn for_case(alloc: Global, case: &Case) -> Result<RowSpace, BestFault>
         ensures { IfOk result (FitsRows case.now) }
     {
-        let states = greatest_states(case) as usize;
-        let days = case.days() as usize;
         Ok(RowSpace {
-            tables: Tables::new(alloc, states, days)?,
-            row: vec![in alloc; Choice::Off; days]?,
-            cover: vec![in alloc; 0; 64 * days]?,
+            workspace: Workspace::for_case(alloc, case)?,
+            cover: vec![in alloc; 0; 64 * case.days() as usize]?,
         })
     }
 
     /// Counts no row at any place.
     pub(crate) fn forget(&mut self)
-        ensures tables { self.new.tables ≡ self.old.tables }
-        ensures row { self.new.row ≡ self.old.row }
+        ensures workspace { self.new.workspace ≡ self.old.workspace }
         ensures cover { length self.new.cover.items ≡ length self.old.cover.items }
     {
         for place in 0..self.cover.len() {
@@ -99,12 +93,10 @@ impl FloorWorkspace {
         })
     }
 
-    /// Begins anew, as if no round had been made.
-    pub(crate) fn begin(&mut self)
-        ensures rows { self.new.rows ≡ self.old.rows }
-        ensures worths { self.new.worths ≡ self.old.worths }
-        ensures wanted { length self.new.covers.wanted.items ≡ length self.old.covers.wanted.items }
-        ensures had { length self.new.covers.had.items ≡ length self.old.covers.had.items }
+    /// Begins anew, as if no round had been made: with the worths of the first.
+    pub(crate) fn begin(&mut self, case: &Case)
+        requires { FitsFloor case.now self.old }
+        ensures { FitsFloor case.now self.new }
     {
         for place in 0..self.covers.wanted.len() {
             self.covers.wanted[place] = 0;
@@ -112,5 +104,6 @@ impl FloorWorkspace {
         for place in 0..self.covers.had.len() {
             self.covers.had[place] = 0;
         }
+        self.worths.set_all(case, FIRST);
     }
 }

@@ -1,18 +1,12 @@
-use Rattle.std.proofs.Common.{◌≡◌, ◌∙◌, ◌+◌, ◌<◌, [], ap, arith, mul_comm, subst, sym, take}
-use Rattle.std.specs.Vec.{with_items}
-use Rattle.std.proofs.lemmas.List.{with_items_is}
-use Rattle.std.proofs.lemmas.Nat.{mul-le}
-use Rattle.roster_instance.specs.Meaning.{Meaning, day_count}
-use Rattle.roster_instance.specs.Sizes.{state_count}
+use Rattle.std.proofs.Common.{◌≡◌, ◌∙◌, ◌+◌, ◌<◌, [], ap, arith, subst, sym}
+use Rattle.roster_instance.specs.Meaning.{Meaning}
 use Rattle.roster_rules.specs.AllowedRows.{IsBestRow, penalty_with}
 use Rattle.roster_rules.specs.Prefix.{due}
 use Rattle.roster_rules.specs.Room.{penalty_room}
-use Rattle.roster_search.specs.Offers.{best_by_states, choices_of}
-use Rattle.roster_search.specs.Search.{HasTables, IsFound}
-use Rattle.roster_laws.specs.Greatest.{greatest_state_count}
+use Rattle.roster_search.specs.Offers.{best_by_states}
+use Rattle.roster_search.specs.Search.{IsFound}
 use Rattle.roster_search.proofs.Best.{best_some, is_best, penalty_is}
-use Rattle.roster_best.specs.Workspaces.{Space}
-use Rattle.roster_best.proofs.BestLaws.{KeepsLimits, best_keeps, room_of, states_within, sum_within}
+use Rattle.roster_best.proofs.BestLaws.{KeepsLimits, best_keeps, sum_within}
 use Rattle.roster_best.proofs.SearchLaws.{can_search, counted_is, found_is, searched, some_found}
 use Rattle.roster_best.proofs.search.best_row.Goals as goal
 use Rattle.roster_best.proofs.search.best_row.Goals.{After-as_slice, After-rest}
@@ -24,51 +18,26 @@ limits c =
 
 -- ---- the search can be made
 
-pub search_row-cost-requires-clause-offers : goal.search_row-cost-requires-clause-offers
-search_row-cost-requires-clause-offers c =
+pub search-cost-requires-clause-offers : goal.search-cost-requires-clause-offers
+search-cost-requires-clause-offers c =
     let k = c.args.held.now.case in
     let rows = c.args.held.now.roster in
     let table = c.offers_of_days-table.result.items in
-    let kept = limits (goal.at.search_row-cost-requires-clause-offers c).After-as_slice in
+    let kept = limits (goal.at.search-cost-requires-clause-offers c).After-as_slice in
     searched c.args.from rows c.args.nurse c.case-2.result.now k c.case-2.ensures c.as_slice.result.now table c.as_slice.ensures.value c.offers_of_days-table.ensures.offers
     (can_search k c.args.from rows c.args.nurse table c.offers_of_days-table.ensures.offers kept.small kept.shifts kept.skills c.keeps_rules.ensures.fits c.keeps_rules.ensures.keeps c.requires.nurse)
 
-pub search_row-cost-requires-clause-some : goal.search_row-cost-requires-clause-some
-search_row-cost-requires-clause-some c =
+pub search-cost-requires-clause-some : goal.search-cost-requires-clause-some
+search-cost-requires-clause-some c =
     some_found c.args.from c.args.held.now.roster c.args.nurse c.case-2.result.now c.args.held.now.case c.case-2.ensures c.as_slice.result.now c.offers_of_days-table.result.items c.as_slice.ensures.value c.offers_of_days-table.ensures.offers
     (best_some c.args.held.now.case c.args.from c.args.held.now.roster c.keeps_rules.ensures.fits c.keeps_rules.ensures.keeps c.args.nurse c.requires.nurse)
 
-pub search_row-cost-requires-clause-tables : goal.search_row-cost-requires-clause-tables
-search_row-cost-requires-clause-tables c =
-    let k = c.args.held.now.case in
-    let n = c.args.nurse in
-    let room = room_of k c.args.workspace.now c.requires.fits in
-    let few = states_within k n c.requires.nurse in
-    subst (λ m. HasTables m n c.workspace.inside.tables) (sym c.case-2.ensures) (record {
-      labels = omega (arith, ap (λ (w : Space). w.labels) c.workspace.view_is, room.labels, few);
-      pointers =
-          omega (
-            arith,
-            ap (λ (w : Space). w.pointers) c.workspace.view_is,
-            room.pointers,
-            mul_comm (day_count k) (greatest_state_count k),
-            mul-le (day_count k) (state_count k n) (day_count k) (greatest_state_count k) (omega arith) few,
-          );
-    })
-
 -- ---- the row
 
-found : (c : After-rest) → IsFound (best_by_states c.args.held.now.case c.args.from c.args.held.now.roster c.args.nurse) c.search_row-cost.result (take (day_count c.args.held.now.case) c.search_row-cost.new.row)
+found : (c : After-rest) → IsFound (best_by_states c.args.held.now.case c.args.from c.args.held.now.roster c.args.nurse) c.search-cost.result c.search-cost.new.self.row
 found c =
     found_is c.args.from c.args.held.now.roster c.args.nurse c.case-2.result.now c.args.held.now.case c.case-2.ensures c.as_slice.result.now c.offers_of_days-table.result.items c.as_slice.ensures.value c.offers_of_days-table.ensures.offers
-    c.search_row-cost.result c.search_row-cost.new.row c.search_row-cost.ensures.best
-
-row_is : (c : After-rest) → take c.days.result (with_items c.workspace.inside.choices c.search_row-cost.new.row).items ≡ choices_of (found c).offers
-row_is c =
-    let days : c.days.result ≡ day_count c.args.held.now.case = c.days.ensures.count ∙ ap day_count c.case-3.ensures in
-    ap (take c.days.result) (with_items_is c.workspace.inside.choices c.search_row-cost.new.row (c.search_row-cost.ensures.length ∙ c.deref_mut.ensures.len))
-    ∙ ap (λ d. take d c.search_row-cost.new.row) days
-    ∙ (found c).row_is
+    c.search-cost.result c.search-cost.new.self.row c.search-cost.ensures.best
 
 pub returns-clause-best : goal.returns-clause-best
 returns-clause-best c =
@@ -76,7 +45,7 @@ returns-clause-best c =
     let rows = c.args.held.now.roster in
     let at = (goal.at.returns-clause-best c).After-rest in
     let best = found at in
-    subst (IsBestRow k c.args.from rows c.args.nurse) (sym (row_is at)) (is_best k c.args.from rows c.keeps_rules.ensures.fits c.keeps_rules.ensures.keeps c.args.nurse c.requires.nurse c.search_row-cost.result best.offers best.is)
+    subst (IsBestRow k c.args.from rows c.args.nurse) (sym (found at).row_is) (is_best k c.args.from rows c.keeps_rules.ensures.fits c.keeps_rules.ensures.keeps c.args.nurse c.requires.nurse c.search-cost.result best.offers best.is)
 
 pub returns-clause-keeps : goal.returns-clause-keeps
 returns-clause-keeps c = best_keeps c.args.held.now.case c.args.from c.args.held.now.roster c.args.nurse _ (returns-clause-best c)
@@ -84,12 +53,12 @@ returns-clause-keeps c = best_keeps c.args.held.now.case c.args.from c.args.held
 -- ---- the penalty
 
 owed_is : (c : After-rest) → c.start-owed.result.1 ≡ due c.args.held.now.case c.args.nurse []
-owed_is c = c.start-owed.ensures.cost ∙ ap (λ (m : Meaning). due m c.args.nurse []) c.case-4.ensures
+owed_is c = c.start-owed.ensures.cost ∙ ap (λ (m : Meaning). due m c.args.nurse []) c.case-3.ensures
 
-sum_fits : (c : After-rest) → c.rest.result + c.start-owed.result.1 + c.search_row-cost.result < penalty_room
+sum_fits : (c : After-rest) → c.rest.result + c.start-owed.result.1 + c.search-cost.result < penalty_room
 sum_fits c =
     let best = found c in
-    omega (arith, sum_within c.args.held.now.case c.args.from c.args.held.now.roster (limits (goal.at.overflow_add-result c).After-as_slice) c.keeps_rules.ensures.fits c.keeps_rules.ensures.keeps c.args.nurse c.requires.nurse c.search_row-cost.result best.offers best.is, c.rest.ensures, owed_is c)
+    omega (arith, sum_within c.args.held.now.case c.args.from c.args.held.now.roster (limits (goal.at.overflow_add-result c).After-as_slice) c.keeps_rules.ensures.fits c.keeps_rules.ensures.keeps c.args.nurse c.requires.nurse c.search-cost.result best.offers best.is, c.rest.ensures, owed_is c)
 
 pub overflow_add-result : goal.overflow_add-result
 overflow_add-result c = omega (arith, sum_fits c)
@@ -103,12 +72,12 @@ returns-clause-total c =
     let rows = c.args.held.now.roster in
     let at = (goal.at.returns-clause-total c).After-rest in
     let best = found at in
-    let is = penalty_is k c.args.from rows c.keeps_rules.ensures.fits c.keeps_rules.ensures.keeps c.args.nurse c.requires.nurse c.search_row-cost.result best.offers best.is in
-    omega (arith, is, c.rest.ensures, owed_is at) ∙ ap (penalty_with k rows c.args.nurse) (sym (row_is at))
+    let is = penalty_is k c.args.from rows c.keeps_rules.ensures.fits c.keeps_rules.ensures.keeps c.args.nurse c.requires.nurse c.search-cost.result best.offers best.is in
+    omega (arith, is, c.rest.ensures, owed_is at) ∙ ap (penalty_with k rows c.args.nurse) (sym (found at).row_is)
 
 -- ---- what is counted
 
 pub returns-clause-standing : goal.returns-clause-standing
 returns-clause-standing c =
     counted_is c.args.from c.args.held.now.roster c.args.nurse c.case-2.result.now c.args.held.now.case c.case-2.ensures c.as_slice.result.now c.offers_of_days-table.result.items c.as_slice.ensures.value c.offers_of_days-table.ensures.offers
-    c.args.meter.now c.search_row-cost.new.meter c.search_row-cost.ensures.standing
+    c.args.meter.now c.search-cost.new.meter c.search-cost.ensures.standing

@@ -1,9 +1,8 @@
-use Rattle.std.proofs.Common.{◌∙◌, ap, arith, subst, sym}
+use Rattle.std.proofs.Common.{arith, subst}
 use Rattle.std.proofs.lemmas.Result.{err_from_is_err_and}
 use Rattle.roster_text.specs.Io.{BreaksIn, Sends}
-use Rattle.roster_bound.specs.declared.worths.Worths.{Worths}
 use Rattle.roster_instance.specs.Meaning.{Meaning}
-use Rattle.roster_bound.specs.Workspaces.{FitsFloor, FitsRows}
+use Rattle.roster_bound.specs.Workspaces.{FitsFloor}
 use Rattle.roster_bound.proofs.Counted.{round_counted}
 use Rattle.roster_bound.proofs.FloorLogs.{Going-raised, Going-start, first_text, raised_breaks, start_breaks}
 use Rattle.roster_bound.proofs.rounds.raise_floor.Goals as goal
@@ -26,12 +25,7 @@ loop-rounds_before-init g c =
       below = λ r fits keeps stays. omega arith;
       within = omega arith;
       counted = omega arith;
-      fits = record {
-        rows = subst (FitsRows k) (sym c.begin.ensures.rows) c.requires.fits.rows;
-        worths = c.set_all.ensures ∙ ap (λ (w : Worths). w.days) c.begin.ensures.worths ∙ c.requires.fits.worths;
-        wanted = c.begin.ensures.wanted ∙ c.requires.fits.wanted;
-        had = c.begin.ensures.had ∙ c.requires.fits.had;
-      };
+      fits = subst (λ (m : Meaning). FitsFloor m c.begin.new.self) c.case-case.ensures c.begin.ensures;
     }
 
 pub returns-in_err-sent-2-clause-err : goal.returns-in_err-sent-2-clause-err

@@ -3,7 +3,6 @@ use Rattle.roster_bound.proofs.workspace.RowSpace.forget.Given as goal
 
 abbrev pub invariant-loop-place : goal.invariant-loop-place
 invariant-loop-place l = record {
-  tables : l.self.tables ≡ l.fn.self.tables;
-  row : l.self.row ≡ l.fn.self.row;
+  workspace : l.self.workspace ≡ l.fn.self.workspace;
   cover : length l.self.cover.items ≡ length l.fn.self.cover.items;
 }

@@ -1,0 +1,10 @@
+use Rattle.std.proofs.Common.{◌+◌, ◌≤◌}
+use Rattle.roster_rounds.specs.RunLogs.{extensions_in}
+use Rattle.roster_bound.specs.Workspaces.{FitsFloor}
+use Rattle.roster_bound.proofs.rounds.improve_worths.Given as goal
+
+abbrev pub invariant-loop-rounds_before : goal.invariant-loop-rounds_before
+invariant-loop-rounds_before l = record {
+  counted : l.meter ≤ l.fn.meter + extensions_in l.held.case l.rounds_before;
+  fits : FitsFloor l.held.case l.workspace;
+}
