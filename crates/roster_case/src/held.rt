@@ -164,4 +164,20 @@ impl Held {
             .replace_row(&self.case, &self.roster, nurse, row);
         self.roster.put_row(nurse, row);
     }
+
+    /// Puts the rows of a roster of the case in the place of all rows, and takes no memory. The case stays.
+    pub fn replace_rows(&mut self, rows: &Roster)
+        requires fits { fits_case self.old.case rows.now ≡ true }
+        requires keeps { keeps_hard self.old.case rows.now ≡ true }
+        ensures { self.new ≡ record { case = self.old.case; roster = rows.now } }
+    {
+        for nurse in 0..rows.nurses() {
+            let row = rows.row(nurse);
+            if row != self.roster.row(nurse) {
+                self.counts
+                    .replace_row(&self.case, &self.roster, nurse, row);
+                self.roster.put_row(nurse, row);
+            }
+        }
+    }
 }

@@ -7,6 +7,7 @@ pub mod SizeLemmas
 pub mod TableSteps
 pub mod WeekTableLemmas
 pub mod HistoryLemmas
+pub mod PutRows
 pub mod RequestLemmas
 pub mod FlagLemmas
 pub mod ScenarioLemmas

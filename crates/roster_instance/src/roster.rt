@@ -76,6 +76,21 @@ impl Roster {
         Ok(Roster { rows })
     }
 
+    /// A copy, by one growth for the list and one for each nurse.
+    ///
+    /// # Errors
+    ///
+    /// A growth was refused.
+    pub fn copy(&self, alloc: Global) -> Result<Roster, AllocError>
+        ensures { IfOk result (λ copy. copy ≡ self.now) }
+    {
+        let mut rows = Vec::with_capacity(alloc, self.rows.len())?;
+        for row in &self.rows {
+            rows.push(row.to_vec(alloc)?)?;
+        }
+        Ok(Roster { rows })
+    }
+
     /// The choices of a nurse, one for each day; none for a nurse that the roster doesn't have.
     pub fn row(&self, nurse: usize) -> &[Choice]
         ensures { result.now ≡ row_of self.now nurse }
@@ -93,6 +108,17 @@ impl Roster {
         ensures { self.new ≡ with_row self.old nurse row.now }
     {
         self.rows[nurse].copy_from_slice(row);
+    }
+
+    /// Puts the rows of a roster of as many nurses and days in the place of all rows, and takes no memory. Whether they fit the
+    /// case is not looked at.
+    pub fn put_rows(&mut self, rows: &Roster)
+        requires { map (λ row. length row) rows.now ≡ map (λ row. length row) self.old }
+        ensures { self.new ≡ rows.now }
+    {
+        for nurse in 0..rows.nurses() {
+            self.put_row(nurse, rows.row(nurse));
+        }
     }
 
     /// How many nurses have a row.
