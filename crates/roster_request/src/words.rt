@@ -62,7 +62,7 @@ fn command_in(alloc: Global, name: &str, given: &ArgMatches<'_>) -> Result<Comma
         "cost" => Ok(Command::Cost),
         "sizes" => Ok(Command::Sizes),
         "best" => Ok(Command::Best {
-            nurse: nurse_of(alloc, given)?,
+            nurse: given_nurse(alloc, given)?,
             from: from_of(given),
         }),
         "improve" => Ok(Command::Improve {
@@ -78,7 +78,7 @@ fn command_in(alloc: Global, name: &str, given: &ArgMatches<'_>) -> Result<Comma
 }
 
 /// The nurse's name, which `clap` asks for.
-fn nurse_of(alloc: Global, given: &ArgMatches<'_>) -> Result<String, AllocError>
+fn given_nurse(alloc: Global, given: &ArgMatches<'_>) -> Result<String, AllocError>
     requires { is_some (first_of (codes "nurse") (rows_of (found_of given.now))) ≡ true }
     ensures { IfOk result (λ nurse. first_of (codes "nurse") (rows_of (found_of given.now)) ≡ Some (string_bytes nurse)) }
 {

@@ -3,7 +3,7 @@ use Rattle.std.specs.Borrow.{Bor}
 use Rattle.std.proofs.lemmas.Result.{IfOk-weaker}
 use Rattle.clap.specs.Words.{found_of}
 use Rattle.clap.proofs.WalkLemmas.{first_value-rows}
-use Rattle.roster_request.proofs.words.nurse_of.Goals as goal
+use Rattle.roster_request.proofs.words.given_nurse.Goals as goal
 
 pub unreachable-requires : goal.unreachable-requires
 unreachable-requires c =
