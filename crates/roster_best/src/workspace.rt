@@ -14,6 +14,7 @@ use roster_search::{RowSearch, Tables, search_row};
 use roster_state::Meter;
 use std::alloc::{AllocError, Global};
 use std::marker::Model;
+use thiserror::Error;
 
 /// What a search for a best row writes into: the tables of the search, and one row. One workspace serves all nurses of a case, one after
 /// another.
@@ -47,9 +48,10 @@ impl Model for Workspace {
 }
 
 /// Why there is no workspace.
-#[derive(Clone, Copy, Debug, PartialEq, Eq)]
+#[derive(Clone, Copy, Debug, PartialEq, Eq, Error)]
 pub enum BestFault {
     /// A growth was refused.
+    #[error("no memory")]
     Memory,
 }
 

@@ -1,6 +1,7 @@
 //! What a step and a run tell.
 
 use roster_text::WriteFault;
+use thiserror::Error;
 
 /// A step: the roster's penalty before and after it, and whether it changed the roster.
 #[derive(Clone, Copy, Debug, PartialEq, Eq)]
@@ -21,9 +22,10 @@ pub struct Outcome {
 }
 
 /// Why a run stopped before its end.
-#[derive(Clone, Copy, Debug, PartialEq, Eq)]
+#[derive(Clone, Copy, Debug, PartialEq, Eq, Error)]
 pub enum LogFault {
     /// The log took just its first `sent` bytes, and then failed.
+    #[error("log failed after {sent} bytes")]
     LogFailed { sent: usize },
 }
 
