@@ -1,12 +1,14 @@
--- How the program ends. `contents` is all that an output has taken, and `held` what it has not sent on of that.
-use Rattle.std.specs.Prelude.{◌≡◌, ℕ, ◌⊎◌, List, [], Option, codes, string_bytes}
+-- How the program ends. `contents` is all that an output has taken, `held` what it has not sent on of that, and `logged` what a log has.
+use Rattle.std.specs.Prelude.{◌≡◌, ℕ, ◌⊎◌, List, [], IfSome, None, Option, ◌==◌, if◌then◌else◌, codes, string_bytes}
 use Rattle.std.specs.Io.KnownBytes.{Appends}
+use Rattle.roster_bundle.specs.declared.bundle.Bundle.{Bundle}
 use Rattle.roster_text.specs.Io.{Watched}
-use Rattle.roster_commands.specs.Answer.{IsSilent, Logs}
+use Rattle.roster_commands.specs.Answer.{IsAnswer, IsSilent, IsTaken, Logged, Logs, Report, SpellsBundle}
 use Rattle.roster_commands.specs.Lines.{Text}
 use Rattle.roster_request.specs.CommandLine.{IsAsked, Refuses}
 use Rattle.roster_request.specs.declared.request.CliFault.{CliFault}
 use Rattle.roster_request.specs.declared.request.CliFault.TheVariants as cli
+use Rattle.roster_request.specs.declared.request.Command.{Command}
 use Rattle.roster_request.specs.declared.request.Request.{Request}
 
 -- with status 0 the output took the text and sent all on, and nothing was logged; else the output failed, and that is told
@@ -21,11 +23,33 @@ TellsWords contents held logged cli.Memory status output output_after log log_af
 TellsWords contents held logged (cli.Usage text) status output output_after log log_after = (status ≡ 2) × (output_after ≡ output) × Logs logged log log_after (string_bytes text)
 TellsWords contents held logged (cli.Help text) status output output_after log log_after = Sends contents held logged (string_bytes text) status output output_after log log_after
 
--- the words are those of a request; with status 0 all of the output was sent on, and a silent command logged nothing
-pub record AnswersRequest {Out Log : Type 0} (held : Out → Text) (words : List Text) (status : ℕ) (output_after : Out) (log log_after : Watched Log) : Type 0 where
+-- the bytes spell a bundle that the command takes; the output took the text of its report, and the log what it tells
+pub record IsDone {Out Log : Type 0} (contents : Out → Option Text) (logged : Log → Option Text) (command : Command) (bytes : Text) (output output_after : Out) (log log_after : Watched Log) : Type 0 where
+  pub bundle : Bundle
+  pub spelled : SpellsBundle bytes bundle
+  pub report : Report
+  pub is : IsAnswer command bytes bundle report
+  pub taken : IsTaken report bytes bundle None
+  pub written : Appends (contents output) (contents output_after) report.output
+  pub told : Logged (record { contents = logged; before = log; after = log_after }) report.log
+
+-- that is done for bytes, all that were given where those are known; all was sent on, and a silent command logged nothing
+pub record ReadsAndSends {Out Log : Type 0} (contents : Out → Option Text) (held : Out → Text) (logged : Log → Option Text) (command : Command) (given : Option Text) (output output_after : Out) (log log_after : Watched Log) : Type 0 where
+  pub bytes : Text
+  pub all : IfSome given (λ known. bytes ≡ known)
+  pub done : IsDone contents logged command bytes output output_after log log_after
+  pub sent_on : held output_after ≡ []
+  pub silent : IsSilent command → log_after ≡ log
+
+-- the bytes of the input, where no file is named; what files give isn't known
+abbrev pub given_for : (files : ℕ) → Option Text → Option Text
+given_for files input = if files == 0 then input else None
+
+-- the words are those of a request; with status 0 it is done for its files, or else for the input
+pub record AnswersRequest {Out Log : Type 0} (contents : Out → Option Text) (held : Out → Text) (logged : Log → Option Text) (words : List Text) (input : Option Text) (status : ℕ) (output output_after : Out) (log log_after : Watched Log) : Type 0 where
   pub request : Request
   pub asked : IsAsked words request
-  pub done : status ≡ 0 → (held output_after ≡ []) × (IsSilent request.command → log_after ≡ log)
+  pub done : status ≡ 0 → ReadsAndSends contents held logged request.command (given_for request.files.len input) output output_after log log_after
 
 -- the words are no request, and that was told
 pub record RefusesWords {Out Log : Type 0} (contents : Out → Option Text) (held : Out → Text) (logged : Log → Option Text) (words : List Text) (status : ℕ) (output output_after : Out) (log log_after : Watched Log) : Type 0 where
@@ -33,7 +57,7 @@ pub record RefusesWords {Out Log : Type 0} (contents : Out → Option Text) (hel
   pub refused : Refuses words why
   pub told : TellsWords contents held logged why status output output_after log log_after
 
--- how words are answered
-abbrev pub AnswersWords : {Out Log : Type 0} → (Out → Option Text) → (Out → Text) → (Log → Option Text) → List Text → ℕ → Out → Out → Watched Log → Watched Log → Type 0
-AnswersWords contents held logged words status output output_after log log_after =
-    AnswersRequest held words status output_after log log_after ⊎ RefusesWords contents held logged words status output output_after log log_after
+-- how words are answered over an input
+abbrev pub AnswersWords : {Out Log : Type 0} → (Out → Option Text) → (Out → Text) → (Log → Option Text) → List Text → Option Text → ℕ → Out → Out → Watched Log → Watched Log → Type 0
+AnswersWords contents held logged words input status output output_after log log_after =
+    AnswersRequest contents held logged words input status output output_after log log_after ⊎ RefusesWords contents held logged words status output output_after log log_after

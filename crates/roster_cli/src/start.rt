@@ -3,8 +3,8 @@
 ghost use Rattle.std.specs.Prelude.{◌≡◌, [], codes, map, string_bytes};
 ghost use Rattle.std.specs.Io.KnownBytes.{Keeps};
 ghost use Rattle.std.specs.Io.Buffered.{writer_buffer, writer_contents};
-ghost use Rattle.roster_commands.specs.Answer.{IsSilent, Logs};
-ghost use Rattle.roster_cli.specs.Start.{AnswersWords, Sends, TellsWords};
+ghost use Rattle.roster_commands.specs.Answer.{Logs};
+ghost use Rattle.roster_cli.specs.Start.{AnswersWords, ReadsAndSends, Sends, TellsWords, given_for};
 
 use roster_commands::{refuse, refuse_output, run};
 use roster_joined::Joined;
@@ -18,13 +18,13 @@ use std::{env, fs, io};
 const WORDS_ARE_NO_TEXT: &str = "error: a word of the command line is not UTF-8\n";
 
 /// Answers the command line of a program: reads the files that it names, or `input` where it names none, writes to
-/// `output`, and answers the status.
+/// `output`, and answers the status and the output.
 pub fn answer_command_line<
     R: Env + Files + AllocGlobal,
     In: Read + Drop,
     Out: Write + Drop,
     Log: Write,
->(rt: &R, input: In, output: &mut BufWriter<Out>, log: &mut Watch<Log>) -> u8 {
+>(rt: &R, input: In, output: BufWriter<Out>, log: &mut Watch<Log>) -> (u8, BufWriter<Out>) {
     match words_of(rt) {
         Ok(words) => answer_words(rt, &words, input, output, log),
         Err(fault) => refuse_words(fault, output, log),
@@ -45,16 +45,16 @@ fn words_of(rt: &(impl Env + AllocGlobal)) -> Result<Vec<String>, CliFault> {
     Ok(words)
 }
 
-/// Does what these words ask for, the program's name the first of them.
+/// Does what these words ask for, the program's name the first of them. Answers the status and the output.
 pub fn answer_words<R: Files + AllocGlobal, In: Read + Drop, Out: Write + Drop, Log: Write>(
     rt: &R,
     words: &[String],
     input: In,
-    output: &mut BufWriter<Out>,
+    output: BufWriter<Out>,
     log: &mut Watch<Log>,
-) -> u8
-    ensures answers { AnswersWords (writer_contents Out.contents) writer_buffer Log.contents (map string_bytes words.now)
-        result output.old output.new log.old log.new }
+) -> (u8, BufWriter<Out>)
+    ensures answers { AnswersWords (writer_contents Out.contents) writer_buffer Log.contents (map string_bytes words.now) (In.remaining input)
+        result.0 output result.1 log.old log.new }
 {
     match request_of(rt.alloc(), words) {
         Ok(request) => answer_request(rt, &request, input, output, log),
@@ -65,16 +65,16 @@ pub fn answer_words<R: Files + AllocGlobal, In: Read + Drop, Out: Write + Drop, 
 /// Tells why words are no request: a help text is what was asked for, and goes to the output.
 fn refuse_words<Out: Write + Drop, Log: Write>(
     fault: CliFault,
-    output: &mut BufWriter<Out>,
+    output: BufWriter<Out>,
     log: &mut Watch<Log>,
-) -> u8
-    ensures told { TellsWords (writer_contents Out.contents) writer_buffer Log.contents fault result output.old output.new log.old log.new }
+) -> (u8, BufWriter<Out>)
+    ensures told { TellsWords (writer_contents Out.contents) writer_buffer Log.contents fault result.0 output result.1 log.old log.new }
 {
     match fault {
-        CliFault::Memory => refuse(TextFault::Memory, log),
+        CliFault::Memory => (refuse(TextFault::Memory, log), output),
         CliFault::Usage(text) => {
             let _ = write_bytes(log, text.as_bytes());
-            2
+            (2, output)
         }
         CliFault::Help(text) => help(text.as_bytes(), output, log),
     }
@@ -83,27 +83,28 @@ fn refuse_words<Out: Write + Drop, Log: Write>(
 /// Writes a help text to the output.
 fn help<Out: Write + Drop, Log: Write>(
     text: &[u8],
-    output: &mut BufWriter<Out>,
+    mut output: BufWriter<Out>,
     log: &mut Watch<Log>,
-) -> u8
-    ensures sent { Sends (writer_contents Out.contents) writer_buffer Log.contents text.now result output.old output.new log.old log.new }
+) -> (u8, BufWriter<Out>)
+    ensures sent { Sends (writer_contents Out.contents) writer_buffer Log.contents text.now result.0 output result.1 log.old log.new }
 {
     match output.write_all(text) {
         Ok(()) => flush(output, log),
-        Err(_) => refuse_output(log),
+        Err(_) => (refuse_output(log), output),
     }
 }
 
 /// Answers a request over the files that it names, or over `input` where it names none.
-#[tactic(auto, using(crate::proofs::StartLemmas::no_text_fault_is_done))]
+#[tactic(auto, using(crate::proofs::StartLemmas::no_text_fault_is_done, crate::proofs::StartLemmas::of_input))]
 fn answer_request<R: Files + AllocGlobal, In: Read + Drop, Out: Write + Drop, Log: Write>(
     rt: &R,
     request: &Request,
     input: In,
-    output: &mut BufWriter<Out>,
+    output: BufWriter<Out>,
     log: &mut Watch<Log>,
-) -> u8
-    ensures done { result ≡ 0 → (writer_buffer output.new ≡ []) × (IsSilent request.now.command → log.new ≡ log.old) }
+) -> (u8, BufWriter<Out>)
+    ensures done { result.0 ≡ 0 → ReadsAndSends (writer_contents Out.contents) writer_buffer Log.contents request.now.command
+        (given_for request.now.files.len (In.remaining input)) output result.1 log.old log.new }
 {
     let alloc = rt.alloc();
     if request.files.is_empty() {
@@ -111,7 +112,7 @@ fn answer_request<R: Files + AllocGlobal, In: Read + Drop, Out: Write + Drop, Lo
     }
     match open_all(alloc, &request.files, |path| fs::open(rt, path)) {
         Ok(files) => answer(alloc, request, Joined::new(files), output, log),
-        Err(fault) => refuse(fault, log),
+        Err(fault) => (refuse(fault, log), output),
     }
 }
 
@@ -134,32 +135,38 @@ fn open_all<T: Drop, F: Fn(&str) -> io::Result<T>>(
     Ok(files)
 }
 
+/// Answers a request over the bytes of one reader.
 fn answer<In: Read + Drop, Out: Write + Drop, Log: Write>(
     alloc: Global,
     request: &Request,
     input: In,
-    output: &mut BufWriter<Out>,
+    output: BufWriter<Out>,
     log: &mut Watch<Log>,
-) -> u8
-    ensures done { result ≡ 0 → (writer_buffer output.new ≡ []) × (IsSilent request.now.command → log.new ≡ log.old) }
+) -> (u8, BufWriter<Out>)
+    ensures done { result.0 ≡ 0 → ReadsAndSends (writer_contents Out.contents) writer_buffer Log.contents request.now.command
+        (In.remaining input) output result.1 log.old log.new }
 {
     let mut input = Watch::new(input);
-    let mut watched = Watch::new(&mut *output);
+    let mut watched = Watch::new(output);
     let status = run(alloc, request, &mut input, &mut watched, log);
+    let output = watched.into_inner();
     if status != 0 {
-        return status;
+        return (status, output);
     }
     flush(output, log)
 }
 
 /// Sends on what the output holds back.
-fn flush<Out: Write + Drop, Log: Write>(output: &mut BufWriter<Out>, log: &mut Watch<Log>) -> u8
-    ensures sent { result ≡ 0 → (writer_buffer output.new ≡ []) × (log.new ≡ log.old) }
-    ensures failed { (result ≡ 0 → ⊥) → (result ≡ 3) × Logs Log.contents log.old log.new (codes "write failed\n") }
-    ensures bytes { Keeps (writer_contents Out.contents output.old) (writer_contents Out.contents output.new) }
+fn flush<Out: Write + Drop, Log: Write>(
+    mut output: BufWriter<Out>,
+    log: &mut Watch<Log>,
+) -> (u8, BufWriter<Out>)
+    ensures sent { result.0 ≡ 0 → (writer_buffer result.1 ≡ []) × (log.new ≡ log.old) }
+    ensures failed { (result.0 ≡ 0 → ⊥) → (result.0 ≡ 3) × Logs Log.contents log.old log.new (codes "write failed\n") }
+    ensures bytes { Keeps (writer_contents Out.contents output) (writer_contents Out.contents result.1) }
 {
     match output.flush() {
-        Ok(()) => 0,
-        Err(_) => refuse_output(log),
+        Ok(()) => (0, output),
+        Err(_) => (refuse_output(log), output),
     }
 }

@@ -213,9 +213,9 @@ fn ends(
         room: ShortWriter::new(&mut output_room, AtEnd::Fail),
         flush_fails,
     };
-    let mut output = BufWriter::new(alloc, stream)?;
+    let output = BufWriter::new(alloc, stream)?;
     let mut log = Watch::new(ShortWriter::new(&mut log_room, AtEnd::Fail));
-    let status = answer_command_line(&(shelf, alloc), input.as_bytes(), &mut output, &mut log);
+    let (status, output) = answer_command_line(&(shelf, alloc), input.as_bytes(), output, &mut log);
     let log = log.into_inner();
     Ok(is_end(end, status, output.get_ref().room.written(), log.written()))
 }

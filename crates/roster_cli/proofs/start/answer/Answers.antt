@@ -1,0 +1,16 @@
+use Rattle.std.proofs.Common.{ap}
+use Rattle.std.specs.Io.Buffered.{writer_buffer, writer_contents}
+use Rattle.roster_cli.proofs.StartLemmas.{done_once_flushed}
+use Rattle.roster_cli.proofs.start.answer.Goals as goal
+
+pub returns : goal.returns
+returns g c = record {
+  done = λ zero.
+      let sent = c.flush.ensures.sent zero in
+      done_once_flushed (writer_contents g.Out.Write.contents) writer_buffer g.Log.Write.contents c.args.request.now.command g.In.Read.remaining
+      c.new-input.result c.run-status.new.input c.new-watched.result c.run-status.new.output c.args.log.now c.run-status.new.log
+      c.args.input c.args.output c.into_inner-output.result c.flush.result.1 c.flush.new.log
+      (c.run-status.ensures.done c.if-status-ne0.false) (c.run-status.ensures.silent c.if-status-ne0.false)
+      (ap (λ w. w.inner) c.new-input.ensures) (ap (λ w. w.inner) c.new-watched.ensures) c.into_inner-output.ensures
+      c.flush.ensures.bytes sent.0 sent.1;
+}
