@@ -18,3 +18,4 @@ pub mod StretchLaws
 pub mod CountLaws
 pub mod SearchLaws
 pub mod LowRows
+pub mod RiseLaws

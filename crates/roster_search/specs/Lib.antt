@@ -5,3 +5,4 @@ pub mod Tables
 pub mod Counts
 pub mod Halves
 pub mod Search
+pub mod Rises

@@ -1,6 +1,6 @@
 //! The best row is found from state to state. The functions here do nothing: each is a law, and its clauses say it.
 
-ghost use Rattle.std.specs.Prelude.{◌≡◌, ◌+◌, ◌<◌, ◌≤◌, ℕ, Bool, true, false, [], ◌∷◌, All, Contains, List, IsSome, Some, length};
+ghost use Rattle.std.specs.Prelude.{◌≡◌, ◌+◌, ◌<◌, ◌≤◌, ℕ, Bool, true, false, [], ◌∷◌, All, Contains, List, IsSome, IsSomeAnd, Some, length};
 ghost use Rattle.roster_instance.specs.declared.choice.Choice.{Choice};
 ghost use Rattle.roster_rules.specs.AllowedRows.{IsBestRow, IsFirstLeast, is_frozen, penalty_with};
 ghost use Rattle.roster_rules.specs.HardRules.{keeps_hard};
@@ -9,11 +9,13 @@ ghost use Rattle.roster_instance.specs.Meaning.{Meaning, day_count, nurse_count,
 ghost use Rattle.roster_rules.specs.Prefix.{Summary, due};
 ghost use Rattle.roster_instance.specs.Rosters.{Row, Rows, choice_on, fits_case, row_of};
 ghost use Rattle.roster_instance.specs.Sizes.{choice_count};
+ghost use Rattle.roster_instance.specs.Counting.{sum_below};
 ghost use Rattle.roster_instance.specs.Small.{HasSmallNumbers};
 ghost use Rattle.roster_laws.specs.OneRow.{rest_of};
 ghost use Rattle.roster_search.specs.ByStates.{Steps, best_from, cost_from, rows_from};
 ghost use Rattle.roster_search.specs.Cheapest.{cheapest, with_cost};
 ghost use Rattle.roster_search.specs.Offers.{best_by_states, best_of_offers, cheapest_by_shift, choices_of, offer_of, offered_rows, offers_by, offers_of, open_offers, row_cost_at, shift_offers};
+ghost use Rattle.roster_search.specs.Rises.{AllHaveRisen};
 ghost use Rattle.roster_search.specs.Search.{best_over};
 ghost use Rattle.roster_search.specs.Tables.{IsOfferOf, no_row};
 ghost use Rattle.roster_search.specs.declared.offer.Offer.{Offer};
@@ -64,4 +66,11 @@ pub fn one_offer_for_each_shift_is_enough()
     ensures fewer { (offers : List Offer) → length (cheapest_by_shift offers) ≤ length offers }
     ensures some { (offers : List Offer) → 0 < length offers → 0 < length (cheapest_by_shift offers) }
     ensures few { (c : Meaning) (from : ℕ) (r : Rows) (n d : ℕ) → length (shift_offers c from r n d) ≤ 1 + shift_count c }
+{}
+
+/// After prices have changed, the best row costs less by no more than the days say. On each day let every new offer have an old one for the
+/// same shift, and let its price be higher than that one's by `rise` of the day at least, less `fall` of the day. Where the new offers
+/// have a best row, so have the old ones, and its cost with all that has risen is at most the new one's with all that has fallen.
+pub fn cost_rises_with_prices()
+    ensures { (c : Meaning) (n : ℕ) (old new : ℕ → List Offer) (rise fall : ℕ → ℕ) → ((d : ℕ) → d < day_count c → AllHaveRisen (rise d) (fall d) (old d) (new d)) → (cost : ℕ) (offers : List Offer) → best_over c n new ≡ Some (cost, offers) → IsSomeAnd (best_over c n old) (λ best. best.0 + sum_below (day_count c) rise ≤ cost + sum_below (day_count c) fall) }
 {}

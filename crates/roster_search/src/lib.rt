@@ -3,10 +3,11 @@
 //! The first of the cheapest is defined in `specs/Cheapest.antt`, rows that lead from state to state in
 //! `specs/ByStates.antt`, what a nurse is offered on a day in `specs/Offers.antt`, and right labels and pointers of a day in
 //! `specs/Tables.antt`. `best_row_is_found_by_states` promises that such a search gives the nurse's best row,
-//! `one_offer_for_each_shift_is_enough` that it may leave out the dearer offers for one shift, and
-//! `cheapest_offered_row_is_found` what it finds whatever is offered at whatever prices. `label_end` and `label_day` promise right labels
-//! and pointers of a day, `read_day` the choices of the best row by these pointers, and `search_row` that row with its cost over a
-//! table of offers for all days (`specs/Search.antt`).
+//! `one_offer_for_each_shift_is_enough` that it may leave out the dearer offers for one shift,
+//! `cheapest_offered_row_is_found` what it finds whatever is offered at whatever prices, and `cost_rises_with_prices` how much less it
+//! can cost after prices have changed (`specs/Rises.antt`). `label_end` and `label_day` promise right labels and pointers of a day,
+//! `read_day` the choices of the best row by these pointers, and `search_row` that row with its cost over a table of offers for all
+//! days (`specs/Search.antt`).
 #![tactic(auto)]
 
 mod by_shift;
@@ -25,7 +26,7 @@ pub use day::{OpenDay, SearchDay};
 pub use labels::{NO_ROW, label_day, label_end};
 pub use laws::{
     best_row_is_found_by_states, cheapest_offered_row_is_found, cheapest_row_is_found_by_states,
-    offers_are_few, one_offer_for_each_shift_is_enough,
+    cost_rises_with_prices, offers_are_few, one_offer_for_each_shift_is_enough,
 };
 pub use offer::Offer;
 pub use pointers::Pointers;
