@@ -1,7 +1,8 @@
 -- The best row in a workspace: what the room is, that the row is low and allowed, and what its label says.
-use Rattle.std.proofs.Common.{◌≡◌, ◌+◌, ◌*◌, ◌<◌, ◌≤◌, ◌&&◌, ◌==◌, ℕ, true, arith, refl, subst, sym, List, [], ◌∷◌, nat_le, Contains, Some}
-use Rattle.std.proofs.lemmas.Bool.{and_parts, eqb-true, leb-true}
+use Rattle.std.proofs.Common.{◌≡◌, ◌∙◌, ◌+◌, ◌*◌, ◌<◌, ◌≤◌, ◌&&◌, ◌==◌, ℕ, true, ap, arith, refl, subst, sym, List, [], ◌∷◌, nat_le, Contains, IsSome, None, Some}
+use Rattle.std.proofs.lemmas.Bool.{and_parts, eqb-true, leb-true, true≢false}
 use Rattle.std.proofs.lemmas.List.Elements.{Contains-append_right}
+use Rattle.arrayvec.specs.ArrayVec.{ArrayVec}
 use Rattle.roster_instance.specs.Limits.{most_nurses, most_shifts, most_skills, most_weeks}
 use Rattle.roster_instance.specs.Meaning.{Meaning, day_count, nurse_count, shift_count, skill_count, week_count}
 use Rattle.roster_instance.specs.Rosters.{Row, Rows, fits_case, is_row_of, with_row}
@@ -19,9 +20,12 @@ use Rattle.roster_laws.specs.Greatest.{greatest_state_count}
 use Rattle.roster_laws.proofs.Allowed.{allowed_keeps}
 use Rattle.roster_laws.proofs.GreatestLemmas.{greatest_states}
 use Rattle.roster_search.specs.declared.offer.Offer.{Offer}
+use Rattle.roster_search.specs.Cheapest.{Priced}
 use Rattle.roster_search.specs.Offers.{best_by_states, choices_of}
-use Rattle.roster_search.proofs.Best.{is_best, penalty_is}
-use Rattle.roster_best.specs.Workspaces.{Space, fits_space}
+use Rattle.roster_search.specs.Search.{IsFound, best_over, offers_on}
+use Rattle.roster_search.proofs.Best.{best_some, is_best, penalty_is}
+use Rattle.roster_best.specs.Workspaces.{AreShiftOffers, Space, fits_space}
+use Rattle.roster_best.proofs.SearchLaws.{best_is}
 
 -- ---- the room of a workspace that fits
 
@@ -64,3 +68,23 @@ module _ (c : Meaning) (from : ℕ) (r : Rows) (limits : KeepsLimits c) (fits : 
   pub sum_within : (keeps : keeps_hard c r ≡ true) (n : ℕ) (inside : n < nurse_count c) (cost : ℕ) (offers : List Offer) → best_by_states c from r n ≡ Some (cost, offers) → rest_of c r n + due c n [] + cost < penalty_room
   sum_within keeps n inside cost offers is =
       omega (arith, penalty_is c from r fits keeps n inside cost offers is, best_within n (choices_of offers) (is_best c from r fits keeps n inside cost offers is))
+
+  -- what the others' rows cost, and what the start owes
+  pub base_within : (keeps : keeps_hard c r ≡ true) (n : ℕ) (inside : n < nurse_count c) → rest_of c r n + due c n [] < penalty_room
+  base_within keeps n inside = go (best_by_states c from r n) refl (best_some c from r fits keeps n inside)
+    where
+      go : (o : Priced (List Offer)) → best_by_states c from r n ≡ o → IsSome o → rest_of c r n + due c n [] < penalty_room
+      go None is some = elim (true≢false (sym some)) [ ]
+      go (Some best) is some = omega (arith, sum_within keeps n inside best.0 best.1 is)
+
+-- ---- what a search over the nurse's offers finds
+
+module _ (c : Meaning) (from : ℕ) (r : Rows) (fits : fits_case c r ≡ true) (keeps : keeps_hard c r ≡ true) (n : ℕ) (inside : n < nurse_count c) (offers : List (ArrayVec Offer)) (are : AreShiftOffers c from r n offers) (cost : ℕ) (row : Row) (found : IsFound (best_over c n (offers_on offers)) cost row) where
+  pub found_is : best_by_states c from r n ≡ Some (cost, found.offers)
+  found_is = sym (best_is c from r n offers are) ∙ found.is
+
+  pub found_best : IsBestRow c from r n row
+  found_best = subst (IsBestRow c from r n) (sym found.row_is) (is_best c from r fits keeps n inside cost found.offers found_is)
+
+  pub found_penalty : penalty_with c r n row ≡ rest_of c r n + due c n [] + cost
+  found_penalty = ap (penalty_with c r n) found.row_is ∙ penalty_is c from r fits keeps n inside cost found.offers found_is

@@ -6,7 +6,7 @@ use Rattle.arrayvec.specs.ArrayVec.{ArrayVec}
 use Rattle.roster_bundle.proofs.Ranges.{range_with_len_more}
 use Rattle.roster_instance.specs.Limits.{most_shifts, most_skills}
 use Rattle.roster_instance.specs.Meaning.{Meaning, day_count, nurse_count, shift_count, skill_count}
-use Rattle.roster_instance.specs.Rosters.{Row, Rows, fits_case}
+use Rattle.roster_instance.specs.Rosters.{Rows, fits_case}
 use Rattle.roster_instance.specs.Sizes.{greatest_of, state_count}
 use Rattle.roster_instance.specs.Small.{HasSmallNumbers}
 use Rattle.roster_instance.proofs.SizeLemmas.{greatest_of-push}
@@ -15,10 +15,10 @@ use Rattle.roster_rules.specs.Prefix.{summary_of}
 use Rattle.roster_laws.specs.Greatest.{greatest_state_count}
 use Rattle.roster_search.specs.declared.offer.Offer.{Offer}
 use Rattle.roster_search.specs.Offers.{best_by_states, offers_of, shift_offers}
-use Rattle.roster_search.specs.Search.{AreDayOffers, AreOffers, CountsStates, IsFound, best_over, offers_on}
+use Rattle.roster_search.specs.Search.{AreDayOffers, AreOffers, CountsStates, best_over, offers_on}
 use Rattle.roster_search.specs.Cheapest.{Priced}
-use Rattle.std.proofs.Math.Path.{transport}
 use Rattle.roster_search.specs.Tables.{IsOfferOf}
+use Rattle.roster_search.proofs.Best.{best_some}
 use Rattle.roster_search.proofs.ByShift.{best_by_shift, by_shift_all, by_shift_fewer, by_shift_some}
 use Rattle.roster_search.proofs.OfferLaws.{offers_few, offers_of_case, offers_some}
 use Rattle.roster_search.proofs.SearchLaws.{best_over_same, counts_same}
@@ -41,23 +41,12 @@ module _ (c : Meaning) (from : ℕ) (r : Rows) (n : ℕ) (offers : List (ArrayVe
       } in
       record { days = omega (arith, are.days); each = λ day within. subst (AreDayOffers c n) (sym (are.each day within)) (each day within) }
 
--- ---- what the search finds, also where the case and the table are known by equations alone
+  -- there is a best row over it
+  pub some_found : fits_case c r ≡ true → keeps_hard c r ≡ true → n < nurse_count c → IsSome (best_over c n (offers_on offers))
+  some_found fits keeps inside = subst (λ (p : Priced (List Offer)). IsSome p) (sym best_is) (best_some c from r fits keeps n inside)
 
-module _ (from : ℕ) (r : Rows) (n : ℕ) (k c : Meaning) (case_is : k ≡ c) (offers table : List (ArrayVec Offer)) (offers_are : offers ≡ table) (are : AreShiftOffers c from r n table) where
-  pub found_is : (cost : ℕ) (row : Row) → IsFound (best_over k n (offers_on offers)) cost row → IsFound (best_by_states c from r n) cost row
-  found_is cost row found =
-      subst (λ (p : Priced (List Offer)). IsFound p cost row) (best_is c from r n table are)
-      (transport (λ i. IsFound (best_over (case_is i) n (offers_on (offers_are i))) cost row) found)
-
-  pub counted_is : (before after : ℕ) → CountsStates k n (offers_on offers) before after → CountsStanding c from r n before after
-  counted_is before after counts =
-      counts_same c n (offers_on table) (shift_offers c from r n) are.each before after (transport (λ i. CountsStates (case_is i) n (offers_on (offers_are i)) before after) counts)
-
-  pub searched : AreOffers c n table → AreOffers k n offers
-  searched ready = transport (λ i. AreOffers (sym case_is i) n (sym offers_are i)) ready
-
-  pub some_found : IsSome (best_by_states c from r n) → IsSome (best_over k n (offers_on offers))
-  some_found some = transport (λ i. IsSome (best_over (sym case_is i) n (offers_on (sym offers_are i)))) (subst (λ (p : Priced (List Offer)). IsSome p) (sym (best_is c from r n table are)) some)
+  pub counted_is : (before after : ℕ) → CountsStates c n (offers_on offers) before after → CountsStanding c from r n before after
+  counted_is before after counts = counts_same c n (offers_on offers) (shift_offers c from r n) are.each before after counts
 
 -- ---- the greatest number of states, one nurse more
 

@@ -1,2 +1,3 @@
 pub mod Offers
 pub mod Workspaces
+pub mod Known

@@ -34,6 +34,10 @@ pub record AreShiftOffers (c : Meaning) (from : ℕ) (r : Rows) (n : ℕ) (offer
   pub days : length offers ≡ day_count c
   pub each : (day : ℕ) → day < day_count c → offers_on offers day ≡ shift_offers c from r n day
 
+-- these are a nurse's offers, whatever is frozen
+abbrev pub AreOffersOf : Meaning → Rows → ℕ → List (ArrayVec Offer) → Type 0
+AreOffersOf c r n offers = (from : ℕ) × AreShiftOffers c from r n offers
+
 -- so many were counted: exactly the states that stand over the nurse's offers
 abbrev pub CountsStanding : Meaning → ℕ → Rows → ℕ → ℕ → ℕ → Type 0
 CountsStanding c from r n before after = CountsStates c n (shift_offers c from r n) before after

@@ -9,14 +9,16 @@
 #![tactic(auto)]
 
 mod by_shift;
+mod last;
 mod laws;
 mod offer;
 mod search;
 mod workspace;
 
+pub use last::LastSearches;
 pub use laws::offers_tell_the_allowed_rows;
 pub use offer::{choices, request_cost};
 pub use roster_lanes::lower16;
 pub use roster_search::Offer;
-pub use search::{Best, best_row};
+pub use search::{Best, best_row, cheaper_row};
 pub use workspace::{BestFault, Workspace, greatest_states, most_steps};

@@ -1,13 +1,19 @@
 //! The best row of a nurse.
 
-ghost use Rattle.std.specs.Prelude.{◌≡◌, ◌+◌, ◌<◌, ◌≤◌, true};
+ghost use Rattle.std.specs.Prelude.{◌≡◌, ◌+◌, ◌<◌, ◌≤◌, [], true, IfNone, IfSome, OnSome};
 ghost use Rattle.roster_bundle.specs.Limits.{greatest_u64};
 ghost use Rattle.roster_instance.specs.Meaning.{day_count, nurse_count};
-ghost use Rattle.roster_rules.specs.AllowedRows.{IsBestRow, penalty_with, row_keeps};
+ghost use Rattle.roster_rules.specs.AllowedRows.{IsBestRow, best_row, penalty_with, row_keeps};
+ghost use Rattle.roster_rules.specs.Improver.{step};
+ghost use Rattle.roster_rules.specs.Prefix.{due};
 ghost use Rattle.roster_laws.specs.Greatest.{extension_count};
-ghost use Rattle.roster_best.specs.Workspaces.{AreShiftOffers, CountsStanding, SameRoom, fits_space};
+ghost use Rattle.roster_laws.specs.OneRow.{rest_of};
+ghost use Rattle.roster_search.specs.Search.{CountsStates, IsFound, best_over, offers_on};
+ghost use Rattle.roster_best.specs.Known.{IsKnown};
+ghost use Rattle.roster_best.specs.Workspaces.{AreOffersOf, AreShiftOffers, CountsStanding, SameRoom, fits_space};
 
 use crate::by_shift::choices_by_shift;
+use crate::last::LastSearches;
 use crate::workspace::Workspace;
 use arrayvec::ArrayVec;
 use roster_case::Held;
@@ -51,20 +57,82 @@ pub fn best_row(
     ensures room { SameRoom workspace.old workspace.new }
     ensures fits { fits_space held.now.case workspace.new ≡ true }
 {
+    held.keeps_rules();
+    let table = offers_of_days(held, nurse, from);
+    let (_, best) = search_offers(held, nurse, table.as_slice(), workspace, meter);
+    best
+}
+
+/// Searches a nurse's best row as `best_row` does, but where the nurse's last search tells that no row is cheaper than the present one.
+/// There it changes nothing and returns `None`. It remembers each search that it makes.
+pub fn cheaper_row(
+    held: &Held,
+    nurse: usize,
+    from: u16,
+    workspace: &mut Workspace,
+    last: &mut LastSearches,
+    meter: &mut Meter,
+) -> Option<Best>
+    requires nurse { nurse < nurse_count held.now.case }
+    requires fits { fits_space held.now.case workspace.old ≡ true }
+    requires known { IsKnown held.now.case last.old }
+    requires room { meter.old + extension_count held.now.case nurse ≤ greatest_u64 }
+
+    // The row, and the roster's penalty with it; where there is none, a step wouldn't change the roster.
+    ensures best { OnSome result (IsBestRow held.now.case from held.now.roster nurse workspace.new.row) }
+    ensures keeps { OnSome result (row_keeps held.now.case held.now.roster nurse workspace.new.row ≡ true) }
+    ensures total { IfSome result (λ best. best.total ≡ penalty_with held.now.case held.now.roster nurse workspace.new.row) }
+    ensures none { IfNone result (step held.now.case (best_row held.now.case from) held.now.roster nurse ≡ held.now.roster) }
+
+    // What it takes.
+    ensures spared { IfNone result (meter.new ≡ meter.old) }
+    ensures counted { meter.new ≤ meter.old + extension_count held.now.case nurse }
+    ensures room { SameRoom workspace.old workspace.new }
+    ensures fits { fits_space held.now.case workspace.new ≡ true }
+    ensures known { IsKnown held.now.case last.new }
+{
+    held.keeps_rules();
+    let table = offers_of_days(held, nurse, from);
+    if last.has_none_cheaper(held, nurse, table.as_slice()) {
+        return None;
+    }
+    let (cost, best) = search_offers(held, nurse, table.as_slice(), workspace, meter);
+    last.remember(held, nurse, table.as_slice(), cost);
+    Some(best)
+}
+
+/// Searches over a nurse's offers of all days. Beside the best row's penalty it returns what that row costs beside what the start owes.
+fn search_offers(
+    held: &Held,
+    nurse: usize,
+    offers: &[ArrayVec<Offer, 9>],
+    workspace: &mut Workspace,
+    meter: &mut Meter,
+) -> (u32, Best)
+    requires nurse { nurse < nurse_count held.now.case }
+    requires offers { AreOffersOf held.now.case held.now.roster nurse offers.now }
+    requires fits { fits_space held.now.case workspace.old ≡ true }
+    requires room { meter.old + extension_count held.now.case nurse ≤ greatest_u64 }
+    ensures found { IsFound (best_over held.now.case nurse (offers_on offers.now)) result.0 workspace.new.row }
+    ensures total { result.1.total ≡ rest_of held.now.case held.now.roster nurse + due held.now.case nurse [] + result.0 }
+    ensures each_day { meter.old + day_count held.now.case ≤ meter.new }
+    ensures counted { meter.new ≤ meter.old + extension_count held.now.case nurse }
+    ensures standing { CountsStates held.now.case nurse (offers_on offers.now) meter.old meter.new }
+    ensures room { SameRoom workspace.old workspace.new }
+    ensures fits { fits_space held.now.case workspace.new ≡ true }
+{
     // The case has small numbers, and the roster keeps the hard rules: so each day has an offer, and there is a best row.
     held.case().keeps_limits();
     held.keeps_rules();
-    let table = offers_of_days(held, nurse, from);
     let search = RowSearch {
         case: held.case(),
         nurse,
-        offers: table.as_slice(),
+        offers,
     };
     let cost = workspace.search(&search, meter);
     let (_, owed) = start(held.case(), nurse);
-    Best {
-        total: held.rest(nurse) + owed as u64 + cost as u64,
-    }
+    let total = held.rest(nurse) + owed as u64 + cost as u64;
+    (cost, Best { total })
 }
 
 /// The offers of each day, one for each shift.

@@ -1,0 +1,57 @@
+-- What the last search for each nurse tells of the next: at what prices it went over the shifts, and what it found (our own).
+use Rattle.std.specs.Prelude.{◌≡◌, ◌≢◌, ℕ, ◌+◌, ◌*◌, ◌<◌, ◌≤◌, Contains, IfSome, List, [], Option, Some, None, length, slice_index, slice_index_or}
+use Rattle.roster_instance.specs.declared.choice.Shift.{Shift}
+use Rattle.roster_instance.specs.Choices.{shift_of}
+use Rattle.roster_instance.specs.Meaning.{Meaning, day_count, nurse_count}
+use Rattle.roster_search.specs.declared.offer.Offer.{Offer}
+use Rattle.roster_search.specs.Search.{best_over}
+use Rattle.roster_best.specs.declared.last.LastSearches.{LastSearches}
+
+-- the price of what isn't offered
+abbrev pub not_offered : ℕ
+not_offered = 4294967295
+
+-- where the price of a shift stands among nine: to be off comes first
+abbrev pub price_place : Option Shift → ℕ
+price_place None = 0
+price_place (Some shift) = shift.0 + 1
+
+-- the price is that of an offer for the shift of this place
+pub record IsPriceOf (offers : List Offer) (place price : ℕ) : Type 0 where
+  pub offer : Offer
+  pub among : Contains offers offer
+  pub at : price_place (shift_of offer.choice) ≡ place
+  pub is : offer.price ≡ price
+
+-- so is each of these prices, where there is one
+abbrev pub ArePrices : List Offer → List ℕ → Type 0
+ArePrices offers prices = (place : ℕ) → place < 9 → slice_index prices place ≢ not_offered → IsPriceOf offers place (slice_index prices place)
+
+-- there is a price for the offer's shift, and the offer's own is higher than that by at least `rise`, less `fall`
+pub record IsDearer (prices : List ℕ) (rise fall : ℕ) (offer : Offer) : Type 0 where
+  pub place : price_place (shift_of offer.choice) < 9
+  pub offered : slice_index prices (price_place (shift_of offer.choice)) ≢ not_offered
+  pub price : slice_index prices (price_place (shift_of offer.choice)) + rise ≤ offer.price + fall
+
+-- ---- what is kept of all nurses
+
+-- the prices of a nurse's day
+abbrev pub prices_on : Meaning → LastSearches → (n d : ℕ) → List ℕ
+prices_on c last n d = slice_index_or last.prices.items (n * day_count c + d) []
+
+-- a search for the nurse, over offers at these prices, found a row at this cost
+pub record WasSearched (c : Meaning) (last : LastSearches) (n cost : ℕ) : Type 0 where
+  pub offers : ℕ → List Offer
+  pub row : List Offer
+  pub prices : (d : ℕ) → d < day_count c → ArePrices (offers d) (prices_on c last n d)
+  pub found : best_over c n offers ≡ Some (cost, row)
+
+-- a cost for each nurse of the case, and prices for each of the nurse's days
+pub record FitsLast (c : Meaning) (last : LastSearches) : Type 0 where
+  pub nurses : length last.costs.items ≡ nurse_count c
+  pub days : length last.prices.items ≡ nurse_count c * day_count c
+
+-- and where there is a cost, it is that of a search
+pub record IsKnown (c : Meaning) (last : LastSearches) : Type 0 where
+  pub fits : FitsLast c last
+  pub searched : (n : ℕ) → n < nurse_count c → IfSome (slice_index_or last.costs.items n None) (WasSearched c last n)

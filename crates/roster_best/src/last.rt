@@ -1,0 +1,170 @@
+//! What the last search for each nurse tells of the next.
+
+ghost use Rattle.std.specs.Prelude.{◌≡◌, ◌<◌, ℕ, true, All, IfOk, IfSome, None, length, replicate};
+ghost use Rattle.roster_instance.specs.Choices.{shift_of};
+ghost use Rattle.roster_instance.specs.Meaning.{nurse_count};
+ghost use Rattle.roster_instance.specs.Rosters.{Row};
+ghost use Rattle.roster_rules.specs.AllowedRows.{best_row};
+ghost use Rattle.roster_rules.specs.Improver.{step};
+ghost use Rattle.roster_search.specs.Search.{IsFound, best_over, offers_on};
+ghost use Rattle.roster_best.specs.Known.{ArePrices, IsDearer, IsKnown, price_place};
+ghost use Rattle.roster_best.specs.Workspaces.{AreOffersOf, AreShiftOffers};
+
+use crate::workspace::BestFault;
+use arrayvec::ArrayVec;
+use roster_case::{Case, Choice, Held};
+use roster_search::Offer;
+use roster_state::start;
+use std::alloc::Global;
+
+/// The price of what isn't offered.
+const NOT_OFFERED: u32 = u32::MAX;
+
+/// What the last search for each nurse went over and found: at what price each shift was offered on each day, and what the best row cost.
+/// It tells of some nurses that no row has become cheaper than the present one. For each nurse and day that is 36 bytes: 5.3 MB at
+/// most. One serves all nurses of a case, one after another.
+pub struct LastSearches {
+    /// For each nurse and day the price to be off, and the price of each shift.
+    pub(crate) prices: Vec<[u32; 9]>,
+    /// For each nurse what the best row cost, beside what the start owes; none before the first search.
+    pub(crate) costs: Vec<Option<u32>>,
+}
+
+// By hand, so that who drops it has one call to prove.
+impl Drop for LastSearches {
+    fn drop(self) {
+        let LastSearches {
+            prices: _,
+            costs: _,
+        } = self;
+    }
+}
+
+impl LastSearches {
+    /// Room for the nurses of a case, by at most two growths. No search is known.
+    ///
+    /// # Errors
+    ///
+    /// A growth was refused.
+    pub fn for_case(alloc: Global, case: &Case) -> Result<LastSearches, BestFault>
+        ensures known { IfOk result (IsKnown case.now) }
+    {
+        let nurses = case.nurses();
+        let days = case.days() as usize;
+        Ok(LastSearches {
+            prices: vec![in alloc; [NOT_OFFERED; 9]; nurses * days]?,
+            costs: vec![in alloc; None; nurses]?,
+        })
+    }
+
+    /// Forgets all searches.
+    pub fn forget(&mut self)
+        ensures prices { self.new.prices ≡ self.old.prices }
+        ensures costs { self.new.costs.items ≡ replicate (length self.old.costs.items) None }
+    {
+        self.costs.fill(None);
+    }
+
+    /// Whether it is known, by the nurse's last search, that no row is cheaper than the present one, where these are the nurse's offers
+    /// of all days.
+    pub(crate) fn has_none_cheaper(
+        &self,
+        held: &Held,
+        nurse: usize,
+        offers: &[ArrayVec<Offer, 9>],
+    ) -> bool
+        requires nurse { nurse < nurse_count held.now.case }
+        requires known { IsKnown held.now.case self.now }
+        requires offers { AreOffersOf held.now.case held.now.roster nurse offers.now }
+        ensures { result ≡ true → (from : ℕ) → AreShiftOffers held.now.case from held.now.roster nurse offers.now → step held.now.case (best_row held.now.case from) held.now.roster nurse ≡ held.now.roster }
+    {
+        held.case().keeps_limits();
+        held.keeps_rules();
+        let Some(cost) = self.costs[nurse] else {
+            return false;
+        };
+        let (_, owed) = start(held.case(), nurse);
+        let mut least = held.rest(nurse) + owed as u64 + cost as u64;
+        let mut present = held.total();
+        let days = offers.len();
+        for day in 0..days {
+            let before = &self.prices[nurse * days + day];
+            let Some(Change { rise, fall }) = change_since(before, offers[day].as_slice()) else {
+                return false;
+            };
+            least += rise as u64;
+            present += fall as u64;
+        }
+        present <= least
+    }
+
+    /// Keeps the prices and the cost of a search for a nurse, in the place of those of an earlier one.
+    pub(crate) fn remember(
+        &mut self,
+        held: &Held,
+        nurse: usize,
+        offers: &[ArrayVec<Offer, 9>],
+        cost: u32,
+    )
+        requires nurse { nurse < nurse_count held.now.case }
+        requires known { IsKnown held.now.case self.old }
+        requires offers { AreOffersOf held.now.case held.now.roster nurse offers.now }
+        requires found { (row : Row) × IsFound (best_over held.now.case nurse (offers_on offers.now)) cost row }
+        ensures known { IsKnown held.now.case self.new }
+    {
+        held.case().keeps_limits();
+        held.keeps_rules();
+        let days = offers.len();
+        for day in 0..days {
+            self.prices[nurse * days + day] = prices_by_shift(offers[day].as_slice());
+        }
+        self.costs[nurse] = Some(cost);
+    }
+}
+
+/// How the prices of a day's offers have changed: they have all risen by at least `rise` less `fall`, one of which is 0.
+#[derive(Clone, Copy)]
+struct Change {
+    rise: u32,
+    fall: u32,
+}
+
+/// How the prices have changed since these, if each offer had one.
+fn change_since(prices: &[u32; 9], offers: &[Offer]) -> Option<Change>
+    requires places { All (λ offer. price_place (shift_of offer.choice) < 9) offers.now }
+    ensures { IfSome result (λ change. All (IsDearer prices.now change.rise change.fall) offers.now) }
+{
+    let mut rise = u32::MAX;
+    let mut fall = 0;
+    for offer in offers {
+        let before = prices[price_place(offer.choice)];
+        if before == NOT_OFFERED {
+            return None;
+        }
+        rise = rise.min(offer.price.saturating_sub(before));
+        fall = fall.max(before.saturating_sub(offer.price));
+    }
+    Some(Change { rise, fall })
+}
+
+/// The price of each shift on a day.
+fn prices_by_shift(offers: &[Offer]) -> [u32; 9]
+    requires places { All (λ offer. price_place (shift_of offer.choice) < 9) offers.now }
+    ensures { ArePrices offers.now result }
+{
+    let mut prices = [NOT_OFFERED; 9];
+    for offer in offers {
+        prices[price_place(offer.choice)] = offer.price;
+    }
+    prices
+}
+
+/// Where the price of a choice stands: to be off comes first, then each shift.
+fn price_place(choice: Choice) -> usize
+    ensures { result ≡ price_place (shift_of choice) }
+{
+    match choice.shift() {
+        None => 0,
+        Some(shift) => shift.0 as usize + 1,
+    }
+}
