@@ -1,10 +1,10 @@
 -- What the last searches tell: the prices that are kept, and that no row has become cheaper.
-use Rattle.std.proofs.Common.{◌≡◌, ◌∙◌, ◌+◌, ◌*◌, ◌<◌, ◌≤◌, ◌⊎◌, ◌≢◌, ℕ, suc, Bool, true, false, ◌==◌, if◌then◌else◌, inl, inr, ap, arith, get_or-set_other, refl, subst, sym, List, [], All, length, nat_lt, slice_index, slice_index_or, slice_set, Option, None, Some, IfSome, IsSome}
+use Rattle.std.proofs.Common.{◌≡◌, ◌∙◌, ◌+◌, ◌*◌, ◌<◌, ◌≤◌, ◌⊎◌, ◌≢◌, ℕ, suc, Bool, true, false, ◌==◌, if◌then◌else◌, inl, inr, ap, arith, get_or-set_other, refl, subst, sym, List, [], All, length, nat_lt, replicate, slice_index, slice_index_or, slice_set, Option, None, Some, IfSome, IsSome}
 use Rattle.std.specs.Prelude.{IsSomeAnd}
-use Rattle.std.proofs.lemmas.Bool.{and_parts, cases_eq, cases_lt, eq-eqb, eqb-true, ltb-true, true≢false}
+use Rattle.std.proofs.lemmas.Bool.{and_from, and_parts, cases_eq, cases_lt, eq-eqb, eqb-true, ltb-true, true≢false}
 use Rattle.std.proofs.Math.Path.{transport}
 use Rattle.std.proofs.lemmas.Grind.{get_or-set_at}
-use Rattle.std.proofs.lemmas.List.{length-set}
+use Rattle.std.proofs.lemmas.List.{get_or-replicate, length-replicate, length-set}
 use Rattle.std.proofs.lemmas.List.Elements.{All-weaker, Contains-get_or}
 use Rattle.std.proofs.lemmas.Nat.{mul-le}
 use Rattle.arrayvec.specs.ArrayVec.{ArrayVec}
@@ -33,7 +33,7 @@ use Rattle.roster_search.specs.Tables.{IsOfferOf}
 use Rattle.roster_search.proofs.Best.{best_some, is_best, penalty_is}
 use Rattle.roster_search.proofs.RiseLaws.{cost_has_risen}
 use Rattle.roster_best.specs.declared.last.LastSearches.{LastSearches}
-use Rattle.roster_best.specs.Known.{ArePrices, IsDearer, IsKnown, IsPriceOf, WasSearched, not_offered, price_place, prices_on}
+use Rattle.roster_best.specs.Known.{ArePrices, IsDearer, IsKnown, IsPriceOf, WasSearched, fits_last, not_offered, price_place, prices_on}
 use Rattle.roster_best.specs.Workspaces.{AreShiftOffers}
 use Rattle.roster_best.proofs.SearchLaws.{best_is}
 
@@ -236,10 +236,8 @@ module _ (c : Meaning) (n : ℕ) (inside : n < nurse_count c) where
   pub known_more : (old new : LastSearches) (cost : ℕ) → IsKnown c old → length new.prices.items ≡ length old.prices.items → new.costs.items ≡ slice_set old.costs.items n (Some cost)
       → ((i : ℕ) → Outside c n i → slice_index_or new.prices.items i [] ≡ slice_index_or old.prices.items i []) → WasSearched c new n cost → IsKnown c new
   known_more old new cost known lengths costs others here = record {
-    fits = record {
-      nurses = ap length costs ∙ length-set old.costs.items n (Some cost) ∙ known.fits.nurses;
-      days = lengths ∙ known.fits.days;
-    };
+    nurses = ap length costs ∙ length-set old.costs.items n (Some cost) ∙ known.nurses;
+    days = lengths ∙ known.days;
     searched = λ m within. subst (λ (o : Option ℕ). IfSome o (WasSearched c new m)) (sym (ap (λ xs. slice_index_or xs m None) costs)) (go m within (cases_eq m n));
   }
     where
@@ -254,6 +252,22 @@ module _ (c : Meaning) (n : ℕ) (inside : n < nurse_count c) where
 
       go : (m : ℕ) → m < nurse_count c → (m ≡ n) ⊎ (m ≢ n) → IfSome (slice_index_or (slice_set old.costs.items n (Some cost)) m None) (WasSearched c new m)
       go m within (inl same) =
-          subst (λ (o : Option ℕ). IfSome o (WasSearched c new m)) (sym (get_or-set_at old.costs.items n m (Some cost) None same (omega (arith, inside, known.fits.nurses)))) (subst (λ k. WasSearched c new k cost) (sym same) here)
+          subst (λ (o : Option ℕ). IfSome o (WasSearched c new m)) (sym (get_or-set_at old.costs.items n m (Some cost) None same (omega (arith, inside, known.nurses)))) (subst (λ k. WasSearched c new k cost) (sym same) here)
       go m within (inr differs) =
           subst (λ (o : Option ℕ). IfSome o (WasSearched c new m)) (sym (get_or-set_other old.costs.items n m (Some cost) None differs)) (kept m differs (slice_index_or old.costs.items m None) (known.searched m within))
+
+-- ---- nothing is kept
+
+pub known_fits : (c : Meaning) (last : LastSearches) → IsKnown c last → fits_last c last ≡ true
+known_fits c last known =
+    and_from (length last.costs.items == nurse_count c) (length last.prices.items == nurse_count c * day_count c) (eq-eqb (length last.costs.items) (nurse_count c) known.nurses) (eq-eqb (length last.prices.items) (nurse_count c * day_count c) known.days)
+
+pub forgotten : (c : Meaning) (old new : LastSearches) → fits_last c old ≡ true → new.prices ≡ old.prices → new.costs.items ≡ replicate (length old.costs.items) None → IsKnown c new
+forgotten c old new fits prices costs =
+    let both = and_parts (length old.costs.items == nurse_count c) (length old.prices.items == nurse_count c * day_count c) fits in
+    let nurses : length old.costs.items ≡ nurse_count c = eqb-true (length old.costs.items) (nurse_count c) both.0 in
+    record {
+      nurses = ap length costs ∙ length-replicate (length old.costs.items) None ∙ nurses;
+      days = ap (λ v. length v.items) prices ∙ eqb-true (length old.prices.items) (nurse_count c * day_count c) both.1;
+      searched = λ n inside. subst (λ (o : Option ℕ). IfSome o (WasSearched c new n)) (sym (ap (λ xs. slice_index_or xs n None) costs ∙ get_or-replicate (length old.costs.items) n None None (omega (arith, inside, nurses)))) tt;
+    }

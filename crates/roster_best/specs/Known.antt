@@ -1,5 +1,5 @@
 -- What the last search for each nurse tells of the next: at what prices it went over the shifts, and what it found (our own).
-use Rattle.std.specs.Prelude.{◌≡◌, ◌≢◌, ℕ, ◌+◌, ◌*◌, ◌<◌, ◌≤◌, Contains, IfSome, List, [], Option, Some, None, length, slice_index, slice_index_or}
+use Rattle.std.specs.Prelude.{◌≡◌, ◌≢◌, ℕ, ◌+◌, ◌*◌, ◌<◌, ◌≤◌, ◌==◌, ◌&&◌, Bool, Contains, IfSome, List, [], Option, Some, None, length, slice_index, slice_index_or}
 use Rattle.roster_instance.specs.declared.choice.Shift.{Shift}
 use Rattle.roster_instance.specs.Choices.{shift_of}
 use Rattle.roster_instance.specs.Meaning.{Meaning, day_count, nurse_count}
@@ -46,12 +46,12 @@ pub record WasSearched (c : Meaning) (last : LastSearches) (n cost : ℕ) : Type
   pub prices : (d : ℕ) → d < day_count c → ArePrices (offers d) (prices_on c last n d)
   pub found : best_over c n offers ≡ Some (cost, row)
 
--- a cost for each nurse of the case, and prices for each of the nurse's days
-pub record FitsLast (c : Meaning) (last : LastSearches) : Type 0 where
-  pub nurses : length last.costs.items ≡ nurse_count c
-  pub days : length last.prices.items ≡ nurse_count c * day_count c
+-- there is room for a cost of each nurse of the case, and for prices of each of her days
+abbrev pub fits_last : Meaning → LastSearches → Bool
+fits_last c last = (length last.costs.items == nurse_count c) && (length last.prices.items == nurse_count c * day_count c)
 
 -- and where there is a cost, it is that of a search
 pub record IsKnown (c : Meaning) (last : LastSearches) : Type 0 where
-  pub fits : FitsLast c last
+  pub nurses : length last.costs.items ≡ nurse_count c
+  pub days : length last.prices.items ≡ nurse_count c * day_count c
   pub searched : (n : ℕ) → n < nurse_count c → IfSome (slice_index_or last.costs.items n None) (WasSearched c last n)

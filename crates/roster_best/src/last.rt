@@ -7,7 +7,7 @@ ghost use Rattle.roster_instance.specs.Rosters.{Row};
 ghost use Rattle.roster_rules.specs.AllowedRows.{best_row};
 ghost use Rattle.roster_rules.specs.Improver.{step};
 ghost use Rattle.roster_search.specs.Search.{IsFound, best_over, offers_on};
-ghost use Rattle.roster_best.specs.Known.{ArePrices, IsDearer, IsKnown, price_place};
+ghost use Rattle.roster_best.specs.Known.{ArePrices, IsDearer, IsKnown, fits_last, price_place};
 ghost use Rattle.roster_best.specs.Workspaces.{AreOffersOf, AreShiftOffers};
 
 use crate::workspace::BestFault;
@@ -55,6 +55,14 @@ impl LastSearches {
             prices: vec![in alloc; [NOT_OFFERED; 9]; nurses * days]?,
             costs: vec![in alloc; None; nurses]?,
         })
+    }
+
+    /// Whether there is room for what is known of the case's nurses, and no more.
+    pub fn fits(&self, case: &Case) -> bool
+        ensures { result ≡ fits_last case.now self.now }
+    {
+        let nurses = case.nurses();
+        self.costs.len() == nurses && self.prices.len() == nurses * case.days() as usize
     }
 
     /// Forgets all searches.

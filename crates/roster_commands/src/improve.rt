@@ -4,17 +4,16 @@ ghost use Rattle.std.specs.Prelude.{◌≡◌, ◌+◌, ◌≤◌, true, IfErr, 
 ghost use Rattle.roster_bundle.specs.Limits.{greatest_u64};
 ghost use Rattle.roster_text.specs.Io.{Writes};
 ghost use Rattle.roster_instance.specs.Rosters.{fits_case};
-ghost use Rattle.roster_best.specs.Workspaces.{fits_space};
 ghost use Rattle.roster_rounds.specs.RunLogs.{extensions_in};
+ghost use Rattle.roster_rounds.specs.Spaces.{fits_run};
 ghost use Rattle.roster_commands.specs.Answer.{Ends, LeavesLog, StopsSearch, improve_report, improved, outcome_of, run_log};
 
 use crate::fault::Fault;
 use crate::held::hold;
 use crate::reading::Instance;
-use roster_best::Workspace;
 use roster_case::Held;
 use roster_reports::write_weeks;
-use roster_rounds::{LogFault, most_extensions};
+use roster_rounds::{LogFault, RunSpace, most_extensions};
 use roster_state::Meter;
 use roster_text::Watch;
 use std::alloc::Global;
@@ -37,12 +36,12 @@ pub(crate) fn improve<'a, Out: Write, Log: Write>(
 {
     let mut meter = Meter::new(&mut instance.case);
     let mut held = hold(alloc, source, instance)?;
-    let Ok(mut workspace) = Workspace::for_case(alloc, held.case()) else {
+    let Ok(mut space) = RunSpace::for_case(alloc, held.case()) else {
         return Err(Fault::Memory);
     };
     // A new meter has room for so many.
     let _ = most_extensions(held.case(), rounds);
-    run_rounds(&mut held, rounds, from, &mut workspace, &mut meter, log)?;
+    run_rounds(&mut held, rounds, from, &mut space, &mut meter, log)?;
     Ok(write_weeks(output, held.case(), held.roster())?)
 }
 
@@ -51,18 +50,18 @@ fn run_rounds<'a, Log: Write>(
     held: &mut Held,
     rounds: u16,
     from: u16,
-    workspace: &mut Workspace,
+    space: &mut RunSpace,
     meter: &mut Meter,
     log: &mut Watch<Log>,
 ) -> Result<(), Fault<'a>>
-    requires fits { fits_space held.old.case workspace.old ≡ true }
+    requires fits { fits_run held.old.case space.old ≡ true }
     requires none { meter.old ≡ 0 }
     requires room { extensions_in held.old.case rounds ≤ greatest_u64 }
     ensures put { OnOk result (held.new ≡ record { case = held.old.case; roster = improved held.old.case rounds from held.old.roster }) }
     ensures ok { OnOk result (Writes Log.contents log.old log.new (run_log held.old.case rounds from held.old.roster)) }
     ensures err { IfErr result (StopsSearch Log.contents log.old log.new (run_log held.old.case rounds from held.old.roster)) }
 {
-    match roster_rounds::improve(held, rounds, from, workspace, meter, log) {
+    match roster_rounds::improve(held, rounds, from, space, meter, log) {
         Ok(_) => Ok(()),
         Err(LogFault::LogFailed { .. }) => Err(Fault::Log),
     }

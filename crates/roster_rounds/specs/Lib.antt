@@ -1,2 +1,3 @@
 pub mod RunLogs
 pub mod PutIn
+pub mod Spaces

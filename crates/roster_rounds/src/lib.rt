@@ -11,10 +11,12 @@ mod nurse;
 mod outcome;
 mod room;
 mod rounds;
+mod space;
 
 pub use headline::each_row_put_in_is_best;
 pub use log::{log_round, log_word};
-pub use nurse::step;
+pub use nurse::{step, step_unless_known};
 pub use outcome::{LogFault, Outcome, Step};
 pub use room::most_extensions;
 pub use rounds::improve;
+pub use space::RunSpace;

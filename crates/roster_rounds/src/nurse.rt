@@ -1,17 +1,18 @@
 //! One nurse's row, replaced where that is cheaper.
 
-ghost use Rattle.std.specs.Prelude.{◌≡◌, ◌+◌, ◌<◌, ◌≤◌, true, not};
+ghost use Rattle.std.specs.Prelude.{◌≡◌, ◌+◌, ◌<◌, ◌≤◌, ℕ, true, not};
 ghost use Rattle.roster_bundle.specs.Limits.{greatest_u64};
 ghost use Rattle.roster_instance.specs.Meaning.{day_count, nurse_count};
-ghost use Rattle.roster_rules.specs.AllowedRows.{IsBestRow, best_row};
+ghost use Rattle.roster_rules.specs.AllowedRows.{IsBestRow, best_row, penalty_with, row_keeps};
 ghost use Rattle.roster_rules.specs.Improver.{same_rows, step};
 ghost use Rattle.roster_rules.specs.Penalties.{penalty};
 ghost use Rattle.roster_laws.specs.FrozenDays.{FrozenDaysStay};
 ghost use Rattle.roster_laws.specs.Greatest.{extension_count};
+ghost use Rattle.roster_best.specs.Known.{IsKnown};
 ghost use Rattle.roster_best.specs.Workspaces.{SameRoom, fits_space};
 
 use crate::outcome::Step;
-use roster_best::{Workspace, best_row};
+use roster_best::{Best, LastSearches, Workspace, best_row, cheaper_row};
 use roster_case::Held;
 use roster_state::Meter;
 
@@ -39,8 +40,59 @@ pub fn step(
     ensures room { SameRoom workspace.old workspace.new }
     ensures fits { fits_space held.old.case workspace.new ≡ true }
 {
-    let before = held.total();
     let best = best_row(held, nurse, from, workspace, meter);
+    put_in_cheaper(held, nurse, best, workspace)
+}
+
+/// The same step, but it makes no search where the nurse's last one tells that no row is cheaper than the present one. What the workspace
+/// shows afterwards is then left as it was.
+pub fn step_unless_known(
+    held: &mut Held,
+    nurse: usize,
+    from: u16,
+    workspace: &mut Workspace,
+    last: &mut LastSearches,
+    meter: &mut Meter,
+) -> Step
+    requires nurse { nurse < nurse_count held.old.case }
+    requires fits { fits_space held.old.case workspace.old ≡ true }
+    requires known { IsKnown held.old.case last.old }
+    requires room { meter.old + extension_count held.old.case nurse ≤ greatest_u64 }
+    ensures case { held.new.case ≡ held.old.case }
+    ensures roster { held.new.roster ≡ step held.old.case (best_row held.old.case from) held.old.roster nurse }
+    ensures frozen { FrozenDaysStay held.old.case from held.old.roster held.new.roster }
+    ensures before { result.before ≡ penalty held.old.case held.old.roster }
+    ensures after { result.after ≡ penalty held.old.case held.new.roster }
+    ensures changed { result.changed ≡ not (same_rows held.new.roster held.old.roster) }
+    ensures counted { meter.new ≤ meter.old + extension_count held.old.case nurse }
+    ensures room { SameRoom workspace.old workspace.new }
+    ensures fits { fits_space held.old.case workspace.new ≡ true }
+    ensures known { IsKnown held.old.case last.new }
+{
+    let Some(best) = cheaper_row(held, nurse, from, workspace, last, meter) else {
+        let total = held.total();
+        return Step {
+            before: total,
+            after: total,
+            changed: false,
+        };
+    };
+    put_in_cheaper(held, nurse, best, workspace)
+}
+
+/// Puts the best row that the workspace shows in where the roster's penalty becomes strictly smaller, and else changes nothing.
+fn put_in_cheaper(held: &mut Held, nurse: usize, best: Best, workspace: &Workspace) -> Step
+    requires nurse { nurse < nurse_count held.old.case }
+    requires best { (from : ℕ) × IsBestRow held.old.case from held.old.roster nurse workspace.now.row }
+    requires keeps { row_keeps held.old.case held.old.roster nurse workspace.now.row ≡ true }
+    requires total { best.total ≡ penalty_with held.old.case held.old.roster nurse workspace.now.row }
+    ensures case { held.new.case ≡ held.old.case }
+    ensures roster { (from : ℕ) → IsBestRow held.old.case from held.old.roster nurse workspace.now.row → held.new.roster ≡ step held.old.case (best_row held.old.case from) held.old.roster nurse }
+    ensures before { result.before ≡ penalty held.old.case held.old.roster }
+    ensures after { result.after ≡ penalty held.old.case held.new.roster }
+    ensures changed { result.changed ≡ not (same_rows held.new.roster held.old.roster) }
+{
+    let before = held.total();
     let changed = best.total < before;
     if changed {
         held.replace_row(nurse, workspace.row());

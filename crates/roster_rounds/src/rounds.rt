@@ -8,19 +8,22 @@ ghost use Rattle.roster_rules.specs.Improver.{round_log};
 ghost use Rattle.roster_laws.specs.FrozenDays.{FrozenDaysStay};
 ghost use Rattle.roster_laws.specs.Greatest.{greatest_extension_count};
 ghost use Rattle.roster_best.specs.Workspaces.{SameRoom, fits_space};
+ghost use Rattle.roster_best.specs.Known.{IsKnown};
+ghost use Rattle.roster_rounds.specs.Spaces.{fits_run};
 ghost use Rattle.roster_rounds.specs.RunLogs.{BreaksAmong, LogStops, Ran, RoundMade, extensions_in};
 
 use crate::log::{log_change, log_round, log_word};
-use crate::nurse::step;
+use crate::nurse::step_unless_known;
 use crate::outcome::{LogFault, Outcome};
-use roster_best::Workspace;
+use crate::space::RunSpace;
 use roster_case::Held;
 use roster_state::Meter;
 use roster_text::{Watch, WriteFault};
 use std::io::Write;
 
 /// Makes rounds until one changes nothing, or as many as are given. A round is a step for each nurse, in the order of the case. The
-/// days of the weeks before week `from` stay as they are. Each line of the log goes out as it is made.
+/// days of the weeks before week `from` stay as they are. Each line of the log goes out as it is made. A nurse whose last search tells
+/// that no row is cheaper isn't searched again; what the space knew before the run is forgotten.
 ///
 /// # Errors
 ///
@@ -29,24 +32,25 @@ pub fn improve<W: Write>(
     held: &mut Held,
     rounds: u16,
     from: u16,
-    workspace: &mut Workspace,
+    space: &mut RunSpace,
     meter: &mut Meter,
     log: &mut Watch<W>,
 ) -> Result<Outcome, LogFault>
-    requires fits { fits_space held.old.case workspace.old ≡ true }
+    requires fits { fits_run held.old.case space.old ≡ true }
     requires room { meter.old + extensions_in held.old.case rounds ≤ greatest_u64 }
     ensures case { held.new.case ≡ held.old.case }
     ensures ok { IfOk result (Ran W.contents held.old.case (best_row held.old.case from) rounds held.old.roster held.new.roster log.old log.new) }
     ensures err { IfErr result (LogStops W.contents held.old.case (best_row held.old.case from) rounds held.old.roster held.new.roster log.old log.new) }
     ensures frozen { FrozenDaysStay held.old.case from held.old.roster held.new.roster }
     ensures counted { meter.new ≤ meter.old + extensions_in held.old.case rounds }
-    ensures room { SameRoom workspace.old workspace.new }
-    ensures fits { fits_space held.old.case workspace.new ≡ true }
+    ensures room { SameRoom space.old.workspace space.new.workspace }
+    ensures fits { fits_run held.old.case space.new ≡ true }
 {
+    space.last.forget();
     let mut sent = log_word(log, 0, b"start", held.total())?;
     let mut changes = 0;
     for rounds_before in 0..rounds {
-        let made = make_round(held, rounds_before + 1, from, workspace, meter, log, sent)?;
+        let made = make_round(held, rounds_before + 1, from, space, meter, log, sent)?;
         sent = made.sent;
         changes += made.changes;
         if made.changes == 0 {
@@ -82,24 +86,33 @@ fn make_round<W: Write>(
     held: &mut Held,
     round: u16,
     from: u16,
-    workspace: &mut Workspace,
+    space: &mut RunSpace,
     meter: &mut Meter,
     log: &mut Watch<W>,
     mut sent: usize,
 ) -> Result<Round, WriteFault>
-    requires fits { fits_space held.old.case workspace.old ≡ true }
+    requires fits { fits_space held.old.case space.old.workspace ≡ true }
+    requires known { IsKnown held.old.case space.old.last }
     requires room { meter.old + nurse_count held.old.case * greatest_extension_count held.old.case ≤ greatest_u64 }
     ensures case { held.new.case ≡ held.old.case }
     ensures ok { IfOk result (λ made. RoundMade W.contents held.old.case (best_row held.old.case from) round held.old.roster held.new.roster log.old log.new sent made.sent made.changes) }
     ensures err { IfErr result (BreaksAmong W.contents held.old.case (round_log held.old.case (best_row held.old.case from) round held.old.roster) held.new.roster log.old log.new sent) }
     ensures frozen { FrozenDaysStay held.old.case from held.old.roster held.new.roster }
     ensures counted { meter.new ≤ meter.old + nurse_count held.old.case * greatest_extension_count held.old.case }
-    ensures room { SameRoom workspace.old workspace.new }
-    ensures fits { fits_space held.old.case workspace.new ≡ true }
+    ensures room { SameRoom space.old.workspace space.new.workspace }
+    ensures fits { fits_space held.old.case space.new.workspace ≡ true }
+    ensures known { IsKnown held.old.case space.new.last }
 {
     let mut changes = 0;
     for nurse in 0..held.case().nurses() {
-        let step = step(held, nurse, from, workspace, meter);
+        let step = step_unless_known(
+            held,
+            nurse,
+            from,
+            &mut space.workspace,
+            &mut space.last,
+            meter,
+        );
         if !step.changed {
             continue;
         }

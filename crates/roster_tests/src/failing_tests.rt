@@ -4,7 +4,7 @@ use crate::best_tests::{ready, row_of};
 use crate::texts::{MINI, SHOWN, changed};
 use roster_cli::{Command, Request, run};
 use roster_devices::{AtEnd, FailingReader, OneByteReader, ShortWriter};
-use roster_rounds::{LogFault, improve, most_extensions};
+use roster_rounds::{LogFault, RunSpace, improve, most_extensions};
 use roster_text::Watch;
 use std::alloc::{AllocError, Global};
 use std::io::{ErrorKind, Read};
@@ -268,14 +268,17 @@ const LEFT: [Left; 4] = [
 fn rosters_after_a_log_that_fails(rt: HostRuntime) -> Result<(), Fail> {
     for (first, last, total, ann, bob) in LEFT {
         for sent in first..last + 1 {
-            let (mut held, mut workspace, mut meter) = ready(rt.alloc(), &[])?;
-            if !workspace.fits(held.case()) || meter.room() < most_extensions(held.case(), 100) {
+            let (mut held, _, mut meter) = ready(rt.alloc(), &[])?;
+            if meter.room() < most_extensions(held.case(), 100) {
                 return Err(Fail::new("no room"));
             }
+            let Ok(mut space) = RunSpace::for_case(rt.alloc(), held.case()) else {
+                return Err(Fail::new("no space"));
+            };
             let mut log_room = [0; 78];
             let writer = ShortWriter::new(&mut log_room[..sent.min(78)], AtEnd::Fail);
             let mut log = Watch::new(writer);
-            let ended = improve(&mut held, 100, 0, &mut workspace, &mut meter, &mut log);
+            let ended = improve(&mut held, 100, 0, &mut space, &mut meter, &mut log);
             assert!(rt; ended == Err(LogFault::LogFailed { sent }), "{sent}");
             assert!(rt; fill(log.into_inner().written(), RUN_LOG, sent), "{sent}");
             // The line of the start goes out before the first search.

@@ -3,7 +3,7 @@
 use crate::best_tests::ready;
 use roster_best::most_steps;
 use roster_devices::{AtEnd, ShortWriter};
-use roster_rounds::{Outcome, Step, improve, most_extensions, step};
+use roster_rounds::{Outcome, RunSpace, Step, improve, most_extensions, step};
 use roster_text::Watch;
 use std::test::Fail;
 
@@ -34,9 +34,12 @@ fn steps_and_a_run(rt: HostRuntime) -> Result<(), Fail> {
     if meter.room() < most_extensions(held.case(), 3) {
         return Err(Fail::new("no room for the run"));
     }
+    let Ok(mut space) = RunSpace::for_case(rt.alloc(), held.case()) else {
+        return Err(Fail::new("no space"));
+    };
     let mut room = [0; 80];
     let mut log = Watch::new(ShortWriter::new(&mut room, AtEnd::Fail));
-    let ended = improve(&mut held, 3, 0, &mut workspace, &mut meter, &mut log);
+    let ended = improve(&mut held, 3, 0, &mut space, &mut meter, &mut log);
     let wanted = Outcome {
         settled: true,
         rounds: 3,

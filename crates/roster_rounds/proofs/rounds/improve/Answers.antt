@@ -1,4 +1,5 @@
-use Rattle.std.proofs.Common.{◌≡◌, ◌∙◌, ◌+◌, ap, arith, refl, subst, true}
+use Rattle.std.proofs.Common.{◌≡◌, ◌∙◌, ◌+◌, ap, arith, refl, subst, sym, true}
+use Rattle.std.proofs.lemmas.Bool.{and_parts}
 use Rattle.std.proofs.lemmas.Result.{err_from_is_err_and}
 use Rattle.roster_text.specs.Io.{BreaksIn, Sends}
 use Rattle.roster_instance.specs.Meaning.{Meaning}
@@ -7,7 +8,9 @@ use Rattle.roster_rules.specs.Improver.{round_log}
 use Rattle.roster_rules.specs.Penalties.{penalty}
 use Rattle.roster_laws.specs.FrozenDays.{FrozenDaysStay}
 use Rattle.roster_laws.proofs.Frozen.{stays_on, stays_self}
+use Rattle.roster_best.specs.Known.{IsKnown, fits_last}
 use Rattle.roster_best.specs.Workspaces.{fits_space}
+use Rattle.roster_best.proofs.KnownLaws.{forgotten, known_fits}
 use Rattle.roster_rounds.specs.RunLogs.{BreaksAmong, RoundMade}
 use Rattle.roster_rounds.proofs.Counts.{round_counted, round_room, round_within, same_room}
 use Rattle.roster_rounds.proofs.OneRound.{settled_line, start_line, stopped_line}
@@ -45,7 +48,8 @@ loop-rounds_before-init g c =
       counted = omega arith;
       frozen = stays_self c.args.held.now.case c.args.from c.args.held.now.roster;
       room = record { labels = refl; pointers = refl; room = refl };
-      fits = c.requires.fits;
+      fits = (and_parts (fits_space c.args.held.now.case c.args.space.now.workspace) (fits_last c.args.held.now.case c.args.space.now.last) c.requires.fits).0;
+      known = forgotten c.args.held.now.case c.args.space.now.last c.forget.new.self (and_parts (fits_space c.args.held.now.case c.args.space.now.workspace) (fits_last c.args.held.now.case c.args.space.now.last) c.requires.fits).1 c.forget.ensures.prices c.forget.ensures.costs;
       going = Going-start g.W.Write.contents c.args.held.now.case (best_row c.args.held.now.case c.args.from) c.args.rounds c.args.held.now.roster c.args.log.now c.log_word.new.log c.in_ok-sent.sent
           (subst (Sends g.W.Write.contents c.args.log.now c.log_word.new.log 0 c.in_ok-sent.sent) line c.in_ok-sent.ensures.ok);
     }
@@ -103,7 +107,8 @@ loop-rounds_before-preserved g c =
       counted = round_counted case l.held.case l.invariant.case_is l.rounds_before c.args.meter.now l.meter l.invariant.counted c.make_round.new.meter c.make_round.ensures.counted;
       frozen = stayed g (goal.at.loop-rounds_before-preserved g c).After-make_round;
       room = same_room _ _ _ l.invariant.room c.make_round.ensures.room;
-      fits = subst (λ (m : Meaning). fits_space m c.make_round.new.workspace ≡ true) l.invariant.case_is c.make_round.ensures.fits;
+      fits = subst (λ (m : Meaning). fits_space m c.make_round.new.space.workspace ≡ true) l.invariant.case_is c.make_round.ensures.fits;
+      known = subst (λ (m : Meaning). IsKnown m c.make_round.new.space.last) l.invariant.case_is c.make_round.ensures.known;
       going = Going-round contents case (best_row case c.args.from) c.args.rounds c.args.held.now.roster c.args.log.now now next l.log c.make_round.new.log l.sent made.sent l.changes l.rounds_before made.changes l.invariant.going
           c.loop-rounds_before-test.true round (omega (arith, c.if-made-eq0.false));
     }
@@ -140,3 +145,6 @@ pub returns-then-made-eq0-clause-counted : goal.returns-then-made-eq0-clause-cou
 returns-then-made-eq0-clause-counted g c =
     let l = c.loop-rounds_before in
     round_within c.args.held.now.case l.held.case l.invariant.case_is l.rounds_before c.args.meter.now l.meter l.invariant.counted c.args.rounds c.make_round.new.meter c.loop-rounds_before-test.true c.make_round.ensures.counted
+
+pub make_round-requires-clause-known : goal.make_round-requires-clause-known
+make_round-requires-clause-known g c = subst (λ (m : Meaning). IsKnown m c.loop-rounds_before.space.last) (sym c.loop-rounds_before.invariant.case_is) c.loop-rounds_before.invariant.known

@@ -3,6 +3,7 @@ use Rattle.std.proofs.Common.{◌≡◌, ◌+◌, ◌*◌, ◌≤◌, true}
 use Rattle.roster_rules.specs.AllowedRows.{best_row}
 use Rattle.roster_laws.specs.Greatest.{greatest_extension_count}
 use Rattle.roster_laws.specs.FrozenDays.{FrozenDaysStay}
+use Rattle.roster_best.specs.Known.{IsKnown}
 use Rattle.roster_best.specs.Workspaces.{SameRoom, fits_space}
 use Rattle.roster_rounds.proofs.OneRound.{SoFar}
 use Rattle.roster_rounds.proofs.rounds.make_round.Given as goal
@@ -13,6 +14,7 @@ invariant-loop-nurse g l = record {
   so_far : SoFar g.W.Write.contents l.fn.held.case (best_row l.fn.held.case l.from) l.round l.fn.held.roster l.held.roster l.fn.log l.log l.fn.sent l.sent l.changes l.nurse;
   counted : l.meter ≤ l.fn.meter + l.nurse * greatest_extension_count l.fn.held.case;
   frozen : FrozenDaysStay l.fn.held.case l.from l.fn.held.roster l.held.roster;
-  room : SameRoom l.fn.workspace l.workspace;
-  fits : fits_space l.fn.held.case l.workspace ≡ true;
+  room : SameRoom l.fn.space.workspace l.space.workspace;
+  fits : fits_space l.fn.held.case l.space.workspace ≡ true;
+  known : IsKnown l.fn.held.case l.space.last;
 }

@@ -61,7 +61,7 @@ place_is : (c : In-loop-day) → c.args.nurse * length c.args.offers.now + c.loo
 place_is c = ap (λ days. c.args.nurse * days + c.loop-day.day) c.requires.offers.1.days
 
 place_in : (c : In-loop-day) → c.args.nurse * length c.args.offers.now + c.loop-day.day < length c.args.self.now.prices.items
-place_in c = omega (arith, place_is c, day_within c.args.held.now.case c.args.nurse c.loop-day.day c.requires.nurse (day_in c), c.requires.known.fits.days)
+place_in c = omega (arith, place_is c, day_within c.args.held.now.case c.args.nurse c.loop-day.day c.requires.nurse (day_in c), c.requires.known.days)
 
 pub index-before-requires : goal.index-before-requires
 index-before-requires c = omega (arith, place_in c, c.args.self.now.prices.ok.0)
@@ -103,7 +103,7 @@ returns c told from are =
     let at = (goal.at.returns c).After-rest in
     let all : c.loop-day.day ≡ day_count k = omega (arith, c.loop-day-test.false, c.loop-day.auto.day-end, c.requires.offers.1.days) in
     let changed = subst (λ days. HaveChanged k c.args.self.now n offers days so_far.rise so_far.fall) all so_far.changed in
-    let cost_is : slice_index_or c.args.self.now.costs.items n None ≡ Some c.in-Some.cost = sym (get_or_read c.args.self.now.costs.items n c.index.result.now (omega (arith, c.requires.nurse, c.requires.known.fits.nurses)) c.index.ensures None) ∙ c.in-Some.is in
+    let cost_is : slice_index_or c.args.self.now.costs.items n None ≡ Some c.in-Some.cost = sym (get_or_read c.args.self.now.costs.items n c.index.result.now (omega (arith, c.requires.nurse, c.requires.known.nurses)) c.index.ensures None) ∙ c.in-Some.is in
     let was = subst (λ (o : Option ℕ). IfSome o (WasSearched k c.args.self.now n)) cost_is (c.requires.known.searched n c.requires.nurse) in
     let owed : c.start-owed.result.1 ≡ due k n [] = c.start-owed.ensures.cost ∙ ap (λ (m : Meaning). due m n []) c.case-2.ensures in
     let enough : penalty k rows + so_far.fall ≤ rest_of k rows n + due k n [] + c.in-Some.cost + so_far.rise = omega (arith, leb-true c.loop-day.present c.loop-day.least told, so_far.least_is, so_far.present_is, c.total-present.ensures.total, c.rest.ensures, owed) in

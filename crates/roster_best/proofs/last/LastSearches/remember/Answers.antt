@@ -55,7 +55,7 @@ loop-day-preserved c =
     let prices = c.loop-day.self.prices.items in
     let new = c.prices_by_shift.result in
     let offers = offers_on c.args.offers.now in
-    let all = old.length ∙ c.requires.known.fits.days in
+    let all = old.length ∙ c.requires.known.days in
     let here : ArePrices (offers day) new = subst (λ xs. ArePrices xs new) (offers_here at.After-as_slice (ready at.After-keeps_rules) inside) c.prices_by_shift.ensures in
     record {
       costs = old.costs;

@@ -1,0 +1,47 @@
+//! The memory of a run.
+
+ghost use Rattle.std.specs.Prelude.{◌≡◌, true, IfOk};
+ghost use Rattle.roster_rounds.specs.Spaces.{fits_run};
+
+use roster_best::{BestFault, LastSearches, Workspace};
+use roster_case::Case;
+use std::alloc::Global;
+
+/// What a run writes into: the workspace of its searches, and what the last of them tell. One serves one run after another.
+pub struct RunSpace {
+    pub workspace: Workspace,
+    pub last: LastSearches,
+}
+
+// By hand, so that who drops it has one call to prove.
+impl Drop for RunSpace {
+    fn drop(self) {
+        let RunSpace {
+            workspace: _,
+            last: _,
+        } = self;
+    }
+}
+
+impl RunSpace {
+    /// Room for the runs over a case, by at most six growths.
+    ///
+    /// # Errors
+    ///
+    /// A growth was refused.
+    pub fn for_case(alloc: Global, case: &Case) -> Result<RunSpace, BestFault>
+        ensures fits { IfOk result (λ space. fits_run case.now space ≡ true) }
+    {
+        Ok(RunSpace {
+            workspace: Workspace::for_case(alloc, case)?,
+            last: LastSearches::for_case(alloc, case)?,
+        })
+    }
+
+    /// Whether there is room for the runs over the case.
+    pub fn fits(&self, case: &Case) -> bool
+        ensures { result ≡ fits_run case.now self.now }
+    {
+        self.workspace.fits(case) && self.last.fits(case)
+    }
+}
