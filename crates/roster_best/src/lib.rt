@@ -5,7 +5,8 @@
 //! `specs/Workspaces.antt`. `choices` promises the offers of a day in the order of the choices, and
 //! `offers_tell_the_allowed_rows` that they tell a nurse's allowed rows and the prices of these. `best_row` promises that the
 //! workspace then shows the nurse's best row, within the stated numbers of labels, pointers and steps. It goes over one offer
-//! for each shift alone, the first of the cheapest.
+//! for each shift alone, the first of the cheapest. `cheaper_row` promises the same, or that no row is cheaper than the present one:
+//! some searches are spared by what the last ones tell (`specs/Known.antt`).
 #![tactic(auto)]
 
 mod by_shift;

@@ -33,7 +33,7 @@ module _ (c : Meaning) (from : ℕ) where
   stays_on r s t first later n d within frozen = later n d within frozen ∙ first n d within frozen
 
   -- a row put in that keeps the nurse's frozen days
-  row_stays : (r : Rows) (n : ℕ) (row : Row) → keeps_frozen_days c from r n row ≡ true → FrozenDaysStay c from r (with_row r n row)
+  pub row_stays : (r : Rows) (n : ℕ) (row : Row) → keeps_frozen_days c from r n row ≡ true → FrozenDaysStay c from r (with_row r n row)
   row_stays r n row keeps m d within frozen = go (cases_lt n (length r)) (cases_eq m n)
     where
       go : (n < length r) ⊎ (length r ≤ n) → (m ≡ n) ⊎ (m ≡ n → ⊥) → choice_on (row_of (with_row r n row) m) d ≡ choice_on (row_of r m) d

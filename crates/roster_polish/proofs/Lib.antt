@@ -1,0 +1,4 @@
+pub mod KickRows
+pub mod Steps
+pub mod Keeping
+pub mod KickLogs

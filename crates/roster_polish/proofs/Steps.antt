@@ -1,0 +1,82 @@
+-- A step of a settling, and what it spends.
+use Rattle.std.proofs.Common.{◌≡◌, ◌∙◌, ◌+◌, ◌-◌, ◌*◌, ◌<◌, ◌≤◌, ◌⊎◌, ℕ, Bool, true, false, not, inl, inr, ap, arith, mul_assoc, refl, subst, sym}
+use Rattle.std.specs.List.{All}
+use Rattle.std.proofs.lemmas.Nat.{mul-le}
+use Rattle.roster_instance.specs.Meaning.{Meaning, nurse_count}
+use Rattle.roster_instance.specs.Rosters.{Rows}
+use Rattle.roster_rules.specs.AllowedRows.{allowed_rows, best_row, penalty_with}
+use Rattle.roster_rules.specs.Improver.{same_rows, step}
+use Rattle.roster_rules.specs.Penalties.{penalty}
+use Rattle.roster_laws.specs.Greatest.{extension_count, greatest_extension_count}
+use Rattle.roster_laws.proofs.GreatestLemmas.{greatest_extensions}
+use Rattle.roster_rounds.specs.RunLogs.{extensions_in}
+use Rattle.roster_laws.proofs.SameRows.{same_rows_is}
+use Rattle.roster_laws.proofs.Steps.{step_falls, step_is_least}
+use Rattle.roster_polish.specs.Settled.{HasBestRow, Spends, extensions_of}
+
+-- a Boolean whose negation is false
+not_false : (b : Bool) → false ≡ not b → b ≡ true
+not_false true e = refl
+not_false false e = e
+
+module _ (c : Meaning) (from : ℕ) (r new : Rows) (n : ℕ) (is : new ≡ step c (best_row c from) r n) where
+  pub falls : penalty c new ≤ penalty c r
+  falls = go (step_falls c (best_row c from) r n)
+    where
+      go : (step c (best_row c from) r n ≡ r) ⊎ (penalty c (step c (best_row c from) r n) < penalty c r) → penalty c new ≤ penalty c r
+      go (inl same) = omega (arith, ap (penalty c) (is ∙ same))
+      go (inr less) = omega (arith, less, ap (penalty c) is)
+
+  -- a step that changes nothing leaves a best row
+  module _ (changed : Bool) (changed_is : changed ≡ not (same_rows new r)) (unchanged : changed ≡ false) where
+    pub is_same : new ≡ r
+    is_same = same_rows_is new r (not_false (same_rows new r) (sym unchanged ∙ changed_is))
+
+    pub has_best : HasBestRow c from new n
+    has_best = subst (λ s. HasBestRow c from s n) (sym is_same) (subst (λ s. All (λ row. penalty c s ≤ penalty_with c r n row) (allowed_rows c from r n)) (sym is ∙ is_same) (step_is_least c from r n))
+
+one_and_rest : (less size : ℕ) → (less + 1) * size ≡ size + less * size
+one_and_rest less size = omega arith
+
+pub both_of : (a b size : ℕ) → (a + b) * size ≡ a * size + b * size
+both_of a b size = omega arith
+
+module _ (c : Meaning) (n meter left : ℕ) (inside : n < nurse_count c) (some : 0 < left) where
+  one_more : extension_count c n ≤ greatest_extension_count c
+  one_more = (greatest_extensions c (omega (arith, inside))).above n inside
+
+  one_of : extensions_of c left ≡ greatest_extension_count c + extensions_of c (left - 1)
+  one_of =
+      let is : left ≡ left - 1 + 1 = omega (arith, some) in
+      ap (λ m. m * greatest_extension_count c) is ∙ one_and_rest (left - 1) (greatest_extension_count c)
+
+  -- a search is one of those that are left
+  pub has_room : (most : ℕ) → meter + extensions_of c left ≤ most → meter + extension_count c n ≤ most
+  has_room most room = omega (arith, one_more, one_of, room)
+
+  pub spent : (new left_new : ℕ) → left_new ≡ left - 1 → new ≤ meter + extension_count c n → Spends c meter left new left_new
+  spent new left_new less counted = record { fewer = omega (arith, less); counted = omega (arith, counted, one_more, one_of, ap (extensions_of c) less) }
+
+-- one spending after another
+pub spent_both : (c : Meaning) (meter left meter2 left2 meter3 left3 : ℕ) → Spends c meter left meter2 left2 → Spends c meter2 left2 meter3 left3 → Spends c meter left meter3 left3
+spent_both c meter left meter2 left2 meter3 left3 first later = record { fewer = omega (arith, first.fewer, later.fewer); counted = omega (arith, first.counted, later.counted) }
+
+pub spent_none : (c : Meaning) (meter left : ℕ) → Spends c meter left meter left
+spent_none c meter left = record { fewer = omega arith; counted = omega arith }
+
+-- ---- searches of rounds over all nurses
+
+module _ (c : Meaning) (rounds searches nurses : ℕ) (nurses_are : nurses ≡ nurse_count c) (few : rounds * nurses ≤ searches) where
+  so_many : extensions_in c rounds ≡ extensions_of c (rounds * nurses)
+  so_many = sym (mul_assoc rounds (nurse_count c) (greatest_extension_count c)) ∙ ap (λ n. extensions_of c (rounds * n)) (sym nurses_are)
+
+  pub rounds_room : (meter most : ℕ) → meter + extensions_of c searches ≤ most → meter + extensions_in c rounds ≤ most
+  rounds_room meter most room = omega (arith, so_many, room, mul-le (rounds * nurses) (greatest_extension_count c) searches (greatest_extension_count c) few (omega arith))
+
+  all_of : extensions_of c searches ≡ extensions_of c (searches - rounds * nurses) + extensions_of c (rounds * nurses)
+  all_of =
+      let is : searches ≡ searches - rounds * nurses + rounds * nurses = omega (arith, few) in
+      ap (extensions_of c) is ∙ both_of (searches - rounds * nurses) (rounds * nurses) (greatest_extension_count c)
+
+  pub rounds_spent : (meter new : ℕ) → new ≤ meter + extensions_in c rounds → new + extensions_of c (searches - rounds * nurses) ≤ meter + extensions_of c searches
+  rounds_spent meter new counted = omega (arith, so_many, all_of, counted)

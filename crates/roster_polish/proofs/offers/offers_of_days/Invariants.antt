@@ -1,0 +1,10 @@
+use Rattle.std.proofs.Common.{◌≡◌, ◌<◌, ℕ, length}
+use Rattle.roster_search.specs.Search.{offers_on}
+use Rattle.roster_polish.specs.Kicks.{kick_offers}
+use Rattle.roster_polish.proofs.offers.offers_of_days.Given as goal
+
+abbrev pub invariant-loop-day : goal.invariant-loop-day
+invariant-loop-day l = record {
+  days : length l.offers.items ≡ l.day;
+  each : (day : ℕ) → day < l.day → offers_on l.offers.items day ≡ kick_offers l.held.case l.held.roster l.nurse l.kick day;
+}

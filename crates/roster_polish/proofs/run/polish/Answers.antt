@@ -1,0 +1,181 @@
+use Rattle.std.proofs.Common.{◌≡◌, ◌∙◌, ◌+◌, ◌++◌, ◌≤◌, ap, arith, codes, decimal, length, map, refl, subst, sym, true}
+use Rattle.std.proofs.lemmas.Result.{err_from_is_err_and}
+use Rattle.roster_text.specs.Io.{BreaksIn, Sends}
+use Rattle.roster_instance.specs.Meaning.{Meaning}
+use Rattle.roster_instance.specs.Rosters.{Row, Rows, fits_case}
+use Rattle.roster_rules.specs.Penalties.{penalty}
+use Rattle.roster_laws.specs.FrozenDays.{FrozenDaysStay}
+use Rattle.roster_laws.specs.Greatest.{greatest_extension_count}
+use Rattle.roster_laws.proofs.Frozen.{stays_on, stays_self}
+use Rattle.roster_rounds.specs.RunLogs.{line}
+use Rattle.roster_polish.specs.Polished.{FitsPolish, first_searches, last_line}
+use Rattle.roster_polish.specs.Settled.{IsSettled, extensions_of}
+use Rattle.roster_polish.proofs.Keeping.{reached_by, same_days}
+use Rattle.roster_polish.proofs.KickLogs.{cheaper_breaks, end_breaks, ends, first_text, start_breaks, underway_cheaper, underway_first, underway_same}
+use Rattle.roster_polish.proofs.Steps.{both_of}
+use Rattle.roster_polish.proofs.run.polish.Goals as goal
+use Rattle.roster_polish.proofs.run.polish.Goals.{else-total-before, then-total-before+in_ok-sent-2}
+
+pub returns-in_err-sent-clause-err : goal.returns-in_err-sent-clause-err
+returns-in_err-sent-clause-err g c =
+    let p = err_from_is_err_and c.from_residual.result c.from_residual.ensures.1 in
+    let k = c.args.held.now.case in
+    let given = c.args.held.now.roster in
+    rw (p.1, p.2) (start_breaks g.W.Write.contents k c.args.course.now.from given c.args.log.now c.args.course.now.searches c.log_word.new.log c.in_err-sent.field-0.0
+    (reached_by k k c.args.course.now.from given given refl c.keeps_rules.ensures.fits c.keeps_rules.ensures.keeps (stays_self k c.args.course.now.from given))
+    (subst (λ text. BreaksIn g.W.Write.contents c.args.log.now c.log_word.new.log 0 text c.in_err-sent.field-0.0) (first_text k given c.total.result c.total.ensures.total) c.in_err-sent.ensures.err))
+
+-- ---- the first settling
+
+pub put_rows-requires : goal.put_rows-requires
+put_rows-requires g c =
+    let k = c.args.held.now.case in
+    let now = c.settle_first-settled.new.held in
+    let same = c.settle_first-settled.ensures.case in
+    ap (λ (rows : Rows). map (λ (row : Row). length row) rows) c.roster.ensures.roster
+    ∙ same_days k now.roster c.begin-kicking.new.space.kept (subst (λ (m : Meaning). fits_case m now.roster ≡ true) same c.keeps_rules-2.ensures.fits) (subst (λ (m : Meaning). FitsPolish m c.begin-kicking.new.space) same c.begin-kicking.ensures.fits).kept
+
+pub loop-kicks_before-init : goal.loop-kicks_before-init
+loop-kicks_before-init g c =
+    let k = c.args.held.now.case in
+    let given = c.args.held.now.roster in
+    let now = c.settle_first-settled.new.held in
+    let told = c.settle_first-settled.ensures in
+    let fits = subst (λ (m : Meaning). FitsPolish m c.begin-kicking.new.space) told.case c.begin-kicking.ensures.fits in
+    let kept : c.put_rows.new.self ≡ now.roster = c.put_rows.ensures ∙ c.roster.ensures.roster in
+    record {
+      case = told.case;
+      kept = kept;
+      frozen = told.frozen;
+      going = underway_first g.W.Write.contents k c.args.course.now.from given c.args.log.now c.log_word.new.log c.in_ok-sent.sent c.settle_first-settled.result now.roster told.no_dearer told.settled
+          (subst (Sends g.W.Write.contents c.args.log.now c.log_word.new.log 0 c.in_ok-sent.sent) (first_text k given c.total.result c.total.ensures.total) c.in_ok-sent.ensures.ok);
+      from = c.begin-kicking.ensures.from;
+      counted = omega (
+        arith,
+        told.counted,
+        c.begin-kicking.ensures.counted,
+        ap (λ (m : Meaning). extensions_of m c.begin-kicking.result.left) told.case,
+        ap (λ (m : Meaning). extensions_of m c.args.course.now.searches) told.case,
+        both_of c.args.course.now.searches (first_searches k) (greatest_extension_count k),
+      );
+      fits = record {
+        floor = fits.floor;
+        dearer = fits.dearer;
+        kept = subst (λ (rows : Rows). fits_case k rows ≡ true) (sym kept) (subst (λ (m : Meaning). fits_case m now.roster ≡ true) told.case c.keeps_rules-2.ensures.fits);
+      };
+    }
+
+-- ---- a kick
+
+pub loop-kicks_before-preserved-then-not-try_kick : goal.loop-kicks_before-preserved-then-not-try_kick
+loop-kicks_before-preserved-then-not-try_kick g c =
+    let k = c.args.held.now.case in
+    let l = c.loop-kicks_before in
+    let i = l.invariant in
+    let told = c.try_kick.ensures in
+    let back = told.back c.if-not-try_kick.true in
+    record {
+      case = told.case ∙ i.case;
+      kept = told.kept;
+      frozen = subst (FrozenDaysStay k c.args.course.now.from c.args.held.now.roster) (sym back) i.frozen;
+      going = underway_same g.W.Write.contents k c.args.course.now.from c.args.held.now.roster c.args.log.now l.log l.kicks_before l.sent l.settled l.held.roster i.going l.settled c.try_kick.new.held.roster (ap (penalty k) back)
+          (λ e. subst (IsSettled k c.args.course.now.from) (sym back) (i.going.is_settled e));
+      from = told.from ∙ i.from;
+      counted = omega (
+        arith,
+        i.counted,
+        told.spends.counted,
+        ap (λ (m : Meaning). extensions_of m c.try_kick.new.kicking.left) i.case,
+        ap (λ (m : Meaning). extensions_of m l.kicking.left) i.case,
+      );
+      fits = subst (λ (m : Meaning). FitsPolish m c.try_kick.new.space) i.case told.fits;
+    }
+
+-- the roster after a kick that stayed is settled, and may be kept
+pub returns-in_err-sent-2-clause-err : goal.returns-in_err-sent-2-clause-err
+returns-in_err-sent-2-clause-err g c =
+    let p = err_from_is_err_and c.from_residual-in_err-sent-2.result c.from_residual-in_err-sent-2.ensures.1 in
+    let k = c.args.held.now.case in
+    let from = c.args.course.now.from in
+    let given = c.args.held.now.roster in
+    let l = c.loop-kicks_before in
+    let i = l.invariant in
+    let told = c.try_kick.ensures in
+    let next = c.try_kick.new.held.roster in
+    let same : c.try_kick.new.held.case ≡ k = told.case ∙ i.case in
+    let settled = subst (λ (m : Meaning). IsSettled m from next) i.case (subst (λ week. IsSettled l.held.case week next) i.from (told.stayed c.if-not-try_kick.false)) in
+    let frozen = stays_on k from given l.held.roster next i.frozen (subst (λ (m : Meaning). FrozenDaysStay m from l.held.roster next) i.case (subst (λ week. FrozenDaysStay l.held.case week l.held.roster next) i.from told.frozen)) in
+    let total : c.total-total.result ≡ penalty k next = c.total-total.ensures.total ∙ ap (λ (m : Meaning). penalty m next) same in
+    let before : c.total-before.result ≡ penalty k l.held.roster = c.total-before.ensures.total ∙ ap (λ (m : Meaning). penalty m l.held.roster) i.case in
+    rw (p.1, p.2) (cheaper_breaks g.W.Write.contents k from given c.args.log.now l.log l.kicks_before l.sent l.settled l.held.roster i.going next (omega (arith, total, before, c.if-total-before.true))
+    (reached_by c.try_kick.new.held.case k from given next same c.keeps_rules-in-loop-kicks_before.ensures.fits c.keeps_rules-in-loop-kicks_before.ensures.keeps frozen) settled
+    c.args.course.now.searches c.log_kick.new.log c.in_err-sent-2.field-0.0 c.loop-kicks_before-test.true
+    (subst (λ n. BreaksIn g.W.Write.contents l.log c.log_kick.new.log l.sent (line (codes "kick " ++ decimal (l.kicks_before + 1)) n) c.in_err-sent-2.field-0.0) total c.in_err-sent-2.ensures.err))
+
+pub loop-kicks_before-preserved : goal.loop-kicks_before-preserved
+loop-kicks_before-preserved g c =
+    let k = c.args.held.now.case in
+    let from = c.args.course.now.from in
+    let given = c.args.held.now.roster in
+    let l = c.loop-kicks_before in
+    let i = l.invariant in
+    let told = c.try_kick.ensures in
+    let next = c.try_kick.new.held.roster in
+    let same : c.try_kick.new.held.case ≡ k = told.case ∙ i.case in
+    let settled = subst (λ (m : Meaning). IsSettled m from next) i.case (subst (λ week. IsSettled l.held.case week next) i.from (told.stayed c.if-not-try_kick.false)) in
+    let frozen = stays_on k from given l.held.roster next i.frozen (subst (λ (m : Meaning). FrozenDaysStay m from l.held.roster next) i.case (subst (λ week. FrozenDaysStay l.held.case week l.held.roster next) i.from told.frozen)) in
+    let total : c.total-total.result ≡ penalty k next = c.total-total.ensures.total ∙ ap (λ (m : Meaning). penalty m next) same in
+    let before : c.total-before.result ≡ penalty k l.held.roster = c.total-before.ensures.total ∙ ap (λ (m : Meaning). penalty m l.held.roster) i.case in
+    let no_dearer : penalty k next ≤ penalty k l.held.roster = subst (λ (m : Meaning). penalty m next ≤ penalty m l.held.roster) i.case told.no_dearer in
+    record {
+      case = same;
+      kept = told.kept;
+      frozen = frozen;
+      going = elim c.if-total-before.branch [
+        | then-total-before+in_ok-sent-2 w ↦
+            rw (w.log-is, w.sent-is) (underway_cheaper g.W.Write.contents k from given c.args.log.now l.log l.kicks_before l.sent l.settled l.held.roster i.going next (omega (arith, total, before, w.if-total-before.true))
+            (reached_by c.try_kick.new.held.case k from given next same c.keeps_rules-in-loop-kicks_before.ensures.fits c.keeps_rules-in-loop-kicks_before.ensures.keeps frozen) settled
+            w.log_kick.new.log w.in_ok-sent-2.sent
+            (subst (λ n. Sends g.W.Write.contents l.log w.log_kick.new.log l.sent w.in_ok-sent-2.sent (line (codes "kick " ++ decimal (l.kicks_before + 1)) n)) total w.in_ok-sent-2.ensures.ok))
+        | else-total-before w ↦
+            rw (w.log-is, w.sent-is) (underway_same g.W.Write.contents k from given c.args.log.now l.log l.kicks_before l.sent l.settled l.held.roster i.going true next (omega (arith, total, before, no_dearer, w.if-total-before.false)) (λ e. settled))
+      ];
+      from = told.from ∙ i.from;
+      counted = omega (
+        arith,
+        i.counted,
+        told.spends.counted,
+        ap (λ (m : Meaning). extensions_of m c.try_kick.new.kicking.left) i.case,
+        ap (λ (m : Meaning). extensions_of m l.kicking.left) i.case,
+      );
+      fits = subst (λ (m : Meaning). FitsPolish m c.try_kick.new.space) i.case told.fits;
+    }
+
+-- ---- the end
+
+pub returns-in_err-log_word-clause-err : goal.returns-in_err-log_word-clause-err
+returns-in_err-log_word-clause-err g c =
+    let p = err_from_is_err_and c.from_residual-in_err-log_word.result c.from_residual-in_err-log_word.ensures.1 in
+    let k = c.args.held.now.case in
+    let from = c.args.course.now.from in
+    let given = c.args.held.now.roster in
+    let l = c.loop-kicks_before in
+    let i = l.invariant in
+    let total : c.total-total-2.result ≡ penalty k l.held.roster = c.total-total-2.ensures.total ∙ ap (λ (m : Meaning). penalty m l.held.roster) i.case in
+    let text : line c.end_word.result.now c.total-total-2.result ≡ last_line k l.settled l.held.roster = λ j. line (c.end_word.ensures j) (total j) in
+    rw (p.1, p.2) (end_breaks g.W.Write.contents k from given c.args.log.now l.log l.kicks_before l.sent l.settled l.held.roster i.going c.args.course.now.searches c.log_word-2.new.log c.in_err-log_word.field-0.0
+    (omega (arith, l.auto.kicks_before-end)) (reached_by l.held.case k from given l.held.roster i.case c.keeps_rules-3.ensures.fits c.keeps_rules-3.ensures.keeps i.frozen)
+    (subst (λ end. BreaksIn g.W.Write.contents l.log c.log_word-2.new.log l.sent end c.in_err-log_word.field-0.0) text c.in_err-log_word.ensures.err))
+
+pub returns-clause-ok : goal.returns-clause-ok
+returns-clause-ok g c =
+    let k = c.args.held.now.case in
+    let from = c.args.course.now.from in
+    let given = c.args.held.now.roster in
+    let l = c.loop-kicks_before in
+    let i = l.invariant in
+    let total : c.total-total-2.result ≡ penalty k l.held.roster = c.total-total-2.ensures.total ∙ ap (λ (m : Meaning). penalty m l.held.roster) i.case in
+    let text : line c.end_word.result.now c.total-total-2.result ≡ last_line k l.settled l.held.roster = λ j. line (c.end_word.ensures j) (total j) in
+    ends g.W.Write.contents k from given c.args.log.now l.log l.kicks_before l.sent l.settled l.held.roster i.going c.args.course.now.searches c.log_word-2.new.log c.in_ok-log_word.field-0 (record { settled = l.settled; total = c.total-total-2.result })
+    (omega (arith, l.auto.kicks_before-end)) (reached_by l.held.case k from given l.held.roster i.case c.keeps_rules-3.ensures.fits c.keeps_rules-3.ensures.keeps i.frozen) refl total
+    (subst (Sends g.W.Write.contents l.log c.log_word-2.new.log l.sent c.in_ok-log_word.field-0) text c.in_ok-log_word.ensures.ok)

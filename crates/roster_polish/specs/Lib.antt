@@ -1,0 +1,3 @@
+pub mod Kicks
+pub mod Settled
+pub mod Polished

@@ -1,0 +1,100 @@
+-- What a run of kicks comes to, and what its log tells (our own).
+use Rattle.std.specs.Prelude.{◌≡◌, ℕ, ◌+◌, ◌*◌, ◌<◌, ◌≤◌, All, Bool, true, List, [], ◌∷◌, ◌++◌, codes, decimal, flat_map, if◌then◌else◌, length, Option}
+use Rattle.roster_text.specs.Io.{StopsAt, Watched, Writes, saturated}
+use Rattle.roster_instance.specs.Meaning.{Meaning, day_count, nurse_count}
+use Rattle.roster_instance.specs.Rosters.{Rows, fits_case}
+use Rattle.roster_rules.specs.Penalties.{penalty}
+use Rattle.roster_laws.specs.FrozenDays.{FrozenDaysStay}
+use Rattle.roster_rounds.specs.PutIn.{IsAccepted}
+use Rattle.roster_rounds.specs.RunLogs.{line}
+use Rattle.roster_rounds.specs.declared.outcome.LogFault.{LogFault}
+use Rattle.roster_rounds.specs.declared.outcome.LogFault.TheVariants.{LogFailed}
+use Rattle.roster_bound.specs.Workspaces.{FitsFloor}
+use Rattle.roster_polish.specs.declared.run.Polished.{Polished}
+use Rattle.roster_polish.specs.declared.space.PolishSpace.{PolishSpace}
+use Rattle.roster_polish.specs.Settled.{IsSettled}
+
+-- ---- the memory of a run
+
+-- room for floors, nine numbers for each day, and a roster of the case
+pub record FitsPolish (c : Meaning) (w : PolishSpace) : Type 0 where
+  pub floor : FitsFloor c w.floor
+  pub dearer : length w.dearer.items ≡ 9 * day_count c
+  pub kept : fits_case c w.kept ≡ true
+
+-- how many searches the first settling makes at most
+abbrev pub first_searches : Meaning → ℕ
+first_searches c = 1000000 * nurse_count c
+
+-- ---- what is kept
+
+-- a roster that a run from the given one may keep: accepted, and the frozen days as they were
+pub record IsReached (c : Meaning) (from : ℕ) (given r : Rows) : Type 0 where
+  pub accepted : IsAccepted c r
+  pub stays : FrozenDaysStay c from given r
+
+-- a line of the log: a kick, and the roster that was kept after it
+pub record KickLine : Type 0 where
+  pub kick : ℕ
+  pub roster : Rows
+
+-- before the first kick: where the first settling led
+abbrev pub no_kick : Rows → KickLine
+no_kick first = record { kick = 0; roster = first }
+
+-- the last of some lines, or the one before them where there is none
+abbrev pub last_kick : KickLine → List KickLine → KickLine
+last_kick before [] = before
+last_kick before (x ∷ xs) = last_kick x xs
+
+-- later kicks, cheaper rosters
+abbrev pub Falls : Meaning → KickLine → List KickLine → Type 0
+Falls c before [] = Unit {0}
+Falls c before (x ∷ xs) = (before.kick < x.kick) × (penalty c x.roster < penalty c before.roster) × Falls c x xs
+
+-- each line's roster may be kept and is settled, and is cheaper than the one before; no kick is beyond the number of kicks
+pub record IsKickLog (c : Meaning) (from : ℕ) (given first : Rows) (kicks : ℕ) (lines : List KickLine) : Type 0 where
+  pub reached : All (λ x. IsReached c from given x.roster × IsSettled c from x.roster) lines
+  pub falls : Falls c (no_kick first) lines
+  pub within : (last_kick (no_kick first) lines).kick ≤ kicks
+
+-- ---- the text: the penalty of the given roster, of each that is cheaper after a kick, and of the last
+
+abbrev pub kick_line : Meaning → KickLine → List ℕ
+kick_line c x = line (codes "kick " ++ decimal x.kick) (penalty c x.roster)
+
+abbrev pub kicks_text : Meaning → Rows → List KickLine → List ℕ
+kicks_text c given lines = line (codes "start") (penalty c given) ++ flat_map (kick_line c) lines
+
+abbrev pub last_line : Meaning → Bool → Rows → List ℕ
+last_line c settled r = line (if settled then codes "settled" else codes "stopped") (penalty c r)
+
+-- ---- a run
+
+-- from the given roster to the last, which is as dear as the last line says, and settled where that is said; with this log
+pub record IsPolishing (c : Meaning) (from : ℕ) (given : Rows) (kicks : ℕ) (settled : Bool) (last : Rows) (text : List ℕ) : Type 0 where
+  pub first : Rows
+  pub lines : List KickLine
+  pub no_dearer : penalty c first ≤ penalty c given
+  pub is_log : IsKickLog c from given first kicks lines
+  pub reached : IsReached c from given last
+  pub as_told : penalty c last ≡ penalty c (last_kick (no_kick first) lines).roster
+  pub is_settled : settled ≡ true → IsSettled c from last
+  pub text_is : text ≡ kicks_text c given lines ++ last_line c settled last
+
+-- the log of a run went out, and the answer is what it came to
+pub record Polishes {W : Type 0} (contents : W → Option (List ℕ)) (c : Meaning) (from : ℕ) (given : Rows) (kicks : ℕ) (after : Rows) (old new : Watched W) (told : Polished) : Type 0 where
+  pub text : List ℕ
+  pub run : IsPolishing c from given kicks told.settled after text
+  pub writes : Writes contents old new text
+  pub total : told.total ≡ penalty c after
+
+-- just the first bytes of the log of a run went out
+pub record PolishLogStops {W : Type 0} (contents : W → Option (List ℕ)) (c : Meaning) (from : ℕ) (given : Rows) (kicks : ℕ) (old new : Watched W) (fault : LogFault) : Type 0 where
+  pub settled : Bool
+  pub last : Rows
+  pub text : List ℕ
+  pub run : IsPolishing c from given kicks settled last text
+  pub sent : ℕ
+  pub stops : StopsAt contents old new text sent
+  pub counted : fault ≡ LogFailed (saturated sent)

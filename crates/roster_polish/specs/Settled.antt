@@ -1,0 +1,24 @@
+-- A roster to which no step adds anything, and searches that are paid for (our own).
+use Rattle.std.specs.Prelude.{◌≡◌, ℕ, ◌+◌, ◌*◌, ◌<◌, ◌≤◌, All}
+use Rattle.roster_instance.specs.Meaning.{Meaning, nurse_count}
+use Rattle.roster_instance.specs.Rosters.{Rows}
+use Rattle.roster_rules.specs.AllowedRows.{allowed_rows, penalty_with}
+use Rattle.roster_rules.specs.Penalties.{penalty}
+use Rattle.roster_laws.specs.Greatest.{greatest_extension_count}
+
+-- no allowed row of a nurse is cheaper than the present one
+abbrev pub HasBestRow : Meaning → ℕ → Rows → ℕ → Type 0
+HasBestRow c from r n = All (λ row. penalty c r ≤ penalty_with c r n row) (allowed_rows c from r n)
+
+-- that is so for every nurse
+abbrev pub IsSettled : Meaning → ℕ → Rows → Type 0
+IsSettled c from r = (n : ℕ) → n < nurse_count c → HasBestRow c from r n
+
+-- what a number of searches counts on the meter at most
+abbrev pub extensions_of : Meaning → ℕ → ℕ
+extensions_of c searches = searches * greatest_extension_count c
+
+-- each search was one of those that were left, and the meter counted no more than these may
+pub record Spends (c : Meaning) (meter left new_meter new_left : ℕ) : Type 0 where
+  pub fewer : new_left ≤ left
+  pub counted : new_meter + extensions_of c new_left ≤ meter + extensions_of c left

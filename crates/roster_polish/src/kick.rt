@@ -1,0 +1,210 @@
+//! A kick: a few nurses get the best rows by other prices, and the roster is settled again.
+
+ghost use Rattle.std.specs.Prelude.{◌≡◌, ◌+◌, ◌*◌, ◌<◌, ◌≤◌, length, false, true};
+ghost use Rattle.roster_bundle.specs.Limits.{greatest_u64};
+ghost use Rattle.roster_instance.specs.Meaning.{day_count, nurse_count};
+ghost use Rattle.roster_rules.specs.Penalties.{penalty};
+ghost use Rattle.roster_laws.specs.FrozenDays.{FrozenDaysStay};
+ghost use Rattle.roster_laws.specs.Greatest.{extension_count};
+ghost use Rattle.roster_best.specs.Workspaces.{fits_space};
+ghost use Rattle.roster_polish.specs.Kicks.{FitsKick};
+ghost use Rattle.roster_polish.specs.Polished.{FitsPolish};
+ghost use Rattle.roster_polish.specs.Settled.{IsSettled, Spends, extensions_of};
+
+use crate::offers::{Kick, offers_of_days};
+use crate::random::Random;
+use crate::settle::{Aim, settle};
+use crate::space::PolishSpace;
+use roster_best::Workspace;
+use roster_case::Held;
+use roster_search::RowSearch;
+use roster_state::Meter;
+
+/// What kicks take: the week before which all is frozen, how many searches are left, and random numbers.
+pub(crate) struct Kicking {
+    pub(crate) from: u16,
+    pub(crate) left: u64,
+    pub(crate) random: Random,
+}
+
+// By hand, so that who drops it has one call to prove.
+impl Drop for Kicking {
+    fn drop(self) {
+        let Kicking {
+            from: _,
+            left: _,
+            random: _,
+        } = self;
+    }
+}
+
+/// What is drawn for a kick: whether its prices are those by worths, its weeks, how many of a hundred prices are raised, and by how
+/// many points at most.
+#[derive(Clone, Copy)]
+struct Draw {
+    by_worth: bool,
+    first: u16,
+    last: u16,
+    share: u32,
+    most: u32,
+}
+
+/// Kicks a few nurses out of their rows and settles the roster again. Where it is then no dearer, it stays and is kept; else the roster
+/// that was kept comes back. Says whether it stayed.
+pub(crate) fn try_kick(
+    held: &mut Held,
+    kicking: &mut Kicking,
+    space: &mut PolishSpace,
+    meter: &mut Meter,
+) -> bool
+    requires fits { FitsPolish held.old.case space.old }
+    requires kept { space.old.kept ≡ held.old.roster }
+    requires room { meter.old + extensions_of held.old.case kicking.old.left ≤ greatest_u64 }
+    ensures case { held.new.case ≡ held.old.case }
+    ensures kept { space.new.kept ≡ held.new.roster }
+    ensures stayed { result ≡ true → IsSettled held.old.case kicking.old.from held.new.roster }
+    ensures back { result ≡ false → held.new.roster ≡ held.old.roster }
+    ensures frozen { FrozenDaysStay held.old.case kicking.old.from held.old.roster held.new.roster }
+    ensures no_dearer { penalty held.old.case held.new.roster ≤ penalty held.old.case held.old.roster }
+    ensures from { kicking.new.from ≡ kicking.old.from }
+    ensures spends { Spends held.old.case meter.old kicking.old.left meter.new kicking.new.left }
+    ensures fits { FitsPolish held.old.case space.new }
+{
+    held.keeps_rules();
+    let before = held.total();
+    let first = kick_nurses(held, kicking, space, meter);
+    let aim = Aim {
+        first,
+        from: kicking.from,
+        most: before,
+    };
+    let workspace = &mut space.floor.rows.workspace;
+    let settled = settle(held, &aim, &mut kicking.left, workspace, meter);
+    if settled && held.total() <= before {
+        held.keeps_rules();
+        space.kept.put_rows(held.roster());
+        true
+    } else {
+        held.replace_rows(&space.kept);
+        false
+    }
+}
+
+/// Gives two or three nurses the best rows by the prices of a kick, and answers the nurse after the last of them.
+fn kick_nurses(
+    held: &mut Held,
+    kicking: &mut Kicking,
+    space: &mut PolishSpace,
+    meter: &mut Meter,
+) -> usize
+    requires fits { FitsPolish held.old.case space.old }
+    requires room { meter.old + extensions_of held.old.case kicking.old.left ≤ greatest_u64 }
+    ensures case { held.new.case ≡ held.old.case }
+    ensures kept { space.new.kept ≡ space.old.kept }
+    ensures frozen { FrozenDaysStay held.old.case kicking.old.from held.old.roster held.new.roster }
+    ensures from { kicking.new.from ≡ kicking.old.from }
+    ensures spends { Spends held.old.case meter.old kicking.old.left meter.new kicking.new.left }
+    ensures fits { FitsPolish held.old.case space.new }
+{
+    let draw = draw_kick(held.case().weeks(), kicking);
+    let mut after = 0;
+    for _ in 0..2 + kicking.random.below(2) {
+        if kicking.left == 0 {
+            break;
+        }
+        after = kick_one(held, draw, kicking, space, meter);
+    }
+    after
+}
+
+/// What the next kick is.
+fn draw_kick(weeks: u16, kicking: &mut Kicking) -> Draw
+    ensures from { kicking.new.from ≡ kicking.old.from }
+    ensures left { kicking.new.left ≡ kicking.old.left }
+{
+    let random = &mut kicking.random;
+    let frozen = kicking.from.min(weeks);
+    let length = (2 + random.below(7)).min((weeks - frozen) as u32);
+    let first = frozen as u32 + random.below((weeks - frozen) as u32 - length + 1);
+    Draw {
+        by_worth: random.below(2) == 0,
+        first: first as u16,
+        last: (first + length) as u16,
+        share: 10 + random.below(61),
+        most: 5 + random.below(56),
+    }
+}
+
+/// Kicks one nurse, any of them, and answers the nurse after.
+fn kick_one(
+    held: &mut Held,
+    draw: Draw,
+    kicking: &mut Kicking,
+    space: &mut PolishSpace,
+    meter: &mut Meter,
+) -> usize
+    requires left { 0 < kicking.old.left }
+    requires fits { FitsPolish held.old.case space.old }
+    requires room { meter.old + extensions_of held.old.case kicking.old.left ≤ greatest_u64 }
+    ensures case { held.new.case ≡ held.old.case }
+    ensures kept { space.new.kept ≡ space.old.kept }
+    ensures frozen { FrozenDaysStay held.old.case kicking.old.from held.old.roster held.new.roster }
+    ensures from { kicking.new.from ≡ kicking.old.from }
+    ensures spends { Spends held.old.case meter.old kicking.old.left meter.new kicking.new.left }
+    ensures fits { FitsPolish held.old.case space.new }
+{
+    held.case().keeps_limits();
+    kicking.left -= 1;
+    let nurse = kicking.random.below(held.case().nurses() as u32) as usize;
+    raise(draw, &mut space.dearer, &mut kicking.random);
+    let kick = Kick {
+        worths: &space.floor.worths,
+        by_worth: draw.by_worth,
+        dearer: space.dearer.as_slice(),
+        from: kicking.from,
+        first: draw.first,
+        last: draw.last,
+    };
+    kick_nurse(held, nurse, &kick, &mut space.floor.rows.workspace, meter);
+    nurse + 1
+}
+
+/// Draws by how much each shift of a day is dearer.
+fn raise(draw: Draw, dearer: &mut [u8], random: &mut Random)
+    ensures { length dearer.new ≡ length dearer.old }
+{
+    for place in 0..dearer.len() {
+        let raised = random.below(100) < draw.share;
+        let points = 1 + random.below(draw.most.max(1)) % 255;
+        dearer[place] = if raised { points as u8 } else { 0 };
+    }
+}
+
+/// Gives a nurse the best row by the prices of a kick.
+fn kick_nurse(
+    held: &mut Held,
+    nurse: usize,
+    kick: &Kick<'_>,
+    workspace: &mut Workspace,
+    meter: &mut Meter,
+)
+    requires nurse { nurse < nurse_count held.old.case }
+    requires kick { FitsKick held.old.case kick.now }
+    requires fits { fits_space held.old.case workspace.old ≡ true }
+    requires room { meter.old + extension_count held.old.case nurse ≤ greatest_u64 }
+    ensures case { held.new.case ≡ held.old.case }
+    ensures frozen { FrozenDaysStay held.old.case kick.now.from held.old.roster held.new.roster }
+    ensures counted { meter.new ≤ meter.old + extension_count held.old.case nurse }
+    ensures fits { fits_space held.old.case workspace.new ≡ true }
+{
+    // The roster keeps the hard rules: so the present row is offered, and there is a best one.
+    held.keeps_rules();
+    let table = offers_of_days(held, nurse, kick);
+    let search = RowSearch {
+        case: held.case(),
+        nurse,
+        offers: table.as_slice(),
+    };
+    workspace.search(&search, meter);
+    held.replace_row(nurse, workspace.row());
+}

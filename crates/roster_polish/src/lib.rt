@@ -1,0 +1,17 @@
+//! Rosters near the floor: a few nurses are kicked out of their rows, the roster is settled again, and stays where it is no dearer.
+//!
+//! What a run keeps and tells is defined in `specs/Polished.antt`, what a settled roster is in `specs/Settled.antt`, and what a kicked
+//! nurse is offered in `specs/Kicks.antt`. `polish` promises a roster that keeps the hard rules and the frozen days, is settled where
+//! it says so, and costs no more than the given one, with a log that is true. How good that roster is, no contract says.
+#![tactic(auto)]
+
+mod kick;
+mod log;
+mod offers;
+mod random;
+mod run;
+mod settle;
+mod space;
+
+pub use run::{Course, Polished, polish};
+pub use space::PolishSpace;

@@ -1,0 +1,132 @@
+//! What a kicked nurse is offered.
+
+ghost use Rattle.std.specs.Prelude.{◌≡◌, ◌+◌, ◌*◌, ◌<◌, ◌≤◌, length, true};
+ghost use Rattle.roster_instance.specs.Choices.{shift_of};
+ghost use Rattle.roster_instance.specs.Meaning.{day_count, nurse_count};
+ghost use Rattle.roster_instance.specs.Rosters.{is_choice_of};
+ghost use Rattle.roster_search.specs.Tables.{IsOfferOf, most_price};
+ghost use Rattle.roster_bound.specs.Tables.{worths_of};
+ghost use Rattle.roster_bound.specs.Worths.{most_worth, price_by};
+ghost use Rattle.roster_polish.specs.Kicks.{AreKickOffers, FitsKick, from_on, kick_offers, price_from, shift_place};
+
+use arrayvec::ArrayVec;
+use roster_best::{choices, request_cost};
+use roster_bound::{MOST_WORTH, Worths};
+use roster_case::{Case, Choice, Held};
+use roster_search::{MOST_DAYS, Offer, cheapest_by_shift};
+
+/// How a kick prices what is offered, and in which weeks it offers more than the present row.
+#[derive(Clone, Copy)]
+pub(crate) struct Kick<'a> {
+    pub(crate) worths: &'a Worths,
+    /// Whether the prices are those by worths, or the true ones.
+    pub(crate) by_worth: bool,
+    /// By how many points to be off on a day, and then each shift of it, is dearer: nine for each day.
+    pub(crate) dearer: &'a [u8],
+    /// The weeks before this one are frozen.
+    pub(crate) from: u16,
+    /// The first week that is open, and the week after the last.
+    pub(crate) first: u16,
+    pub(crate) last: u16,
+}
+
+/// The week before which all is frozen, as it is for a day.
+fn from_on(kick: &Kick<'_>, day: u16) -> u16
+    ensures { result ≡ from_on kick.now day }
+{
+    let week = day / 7;
+    if kick.first <= week && week < kick.last {
+        kick.from
+    } else {
+        kick.from.max(week + 1)
+    }
+}
+
+/// What an offer of a day costs in a kick.
+fn price(kick: &Kick<'_>, case: &Case, nurse: usize, day: u16, offer: Offer) -> u32
+    requires kick { FitsKick case.now kick.now }
+    requires nurse { nurse < nurse_count case.now }
+    requires day { day < day_count case.now }
+    requires choice { is_choice_of case.now offer.choice ≡ true }
+    ensures { result ≡ price_from case.now nurse kick.now day offer.choice offer.price }
+{
+    let price = if kick.by_worth {
+        price_by_worth(kick, case, nurse, day, offer.choice)
+    } else {
+        offer.price
+    };
+    let place = shift_place(case, offer.choice) as usize;
+    let more = kick.dearer[9 * day as usize + place];
+    (price as u64 + more as u64).min(MOST_PRICE) as u32
+}
+
+/// The greatest price of an offer.
+const MOST_PRICE: u64 = 1_918_100;
+
+/// What the nurse earns less than the most on the day, and what the requests cost.
+fn price_by_worth(kick: &Kick<'_>, case: &Case, nurse: usize, day: u16, choice: Choice) -> u32
+    requires kick { FitsKick case.now kick.now }
+    requires nurse { nurse < nurse_count case.now }
+    requires day { day < day_count case.now }
+    requires choice { is_choice_of case.now choice ≡ true }
+    ensures { result ≡ price_by case.now (worths_of kick.now.worths.now) nurse day choice }
+{
+    case.keeps_limits();
+    let earned = match choice {
+        Choice::Off => 0,
+        Choice::Work(shift, skill) => kick.worths.at(day, shift, skill),
+    };
+    (MOST_WORTH - earned) as u32 + request_cost(case, nurse, day, choice.shift())
+}
+
+/// The place of a choice among the nine of a day: to be off, then the shifts.
+fn shift_place(case: &Case, choice: Choice) -> u8
+    requires { is_choice_of case.now choice ≡ true }
+    ensures place { result ≡ shift_place choice }
+    ensures within { result < 9 }
+{
+    case.keeps_limits();
+    match choice {
+        Choice::Off => 0,
+        Choice::Work(shift, _) => 1 + shift.0,
+    }
+}
+
+/// The offers of each day, one for each shift.
+pub(crate) fn offers_of_days(
+    held: &Held,
+    nurse: usize,
+    kick: &Kick<'_>,
+) -> ArrayVec<ArrayVec<Offer, 9>, MOST_DAYS>
+    requires nurse { nurse < nurse_count held.now.case }
+    requires kick { FitsKick held.now.case kick.now }
+    ensures { AreKickOffers held.now.case held.now.roster nurse kick.now result.items }
+{
+    held.case().keeps_limits();
+    let mut offers = ArrayVec::new();
+    for day in 0..held.case().days() {
+        offers.push(offers_of_day(held, nurse, day, kick));
+    }
+    offers
+}
+
+/// The offers of one day, at the prices of the kick.
+fn offers_of_day(held: &Held, nurse: usize, day: u16, kick: &Kick<'_>) -> ArrayVec<Offer, 9>
+    requires nurse { nurse < nurse_count held.now.case }
+    requires day { day < day_count held.now.case }
+    requires kick { FitsKick held.now.case kick.now }
+    ensures { result.items ≡ kick_offers held.now.case held.now.roster nurse kick.now day }
+{
+    held.case().keeps_limits();
+    let open = choices(held, nurse, day, from_on(kick, day));
+    let mut offers = ArrayVec::<Offer, 65>::new();
+    for place in 0..open.len() {
+        let offer = open[place];
+        let price = price(kick, held.case(), nurse, day, offer);
+        offers.push(Offer {
+            choice: offer.choice,
+            price,
+        });
+    }
+    cheapest_by_shift(&offers)
+}

@@ -1,0 +1,143 @@
+//! A run of kicks.
+
+ghost use Rattle.std.specs.Prelude.{◌≡◌, ◌+◌, ◌*◌, ◌≤◌, false, true, codes, if◌then◌else◌, IfErr, IfOk};
+ghost use Rattle.roster_bundle.specs.Limits.{greatest_u64};
+ghost use Rattle.roster_rules.specs.Penalties.{penalty};
+ghost use Rattle.roster_laws.specs.FrozenDays.{FrozenDaysStay};
+ghost use Rattle.roster_polish.specs.Polished.{FitsPolish, PolishLogStops, Polishes, first_searches};
+ghost use Rattle.roster_polish.specs.Settled.{IsSettled, extensions_of};
+
+use crate::kick::{Kicking, try_kick};
+use crate::log::log_kick;
+use crate::random::Random;
+use crate::settle::{Aim, MOST_PASSES, settle};
+use crate::space::PolishSpace;
+use roster_bound::improve_worths;
+use roster_case::Held;
+use roster_rounds::{LogFault, log_word};
+use roster_state::Meter;
+use roster_text::Watch;
+use std::io::Write;
+
+/// How a run is made: how many searches it may take beside those of the first settling, what its random numbers begin with, and the
+/// week before which all is frozen.
+#[derive(Clone, Copy, Debug, PartialEq, Eq)]
+pub struct Course {
+    pub searches: u32,
+    pub seed: u64,
+    pub from: u16,
+}
+
+/// How a run ended: whether it is sure that no nurse has a cheaper row, and the penalty at the end.
+#[derive(Clone, Copy, Debug, PartialEq, Eq)]
+pub struct Polished {
+    pub settled: bool,
+    pub total: u64,
+}
+
+/// Settles a roster, and then kicks a few nurses at a time out of their rows and settles it again, as long as searches are left. Where
+/// the roster is then no dearer, it stays. Each kick that left it cheaper has a line in the log, which goes out as it is made. It takes
+/// no memory.
+///
+/// # Errors
+///
+/// The log failed.
+pub fn polish<W: Write>(
+    held: &mut Held,
+    course: &Course,
+    space: &mut PolishSpace,
+    meter: &mut Meter,
+    log: &mut Watch<W>,
+) -> Result<Polished, LogFault>
+    requires fits { FitsPolish held.old.case space.old }
+    requires room { meter.old + extensions_of held.old.case (course.now.searches + first_searches held.old.case) ≤ greatest_u64 }
+    ensures case { held.new.case ≡ held.old.case }
+    ensures ok { IfOk result (Polishes W.contents held.old.case course.now.from held.old.roster course.now.searches held.new.roster log.old log.new) }
+    ensures err { IfErr result (PolishLogStops W.contents held.old.case course.now.from held.old.roster course.now.searches log.old log.new) }
+    ensures frozen { FrozenDaysStay held.old.case course.now.from held.old.roster held.new.roster }
+    ensures counted { meter.new ≤ meter.old + extensions_of held.old.case (course.now.searches + first_searches held.old.case) }
+    ensures fits { FitsPolish held.old.case space.new }
+{
+    held.keeps_rules();
+    let mut sent = log_word(log, 0, b"start", held.total())?;
+    let mut settled = settle_first(held, course.from, space, meter);
+    let mut kicking = begin(held, course, space, meter);
+    held.keeps_rules();
+    space.kept.put_rows(held.roster());
+    for kicks_before in 0..course.searches {
+        if kicking.left == 0 {
+            break;
+        }
+        let before = held.total();
+        if !try_kick(held, &mut kicking, space, meter) {
+            continue;
+        }
+        settled = true;
+        held.keeps_rules();
+        let total = held.total();
+        if total < before {
+            sent = log_kick(log, sent, kicks_before + 1, total)?;
+        }
+    }
+    held.keeps_rules();
+    let total = held.total();
+    log_word(log, sent, end_word(settled), total)?;
+    Ok(Polished { settled, total })
+}
+
+/// The word of the log's last line.
+fn end_word(settled: bool) -> &'static [u8]
+    ensures { result.now ≡ (if settled then codes "settled" else codes "stopped") }
+{
+    if settled { b"settled" } else { b"stopped" }
+}
+
+/// Settles the roster that was given.
+fn settle_first(held: &mut Held, from: u16, space: &mut PolishSpace, meter: &mut Meter) -> bool
+    requires fits { FitsPolish held.old.case space.old }
+    requires room { meter.old + extensions_of held.old.case (first_searches held.old.case) ≤ greatest_u64 }
+    ensures case { held.new.case ≡ held.old.case }
+    ensures settled { result ≡ true → IsSettled held.old.case from held.new.roster }
+    ensures frozen { FrozenDaysStay held.old.case from held.old.roster held.new.roster }
+    ensures no_dearer { penalty held.old.case held.new.roster ≤ penalty held.old.case held.old.roster }
+    ensures counted { meter.new ≤ meter.old + extensions_of held.old.case (first_searches held.old.case) }
+    ensures fits { FitsPolish held.old.case space.new }
+{
+    held.case().keeps_limits();
+    let mut left = MOST_PASSES as u64 * held.case().nurses() as u64;
+    let aim = Aim {
+        first: 0,
+        from,
+        most: held.total(),
+    };
+    let workspace = &mut space.floor.rows.workspace;
+    settle(held, &aim, &mut left, workspace, meter)
+}
+
+/// Improves the worths by which kicks price, with half of the searches at most.
+fn begin(held: &Held, course: &Course, space: &mut PolishSpace, meter: &mut Meter) -> Kicking
+    requires fits { FitsPolish held.now.case space.old }
+    requires room { meter.old + extensions_of held.now.case course.now.searches ≤ greatest_u64 }
+    ensures from { result.from ≡ course.now.from }
+    ensures counted { meter.new + extensions_of held.now.case result.left ≤ meter.old + extensions_of held.now.case course.now.searches }
+    ensures fits { FitsPolish held.now.case space.new }
+{
+    held.case().keeps_limits();
+    let nurses = held.case().nurses() as u32;
+    let rounds = rounds_within(course.searches, nurses);
+    improve_worths(held, rounds as u16, course.from, &mut space.floor, meter);
+    Kicking {
+        from: course.from,
+        left: (course.searches - rounds * nurses) as u64,
+        random: Random::of_seed(course.seed),
+    }
+}
+
+/// How many rounds over all nurses the worths are improved: a hundred, or as many as take half of the searches.
+fn rounds_within(searches: u32, nurses: u32) -> u32
+    requires { nurses ≤ 400 }
+    ensures few { result ≤ 100 }
+    ensures within { result * nurses ≤ searches }
+{
+    (searches / (2 * nurses.max(1))).min(100)
+}

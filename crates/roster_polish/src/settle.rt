@@ -1,0 +1,134 @@
+//! Steps until no nurse has a cheaper row.
+
+ghost use Rattle.std.specs.Prelude.{◌≡◌, ◌+◌, ◌<◌, ◌≤◌, ℕ, false, true};
+ghost use Rattle.roster_bundle.specs.Limits.{greatest_u64};
+ghost use Rattle.roster_instance.specs.Meaning.{nurse_count};
+ghost use Rattle.roster_rules.specs.Penalties.{penalty};
+ghost use Rattle.roster_laws.specs.FrozenDays.{FrozenDaysStay};
+ghost use Rattle.roster_best.specs.Workspaces.{fits_space};
+ghost use Rattle.roster_polish.specs.declared.settle.Pass.TheVariants.{Unchanged};
+ghost use Rattle.roster_polish.specs.Settled.{HasBestRow, IsSettled, Spends, extensions_of};
+
+use roster_best::Workspace;
+use roster_case::Held;
+use roster_rounds::step;
+use roster_state::Meter;
+
+/// Where settling begins, the week before which all is frozen, and the penalty that is to be reached.
+#[derive(Clone, Copy)]
+pub(crate) struct Aim {
+    pub(crate) first: usize,
+    pub(crate) from: u16,
+    pub(crate) most: u64,
+}
+
+/// How many passes a settling makes at most.
+pub(crate) const MOST_PASSES: u32 = 1_000_000;
+
+/// How a pass of steps ended.
+#[derive(Clone, Copy, PartialEq, Eq)]
+enum Pass {
+    /// No step changed the roster.
+    Unchanged,
+    Changed,
+    /// No search was left.
+    Stopped,
+}
+
+/// Makes steps until no nurse has a cheaper row, and says whether it came so far: first from a nurse on, then for all, pass by pass.
+/// Each search is one of those that are left. It gives up where none is left, or where the roster is still too far above the penalty
+/// that is to be reached.
+pub(crate) fn settle(
+    held: &mut Held,
+    aim: &Aim,
+    left: &mut u64,
+    workspace: &mut Workspace,
+    meter: &mut Meter,
+) -> bool
+    requires fits { fits_space held.old.case workspace.old ≡ true }
+    requires room { meter.old + extensions_of held.old.case left.old ≤ greatest_u64 }
+    ensures case { held.new.case ≡ held.old.case }
+    ensures settled { result ≡ true → IsSettled held.old.case aim.now.from held.new.roster }
+    ensures frozen { FrozenDaysStay held.old.case aim.now.from held.old.roster held.new.roster }
+    ensures no_dearer { penalty held.old.case held.new.roster ≤ penalty held.old.case held.old.roster }
+    ensures spends { Spends held.old.case meter.old left.old meter.new left.new }
+    ensures fits { fits_space held.old.case workspace.new ≡ true }
+{
+    let mut first = aim.first;
+    for pass in 0..MOST_PASSES {
+        let end = make_pass(held, first, aim.from, left, workspace, meter);
+        if first == 0 && end == Pass::Unchanged {
+            return true;
+        }
+        if end == Pass::Stopped || held.total() > aim.most.saturating_add(slack(pass)) {
+            return false;
+        }
+        first = 0;
+    }
+    false
+}
+
+/// How far above the penalty a roster may be after a pass.
+fn slack(pass: u32) -> u64 {
+    match pass {
+        0 => 60,
+        1 => 30,
+        _ => 15,
+    }
+}
+
+/// A step for each nurse from one on.
+fn make_pass(
+    held: &mut Held,
+    first: usize,
+    from: u16,
+    left: &mut u64,
+    workspace: &mut Workspace,
+    meter: &mut Meter,
+) -> Pass
+    requires fits { fits_space held.old.case workspace.old ≡ true }
+    requires room { meter.old + extensions_of held.old.case left.old ≤ greatest_u64 }
+    ensures case { held.new.case ≡ held.old.case }
+    ensures unchanged { result ≡ Unchanged → (n : ℕ) → first ≤ n → n < nurse_count held.old.case → HasBestRow held.old.case from held.new.roster n }
+    ensures frozen { FrozenDaysStay held.old.case from held.old.roster held.new.roster }
+    ensures no_dearer { penalty held.old.case held.new.roster ≤ penalty held.old.case held.old.roster }
+    ensures spends { Spends held.old.case meter.old left.old meter.new left.new }
+    ensures fits { fits_space held.old.case workspace.new ≡ true }
+{
+    let mut changed = false;
+    for nurse in first..held.case().nurses() {
+        if *left == 0 {
+            return Pass::Stopped;
+        }
+        changed = step_within(held, nurse, from, left, workspace, meter) || changed;
+    }
+    if changed {
+        Pass::Changed
+    } else {
+        Pass::Unchanged
+    }
+}
+
+/// A nurse's step, by one of the searches that are left. Says whether it changed the roster.
+fn step_within(
+    held: &mut Held,
+    nurse: usize,
+    from: u16,
+    left: &mut u64,
+    workspace: &mut Workspace,
+    meter: &mut Meter,
+) -> bool
+    requires nurse { nurse < nurse_count held.old.case }
+    requires left { 0 < left.old }
+    requires fits { fits_space held.old.case workspace.old ≡ true }
+    requires room { meter.old + extensions_of held.old.case left.old ≤ greatest_u64 }
+    ensures case { held.new.case ≡ held.old.case }
+    ensures unchanged { result ≡ false → (held.new.roster ≡ held.old.roster) × HasBestRow held.old.case from held.new.roster nurse }
+    ensures frozen { FrozenDaysStay held.old.case from held.old.roster held.new.roster }
+    ensures no_dearer { penalty held.old.case held.new.roster ≤ penalty held.old.case held.old.roster }
+    ensures spends { Spends held.old.case meter.old left.old meter.new left.new }
+    ensures fits { fits_space held.old.case workspace.new ≡ true }
+{
+    *left -= 1;
+    step(held, nurse, from, workspace, meter).changed
+}
