@@ -1,7 +1,9 @@
 -- A step of a settling, and what it spends.
-use Rattle.std.proofs.Common.{◌≡◌, ◌∙◌, ◌+◌, ◌-◌, ◌*◌, ◌<◌, ◌≤◌, ◌⊎◌, ℕ, Bool, true, false, not, inl, inr, ap, arith, mul_assoc, refl, subst, sym}
+use Rattle.std.proofs.Common.{◌≡◌, ◌∙◌, ◌+◌, ◌-◌, ◌*◌, ◌<◌, ◌≤◌, ◌⊎◌, ℕ, Bool, true, false, not, inl, inr, ap, arith, mul_assoc, nat_lt, refl, subst, sym}
 use Rattle.std.specs.List.{All}
+use Rattle.std.proofs.lemmas.Bool.{cases_Bool, ltb-false}
 use Rattle.std.proofs.lemmas.Nat.{mul-le}
+use Rattle.roster_instance.specs.Counting.{one_if}
 use Rattle.roster_instance.specs.Meaning.{Meaning, nurse_count}
 use Rattle.roster_instance.specs.Rosters.{Rows}
 use Rattle.roster_rules.specs.AllowedRows.{allowed_rows, best_row, penalty_with}
@@ -56,6 +58,17 @@ module _ (c : Meaning) (n meter left : ℕ) (inside : n < nurse_count c) (some :
 
   pub spent : (new left_new : ℕ) → left_new ≡ left - 1 → new ≤ meter + extension_count c n → Spends c meter left new left_new
   spent new left_new less counted = record { fewer = omega (arith, less); counted = omega (arith, counted, one_more, one_of, ap (extensions_of c) less) }
+
+  -- none where the meter stood still
+  pub spent_if : (before after left_new : ℕ) → before ≡ meter → left_new ≡ left - one_if (nat_lt before after) → after ≤ meter + extension_count c n → Spends c meter left after left_new
+  spent_if before after left_new begun less counted = go (cases_Bool (nat_lt before after))
+    where
+      go : (nat_lt before after ≡ true) ⊎ (nat_lt before after ≡ false) → Spends c meter left after left_new
+      go (inl searched) = spent after left_new (less ∙ ap (λ b. left - one_if b) searched) counted
+      go (inr still) =
+          let one_less_none : left_new ≡ left - 0 = less ∙ ap (λ b. left - one_if b) still in
+          let none : left_new ≡ left = omega (arith, one_less_none) in
+          record { fewer = omega (arith, none); counted = omega (arith, ltb-false before after still, begun, ap (extensions_of c) none) }
 
 -- one spending after another
 pub spent_both : (c : Meaning) (meter left meter2 left2 meter3 left3 : ℕ) → Spends c meter left meter2 left2 → Spends c meter2 left2 meter3 left3 → Spends c meter left meter3 left3

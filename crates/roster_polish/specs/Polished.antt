@@ -1,5 +1,5 @@
 -- What a run of kicks comes to, and what its log tells (our own).
-use Rattle.std.specs.Prelude.{◌≡◌, ℕ, ◌+◌, ◌*◌, ◌<◌, ◌≤◌, All, Bool, true, List, [], ◌∷◌, ◌++◌, codes, decimal, flat_map, if◌then◌else◌, length, Option}
+use Rattle.std.specs.Prelude.{◌≡◌, ℕ, ◌*◌, ◌<◌, ◌≤◌, All, Bool, true, List, [], ◌∷◌, ◌++◌, codes, decimal, flat_map, if◌then◌else◌, length, Option}
 use Rattle.roster_text.specs.Io.{StopsAt, Watched, Writes, saturated}
 use Rattle.roster_instance.specs.Meaning.{Meaning, day_count, nurse_count}
 use Rattle.roster_instance.specs.Rosters.{Rows, fits_case}
@@ -9,6 +9,7 @@ use Rattle.roster_rounds.specs.PutIn.{IsAccepted}
 use Rattle.roster_rounds.specs.RunLogs.{line}
 use Rattle.roster_rounds.specs.declared.outcome.LogFault.{LogFault}
 use Rattle.roster_rounds.specs.declared.outcome.LogFault.TheVariants.{LogFailed}
+use Rattle.roster_best.specs.Known.{IsKnown}
 use Rattle.roster_bound.specs.Workspaces.{FitsFloor}
 use Rattle.roster_polish.specs.declared.run.Polished.{Polished}
 use Rattle.roster_polish.specs.declared.space.PolishSpace.{PolishSpace}
@@ -16,9 +17,10 @@ use Rattle.roster_polish.specs.Settled.{IsSettled}
 
 -- ---- the memory of a run
 
--- room for floors, nine numbers for each day, and a roster of the case
+-- room for floors, true searches, nine numbers for each day, and a roster of the case
 pub record FitsPolish (c : Meaning) (w : PolishSpace) : Type 0 where
   pub floor : FitsFloor c w.floor
+  pub known : IsKnown c w.last
   pub dearer : length w.dearer.items ≡ 9 * day_count c
   pub kept : fits_case c w.kept ≡ true
 

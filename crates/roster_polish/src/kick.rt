@@ -13,6 +13,7 @@ ghost use Rattle.roster_polish.specs.Settled.{IsSettled, Spends, extensions_of};
 
 use crate::offers::{Kick, offers_of_days};
 use crate::random::Random;
+use crate::searches::Searches;
 use crate::settle::{Aim, settle};
 use crate::space::PolishSpace;
 use roster_best::Workspace;
@@ -20,10 +21,9 @@ use roster_case::Held;
 use roster_search::RowSearch;
 use roster_state::Meter;
 
-/// What kicks take: the week before which all is frozen, how many searches are left, and random numbers.
+/// What kicks take: searches, and random numbers.
 pub(crate) struct Kicking {
-    pub(crate) from: u16,
-    pub(crate) left: u64,
+    pub(crate) searches: Searches,
     pub(crate) random: Random,
 }
 
@@ -31,8 +31,7 @@ pub(crate) struct Kicking {
 impl Drop for Kicking {
     fn drop(self) {
         let Kicking {
-            from: _,
-            left: _,
+            searches: _,
             random: _,
         } = self;
     }
@@ -59,15 +58,15 @@ pub(crate) fn try_kick(
 ) -> bool
     requires fits { FitsPolish held.old.case space.old }
     requires kept { space.old.kept ≡ held.old.roster }
-    requires room { meter.old + extensions_of held.old.case kicking.old.left ≤ greatest_u64 }
+    requires room { meter.old + extensions_of held.old.case kicking.old.searches.left ≤ greatest_u64 }
     ensures case { held.new.case ≡ held.old.case }
     ensures kept { space.new.kept ≡ held.new.roster }
-    ensures stayed { result ≡ true → IsSettled held.old.case kicking.old.from held.new.roster }
+    ensures stayed { result ≡ true → IsSettled held.old.case kicking.old.searches.from held.new.roster }
     ensures back { result ≡ false → held.new.roster ≡ held.old.roster }
-    ensures frozen { FrozenDaysStay held.old.case kicking.old.from held.old.roster held.new.roster }
+    ensures frozen { FrozenDaysStay held.old.case kicking.old.searches.from held.old.roster held.new.roster }
     ensures no_dearer { penalty held.old.case held.new.roster ≤ penalty held.old.case held.old.roster }
-    ensures from { kicking.new.from ≡ kicking.old.from }
-    ensures spends { Spends held.old.case meter.old kicking.old.left meter.new kicking.new.left }
+    ensures from { kicking.new.searches.from ≡ kicking.old.searches.from }
+    ensures spends { Spends held.old.case meter.old kicking.old.searches.left meter.new kicking.new.searches.left }
     ensures fits { FitsPolish held.old.case space.new }
 {
     held.keeps_rules();
@@ -75,11 +74,11 @@ pub(crate) fn try_kick(
     let first = kick_nurses(held, kicking, space, meter);
     let aim = Aim {
         first,
-        from: kicking.from,
         most: before,
     };
-    let workspace = &mut space.floor.rows.workspace;
-    let settled = settle(held, &aim, &mut kicking.left, workspace, meter);
+    let PolishSpace { floor, last, .. } = space;
+    let workspace = &mut floor.rows.workspace;
+    let settled = settle(held, aim, &mut kicking.searches, workspace, last, meter);
     if settled && held.total() <= before {
         held.keeps_rules();
         space.kept.put_rows(held.roster());
@@ -98,18 +97,18 @@ fn kick_nurses(
     meter: &mut Meter,
 ) -> usize
     requires fits { FitsPolish held.old.case space.old }
-    requires room { meter.old + extensions_of held.old.case kicking.old.left ≤ greatest_u64 }
+    requires room { meter.old + extensions_of held.old.case kicking.old.searches.left ≤ greatest_u64 }
     ensures case { held.new.case ≡ held.old.case }
     ensures kept { space.new.kept ≡ space.old.kept }
-    ensures frozen { FrozenDaysStay held.old.case kicking.old.from held.old.roster held.new.roster }
-    ensures from { kicking.new.from ≡ kicking.old.from }
-    ensures spends { Spends held.old.case meter.old kicking.old.left meter.new kicking.new.left }
+    ensures frozen { FrozenDaysStay held.old.case kicking.old.searches.from held.old.roster held.new.roster }
+    ensures from { kicking.new.searches.from ≡ kicking.old.searches.from }
+    ensures spends { Spends held.old.case meter.old kicking.old.searches.left meter.new kicking.new.searches.left }
     ensures fits { FitsPolish held.old.case space.new }
 {
     let draw = draw_kick(held.case().weeks(), kicking);
     let mut after = 0;
     for _ in 0..2 + kicking.random.below(2) {
-        if kicking.left == 0 {
+        if kicking.searches.left == 0 {
             break;
         }
         after = kick_one(held, draw, kicking, space, meter);
@@ -119,11 +118,11 @@ fn kick_nurses(
 
 /// What the next kick is.
 fn draw_kick(weeks: u16, kicking: &mut Kicking) -> Draw
-    ensures from { kicking.new.from ≡ kicking.old.from }
-    ensures left { kicking.new.left ≡ kicking.old.left }
+    ensures from { kicking.new.searches.from ≡ kicking.old.searches.from }
+    ensures left { kicking.new.searches.left ≡ kicking.old.searches.left }
 {
     let random = &mut kicking.random;
-    let frozen = kicking.from.min(weeks);
+    let frozen = kicking.searches.from.min(weeks);
     let length = (2 + random.below(7)).min((weeks - frozen) as u32);
     let first = frozen as u32 + random.below((weeks - frozen) as u32 - length + 1);
     Draw {
@@ -143,25 +142,25 @@ fn kick_one(
     space: &mut PolishSpace,
     meter: &mut Meter,
 ) -> usize
-    requires left { 0 < kicking.old.left }
+    requires left { 0 < kicking.old.searches.left }
     requires fits { FitsPolish held.old.case space.old }
-    requires room { meter.old + extensions_of held.old.case kicking.old.left ≤ greatest_u64 }
+    requires room { meter.old + extensions_of held.old.case kicking.old.searches.left ≤ greatest_u64 }
     ensures case { held.new.case ≡ held.old.case }
     ensures kept { space.new.kept ≡ space.old.kept }
-    ensures frozen { FrozenDaysStay held.old.case kicking.old.from held.old.roster held.new.roster }
-    ensures from { kicking.new.from ≡ kicking.old.from }
-    ensures spends { Spends held.old.case meter.old kicking.old.left meter.new kicking.new.left }
+    ensures frozen { FrozenDaysStay held.old.case kicking.old.searches.from held.old.roster held.new.roster }
+    ensures from { kicking.new.searches.from ≡ kicking.old.searches.from }
+    ensures spends { Spends held.old.case meter.old kicking.old.searches.left meter.new kicking.new.searches.left }
     ensures fits { FitsPolish held.old.case space.new }
 {
     held.case().keeps_limits();
-    kicking.left -= 1;
+    kicking.searches.left -= 1;
     let nurse = kicking.random.below(held.case().nurses() as u32) as usize;
     raise(draw, &mut space.dearer, &mut kicking.random);
     let kick = Kick {
         worths: &space.floor.worths,
         by_worth: draw.by_worth,
         dearer: space.dearer.as_slice(),
-        from: kicking.from,
+        from: kicking.searches.from,
         first: draw.first,
         last: draw.last,
     };

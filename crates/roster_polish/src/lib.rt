@@ -10,6 +10,7 @@ mod log;
 mod offers;
 mod random;
 mod run;
+mod searches;
 mod settle;
 mod space;
 

@@ -10,6 +10,7 @@ ghost use Rattle.roster_polish.specs.Settled.{IsSettled, extensions_of};
 use crate::kick::{Kicking, try_kick};
 use crate::log::log_kick;
 use crate::random::Random;
+use crate::searches::Searches;
 use crate::settle::{Aim, MOST_PASSES, settle};
 use crate::space::PolishSpace;
 use roster_bound::improve_worths;
@@ -65,7 +66,7 @@ pub fn polish<W: Write>(
     held.keeps_rules();
     space.kept.put_rows(held.roster());
     for kicks_before in 0..course.searches {
-        if kicking.left == 0 {
+        if kicking.searches.left == 0 {
             break;
         }
         let before = held.total();
@@ -104,22 +105,25 @@ fn settle_first(held: &mut Held, from: u16, space: &mut PolishSpace, meter: &mut
     ensures fits { FitsPolish held.old.case space.new }
 {
     held.case().keeps_limits();
-    let mut left = MOST_PASSES as u64 * held.case().nurses() as u64;
+    let mut searches = Searches {
+        left: MOST_PASSES as u64 * held.case().nurses() as u64,
+        from,
+    };
     let aim = Aim {
         first: 0,
-        from,
         most: held.total(),
     };
-    let workspace = &mut space.floor.rows.workspace;
-    settle(held, &aim, &mut left, workspace, meter)
+    let PolishSpace { floor, last, .. } = space;
+    let workspace = &mut floor.rows.workspace;
+    settle(held, aim, &mut searches, workspace, last, meter)
 }
 
 /// Improves the worths by which kicks price, with half of the searches at most.
 fn begin(held: &Held, course: &Course, space: &mut PolishSpace, meter: &mut Meter) -> Kicking
     requires fits { FitsPolish held.now.case space.old }
     requires room { meter.old + extensions_of held.now.case course.now.searches ≤ greatest_u64 }
-    ensures from { result.from ≡ course.now.from }
-    ensures counted { meter.new + extensions_of held.now.case result.left ≤ meter.old + extensions_of held.now.case course.now.searches }
+    ensures from { result.searches.from ≡ course.now.from }
+    ensures counted { meter.new + extensions_of held.now.case result.searches.left ≤ meter.old + extensions_of held.now.case course.now.searches }
     ensures fits { FitsPolish held.now.case space.new }
 {
     held.case().keeps_limits();
@@ -127,8 +131,10 @@ fn begin(held: &Held, course: &Course, space: &mut PolishSpace, meter: &mut Mete
     let rounds = rounds_within(course.searches, nurses);
     improve_worths(held, rounds as u16, course.from, &mut space.floor, meter);
     Kicking {
-        from: course.from,
-        left: (course.searches - rounds * nurses) as u64,
+        searches: Searches {
+            left: (course.searches - rounds * nurses) as u64,
+            from: course.from,
+        },
         random: Random::of_seed(course.seed),
     }
 }

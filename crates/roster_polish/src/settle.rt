@@ -5,20 +5,21 @@ ghost use Rattle.roster_bundle.specs.Limits.{greatest_u64};
 ghost use Rattle.roster_instance.specs.Meaning.{nurse_count};
 ghost use Rattle.roster_rules.specs.Penalties.{penalty};
 ghost use Rattle.roster_laws.specs.FrozenDays.{FrozenDaysStay};
+ghost use Rattle.roster_best.specs.Known.{IsKnown};
 ghost use Rattle.roster_best.specs.Workspaces.{fits_space};
 ghost use Rattle.roster_polish.specs.declared.settle.Pass.TheVariants.{Unchanged};
 ghost use Rattle.roster_polish.specs.Settled.{HasBestRow, IsSettled, Spends, extensions_of};
 
-use roster_best::Workspace;
+use crate::searches::Searches;
+use roster_best::{LastSearches, Workspace};
 use roster_case::Held;
-use roster_rounds::step;
+use roster_rounds::step_unless_known;
 use roster_state::Meter;
 
-/// Where settling begins, the week before which all is frozen, and the penalty that is to be reached.
+/// Where settling begins, and the penalty that is to be reached.
 #[derive(Clone, Copy)]
 pub(crate) struct Aim {
     pub(crate) first: usize,
-    pub(crate) from: u16,
     pub(crate) most: u64,
 }
 
@@ -40,23 +41,27 @@ enum Pass {
 /// that is to be reached.
 pub(crate) fn settle(
     held: &mut Held,
-    aim: &Aim,
-    left: &mut u64,
+    aim: Aim,
+    searches: &mut Searches,
     workspace: &mut Workspace,
+    last: &mut LastSearches,
     meter: &mut Meter,
 ) -> bool
     requires fits { fits_space held.old.case workspace.old ≡ true }
-    requires room { meter.old + extensions_of held.old.case left.old ≤ greatest_u64 }
+    requires known { IsKnown held.old.case last.old }
+    requires room { meter.old + extensions_of held.old.case searches.old.left ≤ greatest_u64 }
     ensures case { held.new.case ≡ held.old.case }
-    ensures settled { result ≡ true → IsSettled held.old.case aim.now.from held.new.roster }
-    ensures frozen { FrozenDaysStay held.old.case aim.now.from held.old.roster held.new.roster }
+    ensures settled { result ≡ true → IsSettled held.old.case searches.old.from held.new.roster }
+    ensures frozen { FrozenDaysStay held.old.case searches.old.from held.old.roster held.new.roster }
     ensures no_dearer { penalty held.old.case held.new.roster ≤ penalty held.old.case held.old.roster }
-    ensures spends { Spends held.old.case meter.old left.old meter.new left.new }
+    ensures from { searches.new.from ≡ searches.old.from }
+    ensures spends { Spends held.old.case meter.old searches.old.left meter.new searches.new.left }
     ensures fits { fits_space held.old.case workspace.new ≡ true }
+    ensures known { IsKnown held.old.case last.new }
 {
     let mut first = aim.first;
     for pass in 0..MOST_PASSES {
-        let end = make_pass(held, first, aim.from, left, workspace, meter);
+        let end = make_pass(held, first, searches, workspace, last, meter);
         if first == 0 && end == Pass::Unchanged {
             return true;
         }
@@ -81,26 +86,29 @@ fn slack(pass: u32) -> u64 {
 fn make_pass(
     held: &mut Held,
     first: usize,
-    from: u16,
-    left: &mut u64,
+    searches: &mut Searches,
     workspace: &mut Workspace,
+    last: &mut LastSearches,
     meter: &mut Meter,
 ) -> Pass
     requires fits { fits_space held.old.case workspace.old ≡ true }
-    requires room { meter.old + extensions_of held.old.case left.old ≤ greatest_u64 }
+    requires known { IsKnown held.old.case last.old }
+    requires room { meter.old + extensions_of held.old.case searches.old.left ≤ greatest_u64 }
     ensures case { held.new.case ≡ held.old.case }
-    ensures unchanged { result ≡ Unchanged → (n : ℕ) → first ≤ n → n < nurse_count held.old.case → HasBestRow held.old.case from held.new.roster n }
-    ensures frozen { FrozenDaysStay held.old.case from held.old.roster held.new.roster }
+    ensures unchanged { result ≡ Unchanged → (n : ℕ) → first ≤ n → n < nurse_count held.old.case → HasBestRow held.old.case searches.old.from held.new.roster n }
+    ensures frozen { FrozenDaysStay held.old.case searches.old.from held.old.roster held.new.roster }
     ensures no_dearer { penalty held.old.case held.new.roster ≤ penalty held.old.case held.old.roster }
-    ensures spends { Spends held.old.case meter.old left.old meter.new left.new }
+    ensures from { searches.new.from ≡ searches.old.from }
+    ensures spends { Spends held.old.case meter.old searches.old.left meter.new searches.new.left }
     ensures fits { fits_space held.old.case workspace.new ≡ true }
+    ensures known { IsKnown held.old.case last.new }
 {
     let mut changed = false;
     for nurse in first..held.case().nurses() {
-        if *left == 0 {
+        if searches.left == 0 {
             return Pass::Stopped;
         }
-        changed = step_within(held, nurse, from, left, workspace, meter) || changed;
+        changed = step_within(held, nurse, searches, workspace, last, meter) || changed;
     }
     if changed {
         Pass::Changed
@@ -109,26 +117,31 @@ fn make_pass(
     }
 }
 
-/// A nurse's step, by one of the searches that are left. Says whether it changed the roster.
+/// A nurse's step. Where it takes a search, that is one of those that are left. Says whether it changed the roster.
 fn step_within(
     held: &mut Held,
     nurse: usize,
-    from: u16,
-    left: &mut u64,
+    searches: &mut Searches,
     workspace: &mut Workspace,
+    last: &mut LastSearches,
     meter: &mut Meter,
 ) -> bool
     requires nurse { nurse < nurse_count held.old.case }
-    requires left { 0 < left.old }
+    requires left { 0 < searches.old.left }
     requires fits { fits_space held.old.case workspace.old ≡ true }
-    requires room { meter.old + extensions_of held.old.case left.old ≤ greatest_u64 }
+    requires known { IsKnown held.old.case last.old }
+    requires room { meter.old + extensions_of held.old.case searches.old.left ≤ greatest_u64 }
     ensures case { held.new.case ≡ held.old.case }
-    ensures unchanged { result ≡ false → (held.new.roster ≡ held.old.roster) × HasBestRow held.old.case from held.new.roster nurse }
-    ensures frozen { FrozenDaysStay held.old.case from held.old.roster held.new.roster }
+    ensures unchanged { result ≡ false → (held.new.roster ≡ held.old.roster) × HasBestRow held.old.case searches.old.from held.new.roster nurse }
+    ensures frozen { FrozenDaysStay held.old.case searches.old.from held.old.roster held.new.roster }
     ensures no_dearer { penalty held.old.case held.new.roster ≤ penalty held.old.case held.old.roster }
-    ensures spends { Spends held.old.case meter.old left.old meter.new left.new }
+    ensures from { searches.new.from ≡ searches.old.from }
+    ensures spends { Spends held.old.case meter.old searches.old.left meter.new searches.new.left }
     ensures fits { fits_space held.old.case workspace.new ≡ true }
+    ensures known { IsKnown held.old.case last.new }
 {
-    *left -= 1;
-    step(held, nurse, from, workspace, meter).changed
+    let before = meter.count();
+    let step = step_unless_known(held, nurse, searches.from, workspace, last, meter);
+    searches.take_if(meter.count() > before);
+    step.changed
 }

@@ -3,16 +3,17 @@
 ghost use Rattle.std.specs.Prelude.{IfOk};
 ghost use Rattle.roster_polish.specs.Polished.{FitsPolish};
 
-use roster_best::BestFault;
+use roster_best::{BestFault, LastSearches};
 use roster_bound::FloorWorkspace;
 use roster_case::{Held, Roster};
 use std::alloc::Global;
 
-/// What a run writes into: what a run that raises a floor does, with the workspace of its searches; by how much each shift of a day is
+/// What a run writes into: what a run that raises a floor does, with the workspace of its searches; what the last of them tell; by how much each shift of a day is
 /// dearer in a kick; and the rows of the roster that is kept. Beside the memory of a floor that is nine bytes a day and a copy of the
 /// rows. One serves one run after another.
 pub struct PolishSpace {
     pub(crate) floor: FloorWorkspace,
+    pub(crate) last: LastSearches,
     pub(crate) dearer: Vec<u8>,
     pub(crate) kept: Roster,
 }
@@ -22,6 +23,7 @@ impl Drop for PolishSpace {
     fn drop(self) {
         let PolishSpace {
             floor: _,
+            last: _,
             dearer: _,
             kept: _,
         } = self;
@@ -29,7 +31,7 @@ impl Drop for PolishSpace {
 }
 
 impl PolishSpace {
-    /// Room for runs from rosters of a held one's case, by at most ten growths and one for each nurse.
+    /// Room for runs from rosters of a held one's case, by at most twelve growths and one for each nurse.
     ///
     /// # Errors
     ///
@@ -40,6 +42,7 @@ impl PolishSpace {
         held.keeps_rules();
         Ok(PolishSpace {
             floor: FloorWorkspace::for_case(alloc, held.case())?,
+            last: LastSearches::for_case(alloc, held.case())?,
             dearer: vec![in alloc; 0; 9 * held.case().days() as usize]?,
             kept: held.roster().copy(alloc)?,
         })

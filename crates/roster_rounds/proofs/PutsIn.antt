@@ -1,11 +1,11 @@
 -- The entries of a run's log, one after another: each change puts the best row in.
-use Rattle.std.proofs.Common.{◌≡◌, ◌∙◌, ◌+◌, ◌<◌, ◌≤◌, ◌⊎◌, ℕ, zero, suc, Bool, true, false, cond, inl, inr, ap, arith, sym, subst, refl, List, [], ◌∷◌, ◌++◌, Option, Some, None, append_assoc, nat_lt}
+use Rattle.std.proofs.Common.{◌≡◌, ◌∙◌, ◌+◌, ◌<◌, ◌≤◌, ◌⊎◌, ℕ, zero, suc, Bool, true, false, cond, inl, inr, arith, sym, subst, refl, List, [], ◌∷◌, ◌++◌, Option, Some, None, append_assoc, nat_lt}
 use Rattle.std.specs.List.{fold, range_with_len}
 use Rattle.std.proofs.lemmas.Bool.{cases_Bool, ltb-true, true≢false}
 use Rattle.roster_instance.specs.Meaning.{Meaning, nurse_count}
 use Rattle.roster_instance.specs.Rosters.{Row, Rows, with_row}
 use Rattle.roster_rules.specs.AllowedRows.{allowed_rows, best_row, penalty_with}
-use Rattle.roster_rules.specs.Improver.{Entry, changed, changes, entries_from, entry, log_of, round, round_done, round_log, same_rows, settled, started, step, step_with, stopped}
+use Rattle.roster_rules.specs.Improver.{Entry, changed, changes, entries_from, entry, log_of, round, round_done, round_log, same_rows, settled, step, step_with}
 use Rattle.roster_rules.specs.Penalties.{penalty}
 use Rattle.roster_rules.proofs.FirstLeast.{found}
 use Rattle.roster_laws.proofs.Runs.{entries-goes_on, entries-settled}

@@ -8,8 +8,8 @@ abbrev pub invariant-loop : goal.invariant-loop
 invariant-loop l = record {
   case : l.held.case ≡ l.fn.held.case;
   kept : l.space.kept ≡ l.fn.space.kept;
-  frozen : FrozenDaysStay l.fn.held.case l.fn.kicking.from l.fn.held.roster l.held.roster;
-  from : l.kicking.from ≡ l.fn.kicking.from;
-  spends : Spends l.fn.held.case l.fn.meter l.fn.kicking.left l.meter l.kicking.left;
+  frozen : FrozenDaysStay l.fn.held.case l.fn.kicking.searches.from l.fn.held.roster l.held.roster;
+  from : l.kicking.searches.from ≡ l.fn.kicking.searches.from;
+  spends : Spends l.fn.held.case l.fn.meter l.fn.kicking.searches.left l.meter l.kicking.searches.left;
   fits : FitsPolish l.fn.held.case l.space;
 }

@@ -1,4 +1,4 @@
-use Rattle.std.proofs.Common.{◌∙◌, ◌<◌, ap, arith, refl}
+use Rattle.std.proofs.Common.{◌<◌, ap, arith, refl}
 use Rattle.roster_instance.specs.Meaning.{nurse_count}
 use Rattle.roster_polish.proofs.Steps.{has_room, spent}
 use Rattle.roster_polish.proofs.kick.kick_one.Goals as goal
@@ -9,8 +9,8 @@ inside c = omega (arith, c.below-nurse.ensures, c.nurses.ensures.count, ap nurse
 
 pub kick_nurse-requires-clause-room : goal.kick_nurse-requires-clause-room
 kick_nurse-requires-clause-room c =
-    has_room c.args.held.now.case c.below-nurse.result c.args.meter.now c.args.kicking.now.left (inside (goal.at.kick_nurse-requires-clause-room c).After-as_slice) c.requires.left 18446744073709551615 c.requires.room
+    has_room c.args.held.now.case c.below-nurse.result c.args.meter.now c.args.kicking.now.searches.left (inside (goal.at.kick_nurse-requires-clause-room c).After-as_slice) c.requires.left 18446744073709551615 c.requires.room
 
 pub returns-clause-spends : goal.returns-clause-spends
 returns-clause-spends c =
-    spent c.args.held.now.case c.below-nurse.result c.args.meter.now c.args.kicking.now.left (inside (goal.at.returns-clause-spends c).After-as_slice) c.requires.left c.kick_nurse.new.meter _ refl c.kick_nurse.ensures.counted
+    spent c.args.held.now.case c.below-nurse.result c.args.meter.now c.args.kicking.now.searches.left (inside (goal.at.returns-clause-spends c).After-as_slice) c.requires.left c.kick_nurse.new.meter _ refl c.kick_nurse.ensures.counted

@@ -8,7 +8,7 @@ use Rattle.roster_instance.specs.declared.choice.Choice.TheVariants.{Off}
 use Rattle.roster_search.specs.declared.offer.Offer.{Offer}
 use Rattle.roster_search.specs.Offers.{cheapest_by_shift, offers_by, offers_of}
 use Rattle.roster_search.proofs.ByShift.{by_shift_few_of}
-use Rattle.roster_polish.specs.Kicks.{from_on, kick_offered, kick_price}
+use Rattle.roster_polish.specs.Kicks.{kick_offered, kick_price}
 use Rattle.roster_polish.proofs.KickRows.{open_of_case, priced_all, priced_in}
 use Rattle.roster_polish.proofs.offers.offers_of_day.Goals as goal
 use Rattle.roster_polish.proofs.offers.offers_of_day.Goals.{After-deref-2}

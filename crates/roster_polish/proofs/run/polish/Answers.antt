@@ -54,12 +54,13 @@ loop-kicks_before-init g c =
         arith,
         told.counted,
         c.begin-kicking.ensures.counted,
-        ap (λ (m : Meaning). extensions_of m c.begin-kicking.result.left) told.case,
+        ap (λ (m : Meaning). extensions_of m c.begin-kicking.result.searches.left) told.case,
         ap (λ (m : Meaning). extensions_of m c.args.course.now.searches) told.case,
         both_of c.args.course.now.searches (first_searches k) (greatest_extension_count k),
       );
       fits = record {
         floor = fits.floor;
+        known = fits.known;
         dearer = fits.dearer;
         kept = subst (λ (rows : Rows). fits_case k rows ≡ true) (sym kept) (subst (λ (m : Meaning). fits_case m now.roster ≡ true) told.case c.keeps_rules-2.ensures.fits);
       };
@@ -85,8 +86,8 @@ loop-kicks_before-preserved-then-not-try_kick g c =
         arith,
         i.counted,
         told.spends.counted,
-        ap (λ (m : Meaning). extensions_of m c.try_kick.new.kicking.left) i.case,
-        ap (λ (m : Meaning). extensions_of m l.kicking.left) i.case,
+        ap (λ (m : Meaning). extensions_of m c.try_kick.new.kicking.searches.left) i.case,
+        ap (λ (m : Meaning). extensions_of m l.kicking.searches.left) i.case,
       );
       fits = subst (λ (m : Meaning). FitsPolish m c.try_kick.new.space) i.case told.fits;
     }
@@ -145,8 +146,8 @@ loop-kicks_before-preserved g c =
         arith,
         i.counted,
         told.spends.counted,
-        ap (λ (m : Meaning). extensions_of m c.try_kick.new.kicking.left) i.case,
-        ap (λ (m : Meaning). extensions_of m l.kicking.left) i.case,
+        ap (λ (m : Meaning). extensions_of m c.try_kick.new.kicking.searches.left) i.case,
+        ap (λ (m : Meaning). extensions_of m l.kicking.searches.left) i.case,
       );
       fits = subst (λ (m : Meaning). FitsPolish m c.try_kick.new.space) i.case told.fits;
     }

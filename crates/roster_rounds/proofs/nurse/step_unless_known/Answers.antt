@@ -1,4 +1,4 @@
-use Rattle.std.proofs.Common.{◌≡◌, ◌∙◌, ap, arith, le-ltb, nat_lt, not, subst, sym}
+use Rattle.std.proofs.Common.{◌∙◌, ap, arith, le-ltb, nat_lt, not, subst, sym}
 use Rattle.roster_rules.specs.AllowedRows.{best_row}
 use Rattle.roster_rules.specs.Improver.{same_rows}
 use Rattle.roster_rules.specs.Penalties.{penalty}

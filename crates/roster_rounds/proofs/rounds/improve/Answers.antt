@@ -10,7 +10,7 @@ use Rattle.roster_laws.specs.FrozenDays.{FrozenDaysStay}
 use Rattle.roster_laws.proofs.Frozen.{stays_on, stays_self}
 use Rattle.roster_best.specs.Known.{IsKnown, fits_last}
 use Rattle.roster_best.specs.Workspaces.{fits_space}
-use Rattle.roster_best.proofs.KnownLaws.{forgotten, known_fits}
+use Rattle.roster_best.proofs.KnownLaws.{forgotten}
 use Rattle.roster_rounds.specs.RunLogs.{BreaksAmong, RoundMade}
 use Rattle.roster_rounds.proofs.Counts.{round_counted, round_room, round_within, same_room}
 use Rattle.roster_rounds.proofs.OneRound.{settled_line, start_line, stopped_line}

@@ -1,0 +1,30 @@
+//! The searches of a run.
+
+ghost use Rattle.std.specs.Prelude.{◌≡◌, ◌-◌, ◌<◌, true};
+ghost use Rattle.roster_instance.specs.Counting.{one_if};
+
+/// The searches that a run may still take: how many are left, and the week before which all is frozen.
+pub(crate) struct Searches {
+    pub(crate) left: u64,
+    pub(crate) from: u16,
+}
+
+// By hand, so that who drops it has one call to prove.
+impl Drop for Searches {
+    fn drop(self) {
+        let Searches { left: _, from: _ } = self;
+    }
+}
+
+impl Searches {
+    /// Takes one of those that are left where a search was made.
+    pub(crate) fn take_if(&mut self, searched: bool)
+        requires { searched ≡ true → 0 < self.old.left }
+        ensures left { self.new.left ≡ self.old.left - one_if searched }
+        ensures from { self.new.from ≡ self.old.from }
+    {
+        if searched {
+            self.left -= 1;
+        }
+    }
+}
