@@ -8,9 +8,9 @@ use roster_bound::FloorWorkspace;
 use roster_case::{Held, Roster};
 use std::alloc::Global;
 
-/// What a run writes into: what a run that raises a floor does, with the workspace of its searches; what the last of them tell; by how much each shift of a day is
-/// dearer in a kick; and the rows of the roster that is kept. Beside the memory of a floor that is nine bytes a day and a copy of the
-/// rows. One serves one run after another.
+/// What a run writes into: what a run that raises a floor does, with the workspace of its searches; what the last of them tell; by
+/// how much each shift of a day is dearer in a kick; and the rows of the roster that is kept. Beside the memory of a floor and of the
+/// last searches that is nine bytes a day and a copy of the rows. One serves one run after another.
 pub struct PolishSpace {
     pub(crate) floor: FloorWorkspace,
     pub(crate) last: LastSearches,
