@@ -1,5 +1,5 @@
 -- Which fault a failing reader or writer gives, and what a bundle means.
-use Rattle.std.proofs.Common.{◌≡◌, ◌∙◌, ◌∷◌, [], ◌<◌, ℕ, arith, Err, List, Option, None, Some, Result, Ok, ap, length, lit<, refl, subst, sym, true≢false, is_some, true}
+use Rattle.std.proofs.Common.{◌≡◌, ◌∙◌, ◌∷◌, ◌++◌, [], ◌<◌, ℕ, arith, Err, List, Option, None, Some, Result, Ok, ap, length, lit<, refl, subst, sym, true≢false, is_some, true, false}
 use Rattle.std.specs.Prelude.{Contains, IfErr, IfSome, IsErrOf, OnOk, string_bytes}
 use Rattle.std.proofs.lemmas.List.{length-map}
 use Rattle.std.proofs.lemmas.List.Elements.{All-nil}
@@ -19,7 +19,7 @@ use Rattle.roster_instance.specs.declared.fault.CaseFault.{CaseFault}
 use Rattle.roster_instance.specs.declared.fault.CaseFault.TheVariants as case
 use Rattle.roster_case.proofs.Sections.{IsFirst-after}
 use Rattle.roster_rules.specs.declared.fault.HardFault.{HardFault}
-use Rattle.roster_commands.specs.Answer.{Answers, Ends, Input, IsAnswer, IsOutcomeOf, IsReportOf, IsUnheld, IsUnread, IsBoundReport, Leaves, LeavesLog, Outcome, Output, Report, Reports, Says, StopsOutput, StopsReading, Untouched, best_report, bound_report, cost_report, improve_report, outcome_of, plain, roster_of}
+use Rattle.roster_commands.specs.Answer.{Answers, Ends, Input, IsAnswer, IsOutcomeOf, IsReportOf, IsUnheld, IsUnread, IsBoundReport, IsPolishReport, Leaves, LeavesLog, Outcome, Output, Report, Reports, Says, StopsOutput, StopsReading, Untouched, best_report, bound_report, cost_report, improve_report, outcome_of, plain, polish_report, roster_of}
 use Rattle.roster_commands.specs.Lines.{Text, sizes_text, status_of}
 use Rattle.roster_commands.specs.declared.fault.Fault.{Fault}
 use Rattle.roster_commands.specs.declared.fault.Fault.TheVariants as fault
@@ -29,6 +29,8 @@ use Rattle.roster_request.specs.declared.request.Command.TheVariants as command
 use Rattle.roster_instance.specs.Rosters.{Rows}
 use Rattle.roster_case.specs.Shown.{weeks_text}
 use Rattle.roster_bound.specs.Worths.{IsLowerBound}
+use Rattle.roster_polish.specs.Polished.{IsReached, KickLine, kicks_text, last_line}
+use Rattle.roster_polish.specs.Settled.{IsSettled}
 
 -- ---- a bundle
 
@@ -93,6 +95,29 @@ no_floor rounds from c r = record {
   is = refl;
 }
 
+-- the log of a run without a step and without a kick
+abbrev pub no_kicks : Meaning → Rows → Text
+no_kicks c r = kicks_text c r [] ++ last_line c false r
+
+-- such a run is a report of `polish`
+pub no_kick : (searches from : ℕ) (c : Meaning) (r : Rows) → IsPolishReport searches from c r (polish_report r (no_kicks c r) c r)
+no_kick searches from c r = record {
+  settled = false;
+  last = r;
+  told = no_kicks c r;
+  run = λ accepted. record {
+    first = r;
+    lines = [];
+    no_dearer = omega arith;
+    is_log = record { reached = All-nil (λ (x : KickLine). IsReached c from r x.roster × IsSettled c from x.roster); falls = tt; within = omega arith };
+    reached = record { accepted = accepted; stays = λ n d inside frozen. refl };
+    as_told = refl;
+    is_settled = λ said. absurd (true≢false (sym said));
+    text_is = refl;
+  };
+  is = refl;
+}
+
 -- each command has a report
 some_report : (command : Command) (c : Meaning) (r : Rows) → (p : Report) × IsReportOf command c r p
 some_report command.Show c r = (plain (weeks_text c r), refl)
@@ -101,6 +126,7 @@ some_report command.Sizes c r = (plain (sizes_text c), refl)
 some_report (command.Best nurse from) c r = (best_report (string_bytes nurse) from c r, refl)
 some_report (command.Improve rounds from) c r = (improve_report rounds from c r, refl)
 some_report (command.Bound rounds from) c r = (bound_report [] c r, no_floor rounds from c r)
+some_report (command.Polish searches seed from) c r = (polish_report r (no_kicks c r) c r, no_kick searches from c r)
 
 pub refused_reading : {W L : Type 0} (output : Output W) (log : Output L) (command : Command) (source : Text) (f : Fault) → StopsReading source f → Untouched output → Untouched log
     → Answers output log command source (Some f)

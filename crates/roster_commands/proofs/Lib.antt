@@ -2,3 +2,4 @@ pub mod AnswerLemmas
 pub mod RunLemmas
 pub mod BestLemmas
 pub mod BoundLemmas
+pub mod PolishLemmas

@@ -26,6 +26,8 @@ use Rattle.roster_rules.specs.Improver.{log_of, run}
 use Rattle.roster_rounds.specs.RunLogs.{text_of}
 use Rattle.roster_bound.specs.Floors.{FloorLine, IsFloorLog, floor_text, last_line, no_line}
 use Rattle.roster_bound.specs.Worths.{IsLowerBound}
+use Rattle.roster_rounds.specs.PutIn.{IsAccepted}
+use Rattle.roster_polish.specs.Polished.{IsPolishing}
 use Rattle.roster_commands.specs.Lines.{IsFirstBreach, Text, best_log, bound_text, costs_text, fault_line, nurse_of, output_line, sizes_text, status_of}
 use Rattle.roster_commands.specs.declared.fault.Fault.{Fault}
 use Rattle.roster_commands.specs.declared.fault.Fault.TheVariants as fault
@@ -195,6 +197,18 @@ pub record IsBoundReport (rounds from : ℕ) (c : Meaning) (r : Rows) (p : Repor
   pub below : IsLowerBound c from r (last_line no_line lines).bound
   pub is : p ≡ bound_report lines c r
 
+-- the roster that a run of kicks reached, and its log
+abbrev pub polish_report : Rows → Text → Meaning → Rows → Report
+polish_report last told c r = record (plain (weeks_text c last)) { is_held = true; broken = hard_faults c r; log = Some told }
+
+-- it is of such a run from a roster that is accepted; how cheap the roster gets isn't said
+pub record IsPolishReport (searches from : ℕ) (c : Meaning) (r : Rows) (p : Report) : Type 0 where
+  pub settled : Bool
+  pub last : Rows
+  pub told : Text
+  pub run : IsAccepted c r → IsPolishing c from r searches settled last told
+  pub is : p ≡ polish_report last told c r
+
 -- it is what a command asks of a case and its roster, and writes for them
 abbrev pub IsReportOf : Command → Meaning → Rows → Report → Type 0
 IsReportOf command.Show c r p = p ≡ plain (weeks_text c r)
@@ -203,6 +217,7 @@ IsReportOf command.Sizes c r p = p ≡ plain (sizes_text c)
 IsReportOf (command.Best nurse from) c r p = p ≡ best_report (string_bytes nurse) from c r
 IsReportOf (command.Improve rounds from) c r p = p ≡ improve_report rounds from c r
 IsReportOf (command.Bound rounds from) c r p = IsBoundReport rounds from c r p
+IsReportOf (command.Polish searches seed from) c r p = IsPolishReport searches from c r p
 
 -- a command that tells nothing of its work
 abbrev pub IsSilent : Command → Type 0
@@ -255,6 +270,25 @@ pub record StopsAmongFloors {L : Type 0} (contents : L → Option (List ℕ)) (c
 abbrev pub StopsFloors : {L : Type 0} → (L → Option (List ℕ)) → Meaning → (from : ℕ) → Rows → (rounds : ℕ) → Watched L → Watched L → Fault → Type 0
 StopsFloors contents c from r rounds old new fault.Log = StopsAmongFloors contents c from r rounds old new
 StopsFloors contents c from r rounds old new _ = ⊥
+
+-- the same of kicks
+pub record StopsAmongKicks {L : Type 0} (contents : L → Option (List ℕ)) (c : Meaning) (from : ℕ) (r : Rows) (searches : ℕ) (old new : Watched L) : Type 0 where
+  pub settled : Bool
+  pub last : Rows
+  pub told : Text
+  pub run : IsPolishing c from r searches settled last told
+  pub stops : Stops contents old new told
+
+abbrev pub StopsKicks : {L : Type 0} → (L → Option (List ℕ)) → Meaning → (from : ℕ) → Rows → (searches : ℕ) → Watched L → Watched L → Fault → Type 0
+StopsKicks contents c from r searches old new fault.Log = StopsAmongKicks contents c from r searches old new
+StopsKicks contents c from r searches old new _ = ⊥
+
+-- a run of kicks led to this roster, and its log went out
+pub record Kicks {L : Type 0} (contents : L → Option (List ℕ)) (c : Meaning) (from : ℕ) (r : Rows) (searches : ℕ) (last : Rows) (old new : Watched L) : Type 0 where
+  pub settled : Bool
+  pub told : Text
+  pub run : IsPolishing c from r searches settled last told
+  pub writes : Writes contents old new told
 
 -- why a roster is not held: for the first of these breaches, or for want of memory where there is none
 abbrev pub IsUnheld : Text → Bundle → List HardFault → Fault → Type 0

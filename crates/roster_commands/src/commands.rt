@@ -14,8 +14,10 @@ use crate::bound::bound;
 use crate::fault::Fault;
 use crate::held::hold;
 use crate::improve::improve;
+use crate::polish::polish;
 use crate::reading::Instance;
 use roster_case::{Case, Roster, costs};
+use roster_polish::Course;
 use roster_reports::{write_costs, write_sizes, write_weeks};
 use roster_request::Command;
 use roster_text::Watch;
@@ -55,6 +57,18 @@ pub(crate) fn report<'a, Out: Write, Log: Write>(
         }
         Command::Bound { rounds, from } => {
             bound(alloc, *rounds, *from, source, instance, output, log)
+        }
+        Command::Polish {
+            searches,
+            seed,
+            from,
+        } => {
+            let course = Course {
+                searches: *searches,
+                seed: *seed as u64,
+                from: *from,
+            };
+            polish(alloc, &course, source, instance, output, log)
         }
     }
 }

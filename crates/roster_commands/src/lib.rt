@@ -14,6 +14,7 @@ mod fault;
 mod held;
 mod improve;
 mod lines;
+mod polish;
 mod reading;
 
 pub use answer::run;

@@ -28,6 +28,10 @@ pub record FitsPolish (c : Meaning) (w : PolishSpace) : Type 0 where
 abbrev pub first_searches : Meaning → ℕ
 first_searches c = 1000000 * nurse_count c
 
+-- the most searches beside these for which a new meter surely has room
+abbrev pub most_searches : ℕ
+most_searches = 10000000
+
 -- ---- what is kept
 
 -- a roster that a run from the given one may keep: accepted, and the frozen days as they were

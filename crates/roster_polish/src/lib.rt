@@ -9,10 +9,12 @@ mod kick;
 mod log;
 mod offers;
 mod random;
+mod room;
 mod run;
 mod searches;
 mod settle;
 mod space;
 
+pub use room::{MOST_SEARCHES, most_extensions};
 pub use run::{Course, Polished, polish};
 pub use space::PolishSpace;

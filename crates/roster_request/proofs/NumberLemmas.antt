@@ -29,8 +29,8 @@ use Rattle.clap.specs.declared.parser.matches.ValueSource.TheVariants.{CommandLi
 use Rattle.clap.specs.Words.{ReadsOne, fault_of, one_text, rows_of, subcommand_of}
 use Rattle.clap.proofs.WalkLemmas.{one_text-rows}
 use Rattle.clap.proofs.CallerReads.{signed_reads}
-use Rattle.roster_request.specs.Limits.{most_from, most_rounds}
-use Rattle.roster_request.specs.CommandLine.{HasFrom, HasNumber, HasRounds, IsNumberOf, IsOneOf, Meets, program, rounds_rule, with_from, with_rounds}
+use Rattle.roster_request.specs.Limits.{most_from, most_rounds, most_searches, most_seed}
+use Rattle.roster_request.specs.CommandLine.{HasFrom, HasNumber, HasRounds, HasSearches, HasSeed, IsNumberOf, IsOneOf, Meets, program, rounds_rule, with_from, with_rounds, with_searches}
 
 -- ---- lists
 
@@ -371,12 +371,21 @@ improve = get_or subs 4 help_shape
 abbrev bound : Shape
 bound = get_or subs 5 help_shape
 
+abbrev polish : Shape
+polish = get_or subs 6 help_shape
+
 -- an argument that is a number, as clap completes its rule
 abbrev number : Text → ℕ → Text → Rule
 number name most default = record (get_or improve.rules 0 rounds_rule) { id = name; long = Some name; parser = Some (parser.Signed (pos 0) (pos most)); defaults = default ∷ [] }
 
 abbrev rounds : Rule
 rounds = number (codes "rounds") most_rounds (codes "100")
+
+abbrev searches : Rule
+searches = number (codes "searches") most_searches (codes "20000")
+
+abbrev seed : Rule
+seed = number (codes "seed") most_seed (codes "1")
 
 abbrev from : Rule
 from = number (codes "from") most_from (codes "0")
@@ -516,6 +525,13 @@ another_in commands has k other = another commands has (get_or subs k help_shape
 rounds_at : (s : Shape) → Each (IsOnly rounds) s.rules → Among rounds s.rules → HasAt with_rounds HasRounds s
 rounds_at s only among words none one = level_number (codes "rounds") most_rounds (codes "100") refl refl s only among words none
 
+-- the searches and the seed of a command whose own arguments they are
+searches_at : (s : Shape) → Each (IsOnly searches) s.rules → Among searches s.rules → HasAt with_searches HasSearches s
+searches_at s only among words none one = level_number (codes "searches") most_searches (codes "20000") refl refl s only among words none
+
+seed_at : (s : Shape) → Each (IsOnly seed) s.rules → Among seed s.rules → HasAt with_searches HasSeed s
+seed_at s only among words none one = level_number (codes "seed") most_seed (codes "1") refl refl s only among words none
+
 -- the first week of a command, after its own argument
 from_at : (s : Shape) → Each (IsOnly from) s.rules → Among from s.rules → HasAt with_from HasFrom s
 from_at s only among words none one = level_number (codes "from") most_from (codes "0") refl refl s only among words none
@@ -527,7 +543,21 @@ meets_rounds =
     let no = another_in with_rounds HasRounds in
     let improve_has = rounds_at improve ((λ f. refl), ((λ f. absurd (true≢false (sym f))), ((λ f. absurd (true≢false (sym f))), ((λ f. absurd (true≢false (sym f))), tt)))) (inl refl) in
     let bound_has = rounds_at bound ((λ f. refl), ((λ f. absurd (true≢false (sym f))), ((λ f. absurd (true≢false (sym f))), ((λ f. absurd (true≢false (sym f))), tt)))) (inl refl) in
-    words_meet with_rounds HasRounds (no 0 refl, (no 1 refl, (no 2 refl, (no 3 refl, (improve_has, (bound_has, (no 6 refl, tt)))))))
+    words_meet with_rounds HasRounds (no 0 refl, (no 1 refl, (no 2 refl, (no 3 refl, (improve_has, (bound_has, (no 6 refl, (no 7 refl, tt))))))))
+
+pub meets_searches : (words : List Text) → fault_of program words ≡ [] → Meets with_searches HasSearches (subcommand_of program words)
+unfolding Among is_one_of
+meets_searches =
+    let no = another_in with_searches HasSearches in
+    let polish_has = searches_at polish ((λ f. refl), ((λ f. absurd (true≢false (sym f))), ((λ f. absurd (true≢false (sym f))), ((λ f. absurd (true≢false (sym f))), ((λ f. absurd (true≢false (sym f))), tt))))) (inl refl) in
+    words_meet with_searches HasSearches (no 0 refl, (no 1 refl, (no 2 refl, (no 3 refl, (no 4 refl, (no 5 refl, (polish_has, (no 7 refl, tt))))))))
+
+pub meets_seed : (words : List Text) → fault_of program words ≡ [] → Meets with_searches HasSeed (subcommand_of program words)
+unfolding Among is_one_of
+meets_seed =
+    let no = another_in with_searches HasSeed in
+    let polish_has = seed_at polish ((λ f. absurd (true≢false (sym f))), ((λ f. refl), ((λ f. absurd (true≢false (sym f))), ((λ f. absurd (true≢false (sym f))), ((λ f. absurd (true≢false (sym f))), tt))))) (inr (inl refl)) in
+    words_meet with_searches HasSeed (no 0 refl, (no 1 refl, (no 2 refl, (no 3 refl, (no 4 refl, (no 5 refl, (polish_has, (no 7 refl, tt))))))))
 
 pub meets_from : (words : List Text) → fault_of program words ≡ [] → Meets with_from HasFrom (subcommand_of program words)
 unfolding Among is_one_of
@@ -536,7 +566,8 @@ meets_from =
     let best_has = from_at best ((λ f. absurd (true≢false (sym f))), ((λ f. refl), ((λ f. absurd (true≢false (sym f))), ((λ f. absurd (true≢false (sym f))), tt)))) (inr (inl refl)) in
     let improve_has = from_at improve ((λ f. absurd (true≢false (sym f))), ((λ f. refl), ((λ f. absurd (true≢false (sym f))), ((λ f. absurd (true≢false (sym f))), tt)))) (inr (inl refl)) in
     let bound_has = from_at bound ((λ f. absurd (true≢false (sym f))), ((λ f. refl), ((λ f. absurd (true≢false (sym f))), ((λ f. absurd (true≢false (sym f))), tt)))) (inr (inl refl)) in
-    words_meet with_from HasFrom (no 0 refl, (no 1 refl, (no 2 refl, (best_has, (improve_has, (bound_has, (no 6 refl, tt)))))))
+    let polish_has = from_at polish ((λ f. absurd (true≢false (sym f))), ((λ f. absurd (true≢false (sym f))), ((λ f. refl), ((λ f. absurd (true≢false (sym f))), ((λ f. absurd (true≢false (sym f))), tt))))) (inr (inr (inl refl))) in
+    words_meet with_from HasFrom (no 0 refl, (no 1 refl, (no 2 refl, (best_has, (improve_has, (bound_has, (polish_has, (no 7 refl, tt))))))))
 
 -- ---- the number
 

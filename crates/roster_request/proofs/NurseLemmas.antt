@@ -332,7 +332,10 @@ all_give = (
         gives_name _ ((λ e. omega arith), ((λ e. absurd (true≢false (sym e))), ((λ e. absurd (true≢false (sym e))), ((λ e. absurd (true≢false (sym e))), tt)))) (λ rows none. not_false (is_given (codes "nurse") rows) (wanted false false (not (is_given (codes "nurse") rows)) none)),
         (
           (λ named. absurd (other_name (codes "improve") refl named)),
-          ((λ named. absurd (other_name (codes "bound") refl named)), ((λ named. absurd (other_name (codes "help") refl named)), tt)),
+          (
+            (λ named. absurd (other_name (codes "bound") refl named)),
+            ((λ named. absurd (other_name (codes "polish") refl named)), ((λ named. absurd (other_name (codes "help") refl named)), tt)),
+          ),
         ),
       ),
     ),

@@ -14,7 +14,7 @@ use Rattle.roster_request.specs.declared.request.Command.TheVariants as command
 use Rattle.roster_request.specs.declared.request.CliFault.{CliFault}
 use Rattle.roster_request.specs.declared.request.CliFault.TheVariants as fault
 use Rattle.roster_request.specs.declared.request.Request.{Request}
-use Rattle.roster_request.specs.Limits.{most_from, most_rounds}
+use Rattle.roster_request.specs.Limits.{most_from, most_rounds, most_searches, most_seed}
 
 -- any number of files
 abbrev pub files_rule : Rule
@@ -46,6 +46,14 @@ number_rule name most default = record (new_rule name) {
 abbrev pub rounds_rule : Rule
 rounds_rule = number_rule (codes "rounds") most_rounds (codes "100")
 
+-- how many searches a run of kicks may make
+abbrev pub searches_rule : Rule
+searches_rule = number_rule (codes "searches") most_searches (codes "20000")
+
+-- what its random numbers begin with
+abbrev pub seed_rule : Rule
+seed_rule = number_rule (codes "seed") most_seed (codes "1")
+
 -- the first week that may change
 abbrev pub from_rule : Rule
 from_rule = number_rule (codes "from") most_from (codes "0")
@@ -70,7 +78,7 @@ abbrev pub commands : List Shape
 commands =
     (command_of (codes "show")).top ∷ (command_of (codes "cost")).top ∷ (command_of (codes "sizes")).top
     ∷ (own_command_of (nurse_rule ∷ from_rule ∷ []) (codes "best")).top ∷ (own_command_of (rounds_rule ∷ from_rule ∷ []) (codes "improve")).top
-    ∷ (own_command_of (rounds_rule ∷ from_rule ∷ []) (codes "bound")).top ∷ []
+    ∷ (own_command_of (rounds_rule ∷ from_rule ∷ []) (codes "bound")).top ∷ (own_command_of (searches_rule ∷ seed_rule ∷ from_rule ∷ []) (codes "polish")).top ∷ []
 
 -- the program's definition for clap
 abbrev pub program : App
@@ -84,6 +92,7 @@ name_of command.Sizes = codes "sizes"
 name_of (command.Best nurse from) = codes "best"
 name_of (command.Improve rounds from) = codes "improve"
 name_of (command.Bound rounds from) = codes "bound"
+name_of (command.Polish searches seed from) = codes "polish"
 
 -- it is the name of one of these commands
 abbrev pub IsNameOf : List Shape → Text → Type 0
@@ -104,6 +113,12 @@ pub record HasNumber (name : Text) (most : ℕ) (rows : List Row) : Type 0 where
 abbrev pub HasRounds : List Row → Type 0
 HasRounds rows = HasNumber (codes "rounds") most_rounds rows
 
+abbrev pub HasSearches : List Row → Type 0
+HasSearches rows = HasNumber (codes "searches") most_searches rows
+
+abbrev pub HasSeed : List Row → Type 0
+HasSeed rows = HasNumber (codes "seed") most_seed rows
+
 abbrev pub HasFrom : List Row → Type 0
 HasFrom rows = HasNumber (codes "from") most_from rows
 
@@ -112,12 +127,15 @@ abbrev pub IsOneOf : List Text → Text → Type 0
 IsOneOf [] name = ⊥
 IsOneOf (first ∷ rest) name = (name ≡ first) ⊎ IsOneOf rest name
 
--- the commands that make rounds, and those that leave some weeks as they are
+-- the commands that make rounds, that which makes searches, and those that leave some weeks as they are
 abbrev pub with_rounds : List Text
 with_rounds = codes "improve" ∷ codes "bound" ∷ []
 
+abbrev pub with_searches : List Text
+with_searches = codes "polish" ∷ []
+
 abbrev pub with_from : List Text
-with_from = codes "best" ∷ with_rounds
+with_from = codes "best" ∷ codes "polish" ∷ with_rounds
 
 -- where one of these commands was met, its matches have the number
 abbrev pub Meets : List Text → (List Row → Type 0) → Option (Text × List Row) → Type 0
@@ -141,13 +159,15 @@ abbrev pub HasArguments : Command → List Row → Type 0
 HasArguments (command.Best nurse from) rows = (first_of (codes "nurse") rows ≡ Some (string_bytes nurse)) × IsNumberOf (codes "from") from rows
 HasArguments (command.Improve rounds from) rows = IsNumberOf (codes "rounds") rounds rows × IsNumberOf (codes "from") from rows
 HasArguments (command.Bound rounds from) rows = IsNumberOf (codes "rounds") rounds rows × IsNumberOf (codes "from") from rows
+HasArguments (command.Polish searches seed from) rows = IsNumberOf (codes "searches") searches rows × IsNumberOf (codes "seed") seed rows × IsNumberOf (codes "from") from rows
 HasArguments _ rows = Unit {0}
 
--- the rounds of a command that has some are within their limit, and its first week within that of weeks
+-- the rounds or searches of a command that has some are within their limit, and its first week within that of weeks
 abbrev pub IsInRange : Command → Type 0
 IsInRange (command.Best nurse from) = from ≤ most_from
 IsInRange (command.Improve rounds from) = (rounds ≤ most_rounds) × (from ≤ most_from)
 IsInRange (command.Bound rounds from) = (rounds ≤ most_rounds) × (from ≤ most_from)
+IsInRange (command.Polish searches seed from) = (searches ≤ most_searches) × (from ≤ most_from)
 IsInRange _ = Unit {0}
 
 -- the command that was met, by its name and its matches, is that of the request, with its arguments and its files

@@ -5,6 +5,14 @@ use Rattle.std.specs.Prelude.{ℕ}
 abbrev pub most_rounds : ℕ
 most_rounds = 1000
 
+-- the most searches that a run of kicks may be asked for
+abbrev pub most_searches : ℕ
+most_searches = 10000000
+
+-- the greatest seed: one of 32 bits
+abbrev pub most_seed : ℕ
+most_seed = 4294967295
+
 -- the greatest first week that may change: with it all days of the longest case are frozen
 abbrev pub most_from : ℕ
 most_from = 52

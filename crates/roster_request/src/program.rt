@@ -1,12 +1,13 @@
 //! The command line of the program, as `clap` reads it.
 
-ghost use Rattle.std.specs.Prelude.{◌≡◌, [], ◌∷◌, IfOk, false};
+ghost use Rattle.std.specs.Prelude.{◌≡◌, [], ◌∷◌, codes, IfOk, false};
 ghost use Rattle.clap.specs.Words.{app_of, rule_of, with_subcommand};
-ghost use Rattle.roster_request.specs.CommandLine.{command_of, files_rule, from_rule, number_rule, nurse_rule, own_command_of, program};
+ghost use Rattle.roster_request.specs.CommandLine.{command_of, files_rule, from_rule, number_rule, nurse_rule, own_command_of, program, searches_rule, seed_rule};
 
 use crate::texts::{
     ABOUT, BEST, BEST_HELP, BOUND, BOUND_HELP, COST, COST_HELP, EXAMPLES, FIRST_WEEK, IMPROVE,
-    IMPROVE_HELP, NURSE_NAME, ROUND_COUNT, SHOW, SHOW_HELP, SIZES, SIZES_HELP, TEXTS,
+    IMPROVE_HELP, NURSE_NAME, POLISH, POLISH_HELP, ROUND_COUNT, SEARCH_COUNT, SEED_NUMBER, SHOW,
+    SHOW_HELP, SIZES, SIZES_HELP, TEXTS,
 };
 use clap::{Arg, ArgAction, Command, value_parser};
 use std::alloc::{AllocError, Global};
@@ -37,6 +38,24 @@ pub(crate) const ROUNDS: NumberOption = NumberOption {
     help: ROUND_COUNT,
 };
 
+/// How many searches a run of kicks may make.
+pub(crate) const SEARCHES: NumberOption = NumberOption {
+    name: "searches",
+    value: "N",
+    most: 10_000_000,
+    default: "20000",
+    help: SEARCH_COUNT,
+};
+
+/// What the random numbers of a run begin with.
+pub(crate) const SEED: NumberOption = NumberOption {
+    name: "seed",
+    value: "S",
+    most: u32::MAX,
+    default: "1",
+    help: SEED_NUMBER,
+};
+
 /// The first week that may change, up to as many weeks as the longest case has.
 pub(crate) const FROM: NumberOption = NumberOption {
     name: "from",
@@ -63,10 +82,12 @@ pub(crate) fn program<'a>(alloc: Global) -> Result<Command<'a>, AllocError>
     let rounds = number_arg(alloc, ROUNDS);
     let improve = own_command(alloc, "improve", IMPROVE, IMPROVE_HELP, rounds)?;
     let bound = own_command(alloc, "bound", BOUND, BOUND_HELP, number_arg(alloc, ROUNDS))?;
+    let polish = polish_command(alloc)?;
     with_sizes
         .subcommand(best)?
         .subcommand(improve)?
-        .subcommand(bound)
+        .subcommand(bound)?
+        .subcommand(polish)
 }
 
 /// A program with one more command that reads files.
@@ -112,6 +133,19 @@ fn own_command<'a>(
         .about(about)
         .after_help(help)
         .arg(own)?
+        .arg(number_arg(alloc, FROM))?
+        .arg(files_arg(alloc))
+}
+
+/// The command `polish`, which has two arguments of its own.
+fn polish_command<'a>(alloc: Global) -> Result<Command<'a>, AllocError>
+    ensures { IfOk result (λ c. app_of c ≡ own_command_of (searches_rule ∷ seed_rule ∷ from_rule ∷ []) (codes "polish")) }
+{
+    Command::new(alloc, "polish")
+        .about(POLISH)
+        .after_help(POLISH_HELP)
+        .arg(number_arg(alloc, SEARCHES))?
+        .arg(number_arg(alloc, SEED))?
         .arg(number_arg(alloc, FROM))?
         .arg(files_arg(alloc))
 }

@@ -178,6 +178,53 @@ Examples:
 The files are read one after another, in the order given. Without a file, the
 texts are read from standard input.";
 
+pub(crate) const SEARCH_COUNT: &str =
+    "The kicks take so many searches at most, 0 to 10000000";
+
+pub(crate) const SEED_NUMBER: &str =
+    "What the random numbers of the kicks begin with, 0 to 4294967295";
+
+pub(crate) const POLISH: &str =
+    "Make the rosters cheaper where 'improve' is settled, and write them";
+
+pub(crate) const POLISH_HELP: &str =
+    "A roster is settled where no nurse has a cheaper row while the others keep
+theirs. 'roster improve' ends there. This command settles the roster too, and
+then makes kicks, as long as searches are left. A kick gives two or three nurses
+the best rows by other prices, and settles the roster again. Where it is no
+dearer than before the kick, it is kept; else the one from before comes back.
+
+The hard rules are asked first, as for 'roster cost', and the rosters written
+keep them too. To standard error goes a log, each line as soon as it is known:
+  start 3150      what the roster costs before the run
+  kick 4 1630     kick 4 made it cheaper: it costs 1630 now. A kick that doesn't
+                  make it cheaper has no line.
+  settled 1630    what the rosters written cost. They are settled.
+In place of 'settled' stands 'stopped' where the first settling took more than
+1,000,000 rounds, and no kick was kept.
+
+A search is one for the best row of a nurse. The first settling takes as many as
+it needs. After it the run takes at most as many as --searches allows: up to a
+half of them to find prices, and the others for kicks. With --searches 0 there
+is no kick. The same texts, --searches, --seed and --from give the same rosters.
+It pays to try several seeds.
+
+With --from V the weeks 0 to V - 1 are frozen: each nurse's days in them stay as
+they stand. All weeks are read, and count for what the roster costs. Where V is
+above the last week, all stays.
+
+What isn't promised: how cheap the rosters get, for which see 'roster bound';
+how long the run takes. For its memory and the greatest number of steps for a
+nurse see 'roster sizes'.
+
+Examples:
+  roster polish examples/ward.txt > better.txt
+  roster polish --searches 200000 --seed 7 examples/ward.txt > better.txt
+  roster polish --from 2 examples/ward.txt > better.txt
+
+The files are read one after another, in the order given. Without a file, the
+texts are read from standard input.";
+
 pub(crate) const EXAMPLES: &str = "Examples:
   roster show examples/mini.txt
   roster cost examples/mini.txt
@@ -185,5 +232,6 @@ pub(crate) const EXAMPLES: &str = "Examples:
   roster best --nurse Ann examples/mini.txt
   roster improve examples/ward.txt
   roster bound examples/ward.txt
+  roster polish examples/ward.txt > better.txt
 
 'roster COMMAND --help' says more about a command.";

@@ -2,10 +2,10 @@
 
 ghost use Rattle.std.specs.Prelude.{◌≡◌, ◌≢◌, ◌≤◌, [], Some, codes, IfOk, IfErr, OnOk, IsSomeAnd, is_some, true, map, string_bytes};
 ghost use Rattle.clap.specs.Words.{fault_of, first_of, found_of, kind_of, rows_of, subcommand_rows_of};
-ghost use Rattle.roster_request.specs.CommandLine.{HasArguments, HasFrom, HasNumber, HasNurse, HasRounds, HasText, IsAsked, IsAskedIn, IsInRange, IsNameOf, IsNumberOf, IsOneOf, Meets, Refuses, TellsKind, commands, files_in, name_of, program, with_from, with_rounds};
-ghost use Rattle.roster_request.specs.Limits.{most_from, most_rounds};
+ghost use Rattle.roster_request.specs.CommandLine.{HasArguments, HasFrom, HasNumber, HasNurse, HasRounds, HasSearches, HasSeed, HasText, IsAsked, IsAskedIn, IsInRange, IsNameOf, IsNumberOf, IsOneOf, Meets, Refuses, TellsKind, commands, files_in, name_of, program, with_from, with_rounds, with_searches};
+ghost use Rattle.roster_request.specs.Limits.{most_from, most_rounds, most_searches};
 
-use crate::program::{FILES, FROM, NURSE, NumberOption, ROUNDS, program};
+use crate::program::{FILES, FROM, NURSE, NumberOption, ROUNDS, SEARCHES, SEED, program};
 use crate::request::{CliFault, Command, Request};
 use crate::texts::EXAMPLES;
 use clap::ArgMatches;
@@ -17,7 +17,7 @@ use std::convert::AsStr;
 pub fn request_of<S: AsStr>(alloc: Global, words: &[S]) -> Result<Request, CliFault>
     // The command with its arguments, and the files, are those that clap's matches give for the words.
     ensures request { IfOk result (IsAsked (map S.text words.now)) }
-    // The rounds of a run and the first week that may change are within their limits.
+    // The rounds and the searches of a run, and the first week that may change, are within their limits.
     ensures range { IfOk result (λ r. IsInRange r.command) }
     ensures faultless { OnOk result (fault_of program (map S.text words.now) ≡ []) }
     ensures refusal { IfErr result (Refuses (map S.text words.now)) }
@@ -33,6 +33,8 @@ fn request_in(alloc: Global, matches: &ArgMatches<'_>) -> Result<Request, CliFau
     requires met { IsSomeAnd (subcommand_rows_of matches.now) (λ met. IsNameOf commands met.0) }
     requires nurse { HasNurse (subcommand_rows_of matches.now) }
     requires rounds { Meets with_rounds HasRounds (subcommand_rows_of matches.now) }
+    requires searches { Meets with_searches HasSearches (subcommand_rows_of matches.now) }
+    requires seed { Meets with_searches HasSeed (subcommand_rows_of matches.now) }
     requires from { Meets with_from HasFrom (subcommand_rows_of matches.now) }
     ensures request { IfOk result (IsAskedIn (subcommand_rows_of matches.now)) }
     ensures range { IfOk result (λ r. IsInRange r.command) }
@@ -52,6 +54,8 @@ fn command_in(alloc: Global, name: &str, given: &ArgMatches<'_>) -> Result<Comma
     requires name { IsNameOf commands name.now }
     requires nurse { name.now ≡ codes "best" → is_some (first_of (codes "nurse") (rows_of (found_of given.now))) ≡ true }
     requires rounds { IsOneOf with_rounds name.now → HasRounds (rows_of (found_of given.now)) }
+    requires searches { IsOneOf with_searches name.now → HasSearches (rows_of (found_of given.now)) }
+    requires seed { IsOneOf with_searches name.now → HasSeed (rows_of (found_of given.now)) }
     requires from { IsOneOf with_from name.now → HasFrom (rows_of (found_of given.now)) }
     ensures name { IfOk result (λ command. name_of command ≡ name.now) }
     ensures arguments { IfOk result (λ command. HasArguments command (rows_of (found_of given.now))) }
@@ -71,6 +75,11 @@ fn command_in(alloc: Global, name: &str, given: &ArgMatches<'_>) -> Result<Comma
         }),
         "bound" => Ok(Command::Bound {
             rounds: rounds_of(given),
+            from: from_of(given),
+        }),
+        "polish" => Ok(Command::Polish {
+            searches: number_of(given, SEARCHES),
+            seed: number_of(given, SEED),
             from: from_of(given),
         }),
         _ => unreachable!(),

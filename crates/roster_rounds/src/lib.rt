@@ -17,6 +17,6 @@ pub use headline::each_row_put_in_is_best;
 pub use log::{log_round, log_word};
 pub use nurse::{step, step_unless_known};
 pub use outcome::{LogFault, Outcome, Step};
-pub use room::most_extensions;
+pub use room::{greatest_extensions, most_extensions};
 pub use rounds::improve;
 pub use space::RunSpace;

@@ -16,7 +16,7 @@ pub fn most_extensions(case: &Case, rounds: u16) -> u64
 }
 
 /// How often the search for one nurse extends a label at most.
-fn greatest_extensions(case: &Case) -> u64
+pub fn greatest_extensions(case: &Case) -> u64
     ensures greatest { result ≡ greatest_extension_count case.now }
     ensures within { result ≤ most_states * most_days * (1 + most_shifts * most_skills) }
 {

@@ -34,7 +34,7 @@ const IMPROVED: &str =
 const RUN_LOG: &str =
     "start 470\n1 Ann 180\n1 Bob 20\nround 1 20\n2 Ann 0\nround 2 0\nround 3 0\nsettled 0\n";
 
-const ANSWERS: [Answer; 6] = [
+const ANSWERS: [Answer; 7] = [
     Answer {
         name: "show",
         output: SHOWN,
@@ -65,9 +65,14 @@ const ANSWERS: [Answer; 6] = [
         output: "roster 470\nbound 0\n",
         log: "start 470\n",
     },
+    Answer {
+        name: "polish",
+        output: IMPROVED,
+        log: "start 470\nsettled 0\n",
+    },
 ];
 
-/// The command of a name: `best` is for Ann, `improve` makes 100 rounds at most, and `bound` makes one.
+/// The command of a name: `best` is for Ann, `improve` makes 100 rounds at most, `bound` makes one, and `polish` no kick.
 fn command_of(alloc: Global, name: &str) -> Result<Command, AllocError> {
     Ok(match name {
         "show" => Command::Show,
@@ -78,6 +83,11 @@ fn command_of(alloc: Global, name: &str) -> Result<Command, AllocError> {
             from: 0,
         },
         "bound" => Command::Bound { rounds: 1, from: 0 },
+        "polish" => Command::Polish {
+            searches: 0,
+            seed: 1,
+            from: 0,
+        },
         _ => Command::Improve {
             rounds: 100,
             from: 0,
@@ -296,7 +306,7 @@ fn a_refusal_whose_line_fails_after_each_byte(rt: HostRuntime) -> Result<(), Fai
     let alloc = rt.alloc();
     let text = changed(alloc, &[("Early Nurse (0,1)", "Early Nurse (1,1)")])?;
     let told = "H2 week 0 Mon Early Nurse: 0 of 1\n";
-    for name in ["cost", "best", "improve", "bound"] {
+    for name in ["cost", "best", "improve", "bound", "polish"] {
         for log in 0..told.len() + 1 {
             let room = Room { log, ..AMPLE };
             assert!(rt;

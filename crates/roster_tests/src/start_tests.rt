@@ -298,6 +298,19 @@ fn asks_for_bound(alloc: Global, words: &[&str], (rounds, from): (u16, u16)) -> 
     matches!(request.command, Command::Bound { rounds: some, from: first } if some == rounds && first == from)
 }
 
+/// Whether the words ask for so many searches, by a seed and from a week on.
+fn asks_for_kicks(
+    alloc: Global,
+    words: &[&str],
+    (searches, seed, from): (u32, u32, u16),
+) -> bool {
+    let Ok(request) = request_of(alloc, words) else {
+        return false;
+    };
+    matches!(request.command, Command::Polish { searches: some, seed: begin, from: first }
+        if some == searches && begin == seed && first == from)
+}
+
 #[test]
 fn requests_of_words(rt: HostRuntime) {
     let words = ["roster", "improve", "--rounds", "5", "a.txt"];
@@ -311,6 +324,18 @@ fn requests_of_words(rt: HostRuntime) {
     let words = ["roster", "bound", "--rounds", "7", "--from", "3"];
     assert!(rt; asks_for_bound(rt.alloc(), &words, (7, 3)));
     assert!(rt; asks_for_bound(rt.alloc(), &words[..2], (100, 0)));
+    let words = [
+        "roster",
+        "polish",
+        "--seed",
+        "4294967295",
+        "--searches",
+        "10000000",
+        "--from",
+        "3",
+    ];
+    assert!(rt; asks_for_kicks(rt.alloc(), &words, (10_000_000, u32::MAX, 3)));
+    assert!(rt; asks_for_kicks(rt.alloc(), &words[..2], (20_000, 1, 0)));
     let too_late = request_of(rt.alloc(), &["roster", "improve", "--from", "53"]);
     assert!(rt; matches!(too_late, Err(CliFault::Usage(_))));
     let above = request_of(rt.alloc(), &["roster", "improve", "--rounds", "1001"]);

@@ -48,7 +48,12 @@ returns-in-Improve g c =
       logged = c.improve.ensures.logged;
     }
 
-pub returns : goal.returns
-returns g c =
+pub returns-in-Bound : goal.returns-in-Bound
+returns-in-Bound g c =
     let made = c.bound.ensures in
     record { report = made.report; is = subst (λ x. IsReportOf x c.args.instance.case c.args.instance.roster made.report) (sym c.in-Bound.is) made.is; ends = made.ends; logged = made.logged }
+
+pub returns : goal.returns
+returns g c =
+    let made = c.polish.ensures in
+    record { report = made.report; is = subst (λ x. IsReportOf x c.args.instance.case c.args.instance.roster made.report) (sym c.in-Polish.is) made.is; ends = made.ends; logged = made.logged }

@@ -29,5 +29,7 @@ returns c =
     let bound_local = no_globals _ _ _ _ (ap (λ (a : App). a.top.is_plain) bound_is) in
     let with_best = c.in_ok-subcommand.ensures.shape best_local ∙ ap₂ (λ (a b : App). with_subcommand a b.top) with_sizes best_is in
     let with_improve = c.in_ok-subcommand-2.ensures.shape improve_local ∙ ap₂ (λ (a b : App). with_subcommand a b.top) with_best improve_is in
-    IfOk-weaker c.subcommand-3.result _ _ (λ made h. h.shape bound_local ∙ ap₂ (λ (a b : App). with_subcommand a b.top) with_improve bound_is)
-    c.subcommand-3.ensures
+    let polish_local = no_globals _ _ _ _ (ap (λ (a : App). a.top.is_plain) c.in_ok-polish.ensures) in
+    let with_bound = c.in_ok-subcommand-3.ensures.shape bound_local ∙ ap₂ (λ (a b : App). with_subcommand a b.top) with_improve bound_is in
+    IfOk-weaker c.subcommand-4.result _ _ (λ made h. h.shape polish_local ∙ ap₂ (λ (a b : App). with_subcommand a b.top) with_bound c.in_ok-polish.ensures)
+    c.subcommand-4.ensures

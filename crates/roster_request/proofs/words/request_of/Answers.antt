@@ -1,9 +1,9 @@
 use Rattle.std.proofs.Common.{◌≡◌, ◌∙◌, ap, map, refl, subst, sym, true, Result, Ok, Err}
 use Rattle.std.specs.Prelude.{IfOk, IsSomeAnd, OnOk}
 use Rattle.clap.specs.Words.{App, HasKind, fault_of, is_simple, is_simple_and_free, kind_of, subcommand_of, takes}
-use Rattle.roster_request.specs.CommandLine.{HasFrom, HasNurse, HasRounds, IsAskedIn, IsNameOf, Meets, commands, program, with_from, with_rounds}
+use Rattle.roster_request.specs.CommandLine.{HasFrom, HasNurse, HasRounds, HasSearches, HasSeed, IsAskedIn, IsNameOf, Meets, commands, program, with_from, with_rounds, with_searches}
 use Rattle.roster_request.proofs.CommandLineLemmas.{meets_command, refuses}
-use Rattle.roster_request.proofs.NumberLemmas.{meets_from, meets_rounds}
+use Rattle.roster_request.proofs.NumberLemmas.{meets_from, meets_rounds, meets_searches, meets_seed}
 use Rattle.roster_request.proofs.NurseLemmas.{meets_nurse}
 use Rattle.roster_request.proofs.words.request_of.Goals as goal
 
@@ -30,6 +30,20 @@ request_in-requires-clause-rounds g c =
     let none = c.in-Ok.ensures.kinds (ap is_simple_and_free c.in_ok-program.ensures ∙ free) in
     let met = (c.in-Ok.ensures.matches (ap is_simple c.in_ok-program.ensures ∙ simple)).1 ∙ ap (λ (a : App). subcommand_of a words) c.in_ok-program.ensures in
     subst (Meets with_rounds HasRounds) (sym met) (meets_rounds words (ap (λ (a : App). fault_of a words) (sym c.in_ok-program.ensures) ∙ none))
+
+pub request_in-requires-clause-searches : goal.request_in-requires-clause-searches
+request_in-requires-clause-searches g c =
+    let words = map g.S.AsStr.text c.args.words.now in
+    let none = c.in-Ok.ensures.kinds (ap is_simple_and_free c.in_ok-program.ensures ∙ free) in
+    let met = (c.in-Ok.ensures.matches (ap is_simple c.in_ok-program.ensures ∙ simple)).1 ∙ ap (λ (a : App). subcommand_of a words) c.in_ok-program.ensures in
+    subst (Meets with_searches HasSearches) (sym met) (meets_searches words (ap (λ (a : App). fault_of a words) (sym c.in_ok-program.ensures) ∙ none))
+
+pub request_in-requires-clause-seed : goal.request_in-requires-clause-seed
+request_in-requires-clause-seed g c =
+    let words = map g.S.AsStr.text c.args.words.now in
+    let none = c.in-Ok.ensures.kinds (ap is_simple_and_free c.in_ok-program.ensures ∙ free) in
+    let met = (c.in-Ok.ensures.matches (ap is_simple c.in_ok-program.ensures ∙ simple)).1 ∙ ap (λ (a : App). subcommand_of a words) c.in_ok-program.ensures in
+    subst (Meets with_searches HasSeed) (sym met) (meets_seed words (ap (λ (a : App). fault_of a words) (sym c.in_ok-program.ensures) ∙ none))
 
 pub request_in-requires-clause-from : goal.request_in-requires-clause-from
 request_in-requires-clause-from g c =

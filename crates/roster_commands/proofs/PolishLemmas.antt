@@ -1,0 +1,82 @@
+-- How `polish` ends: whatever roster a run reached, it is one that a run reaches.
+use Rattle.std.proofs.Common.{◌≡◌, ◌≤◌, [], ℕ, Bool, Err, Ok, Result, Some, arith, refl}
+use Rattle.std.specs.Prelude.{IfErr, OnOk}
+use Rattle.roster_text.specs.Io.{Writes}
+use Rattle.roster_bundle.specs.declared.bundle.Bundle.{Bundle}
+use Rattle.roster_rules.specs.HardRules.{hard_faults}
+use Rattle.roster_instance.specs.Meaning.{Meaning}
+use Rattle.roster_instance.specs.Rosters.{Rows}
+use Rattle.roster_case.specs.Shown.{weeks_text}
+use Rattle.roster_polish.specs.Polished.{IsPolishing}
+use Rattle.roster_commands.specs.Answer.{IsPolishReport, IsUnheld, Kicks, Output, Reports, StopsKicks, StopsOutput, Untouched, outcome_of, polish_report}
+use Rattle.roster_commands.specs.Lines.{Text}
+use Rattle.roster_commands.specs.declared.fault.Fault.{Fault}
+use Rattle.roster_commands.specs.declared.fault.Fault.TheVariants as fault
+use Rattle.roster_commands.proofs.AnswerLemmas.{no_kick, no_kicks, unheld_ends, unheld_log}
+
+-- a run within fewer kicks is one within more
+more_kicks : {c : Meaning} {from few many : ℕ} {given last : Rows} {settled : Bool} {told : Text} → few ≤ many → IsPolishing c from given few settled last told → IsPolishing c from given many settled last told
+more_kicks fewer run = record {
+  first = run.first;
+  lines = run.lines;
+  no_dearer = run.no_dearer;
+  is_log = record { reached = run.is_log.reached; falls = run.is_log.falls; within = omega (arith, fewer, run.is_log.within) };
+  reached = run.reached;
+  as_told = run.as_told;
+  is_settled = run.is_settled;
+  text_is = run.text_is;
+}
+
+module _ (searches from : ℕ) (c : Meaning) (r : Rows) where
+  of_run : (few : ℕ) → few ≤ searches → (settled : Bool) (last : Rows) (told : Text) → IsPolishing c from r few settled last told → IsPolishReport searches from c r (polish_report last told c r)
+  of_run few fewer settled last told run = record { settled = settled; last = last; told = told; run = λ accepted. more_kicks fewer run; is = refl }
+
+  module _ {W L : Type 0} (output : Output W) (log : Output L) (source : Text) (b : Bundle) where
+    -- no run was made, since the roster is not held
+    pub polish_unheld : (f : Fault) → IsUnheld source b (hard_faults c r) f → Untouched output → Untouched log → Reports output log (IsPolishReport searches from c r) source b (Some f)
+    polish_unheld f h o l = record {
+      report = polish_report r (no_kicks c r) c r;
+      is = no_kick searches from c r;
+      ends = unheld_ends output (polish_report r (no_kicks c r) c r) source b f refl h o;
+      logged = unheld_log log (Some (no_kicks c r)) source b (hard_faults c r) f h l;
+    }
+
+    -- the log failed inside the run
+    pub polish_stops : (few : ℕ) → few ≤ searches → (f : Fault) → hard_faults c r ≡ [] → StopsKicks log.contents c from r few log.before log.after f → Untouched output
+        → Reports output log (IsPolishReport searches from c r) source b (Some f)
+    polish_stops few fewer (fault.Text f) kept h o = absurd h
+    polish_stops few fewer (fault.Case f nurse) kept h o = absurd h
+    polish_stops few fewer (fault.Hard f names) kept h o = absurd h
+    polish_stops few fewer (fault.Nurse name) kept h o = absurd h
+    polish_stops few fewer fault.Memory kept h o = absurd h
+    polish_stops few fewer fault.Output kept h o = absurd h
+    polish_stops few fewer fault.Log kept h o = record {
+      report = polish_report h.last h.told c r;
+      is = of_run few fewer h.settled h.last h.told h.run;
+      ends = record { ends = (record { kept = kept; known = refl }, refl); left = o };
+      logged = h.stops;
+    }
+
+    -- the run was made, and its roster written or not
+    pub polish_ends : {X : Type 0} (few : ℕ) → few ≤ searches → (last : Rows) (result : Result X Fault) → hard_faults c r ≡ [] → Kicks log.contents c from r few last log.before log.after
+        → OnOk result (Writes output.contents output.before output.after (weeks_text c last))
+        → IfErr result (StopsOutput output.contents output.before output.after (weeks_text c last))
+        → Reports output log (IsPolishReport searches from c r) source b (outcome_of result)
+    polish_ends few fewer last (Ok x) kept h ok err = record {
+      report = polish_report last h.told c r;
+      is = of_run few fewer h.settled last h.told h.run;
+      ends = record { ends = record { kept = kept; known = refl }; left = ok };
+      logged = h.writes;
+    }
+    polish_ends few fewer last (Err (fault.Text f)) kept h ok err = absurd err
+    polish_ends few fewer last (Err (fault.Case f nurse)) kept h ok err = absurd err
+    polish_ends few fewer last (Err (fault.Hard f names)) kept h ok err = absurd err
+    polish_ends few fewer last (Err (fault.Nurse name)) kept h ok err = absurd err
+    polish_ends few fewer last (Err fault.Memory) kept h ok err = absurd err
+    polish_ends few fewer last (Err fault.Log) kept h ok err = absurd err
+    polish_ends few fewer last (Err fault.Output) kept h ok err = record {
+      report = polish_report last h.told c r;
+      is = of_run few fewer h.settled last h.told h.run;
+      ends = record { ends = record { kept = kept; known = refl }; left = err };
+      logged = h.writes;
+    }

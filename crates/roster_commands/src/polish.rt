@@ -1,0 +1,75 @@
+//! The command `polish`: a roster that is settled again and again, after kicks.
+
+ghost use Rattle.std.specs.Prelude.{◌≡◌, ◌+◌, ◌≤◌, min, true, IfErr, OnOk};
+ghost use Rattle.roster_bundle.specs.Limits.{greatest_u64};
+ghost use Rattle.roster_instance.specs.Rosters.{fits_case};
+ghost use Rattle.roster_polish.specs.Polished.{FitsPolish, first_searches, most_searches};
+ghost use Rattle.roster_polish.specs.Settled.{extensions_of};
+ghost use Rattle.roster_commands.specs.Answer.{IsPolishReport, Kicks, Reports, StopsKicks, outcome_of};
+
+use crate::fault::Fault;
+use crate::held::hold;
+use crate::reading::Instance;
+use roster_case::Held;
+use roster_polish::{Course, MOST_SEARCHES, PolishSpace, most_extensions};
+use roster_reports::write_weeks;
+use roster_rounds::LogFault;
+use roster_state::Meter;
+use roster_text::Watch;
+use std::alloc::Global;
+use std::io::Write;
+
+/// Writes the weeks of an instance after a run of kicks. The run's log goes to the log first, line by line as it is made.
+pub(crate) fn polish<'a, Out: Write, Log: Write>(
+    alloc: Global,
+    course: &Course,
+    source: &'a [u8],
+    mut instance: Instance,
+    output: &mut Watch<Out>,
+    log: &mut Watch<Log>,
+) -> Result<(), Fault<'a>>
+    requires { fits_case instance.case instance.roster ≡ true }
+    ensures { Reports (record { contents = Out.contents; before = output.old; after = output.new }) (record { contents = Log.contents; before = log.old; after = log.new }) (IsPolishReport course.now.searches course.now.from instance.case instance.roster) source.now instance.bundle (outcome_of result) }
+{
+    let mut meter = Meter::new(&mut instance.case);
+    let mut held = hold(alloc, source, instance)?;
+    let Ok(mut space) = PolishSpace::for_held(alloc, &held) else {
+        return Err(Fault::Memory);
+    };
+    let course = within_room(course);
+    // A new meter has room for so many.
+    let _ = most_extensions(held.case(), course.searches);
+    make_kicks(&mut held, &course, &mut space, &mut meter, log)?;
+    Ok(write_weeks(output, held.case(), held.roster())?)
+}
+
+/// A course with as many searches as a new meter surely has room for, where more are asked. The command line allows no more.
+fn within_room(course: &Course) -> Course
+    ensures { result ≡ record course.now { searches = min course.now.searches most_searches } }
+{
+    Course {
+        searches: course.searches.min(MOST_SEARCHES),
+        ..*course
+    }
+}
+
+/// Makes the run. Where its log fails, that is the fault.
+fn make_kicks<'a, Log: Write>(
+    held: &mut Held,
+    course: &Course,
+    space: &mut PolishSpace,
+    meter: &mut Meter,
+    log: &mut Watch<Log>,
+) -> Result<(), Fault<'a>>
+    requires fits { FitsPolish held.old.case space.old }
+    requires none { meter.old ≡ 0 }
+    requires room { extensions_of held.old.case (course.now.searches + first_searches held.old.case) ≤ greatest_u64 }
+    ensures case { held.new.case ≡ held.old.case }
+    ensures ok { OnOk result (Kicks Log.contents held.old.case course.now.from held.old.roster course.now.searches held.new.roster log.old log.new) }
+    ensures err { IfErr result (StopsKicks Log.contents held.old.case course.now.from held.old.roster course.now.searches log.old log.new) }
+{
+    match roster_polish::polish(held, course, space, meter, log) {
+        Ok(_) => Ok(()),
+        Err(LogFault::LogFailed { .. }) => Err(Fault::Log),
+    }
+}
