@@ -1,10 +1,11 @@
 //! What a roster costs.
 
-ghost use Rattle.std.specs.Prelude.{◌≡◌, ◌<◌, ◌≤◌, true, length};
+ghost use Rattle.std.specs.Prelude.{◌≡◌, ◌+◌, ◌<◌, ◌≤◌, true, length};
 ghost use Rattle.roster_instance.specs.Choices.{days_of};
 ghost use Rattle.roster_instance.specs.Meaning.{day_count, nurse_count};
 ghost use Rattle.roster_rules.specs.Penalties.{costs_of, nurse_cost, total_cost};
 ghost use Rattle.roster_rules.specs.Room.{most_staffing, penalty_room};
+ghost use Rattle.roster_costs.specs.Sums.{AreWithin, with_nurse};
 ghost use Rattle.roster_instance.specs.Rosters.{fits_case};
 
 use crate::requests::{off_request_cost, wish_cost};
@@ -50,25 +51,36 @@ pub fn nurse_cost(case: &Case, nurse: usize, row: &[Choice]) -> u32
     cost as u32
 }
 
-#[tactic(auto, using(roster_rules::proofs::CountLemmas::sum_more), unfolding(roster_rules::specs::Penalties::costs_of))]
+#[tactic(auto, unfolding(roster_rules::specs::Penalties::costs_of))]
 fn by_rule(case: &Case, roster: &Roster) -> Costs
     requires { fits_case case.now roster.now ≡ true }
     ensures { result ≡ costs_of case.now roster.now }
 {
-    let weeks = case.weeks();
     let mut costs = Costs {
         s1: staffing_cost(case, roster),
         ..Costs::default()
     };
     for nurse in 0..case.nurses() {
-        let row = roster.row(nurse);
-        costs.s2 += working_run_cost(case, nurse, row) + shift_run_cost(case, nurse, row);
-        costs.s3 += free_run_cost(case, nurse, row);
-        costs.s4 += off_request_cost(case, nurse, row);
-        costs.s5 += split_cost(case, nurse, row, weeks);
-        costs.s6 += totals_cost(case, nurse, row);
-        costs.s7 += weekends_cost(case, nurse, row, weeks);
-        costs.s8 += wish_cost(case, nurse, row);
+        add_nurse(&mut costs, case, nurse, roster.row(nurse));
     }
     costs
+}
+
+/// Adds what a nurse's row costs by each rule but staffing.
+fn add_nurse(costs: &mut Costs, case: &Case, nurse: usize, row: &[Choice])
+    requires nurse { nurse < nurse_count case.now }
+    requires days { length row.now ≡ day_count case.now }
+    requires within { AreWithin costs.old nurse }
+    ensures costs { costs.new ≡ with_nurse case.now nurse (days_of row.now) costs.old }
+    ensures within { AreWithin costs.new (nurse + 1) }
+{
+    case.keeps_limits();
+    let weeks = case.weeks();
+    costs.s2 += working_run_cost(case, nurse, row) + shift_run_cost(case, nurse, row);
+    costs.s3 += free_run_cost(case, nurse, row);
+    costs.s4 += off_request_cost(case, nurse, row);
+    costs.s5 += split_cost(case, nurse, row, weeks);
+    costs.s6 += totals_cost(case, nurse, row);
+    costs.s7 += weekends_cost(case, nurse, row, weeks);
+    costs.s8 += wish_cost(case, nurse, row);
 }
