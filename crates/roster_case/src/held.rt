@@ -15,7 +15,9 @@ use crate::counts::Counts;
 use roster_costs::first_hard;
 use roster_rules::{Case, Choice, HardFault, Roster, Shift, Skill, choice_on, row_fits};
 use std::alloc::Global;
+use std::fmt::{self, Debug, Formatter};
 use std::marker::Model;
+use thiserror::Error;
 
 /// A case and a roster that keeps the hard rules, with its counts: how many nurses each day, shift and skill has, and what
 /// each nurse and the staffing cost. A replaced row changes the counts by that row alone, so nothing is counted anew.
@@ -47,12 +49,24 @@ impl Model for Held {
 }
 
 /// Why a roster isn't held. The case and the roster are handed back.
-#[derive(Drop)]
+#[derive(Drop, Error)]
 pub enum HeldFault {
     /// The first breach of the hard rules.
+    #[error("{0}")]
     Hard(HardFault, Case, Roster),
     /// A growth was refused.
+    #[error("no memory")]
     Memory(Case, Roster),
+}
+
+// By hand, so that the reason is shown without the case and the roster.
+impl Debug for HeldFault {
+    fn fmt<W: fmt::Write>(&self, f: &mut Formatter<W>) -> fmt::Result {
+        match self {
+            HeldFault::Hard(fault, ..) => write!(f, "Hard({fault:?}, ..)"),
+            HeldFault::Memory(..) => f.write_str("Memory(..)"),
+        }
+    }
 }
 
 impl Held {
