@@ -3,7 +3,7 @@
 //! A pointer takes half a byte. Of so many pointers the first half stands in the low halves of the bytes, the second in the high
 //! ones: a stretch of pointers is a stretch of bytes, or two, and is set by whole vectors.
 
-ghost use Rattle.std.specs.Prelude.{◌≡◌, ◌+◌, ◌<◌, ◌≤◌, ℕ, IfOk, length, map, slice_index_or, slice_set};
+ghost use Rattle.std.specs.Prelude.{◌≡◌, ◌+◌, ◌<◌, ◌≤◌, ℕ, IfOk, length, map, slice_index_or};
 ghost use Rattle.roster_search.specs.Halves.{IsWritten, halves, high, low};
 ghost use Rattle.roster_lanes.specs.Lanes.{SameOutside};
 
@@ -68,15 +68,6 @@ impl Pointers {
         } else {
             self.bytes[place - half] / 16
         }
-    }
-
-    /// Sets the pointer at a place, below 16; the others stay.
-    pub fn set(&mut self, place: usize, pointer: u8)
-        requires place { place < length self.old }
-        requires pointer { pointer < 16 }
-        ensures { self.new ≡ slice_set self.old place pointer }
-    {
-        self.set_run(place, &[pointer]);
     }
 
     /// Sets the pointers of consecutive places, each below 16; the others stay.
