@@ -18,7 +18,7 @@ use arrayvec::ArrayVec;
 use roster_case::{Case, Choice, Held, Shift, Skill};
 use roster_rules::weights::{OFF_REQUEST, STAFFING, WISH};
 use roster_rules::{is_able, meets_wishes};
-use roster_search::Offer;
+use roster_search::{MOST_CHOICES, Offer};
 
 /// How many nurses a day lacks to its minimums and to its optimums, over all shifts and skills.
 #[derive(Clone, Copy)]
@@ -31,12 +31,12 @@ struct Lacking {
 /// of the nurse's skills; each only where no minimum of the day is missed with it. The price is that of the day's staffing with
 /// this choice, of an off request against it, and of a wish to work that it doesn't meet. The days of the weeks before week `from`
 /// are frozen: on these the nurse may do only what the roster says. Every `from` is allowed.
-pub fn choices(held: &Held, nurse: usize, day: u16, from: u16) -> ArrayVec<Offer, 65>
+pub fn choices(held: &Held, nurse: usize, day: u16, from: u16) -> ArrayVec<Offer, MOST_CHOICES>
     requires nurse { nurse < nurse_count held.now.case }
     requires day { day < day_count held.now.case }
     ensures offers { result.items ≡ offers_of held.now.case from held.now.roster nurse day }
     ensures frozen { is_frozen from day ≡ true → result.items ≡ offer_of held.now.case held.now.roster nurse day (choice_on (row_of held.now.roster nurse) day) ∷ [] }
-    ensures few { length result.items ≤ 65 }
+    ensures few { length result.items ≤ 1 + most_shifts * most_skills }
 {
     // The roster keeps the hard rules: so the present choice is one of those that are open.
     held.keeps_rules();
@@ -47,7 +47,7 @@ pub fn choices(held: &Held, nurse: usize, day: u16, from: u16) -> ArrayVec<Offer
 }
 
 /// What the roster says that the nurse does on the day.
-fn present_choice(held: &Held, nurse: usize, day: u16) -> ArrayVec<Offer, 65>
+fn present_choice(held: &Held, nurse: usize, day: u16) -> ArrayVec<Offer, MOST_CHOICES>
     requires nurse { nurse < nurse_count held.now.case }
     requires day { day < day_count held.now.case }
     ensures offer { result.items ≡ offer_of held.now.case held.now.roster nurse day (choice_on (row_of held.now.roster nurse) day) ∷ [] }
@@ -63,11 +63,11 @@ fn present_choice(held: &Held, nurse: usize, day: u16) -> ArrayVec<Offer, 65>
 
 /// All that the nurse may do on the day where it isn't frozen. The others are counted once for the day, not anew for each choice.
 #[tactic(auto, using(crate::proofs::OfferLemmas::offers_begin, crate::proofs::OfferLemmas::offers_skill, crate::proofs::OfferLemmas::offers_shift, crate::proofs::OfferLemmas::lacking_unchanged))]
-fn open_choices(held: &Held, nurse: usize, day: u16) -> ArrayVec<Offer, 65>
+fn open_choices(held: &Held, nurse: usize, day: u16) -> ArrayVec<Offer, MOST_CHOICES>
     requires nurse { nurse < nurse_count held.now.case }
     requires day { day < day_count held.now.case }
     ensures offers { result.items ≡ open_offers held.now.case held.now.roster nurse day }
-    ensures few { length result.items ≤ 65 }
+    ensures few { length result.items ≤ 1 + most_shifts * most_skills }
 {
     let case = held.case();
     let shifts = case.shifts();
@@ -85,8 +85,8 @@ fn open_choices(held: &Held, nurse: usize, day: u16) -> ArrayVec<Offer, 65>
     offers
 }
 
-fn push_some(offers: &mut ArrayVec<Offer, 65>, offer: Option<Offer>)
-    requires { length offers.old.items < 65 }
+fn push_some(offers: &mut ArrayVec<Offer, MOST_CHOICES>, offer: Option<Offer>)
+    requires { length offers.old.items < 1 + most_shifts * most_skills }
     ensures items { offers.new.items ≡ offers.old.items ++ option_to_list offer }
     ensures few { length offers.new.items ≤ length offers.old.items + 1 }
 {

@@ -1,8 +1,9 @@
 //! What a nurse may do on a day by worths.
 
-ghost use Rattle.std.specs.Prelude.{◌≡◌, ◌+◌, ◌<◌, ◌≤◌, ◌++◌, if◌then◌else◌, length, true, Some, None};
+ghost use Rattle.std.specs.Prelude.{◌≡◌, ◌+◌, ◌*◌, ◌<◌, ◌≤◌, ◌++◌, if◌then◌else◌, length, true, Some, None};
 ghost use Rattle.std.specs.Option.{option_to_list};
 ghost use Rattle.roster_instance.specs.Choices.{shift_of};
+ghost use Rattle.roster_instance.specs.Limits.{most_shifts, most_skills};
 ghost use Rattle.roster_instance.specs.Meaning.{day_count, nurse_count};
 ghost use Rattle.roster_instance.specs.Rosters.{is_choice_of};
 ghost use Rattle.roster_rules.specs.AllowedRows.{keeps_frozen_day};
@@ -17,7 +18,7 @@ use crate::worths::{MOST_WORTH, Worths};
 use arrayvec::ArrayVec;
 use roster_best::request_cost;
 use roster_rules::{Case, Choice, Roster, Shift, Skill, choice_on, is_able};
-use roster_search::Offer;
+use roster_search::{MOST_CHOICES, Offer};
 
 /// What floors are reckoned by: a case, what its places pay, and a roster of which the days before week `from` stay.
 #[derive(Clone, Copy)]
@@ -29,7 +30,7 @@ pub struct Terms<'a> {
 }
 
 /// All that a nurse can do on a day, each choice at what the nurse earns less than the most and what the requests cost.
-pub fn choices(terms: &Terms<'_>, nurse: usize, day: u16) -> ArrayVec<Offer, 65>
+pub fn choices(terms: &Terms<'_>, nurse: usize, day: u16) -> ArrayVec<Offer, MOST_CHOICES>
     requires nurse { nurse < nurse_count terms.now.case.now }
     requires day { day < day_count terms.now.case.now }
     requires worths { terms.now.worths.now.days ≡ day_count terms.now.case.now }
@@ -51,8 +52,8 @@ pub fn choices(terms: &Terms<'_>, nurse: usize, day: u16) -> ArrayVec<Offer, 65>
     offers
 }
 
-fn push_some(offers: &mut ArrayVec<Offer, 65>, offer: Option<Offer>)
-    requires { length offers.old.items < 65 }
+fn push_some(offers: &mut ArrayVec<Offer, MOST_CHOICES>, offer: Option<Offer>)
+    requires { length offers.old.items < 1 + most_shifts * most_skills }
     ensures items { offers.new.items ≡ offers.old.items ++ option_to_list offer }
     ensures few { length offers.new.items ≤ length offers.old.items + 1 }
 {

@@ -28,7 +28,7 @@ pub use laws::{
     best_row_is_found_by_states, cheapest_offered_row_is_found, cheapest_row_is_found_by_states,
     cost_rises_with_prices, offers_are_few, one_offer_for_each_shift_is_enough,
 };
-pub use offer::Offer;
+pub use offer::{MOST_CHOICES, Offer};
 pub use pointers::Pointers;
 pub use read::read_day;
 pub use search::{MOST_DAYS, RowSearch, search_row};
