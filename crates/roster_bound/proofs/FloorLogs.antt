@@ -8,7 +8,7 @@ use Rattle.roster_text.proofs.Texts.{Sends-append, StopsAt-after}
 use Rattle.roster_instance.specs.Meaning.{Meaning}
 use Rattle.roster_instance.specs.Rosters.{Rows}
 use Rattle.roster_rules.specs.Penalties.{penalty}
-use Rattle.roster_rounds.specs.RunLogs.{line}
+use Rattle.roster_rules.specs.Improver.{line}
 use Rattle.roster_rounds.specs.declared.outcome.LogFault.TheVariants.{LogFailed}
 use Rattle.roster_bound.specs.Floors.{FloorLine, FloorLogStops, IsFloorLog, RaisesFloor, Rises, floor_line, floor_text, last_line, no_line}
 use Rattle.roster_bound.specs.Worths.{IsLowerBound}

@@ -4,7 +4,7 @@ use Rattle.roster_text.specs.Io.{StopsAt, Watched, Writes, saturated}
 use Rattle.roster_instance.specs.Meaning.{Meaning}
 use Rattle.roster_instance.specs.Rosters.{Rows}
 use Rattle.roster_rules.specs.Penalties.{penalty}
-use Rattle.roster_rounds.specs.RunLogs.{line}
+use Rattle.roster_rules.specs.Improver.{line}
 use Rattle.roster_rounds.specs.declared.outcome.LogFault.{LogFault}
 use Rattle.roster_rounds.specs.declared.outcome.LogFault.TheVariants.{LogFailed}
 use Rattle.roster_bound.specs.Worths.{IsLowerBound}

@@ -6,8 +6,9 @@ use Rattle.roster_text.specs.declared.fault.TextFault.TheVariants as text
 use Rattle.roster_instance.specs.Faults.{first_fault}
 use Rattle.roster_instance.specs.declared.fault.CaseFault.{CaseFault}
 use Rattle.roster_instance.specs.declared.fault.CaseFault.TheVariants as case
+use Rattle.roster_rules.specs.Improver.{line}
 use Rattle.roster_rules.specs.declared.fault.HardFault.{HardFault}
-pub use Rattle.roster_reports.specs.Lines.{AreNamesOf, Text, bound_text, case_line, hard_line, memory_line, nurse_of, report_line, sizes_line, text_line}
+pub use Rattle.roster_reports.specs.Lines.{AreNamesOf, Text, bound_text, case_line, hard_line, memory_line, nurse_of, sizes_line, text_line}
 unfoldable pub use Rattle.roster_reports.specs.Lines.{costs_text, sizes_text}
 use Rattle.roster_commands.specs.declared.fault.Fault.{Fault}
 use Rattle.roster_commands.specs.declared.fault.Fault.TheVariants as fault
@@ -35,7 +36,7 @@ fault_line fault.Log = []
 
 -- the log of a search for a nurse's best row: what the roster costs before, and what it costs with that row
 abbrev pub best_log : ℕ → Text → ℕ → Text
-best_log before name after = report_line (codes "start") before ++ report_line (codes "best " ++ name) after
+best_log before name after = line (codes "start") before ++ line (codes "best " ++ name) after
 
 -- ---- statuses: 4 is want of memory, 3 a reader or a writer, 1 the input
 

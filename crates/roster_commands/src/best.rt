@@ -5,10 +5,11 @@ ghost use Rattle.roster_bundle.specs.Limits.{greatest_u64};
 ghost use Rattle.roster_text.specs.Io.{Writes};
 ghost use Rattle.roster_text.specs.Pieces.{pieces_text};
 ghost use Rattle.roster_instance.specs.Meaning.{nurse_count};
+ghost use Rattle.roster_rules.specs.Improver.{line};
 ghost use Rattle.roster_rules.specs.Penalties.{penalty};
 ghost use Rattle.roster_instance.specs.Rosters.{fits_case};
 ghost use Rattle.roster_commands.specs.Answer.{Ends, LeavesLog, StopsSearch, best_report, outcome_of, with_best};
-ghost use Rattle.roster_commands.specs.Lines.{best_log, report_line};
+ghost use Rattle.roster_commands.specs.Lines.{best_log};
 ghost use Rattle.roster_laws.specs.Greatest.{extension_count};
 ghost use Rattle.roster_best.specs.Workspaces.{fits_space};
 
@@ -88,8 +89,8 @@ fn put_best_row<'a, Log: Write>(
 
 /// Writes what the roster costs before the search.
 fn write_start<'a, Log: Write>(total: u64, log: &mut Watch<Log>) -> Result<(), Fault<'a>>
-    ensures ok { OnOk result (Writes Log.contents log.old log.new (report_line (codes "start") total)) }
-    ensures err { IfErr result (StopsSearch Log.contents log.old log.new (report_line (codes "start") total)) }
+    ensures ok { OnOk result (Writes Log.contents log.old log.new (line (codes "start") total)) }
+    ensures err { IfErr result (StopsSearch Log.contents log.old log.new (line (codes "start") total)) }
 {
     log_line(
         &[
@@ -107,8 +108,8 @@ fn write_best<'a, Log: Write>(
     total: u64,
     log: &mut Watch<Log>,
 ) -> Result<(), Fault<'a>>
-    ensures ok { OnOk result (Writes Log.contents log.old log.new (report_line (codes "best " ++ name.now) total)) }
-    ensures err { IfErr result (StopsSearch Log.contents log.old log.new (report_line (codes "best " ++ name.now) total)) }
+    ensures ok { OnOk result (Writes Log.contents log.old log.new (line (codes "best " ++ name.now) total)) }
+    ensures err { IfErr result (StopsSearch Log.contents log.old log.new (line (codes "best " ++ name.now) total)) }
 {
     log_line(
         &[

@@ -10,6 +10,7 @@ use Rattle.roster_text.specs.declared.fault.TextFault.{TextFault}
 use Rattle.roster_text.specs.declared.fault.TextFault.TheVariants as text
 use Rattle.roster_instance.specs.Meaning.{Meaning, day_count, nurse_count, nurse_name}
 use Rattle.roster_instance.specs.Names.{nurse_names, shift_names, skill_names}
+use Rattle.roster_rules.specs.Improver.{line}
 use Rattle.roster_rules.specs.Penalties.{total_cost}
 use Rattle.roster_instance.specs.Sizes.{choice_count, state_count}
 use Rattle.roster_instance.specs.declared.fault.CaseFault.{CaseFault}
@@ -81,20 +82,16 @@ hard_line (H4 number day) names = nurse_day_line (codes "H4") (day / 7) (weekday
 
 -- ---- reports
 
--- a word and a number
-abbrev pub report_line : Text → ℕ → Text
-report_line word n = word ++ codes " " ++ decimal n ++ codes "\n"
-
 -- the report of what a roster costs: each soft rule, and the total
 unfoldable pub costs_text : Costs → Text
 costs_text k =
-    report_line (codes "S1") k.s1 ++ report_line (codes "S2") k.s2 ++ report_line (codes "S3") k.s3 ++ report_line (codes "S4") k.s4
-    ++ report_line (codes "S5") k.s5 ++ report_line (codes "S6") k.s6 ++ report_line (codes "S7") k.s7 ++ report_line (codes "S8") k.s8
-    ++ report_line (codes "total") (total_cost k)
+    line (codes "S1") k.s1 ++ line (codes "S2") k.s2 ++ line (codes "S3") k.s3 ++ line (codes "S4") k.s4
+    ++ line (codes "S5") k.s5 ++ line (codes "S6") k.s6 ++ line (codes "S7") k.s7 ++ line (codes "S8") k.s8
+    ++ line (codes "total") (total_cost k)
 
 -- the report of a bound: what the roster costs, and what no roster costs less than
 abbrev pub bound_text : ℕ → ℕ → Text
-bound_text total bound = report_line (codes "roster") total ++ report_line (codes "bound") bound
+bound_text total bound = line (codes "roster") total ++ line (codes "bound") bound
 
 -- a name and the sizes of a search of so many states, days and choices a day: its states, labels in two tables, pointers, and
 -- steps at most

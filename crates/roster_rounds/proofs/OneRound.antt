@@ -4,12 +4,12 @@ use Rattle.std.specs.List.{fold, range_with_len}
 use Rattle.std.proofs.lemmas.Bool.{not-true, not-false}
 use Rattle.roster_text.specs.declared.fault.WriteFault.{WriteFault}
 use Rattle.roster_text.specs.Io.{Watched, Sends, BreaksIn}
-use Rattle.roster_rules.specs.Improver.{BestRows, round_log, entry, started, changed, round_done, settled, stopped, step, round, changes, line_of, same_rows}
+use Rattle.roster_rules.specs.Improver.{BestRows, round_log, entry, started, changed, round_done, settled, stopped, step, round, changes, line, line_of, same_rows}
 use Rattle.roster_instance.specs.Limits.{most_nurses}
 use Rattle.roster_instance.specs.Meaning.{Meaning, nurse_count, nurse_name}
 use Rattle.roster_rules.specs.Penalties.{penalty}
 use Rattle.roster_instance.specs.Rosters.{Rows}
-use Rattle.roster_rounds.specs.RunLogs.{BreaksAmong, RoundMade, line, text_of}
+use Rattle.roster_rounds.specs.RunLogs.{BreaksAmong, RoundMade, text_of}
 use Rattle.roster_rounds.proofs.Sent.{BreaksAmong-after, BreaksAmong-front, BreaksAmong-one, Sends-entries, Sends-one}
 use Rattle.roster_rounds.proofs.RoundSteps.{fold_more, changes_more_changed, changes_more_same, round_log-front}
 

@@ -1,5 +1,5 @@
 -- The text of a run's log, and a run whose log a writer took, or on which it stopped (our own).
-use Rattle.std.specs.Prelude.{◌≡◌, ℕ, ◌+◌, ◌*◌, ◌<◌, ◌≤◌, List, [], ◌∷◌, ◌++◌, length, codes, decimal, flat_map, Option}
+use Rattle.std.specs.Prelude.{◌≡◌, ℕ, ◌+◌, ◌*◌, ◌<◌, ◌≤◌, List, [], ◌∷◌, ◌++◌, length, flat_map, Option}
 use Rattle.std.specs.List.{range_with_len}
 use Rattle.roster_text.specs.Io.{Sends, StopsAt, Watched, Writes, saturated}
 use Rattle.roster_text.specs.declared.fault.WriteFault.{WriteFault}
@@ -8,6 +8,7 @@ use Rattle.roster_instance.specs.Limits.{most_nurses}
 use Rattle.roster_instance.specs.Meaning.{Meaning, nurse_count}
 use Rattle.roster_instance.specs.Rosters.{Rows}
 use Rattle.roster_rules.specs.Improver.{BestRows, Entry, changes, line_of, log_of, round, round_log, run}
+pub use Rattle.roster_rules.specs.Improver.{line}
 use Rattle.roster_laws.specs.Greatest.{greatest_extension_count}
 use Rattle.roster_laws.specs.Logs as laws
 use Rattle.roster_rounds.specs.declared.outcome.LogFault.{LogFault}
@@ -17,10 +18,6 @@ use Rattle.roster_rounds.specs.declared.outcome.Outcome.{Outcome}
 -- how often a run extends a label, at most
 abbrev pub extensions_in : Meaning → ℕ → ℕ
 extensions_in c rounds = rounds * (nurse_count c * greatest_extension_count c)
-
--- a line: what happened, and a penalty
-abbrev pub line : List ℕ → ℕ → List ℕ
-line event total = event ++ codes " " ++ decimal total ++ codes "\n"
 
 -- the text of some entries
 abbrev pub text_of : Meaning → List Entry → List ℕ

@@ -106,6 +106,10 @@ event_text c (round_done k) = codes "round " ++ decimal k
 event_text c settled = codes "settled"
 event_text c stopped = codes "stopped"
 
--- a line: the event, and the penalty of the roster at that point
+-- a line of a log or of a report: a text, and a number
+abbrev pub line : List ℕ → ℕ → List ℕ
+line text n = text ++ codes " " ++ decimal n ++ codes "\n"
+
+-- the line of an entry: the event, and the penalty of the roster at that point
 abbrev pub line_of : Meaning → Entry → List ℕ
-line_of c e = event_text c e.event ++ codes " " ++ decimal (penalty c e.roster) ++ codes "\n"
+line_of c e = line (event_text c e.event) (penalty c e.roster)

@@ -3,14 +3,13 @@ use Rattle.std.proofs.lemmas.Result.{err_from_is_err_and}
 use Rattle.roster_text.specs.Io.{BreaksIn, Sends}
 use Rattle.roster_instance.specs.Meaning.{Meaning, nurse_count, nurse_name}
 use Rattle.roster_rules.specs.AllowedRows.{best_row}
-use Rattle.roster_rules.specs.Improver.{changed, entry, line_of, step}
+use Rattle.roster_rules.specs.Improver.{changed, entry, line, line_of, step}
 use Rattle.roster_rules.specs.Penalties.{penalty}
 use Rattle.roster_laws.specs.Greatest.{greatest_extension_count}
 use Rattle.roster_laws.specs.FrozenDays.{FrozenDaysStay}
 use Rattle.roster_laws.proofs.Frozen.{stays_on}
 use Rattle.roster_best.specs.Known.{IsKnown}
 use Rattle.roster_best.specs.Workspaces.{fits_space}
-use Rattle.roster_rounds.specs.RunLogs.{line}
 use Rattle.roster_rounds.proofs.Counts.{same_room, step_counted, step_room, step_within}
 use Rattle.roster_rounds.proofs.OneRound.{SoFar-breaks, SoFar-changed, SoFar-done, SoFar-done_breaks, SoFar-same, change_line, is_changed, round_line, unchanged}
 use Rattle.roster_rounds.proofs.rounds.make_round.Goals as goal
