@@ -49,6 +49,14 @@ pub record Output (W : Type 0) : Type 0 where
   pub before : Watched W
   pub after : Watched W
 
+-- the input of a reader that was so before, and is so after
+abbrev pub input_of : {R : Type 0} → (R → Option Text) → Watched R → Watched R → Input R
+input_of remaining before after = record { remaining = remaining; before = before; after = after }
+
+-- the output, or the log, of such a writer
+abbrev pub output_of : {W : Type 0} → (W → Option Text) → Watched W → Watched W → Output W
+output_of contents before after = record { contents = contents; before = before; after = after }
+
 -- these are all bytes of the reader, and no read failed
 pub record ReadsAll {R : Type 0} (input : Input R) (bytes : Text) : Type 0 where
   pub all : IfSome (input.remaining input.before.inner) (λ given. bytes ≡ given)

@@ -2,7 +2,7 @@
 
 ghost use Rattle.std.specs.Prelude.{◌≡◌, ◌≢◌, ◌⊎◌, ℕ, None, Contains, [], ◌∷◌, codes};
 ghost use Rattle.roster_text.specs.Io.{one_more};
-ghost use Rattle.roster_commands.specs.Answer.{Answers, IsLogFailed, IsSilent, Logs, ReadsAndAnswers, StopsRun, TellsOutput, outcome_of};
+ghost use Rattle.roster_commands.specs.Answer.{Answers, IsLogFailed, IsSilent, Logs, ReadsAndAnswers, StopsRun, TellsOutput, input_of, outcome_of, output_of};
 
 use crate::commands::report;
 use crate::fault::Fault;
@@ -25,24 +25,24 @@ pub fn run<R: Read, Out: Write, Log: Write>(
     ensures status { Contains (0 ∷ 1 ∷ 3 ∷ 4 ∷ []) result }
 
     // What is answered, where nothing is refused.
-    ensures done { result ≡ 0 → ReadsAndAnswers (record { remaining = R.remaining; before = input.old; after = input.new })
-        (record { contents = Out.contents; before = output.old; after = output.new })
-        (record { contents = Log.contents; before = log.old; after = log.new }) request.now.command None }
+    ensures done { result ≡ 0 → ReadsAndAnswers (input_of R.remaining input.old input.new)
+        (output_of Out.contents output.old output.new)
+        (output_of Log.contents log.old log.new) request.now.command None }
     ensures silent { result ≡ 0 → IsSilent request.now.command → log.new ≡ log.old }
 
     // Else there is a fault, with its status and its line.
-    ensures refused { (result ≡ 0 → ⊥) → StopsRun (record { remaining = R.remaining; before = input.old; after = input.new })
-        (record { contents = Out.contents; before = output.old; after = output.new })
-        (record { contents = Log.contents; before = log.old; after = log.new }) request.now.command result }
+    ensures refused { (result ≡ 0 → ⊥) → StopsRun (input_of R.remaining input.old input.new)
+        (output_of Out.contents output.old output.new)
+        (output_of Log.contents log.old log.new) request.now.command result }
 
     // A read or an output write that fails is told so, and status 3 comes from nothing else but a log that fails.
     ensures read_failed { input.new.failures ≢ input.old.failures → (result ≡ 3)
         × (output.new ≡ output.old) × Logs Log.contents log.old log.new (codes "read failed\n") }
     ensures write_failed { output.new.failures ≢ output.old.failures → (result ≡ 3)
-        × TellsOutput (record { contents = Log.contents; before = log.old; after = log.new }) request.now.command }
+        × TellsOutput (output_of Log.contents log.old log.new) request.now.command }
     ensures device { result ≡ 3 → (input.new.failures ≡ one_more input.old.failures)
         ⊎ (output.new.failures ≡ one_more output.old.failures)
-        ⊎ IsLogFailed (record { contents = Log.contents; before = log.old; after = log.new }) request.now.command }
+        ⊎ IsLogFailed (output_of Log.contents log.old log.new) request.now.command }
 {
     answer(alloc, &request.command, input, output, log)
 }
@@ -54,12 +54,12 @@ fn answer<R: Read, Out: Write, Log: Write>(
     output: &mut Watch<Out>,
     log: &mut Watch<Log>,
 ) -> u8
-    ensures done { result ≡ 0 → ReadsAndAnswers (record { remaining = R.remaining; before = input.old; after = input.new })
-        (record { contents = Out.contents; before = output.old; after = output.new })
-        (record { contents = Log.contents; before = log.old; after = log.new }) command.now None }
-    ensures refused { (result ≡ 0 → ⊥) → StopsRun (record { remaining = R.remaining; before = input.old; after = input.new })
-        (record { contents = Out.contents; before = output.old; after = output.new })
-        (record { contents = Log.contents; before = log.old; after = log.new }) command.now result }
+    ensures done { result ≡ 0 → ReadsAndAnswers (input_of R.remaining input.old input.new)
+        (output_of Out.contents output.old output.new)
+        (output_of Log.contents log.old log.new) command.now None }
+    ensures refused { (result ≡ 0 → ⊥) → StopsRun (input_of R.remaining input.old input.new)
+        (output_of Out.contents output.old output.new)
+        (output_of Log.contents log.old log.new) command.now result }
 {
     let source = match read_all(alloc, input) {
         Ok(source) => source,
@@ -79,8 +79,8 @@ fn answer_bytes<'a, Out: Write, Log: Write>(
     output: &mut Watch<Out>,
     log: &mut Watch<Log>,
 ) -> Result<(), Fault<'a>>
-    ensures { Answers (record { contents = Out.contents; before = output.old; after = output.new })
-        (record { contents = Log.contents; before = log.old; after = log.new }) command.now source.now (outcome_of result) }
+    ensures { Answers (output_of Out.contents output.old output.new)
+        (output_of Log.contents log.old log.new) command.now source.now (outcome_of result) }
 {
     let instance = read_instance(alloc, source)?;
     report(alloc, command, source, instance, output, log)

@@ -8,7 +8,7 @@ ghost use Rattle.roster_instance.specs.Meaning.{nurse_count};
 ghost use Rattle.roster_rules.specs.Improver.{line};
 ghost use Rattle.roster_rules.specs.Penalties.{penalty};
 ghost use Rattle.roster_instance.specs.Rosters.{fits_case};
-ghost use Rattle.roster_commands.specs.Answer.{Ends, LeavesLog, StopsSearch, best_report, outcome_of, with_best};
+ghost use Rattle.roster_commands.specs.Answer.{Ends, LeavesLog, StopsSearch, best_report, outcome_of, output_of, with_best};
 ghost use Rattle.roster_commands.specs.Lines.{best_log};
 ghost use Rattle.roster_laws.specs.Greatest.{extension_count};
 ghost use Rattle.roster_best.specs.Workspaces.{fits_space};
@@ -36,8 +36,8 @@ pub(crate) fn best<'a, Out: Write, Log: Write>(
     log: &mut Watch<Log>,
 ) -> Result<(), Fault<'a>>
     requires { fits_case instance.case instance.roster ≡ true }
-    ensures ends { Ends (record { contents = Out.contents; before = output.old; after = output.new }) (best_report name.now from instance.case instance.roster) source.now instance.bundle (outcome_of result) }
-    ensures logged { LeavesLog (record { contents = Log.contents; before = log.old; after = log.new }) (best_report name.now from instance.case instance.roster).log (outcome_of result) }
+    ensures ends { Ends (output_of Out.contents output.old output.new) (best_report name.now from instance.case instance.roster) source.now instance.bundle (outcome_of result) }
+    ensures logged { LeavesLog (output_of Log.contents log.old log.new) (best_report name.now from instance.case instance.roster).log (outcome_of result) }
 {
     let mut meter = Meter::new(&mut instance.case);
     let mut held = hold(alloc, source, instance)?;

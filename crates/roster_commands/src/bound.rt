@@ -6,7 +6,7 @@ ghost use Rattle.roster_instance.specs.Rosters.{fits_case};
 ghost use Rattle.roster_rounds.specs.RunLogs.{extensions_in};
 ghost use Rattle.roster_bound.specs.Floors.{RaisesFloor};
 ghost use Rattle.roster_bound.specs.Workspaces.{FitsFloor};
-ghost use Rattle.roster_commands.specs.Answer.{IsBoundReport, Reports, StopsFloors, outcome_of};
+ghost use Rattle.roster_commands.specs.Answer.{IsBoundReport, Reports, StopsFloors, outcome_of, output_of};
 
 use crate::fault::Fault;
 use crate::held::hold;
@@ -32,7 +32,7 @@ pub(crate) fn bound<'a, Out: Write, Log: Write>(
     log: &mut Watch<Log>,
 ) -> Result<(), Fault<'a>>
     requires { fits_case instance.case instance.roster ≡ true }
-    ensures { Reports (record { contents = Out.contents; before = output.old; after = output.new }) (record { contents = Log.contents; before = log.old; after = log.new }) (IsBoundReport rounds from instance.case instance.roster) source.now instance.bundle (outcome_of result) }
+    ensures { Reports (output_of Out.contents output.old output.new) (output_of Log.contents log.old log.new) (IsBoundReport rounds from instance.case instance.roster) source.now instance.bundle (outcome_of result) }
 {
     let mut meter = Meter::new(&mut instance.case);
     let held = hold(alloc, source, instance)?;

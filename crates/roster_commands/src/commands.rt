@@ -6,7 +6,7 @@ ghost use Rattle.roster_rules.specs.HardRules.{hard_faults};
 ghost use Rattle.roster_rules.specs.Penalties.{costs_of};
 ghost use Rattle.roster_instance.specs.Rosters.{fits_case};
 ghost use Rattle.roster_case.specs.Shown.{weeks_text};
-ghost use Rattle.roster_commands.specs.Answer.{Ends, IsReportOf, Reports, StopsOutput, cost_report, outcome_of};
+ghost use Rattle.roster_commands.specs.Answer.{Ends, IsReportOf, Reports, StopsOutput, cost_report, outcome_of, output_of};
 ghost use Rattle.roster_commands.specs.Lines.{costs_text, sizes_text};
 
 use crate::best::best;
@@ -35,7 +35,7 @@ pub(crate) fn report<'a, Out: Write, Log: Write>(
     log: &mut Watch<Log>,
 ) -> Result<(), Fault<'a>>
     requires { fits_case instance.case instance.roster ≡ true }
-    ensures { Reports (record { contents = Out.contents; before = output.old; after = output.new }) (record { contents = Log.contents; before = log.old; after = log.new }) (IsReportOf command.now instance.case instance.roster) source.now instance.bundle (outcome_of result) }
+    ensures { Reports (output_of Out.contents output.old output.new) (output_of Log.contents log.old log.new) (IsReportOf command.now instance.case instance.roster) source.now instance.bundle (outcome_of result) }
 {
     match command {
         Command::Show => show(&instance.case, &instance.roster, output),
@@ -92,7 +92,7 @@ fn cost<'a, Out: Write>(
     output: &mut Watch<Out>,
 ) -> Result<(), Fault<'a>>
     requires { fits_case instance.case instance.roster ≡ true }
-    ensures ends { Ends (record { contents = Out.contents; before = output.old; after = output.new }) (cost_report instance.case instance.roster) source.now instance.bundle (outcome_of result) }
+    ensures ends { Ends (output_of Out.contents output.old output.new) (cost_report instance.case instance.roster) source.now instance.bundle (outcome_of result) }
 {
     let held = hold(alloc, source, instance)?;
     Ok(write_costs(output, costs(held.case(), held.roster()))?)

@@ -6,7 +6,7 @@ ghost use Rattle.roster_text.specs.Io.{Writes};
 ghost use Rattle.roster_instance.specs.Rosters.{fits_case};
 ghost use Rattle.roster_rounds.specs.RunLogs.{extensions_in};
 ghost use Rattle.roster_rounds.specs.Spaces.{fits_run};
-ghost use Rattle.roster_commands.specs.Answer.{Ends, LeavesLog, StopsSearch, improve_report, improved, outcome_of, run_log};
+ghost use Rattle.roster_commands.specs.Answer.{Ends, LeavesLog, StopsSearch, improve_report, improved, outcome_of, output_of, run_log};
 
 use crate::fault::Fault;
 use crate::held::hold;
@@ -31,8 +31,8 @@ pub(crate) fn improve<'a, Out: Write, Log: Write>(
     log: &mut Watch<Log>,
 ) -> Result<(), Fault<'a>>
     requires { fits_case instance.case instance.roster ≡ true }
-    ensures ends { Ends (record { contents = Out.contents; before = output.old; after = output.new }) (improve_report rounds from instance.case instance.roster) source.now instance.bundle (outcome_of result) }
-    ensures logged { LeavesLog (record { contents = Log.contents; before = log.old; after = log.new }) (improve_report rounds from instance.case instance.roster).log (outcome_of result) }
+    ensures ends { Ends (output_of Out.contents output.old output.new) (improve_report rounds from instance.case instance.roster) source.now instance.bundle (outcome_of result) }
+    ensures logged { LeavesLog (output_of Log.contents log.old log.new) (improve_report rounds from instance.case instance.roster).log (outcome_of result) }
 {
     let mut meter = Meter::new(&mut instance.case);
     let mut held = hold(alloc, source, instance)?;
