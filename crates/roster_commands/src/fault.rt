@@ -24,17 +24,6 @@ pub(crate) enum Fault<'a> {
     Log,
 }
 
-impl<'a> From<TextFault> for Fault<'a> {
-    ghost use Rattle.std.specs.Prelude.{◌≡◌};
-    ghost use Rattle.roster_commands.specs.declared.fault.Fault.TheVariants as fault;
-
-    ghost from_gives = { λ e f. f ≡ fault.Text e };
-
-    fn from(e: TextFault) -> Fault<'a> {
-        Fault::Text(e)
-    }
-}
-
 impl<'a> From<WriteFault> for Fault<'a> {
     ghost use Rattle.std.specs.Prelude.{◌≡◌};
     ghost use Rattle.roster_commands.specs.declared.fault.Fault.TheVariants as fault;
