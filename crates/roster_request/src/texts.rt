@@ -178,8 +178,7 @@ Examples:
 The files are read one after another, in the order given. Without a file, the
 texts are read from standard input.";
 
-pub(crate) const SEARCH_COUNT: &str =
-    "The kicks take so many searches at most, 0 to 10000000";
+pub(crate) const SEARCH_COUNT: &str = "The kicks take so many searches at most, 0 to 10000000";
 
 pub(crate) const SEED_NUMBER: &str =
     "What the random numbers of the kicks begin with, 0 to 4294967295";

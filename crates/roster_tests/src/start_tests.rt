@@ -299,11 +299,7 @@ fn asks_for_bound(alloc: Global, words: &[&str], (rounds, from): (u16, u16)) -> 
 }
 
 /// Whether the words ask for so many searches, by a seed and from a week on.
-fn asks_for_kicks(
-    alloc: Global,
-    words: &[&str],
-    (searches, seed, from): (u32, u32, u16),
-) -> bool {
+fn asks_for_kicks(alloc: Global, words: &[&str], (searches, seed, from): (u32, u32, u16)) -> bool {
     let Ok(request) = request_of(alloc, words) else {
         return false;
     };
