@@ -5,7 +5,7 @@ ghost use Rattle.roster_bundle.specs.Limits.{greatest_u64};
 ghost use Rattle.roster_instance.specs.Rosters.{fits_case};
 ghost use Rattle.roster_polish.specs.Polished.{FitsPolish, first_searches, most_searches};
 ghost use Rattle.roster_polish.specs.Settled.{extensions_of};
-ghost use Rattle.roster_commands.specs.Answer.{IsPolishReport, Kicks, Reports, StopsKicks, outcome_of};
+ghost use Rattle.roster_commands.specs.Answer.{IsPolishReport, Kicks, Reports, StopsKicks, outcome_of, output_of};
 
 use crate::fault::Fault;
 use crate::held::hold;
@@ -29,7 +29,7 @@ pub(crate) fn polish<'a, Out: Write, Log: Write>(
     log: &mut Watch<Log>,
 ) -> Result<(), Fault<'a>>
     requires { fits_case instance.case instance.roster ≡ true }
-    ensures { Reports (record { contents = Out.contents; before = output.old; after = output.new }) (record { contents = Log.contents; before = log.old; after = log.new }) (IsPolishReport course.now.searches course.now.from instance.case instance.roster) source.now instance.bundle (outcome_of result) }
+    ensures { Reports (output_of Out.contents output.old output.new) (output_of Log.contents log.old log.new) (IsPolishReport course.now.searches course.now.from instance.case instance.roster) source.now instance.bundle (outcome_of result) }
 {
     let mut meter = Meter::new(&mut instance.case);
     let mut held = hold(alloc, source, instance)?;

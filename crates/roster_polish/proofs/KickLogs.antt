@@ -9,7 +9,7 @@ use Rattle.roster_text.proofs.Texts.{Sends-append, StopsAt-after, StopsAt-append
 use Rattle.roster_instance.specs.Meaning.{Meaning}
 use Rattle.roster_instance.specs.Rosters.{Rows}
 use Rattle.roster_rules.specs.Penalties.{penalty}
-use Rattle.roster_rounds.specs.RunLogs.{line}
+use Rattle.roster_rules.specs.Improver.{line}
 use Rattle.roster_rounds.specs.declared.outcome.LogFault.TheVariants.{LogFailed}
 use Rattle.roster_polish.specs.declared.run.Polished.{Polished}
 use Rattle.roster_polish.specs.Polished.{Falls, IsKickLog, IsPolishing, IsReached, KickLine, PolishLogStops, Polishes, kick_line, kicks_text, last_kick, last_line, no_kick}

@@ -6,7 +6,7 @@ use Rattle.roster_instance.specs.Rosters.{Rows, fits_case}
 use Rattle.roster_rules.specs.Penalties.{penalty}
 use Rattle.roster_laws.specs.FrozenDays.{FrozenDaysStay}
 use Rattle.roster_rounds.specs.PutIn.{IsAccepted}
-use Rattle.roster_rounds.specs.RunLogs.{line}
+use Rattle.roster_rules.specs.Improver.{line}
 use Rattle.roster_rounds.specs.declared.outcome.LogFault.{LogFault}
 use Rattle.roster_rounds.specs.declared.outcome.LogFault.TheVariants.{LogFailed}
 use Rattle.roster_best.specs.Known.{IsKnown}

@@ -2,7 +2,7 @@
 
 ghost use Rattle.std.specs.Prelude.{◌++◌, IfErr, IfOk, codes, decimal};
 ghost use Rattle.roster_text.specs.Io.{BreaksIn, Sends};
-ghost use Rattle.roster_rounds.specs.RunLogs.{line};
+ghost use Rattle.roster_rules.specs.Improver.{line};
 
 use roster_text::{Piece, Watch, WriteFault, send_pieces};
 use std::io::Write;

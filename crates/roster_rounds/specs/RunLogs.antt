@@ -8,7 +8,6 @@ use Rattle.roster_instance.specs.Limits.{most_nurses}
 use Rattle.roster_instance.specs.Meaning.{Meaning, nurse_count}
 use Rattle.roster_instance.specs.Rosters.{Rows}
 use Rattle.roster_rules.specs.Improver.{BestRows, Entry, changes, line_of, log_of, round, round_log, run}
-pub use Rattle.roster_rules.specs.Improver.{line}
 use Rattle.roster_laws.specs.Greatest.{greatest_extension_count}
 use Rattle.roster_laws.specs.Logs as laws
 use Rattle.roster_rounds.specs.declared.outcome.LogFault.{LogFault}

@@ -7,7 +7,7 @@ use Rattle.roster_rules.specs.Penalties.{penalty}
 use Rattle.roster_laws.specs.FrozenDays.{FrozenDaysStay}
 use Rattle.roster_laws.specs.Greatest.{greatest_extension_count}
 use Rattle.roster_laws.proofs.Frozen.{stays_on, stays_self}
-use Rattle.roster_rounds.specs.RunLogs.{line}
+use Rattle.roster_rules.specs.Improver.{line}
 use Rattle.roster_polish.specs.Polished.{FitsPolish, first_searches, last_line}
 use Rattle.roster_polish.specs.Settled.{IsSettled, extensions_of}
 use Rattle.roster_polish.proofs.Keeping.{reached_by, same_days}
