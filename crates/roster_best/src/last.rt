@@ -2,7 +2,7 @@
 
 ghost use Rattle.std.specs.Prelude.{◌≡◌, ◌<◌, ℕ, true, All, IfOk, IfSome, None, length, replicate};
 ghost use Rattle.roster_instance.specs.Choices.{shift_of};
-ghost use Rattle.roster_instance.specs.Meaning.{nurse_count};
+ghost use Rattle.roster_instance.specs.Meaning.{Meaning, nurse_count};
 ghost use Rattle.roster_instance.specs.Rosters.{Row};
 ghost use Rattle.roster_rules.specs.AllowedRows.{best_row};
 ghost use Rattle.roster_rules.specs.Improver.{step};
@@ -71,6 +71,15 @@ impl LastSearches {
         ensures costs { self.new.costs.items ≡ replicate (length self.old.costs.items) None }
     {
         self.costs.fill(None);
+    }
+
+    /// Tells what another one tells, of the same case.
+    pub fn put(&mut self, other: &LastSearches)
+        requires { (c : Meaning) × IsKnown c self.old × IsKnown c other.now }
+        ensures { (c : Meaning) → IsKnown c other.now → IsKnown c self.new }
+    {
+        self.prices.copy_from_slice(other.prices.as_slice());
+        self.costs.copy_from_slice(other.costs.as_slice());
     }
 
     /// Whether it is known, by the nurse's last search, that no row is cheaper than the present one, where these are the nurse's offers

@@ -21,6 +21,7 @@ use Rattle.roster_polish.specs.Settled.{IsSettled}
 pub record FitsPolish (c : Meaning) (w : PolishSpace) : Type 0 where
   pub floor : FitsFloor c w.floor
   pub known : IsKnown c w.last
+  pub kept_known : IsKnown c w.kept_last
   pub dearer : length w.dearer.items ≡ 9 * day_count c
   pub kept : fits_case c w.kept ≡ true
 

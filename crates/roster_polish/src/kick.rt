@@ -82,9 +82,11 @@ pub(crate) fn try_kick(
     if settled && held.total() <= before {
         held.keeps_rules();
         space.kept.put_rows(held.roster());
+        space.kept_last.put(&space.last);
         true
     } else {
         held.replace_rows(&space.kept);
+        space.last.put(&space.kept_last);
         false
     }
 }

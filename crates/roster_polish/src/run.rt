@@ -65,6 +65,7 @@ pub fn polish<W: Write>(
     let mut kicking = begin(held, course, space, meter);
     held.keeps_rules();
     space.kept.put_rows(held.roster());
+    space.kept_last.put(&space.last);
     for kicks_before in 0..course.searches {
         if kicking.searches.left == 0 {
             break;

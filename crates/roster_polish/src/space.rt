@@ -9,13 +9,15 @@ use roster_case::{Held, Roster};
 use std::alloc::Global;
 
 /// What a run writes into: what a run that raises a floor does, with the workspace of its searches; what the last of them tell; by
-/// how much each shift of a day is dearer in a kick; and the rows of the roster that is kept. Beside the memory of a floor and of the
-/// last searches that is nine bytes a day and a copy of the rows. One serves one run after another.
+/// how much each shift of a day is dearer in a kick; and the rows of the roster that is kept, with what the last searches told of it.
+/// Beside the memory of a floor and of the last searches, twice, that is nine bytes a day and a copy of the rows. One serves one run
+/// after another.
 pub struct PolishSpace {
     pub(crate) floor: FloorWorkspace,
     pub(crate) last: LastSearches,
     pub(crate) dearer: Vec<u8>,
     pub(crate) kept: Roster,
+    pub(crate) kept_last: LastSearches,
 }
 
 // By hand, so that who drops it has one call to prove.
@@ -26,12 +28,13 @@ impl Drop for PolishSpace {
             last: _,
             dearer: _,
             kept: _,
+            kept_last: _,
         } = self;
     }
 }
 
 impl PolishSpace {
-    /// Room for runs from rosters of a held one's case, by at most twelve growths and one for each nurse.
+    /// Room for runs from rosters of a held one's case, by at most fourteen growths and one for each nurse.
     ///
     /// # Errors
     ///
@@ -45,6 +48,7 @@ impl PolishSpace {
             last: LastSearches::for_case(alloc, held.case())?,
             dearer: vec![in alloc; 0; 9 * held.case().days() as usize]?,
             kept: held.roster().copy(alloc)?,
+            kept_last: LastSearches::for_case(alloc, held.case())?,
         })
     }
 }

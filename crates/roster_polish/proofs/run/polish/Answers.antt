@@ -61,6 +61,7 @@ loop-kicks_before-init g c =
       fits = record {
         floor = fits.floor;
         known = fits.known;
+        kept_known = c.put.ensures k fits.known;
         dearer = fits.dearer;
         kept = subst (λ (rows : Rows). fits_case k rows ≡ true) (sym kept) (subst (λ (m : Meaning). fits_case m now.roster ≡ true) told.case c.keeps_rules-2.ensures.fits);
       };
