@@ -17,7 +17,7 @@ use Rattle.roster_polish.specs.Settled.{IsSettled}
 
 -- ---- the memory of a run
 
--- room for floors, true searches, nine numbers for each day, and a roster of the case
+-- room for floors, what true searches told at last and of the kept roster, nine numbers for each day, and a roster of the case
 pub record FitsPolish (c : Meaning) (w : PolishSpace) : Type 0 where
   pub floor : FitsFloor c w.floor
   pub known : IsKnown c w.last
