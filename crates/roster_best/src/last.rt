@@ -76,7 +76,9 @@ impl LastSearches {
     /// Tells what another one tells, of the same case.
     pub fn put(&mut self, other: &LastSearches)
         requires { (c : Meaning) × IsKnown c self.old × IsKnown c other.now }
-        ensures { (c : Meaning) → IsKnown c other.now → IsKnown c self.new }
+        ensures prices { self.new.prices.items ≡ other.now.prices.items }
+        ensures costs { self.new.costs.items ≡ other.now.costs.items }
+        ensures known { (c : Meaning) → IsKnown c other.now → IsKnown c self.new }
     {
         self.prices.copy_from_slice(other.prices.as_slice());
         self.costs.copy_from_slice(other.costs.as_slice());

@@ -29,8 +29,8 @@ use Rattle.roster_request.specs.declared.request.Command.TheVariants as command
 use Rattle.roster_instance.specs.Rosters.{Rows}
 use Rattle.roster_case.specs.Shown.{weeks_text}
 use Rattle.roster_bound.specs.Worths.{IsLowerBound}
-use Rattle.roster_polish.specs.Polished.{IsReached, KickLine, kicks_text, last_line}
-use Rattle.roster_polish.specs.Settled.{IsSettled}
+use Rattle.roster_polish.specs.Polished.{first_run}
+use Rattle.roster_polish.proofs.KickLogs.{unkicked, unkicked_text}
 
 -- ---- a bundle
 
@@ -95,26 +95,16 @@ no_floor rounds from c r = record {
   is = refl;
 }
 
--- the log of a run without a step and without a kick
-abbrev pub no_kicks : Meaning → Rows → Text
-no_kicks c r = kicks_text c r [] ++ last_line c false r
+-- a run without a kick is a report of `polish`
+abbrev pub kickless : (from : ℕ) → Meaning → Rows → Report
+kickless from c r = polish_report (first_run c from r).roster (unkicked_text c from r) c r
 
--- such a run is a report of `polish`
-pub no_kick : (searches from : ℕ) (c : Meaning) (r : Rows) → IsPolishReport searches from c r (polish_report r (no_kicks c r) c r)
+pub no_kick : (searches from : ℕ) (c : Meaning) (r : Rows) → IsPolishReport searches from c r (kickless from c r)
 no_kick searches from c r = record {
-  settled = false;
-  last = r;
-  told = no_kicks c r;
-  run = λ accepted. record {
-    first = r;
-    lines = [];
-    no_dearer = omega arith;
-    is_log = record { reached = All-nil (λ (x : KickLine). IsReached c from r x.roster × IsSettled c from x.roster); falls = tt; within = omega arith };
-    reached = record { accepted = accepted; stays = λ n d inside frozen. refl };
-    as_told = refl;
-    is_settled = λ said. absurd (true≢false (sym said));
-    text_is = refl;
-  };
+  settled = (first_run c from r).is_settled;
+  last = (first_run c from r).roster;
+  told = unkicked_text c from r;
+  run = unkicked c from r searches;
   is = refl;
 }
 
@@ -126,7 +116,7 @@ some_report command.Sizes c r = (plain (sizes_text c), refl)
 some_report (command.Best nurse from) c r = (best_report (string_bytes nurse) from c r, refl)
 some_report (command.Improve rounds from) c r = (improve_report rounds from c r, refl)
 some_report (command.Bound rounds from) c r = (bound_report [] c r, no_floor rounds from c r)
-some_report (command.Polish searches seed from) c r = (polish_report r (no_kicks c r) c r, no_kick searches from c r)
+some_report (command.Polish searches seed from) c r = (kickless from c r, no_kick searches from c r)
 
 pub refused_reading : {W L : Type 0} (output : Output W) (log : Output L) (command : Command) (source : Text) (f : Fault) → StopsReading source f → Untouched output → Untouched log
     → Answers output log command source (Some f)

@@ -8,22 +8,23 @@ use Rattle.roster_instance.specs.Meaning.{Meaning}
 use Rattle.roster_instance.specs.Rosters.{Rows}
 use Rattle.roster_case.specs.Shown.{weeks_text}
 use Rattle.roster_polish.specs.Polished.{IsPolishing}
+use Rattle.roster_polish.proofs.KickLogs.{unkicked_text}
 use Rattle.roster_commands.specs.Answer.{IsPolishReport, IsUnheld, Kicks, Output, Reports, StopsKicks, StopsOutput, Untouched, outcome_of, polish_report}
 use Rattle.roster_commands.specs.Lines.{Text}
 use Rattle.roster_commands.specs.declared.fault.Fault.{Fault}
 use Rattle.roster_commands.specs.declared.fault.Fault.TheVariants as fault
-use Rattle.roster_commands.proofs.AnswerLemmas.{no_kick, no_kicks, unheld_ends, unheld_log}
+use Rattle.roster_commands.proofs.AnswerLemmas.{kickless, no_kick, unheld_ends, unheld_log}
 
 -- a run within fewer kicks is one within more
 more_kicks : {c : Meaning} {from few many : ℕ} {given last : Rows} {settled : Bool} {told : Text} → few ≤ many → IsPolishing c from given few settled last told → IsPolishing c from given many settled last told
 more_kicks fewer run = record {
-  first = run.first;
   lines = run.lines;
-  no_dearer = run.no_dearer;
   is_log = record { reached = run.is_log.reached; falls = run.is_log.falls; within = omega (arith, fewer, run.is_log.within) };
   reached = run.reached;
   as_told = run.as_told;
+  no_dearer = run.no_dearer;
   is_settled = run.is_settled;
+  surely = run.surely;
   text_is = run.text_is;
 }
 
@@ -35,10 +36,10 @@ module _ (searches from : ℕ) (c : Meaning) (r : Rows) where
     -- no run was made, since the roster is not held
     pub polish_unheld : (f : Fault) → IsUnheld source b (hard_faults c r) f → Untouched output → Untouched log → Reports output log (IsPolishReport searches from c r) source b (Some f)
     polish_unheld f h o l = record {
-      report = polish_report r (no_kicks c r) c r;
+      report = kickless from c r;
       is = no_kick searches from c r;
-      ends = unheld_ends output (polish_report r (no_kicks c r) c r) source b f refl h o;
-      logged = unheld_log log (Some (no_kicks c r)) source b (hard_faults c r) f h l;
+      ends = unheld_ends output (kickless from c r) source b f refl h o;
+      logged = unheld_log log (Some (unkicked_text c from r)) source b (hard_faults c r) f h l;
     }
 
     -- the log failed inside the run

@@ -1,6 +1,5 @@
 -- A run of kicks: the lines so far are sent.
-use Rattle.std.proofs.Common.{◌≡◌, ◌∙◌, ◌+◌, ◌<◌, ◌≤◌, ℕ, Bool, true, false, List, [], ◌∷◌, ◌++◌, Option, ap, append_assoc, append-nil, arith, codes, flat_map, length, refl, subst, sym, zero-add}
-use Rattle.std.proofs.lemmas.Bool.{true≢false}
+use Rattle.std.proofs.Common.{◌≡◌, ◌∙◌, ◌+◌, ◌<◌, ◌≤◌, ℕ, Bool, true, List, [], ◌∷◌, ◌++◌, Option, ap, append_assoc, append-nil, arith, codes, flat_map, length, refl, subst, sym, zero-add}
 use Rattle.std.proofs.lemmas.List.Concat.{flat_map-append}
 use Rattle.std.proofs.lemmas.List.Elements.{All-append, All-cons, All-nil}
 use Rattle.roster_text.specs.declared.fault.WriteFault.{WriteFault}
@@ -9,10 +8,16 @@ use Rattle.roster_text.proofs.Texts.{Sends-append, StopsAt-after, StopsAt-append
 use Rattle.roster_instance.specs.Meaning.{Meaning}
 use Rattle.roster_instance.specs.Rosters.{Rows}
 use Rattle.roster_rules.specs.Penalties.{penalty}
+use Rattle.roster_rules.specs.AllowedRows.{best_row}
 use Rattle.roster_rules.specs.Improver.{line}
+use Rattle.roster_laws.specs.FrozenDays.{FrozenDaysStay}
+use Rattle.roster_laws.proofs.Frozen.{stays_self, steps_stay}
+use Rattle.roster_laws.proofs.Kept.{IsKept, run_keeps, step_keeps}
+use Rattle.roster_laws.proofs.Runs.{fall, settled_rows}
+use Rattle.roster_rounds.specs.PutIn.{IsAccepted}
 use Rattle.roster_rounds.specs.declared.outcome.LogFault.TheVariants.{LogFailed}
 use Rattle.roster_polish.specs.declared.run.Polished.{Polished}
-use Rattle.roster_polish.specs.Polished.{Falls, IsKickLog, IsPolishing, IsReached, KickLine, PolishLogStops, Polishes, kick_line, kicks_text, last_kick, last_line, no_kick}
+use Rattle.roster_polish.specs.Polished.{Falls, IsKickLog, IsPolishing, IsReached, KickLine, PolishLogStops, Polishes, first_run, kick_line, kicks_text, last_kick, last_line, most_rounds, no_kick}
 use Rattle.roster_polish.specs.Settled.{IsSettled}
 
 -- ---- one line more
@@ -25,6 +30,10 @@ falls_more : (c : Meaning) (before : KickLine) (xs : List KickLine) (x : KickLin
 falls_more c before [] x falls later less = (later, less, tt)
 falls_more c before (y ∷ xs) x falls later less = (falls.0, falls.1, falls_more c y xs x falls.2 later less)
 
+last_is_least : (c : Meaning) (before : KickLine) (xs : List KickLine) → Falls c before xs → penalty c (last_kick before xs).roster ≤ penalty c before.roster
+last_is_least c before [] falls = omega arith
+last_is_least c before (x ∷ xs) falls = omega (arith, falls.1, last_is_least c x xs falls.2)
+
 -- ---- the first line
 
 pub first_text : (c : Meaning) (given : Rows) (total : ℕ) → total ≡ penalty c given → line (codes "start") total ≡ kicks_text c given []
@@ -33,172 +42,193 @@ first_text c given total e = ap (line (codes "start")) e ∙ sym (append-nil (li
 -- ---- the kicks made so far
 
 pub record Underway {W : Type 0} (contents : W → Option (List ℕ)) (c : Meaning) (from : ℕ) (given : Rows) (old mid : Watched W) (made sent : ℕ) (settled : Bool) (kept : Rows) : Type 0 where
-  pub first : Rows
   pub lines : List KickLine
-  pub no_dearer : penalty c first ≤ penalty c given
-  pub is_log : IsKickLog c from given first made lines
-  pub as_told : penalty c kept ≡ penalty c (last_kick (no_kick first) lines).roster
+  pub is_log : IsKickLog c from given (first_run c from given).roster made lines
+  pub as_told : penalty c kept ≡ penalty c (last_kick (no_kick (first_run c from given).roster) lines).roster
   pub is_settled : settled ≡ true → IsSettled c from kept
+  pub surely : (first_run c from given).is_settled ≡ true → settled ≡ true
   pub sends : Sends contents old mid 0 sent (kicks_text c given lines)
 
-module _ {W : Type 0} (contents : W → Option (List ℕ)) (c : Meaning) (from : ℕ) (given : Rows) (old : Watched W) where
+module _ (c : Meaning) (from : ℕ) (given : Rows) where
   abbrev IsLine : KickLine → Type 0
   IsLine x = IsReached c from given x.roster × IsSettled c from x.roster
 
-  first_line : List ℕ
-  first_line = line (codes "start") (penalty c given)
+  abbrev first : Rows
+  first = (first_run c from given).roster
 
-  text_more : (xs : List KickLine) (x : KickLine) → kicks_text c given xs ++ kick_line c x ≡ kicks_text c given (xs ++ x ∷ [])
-  unfolding first_line
-  text_more xs x =
-      append_assoc first_line (flat_map (kick_line c) xs) (kick_line c x)
-      ∙ ap (λ text. first_line ++ text) (ap (λ text. flat_map (kick_line c) xs ++ text) (sym (append-nil (kick_line c x))) ∙ sym (flat_map-append (kick_line c) xs (x ∷ [])))
+  no_log : (made : ℕ) → IsKickLog c from given first made []
+  no_log made = record { reached = All-nil IsLine; falls = tt; within = omega arith }
 
-  pub no_log : (first : Rows) (made : ℕ) → IsKickLog c from given first made []
-  no_log first made = record { reached = All-nil IsLine; falls = tt; within = omega arith }
+  first_settled : (first_run c from given).is_settled ≡ true → IsSettled c from first
+  first_settled end = settled_rows c from most_rounds given end
 
-  pub underway_first : (new : Watched W) (sent : ℕ) (settled : Bool) (kept : Rows) → penalty c kept ≤ penalty c given → (settled ≡ true → IsSettled c from kept) → Sends contents old new 0 sent (kicks_text c given []) → Underway contents c from given old new 0 sent settled kept
-  underway_first new sent settled kept no_dearer is_settled sends = record {
-    first = kept;
+  later_log : (made next : ℕ) (lines : List KickLine) → made ≤ next → IsKickLog c from given first made lines → IsKickLog c from given first next lines
+  later_log made next lines h p = let within : (last_kick (no_kick first) lines).kick ≤ made = p.within in record { reached = p.reached; falls = p.falls; within = omega arith }
+
+  -- no roster of a log is dearer than the given one
+  no_dearer_than : (lines : List KickLine) (kept : Rows) → Falls c (no_kick first) lines → penalty c kept ≡ penalty c (last_kick (no_kick first) lines).roster → penalty c kept ≤ penalty c given
+  no_dearer_than lines kept falls told = omega (arith, told, last_is_least c (no_kick first) lines falls, fall c (best_row c from) most_rounds given)
+
+  -- ---- a run without a kick
+
+  pub first_kept : IsAccepted c given → IsReached c from given first
+  first_kept accepted = record {
+    accepted = run_keeps c (best_row c from) (IsKept c) (step_keeps c from) most_rounds given accepted;
+    stays = run_keeps c (best_row c from) (FrozenDaysStay c from given) (steps_stay c from given) most_rounds given (stays_self c from given);
+  }
+
+  abbrev pub unkicked_text : List ℕ
+  unkicked_text = kicks_text c given [] ++ last_line c (first_run c from given).is_settled first
+
+  pub unkicked : (kicks : ℕ) → IsAccepted c given → IsPolishing c from given kicks (first_run c from given).is_settled first unkicked_text
+  unkicked kicks accepted = record {
     lines = [];
-    no_dearer = no_dearer;
-    is_log = no_log kept 0;
+    is_log = no_log kicks;
+    reached = first_kept accepted;
     as_told = refl;
-    is_settled = is_settled;
-    sends = sends;
+    no_dearer = no_dearer_than [] first tt refl;
+    is_settled = first_settled;
+    surely = λ end. end;
+    text_is = refl;
   }
 
-  later_log : (made next : ℕ) (first : Rows) (lines : List KickLine) → made ≤ next → IsKickLog c from given first made lines → IsKickLog c from given first next lines
-  later_log made next first lines h p = let within : (last_kick (no_kick first) lines).kick ≤ made = p.within in record { reached = p.reached; falls = p.falls; within = omega arith }
+  module _ {W : Type 0} (contents : W → Option (List ℕ)) (old : Watched W) where
+    first_line : List ℕ
+    first_line = line (codes "start") (penalty c given)
 
-  -- the start's line broke off
-  pub start_breaks : (kicks : ℕ) (new : Watched W) (fault : WriteFault) → IsReached c from given given → BreaksIn contents old new 0 (kicks_text c given []) fault → PolishLogStops contents c from given kicks old new (LogFailed (sent_of fault))
-  start_breaks kicks new fault reached p = record {
-    settled = false;
-    last = given;
-    text = kicks_text c given [] ++ last_line c false given;
-    run = record {
-      first = given;
+    text_more : (xs : List KickLine) (x : KickLine) → kicks_text c given xs ++ kick_line c x ≡ kicks_text c given (xs ++ x ∷ [])
+    unfolding first_line
+    text_more xs x =
+        append_assoc first_line (flat_map (kick_line c) xs) (kick_line c x)
+        ∙ ap (λ text. first_line ++ text) (ap (λ text. flat_map (kick_line c) xs ++ text) (sym (append-nil (kick_line c x))) ∙ sym (flat_map-append (kick_line c) xs (x ∷ [])))
+
+    pub underway_first : (new : Watched W) (sent : ℕ) → Sends contents old new 0 sent (kicks_text c given []) → Underway contents c from given old new 0 sent (first_run c from given).is_settled first
+    underway_first new sent sends = record {
       lines = [];
-      no_dearer = omega arith;
-      is_log = no_log given kicks;
-      reached = reached;
+      is_log = no_log 0;
       as_told = refl;
-      is_settled = λ e. elim (true≢false (sym e)) [ ];
-      text_is = refl;
-    };
-    sent = p.sent;
-    stops = StopsAt-append contents old new (kicks_text c given []) (last_line c false given) p.sent p.stops;
-    counted = ap (λ f. LogFailed (sent_of f)) p.counted ∙ ap (λ n. LogFailed (saturated n)) (zero-add p.sent);
-  }
-
-  module _ (mid : Watched W) (made sent : ℕ) (settled : Bool) (kept : Rows) (p : Underway contents c from given old mid made sent settled kept) where
-    -- a kick that left the roster as dear
-    pub underway_same : (now : Bool) (next : Rows) → penalty c next ≡ penalty c kept → (now ≡ true → IsSettled c from next) → Underway contents c from given old mid (made + 1) sent now next
-    underway_same now next same is_settled = record {
-      first = p.first;
-      lines = p.lines;
-      no_dearer = p.no_dearer;
-      is_log = later_log made (made + 1) p.first p.lines (omega arith) p.is_log;
-      as_told = same ∙ p.as_told;
-      is_settled = is_settled;
-      sends = p.sends;
+      is_settled = first_settled;
+      surely = λ end. end;
+      sends = sends;
     }
 
-    module _ (next : Rows) (less : penalty c next < penalty c kept) (reached : IsReached c from given next) (is_settled : IsSettled c from next) where
-      abbrev pub one : KickLine
-      one = record { kick = made + 1; roster = next }
+    -- the start's line broke off
+    pub start_breaks : (kicks : ℕ) (new : Watched W) (fault : WriteFault) → IsAccepted c given → BreaksIn contents old new 0 (kicks_text c given []) fault → PolishLogStops contents c from given kicks old new (LogFailed (sent_of fault))
+    start_breaks kicks new fault accepted p = record {
+      settled = (first_run c from given).is_settled;
+      last = first;
+      text = unkicked_text;
+      run = unkicked kicks accepted;
+      sent = p.sent;
+      stops = StopsAt-append contents old new (kicks_text c given []) (last_line c (first_run c from given).is_settled first) p.sent p.stops;
+      counted = ap (λ f. LogFailed (sent_of f)) p.counted ∙ ap (λ n. LogFailed (saturated n)) (zero-add p.sent);
+    }
 
-      abbrev lines_then : List KickLine
-      lines_then = p.lines ++ one ∷ []
-
-      more_log : IsKickLog c from given p.first (made + 1) lines_then
-      more_log =
-          let within : (last_kick (no_kick p.first) p.lines).kick ≤ made = p.is_log.within in
-          record {
-            reached = All-append IsLine p.lines (one ∷ []) p.is_log.reached (All-cons IsLine one [] (reached, is_settled) (All-nil IsLine));
-            falls = falls_more c (no_kick p.first) p.lines one p.is_log.falls (omega arith) (omega (arith, less, p.as_told));
-            within = omega (arith, ap (λ (y : KickLine). y.kick) (last_is (no_kick p.first) p.lines one));
-          }
-
-      told_then : penalty c next ≡ penalty c (last_kick (no_kick p.first) lines_then).roster
-      told_then = sym (ap (λ (y : KickLine). penalty c y.roster) (last_is (no_kick p.first) p.lines one))
-
-      -- a kick that left it cheaper
-      pub underway_cheaper : (new : Watched W) (after : ℕ) → Sends contents mid new sent after (kick_line c one) → Underway contents c from given old new (made + 1) after true next
-      underway_cheaper new after q = record {
-        first = p.first;
-        lines = lines_then;
-        no_dearer = p.no_dearer;
-        is_log = more_log;
-        as_told = told_then;
-        is_settled = λ e. is_settled;
-        sends = subst (Sends contents old new 0 after) (text_more p.lines one) (Sends-append contents old mid new 0 sent after (kicks_text c given p.lines) (kick_line c one) p.sends q);
+    module _ (mid : Watched W) (made sent : ℕ) (settled : Bool) (kept : Rows) (p : Underway contents c from given old mid made sent settled kept) where
+      -- a kick that left the roster as dear
+      pub underway_same : (now : Bool) (next : Rows) → penalty c next ≡ penalty c kept → (now ≡ true → IsSettled c from next) → (settled ≡ true → now ≡ true) → Underway contents c from given old mid (made + 1) sent now next
+      underway_same now next same is_settled still = record {
+        lines = p.lines;
+        is_log = later_log made (made + 1) p.lines (omega arith) p.is_log;
+        as_told = same ∙ p.as_told;
+        is_settled = is_settled;
+        surely = λ end. still (p.surely end);
+        sends = p.sends;
       }
 
-      -- its line broke off
-      pub cheaper_breaks : (kicks : ℕ) (new : Watched W) (fault : WriteFault) → made < kicks → BreaksIn contents mid new sent (kick_line c one) fault → PolishLogStops contents c from given kicks old new (LogFailed (sent_of fault))
-      cheaper_breaks kicks new fault inside q =
+      module _ (next : Rows) (less : penalty c next < penalty c kept) (reached : IsReached c from given next) (is_settled : IsSettled c from next) where
+        abbrev pub one : KickLine
+        one = record { kick = made + 1; roster = next }
+
+        abbrev lines_then : List KickLine
+        lines_then = p.lines ++ one ∷ []
+
+        more_log : IsKickLog c from given first (made + 1) lines_then
+        more_log =
+            let within : (last_kick (no_kick first) p.lines).kick ≤ made = p.is_log.within in
+            record {
+              reached = All-append IsLine p.lines (one ∷ []) p.is_log.reached (All-cons IsLine one [] (reached, is_settled) (All-nil IsLine));
+              falls = falls_more c (no_kick first) p.lines one p.is_log.falls (omega arith) (omega (arith, less, p.as_told));
+              within = omega (arith, ap (λ (y : KickLine). y.kick) (last_is (no_kick first) p.lines one));
+            }
+
+        told_then : penalty c next ≡ penalty c (last_kick (no_kick first) lines_then).roster
+        told_then = sym (ap (λ (y : KickLine). penalty c y.roster) (last_is (no_kick first) p.lines one))
+
+        -- a kick that left it cheaper
+        pub underway_cheaper : (new : Watched W) (after : ℕ) → Sends contents mid new sent after (kick_line c one) → Underway contents c from given old new (made + 1) after true next
+        underway_cheaper new after q = record {
+          lines = lines_then;
+          is_log = more_log;
+          as_told = told_then;
+          is_settled = λ e. is_settled;
+          surely = λ end. refl;
+          sends = subst (Sends contents old new 0 after) (text_more p.lines one) (Sends-append contents old mid new 0 sent after (kicks_text c given p.lines) (kick_line c one) p.sends q);
+        }
+
+        -- its line broke off
+        pub cheaper_breaks : (kicks : ℕ) (new : Watched W) (fault : WriteFault) → made < kicks → BreaksIn contents mid new sent (kick_line c one) fault → PolishLogStops contents c from given kicks old new (LogFailed (sent_of fault))
+        cheaper_breaks kicks new fault inside q =
+            let front : sent ≡ saturated (0 + length (kicks_text c given p.lines)) = p.sends.counted in
+            let count : saturated (sent + q.sent) ≡ saturated (length (kicks_text c given p.lines) + q.sent) = omega arith in
+            record {
+              settled = true;
+              last = next;
+              text = kicks_text c given lines_then ++ last_line c true next;
+              run = record {
+                lines = lines_then;
+                is_log = later_log (made + 1) kicks lines_then (omega arith) more_log;
+                reached = reached;
+                no_dearer = no_dearer_than lines_then next more_log.falls told_then;
+                as_told = told_then;
+                is_settled = λ e. is_settled;
+                surely = λ end. refl;
+                text_is = refl;
+              };
+              sent = length (kicks_text c given p.lines) + q.sent;
+              stops = StopsAt-append contents old new (kicks_text c given lines_then) (last_line c true next) (length (kicks_text c given p.lines) + q.sent)
+                  (subst (λ text. StopsAt contents old new text (length (kicks_text c given p.lines) + q.sent)) (text_more p.lines one) (StopsAt-after contents old mid new (kicks_text c given p.lines) (kick_line c one) q.sent p.sends.writes q.stops));
+              counted = ap (λ f. LogFailed (sent_of f)) q.counted ∙ ap LogFailed count;
+            }
+
+      -- ---- the end
+
+      whole : List ℕ
+      whole = kicks_text c given p.lines ++ last_line c settled kept
+
+      ended : (kicks : ℕ) → made ≤ kicks → IsReached c from given kept → IsPolishing c from given kicks settled kept whole
+      unfolding whole
+      ended kicks few reached = record {
+        lines = p.lines;
+        is_log = later_log made kicks p.lines few p.is_log;
+        reached = reached;
+        as_told = p.as_told;
+        no_dearer = no_dearer_than p.lines kept p.is_log.falls p.as_told;
+        is_settled = p.is_settled;
+        surely = p.surely;
+        text_is = refl;
+      }
+
+      pub ends : (kicks : ℕ) (new : Watched W) (after : ℕ) (told : Polished) → made ≤ kicks → IsReached c from given kept → told.settled ≡ settled → told.total ≡ penalty c kept → Sends contents mid new sent after (last_line c settled kept) → Polishes contents c from given kicks kept old new told
+      unfolding whole
+      ends kicks new after told few reached settled_is total_is q = record {
+        text = whole;
+        run = subst (λ b. IsPolishing c from given kicks b kept whole) (sym settled_is) (ended kicks few reached);
+        writes = (Sends-append contents old mid new 0 sent after (kicks_text c given p.lines) (last_line c settled kept) p.sends q).writes;
+        total = total_is;
+      }
+
+      pub end_breaks : (kicks : ℕ) (new : Watched W) (fault : WriteFault) → made ≤ kicks → IsReached c from given kept → BreaksIn contents mid new sent (last_line c settled kept) fault → PolishLogStops contents c from given kicks old new (LogFailed (sent_of fault))
+      unfolding whole
+      end_breaks kicks new fault few reached q =
           let front : sent ≡ saturated (0 + length (kicks_text c given p.lines)) = p.sends.counted in
           let count : saturated (sent + q.sent) ≡ saturated (length (kicks_text c given p.lines) + q.sent) = omega arith in
           record {
-            settled = true;
-            last = next;
-            text = kicks_text c given lines_then ++ last_line c true next;
-            run = record {
-              first = p.first;
-              lines = lines_then;
-              no_dearer = p.no_dearer;
-              is_log = later_log (made + 1) kicks p.first lines_then (omega arith) more_log;
-              reached = reached;
-              as_told = told_then;
-              is_settled = λ e. is_settled;
-              text_is = refl;
-            };
+            settled = settled;
+            last = kept;
+            text = whole;
+            run = ended kicks few reached;
             sent = length (kicks_text c given p.lines) + q.sent;
-            stops = StopsAt-append contents old new (kicks_text c given lines_then) (last_line c true next) (length (kicks_text c given p.lines) + q.sent)
-                (subst (λ text. StopsAt contents old new text (length (kicks_text c given p.lines) + q.sent)) (text_more p.lines one) (StopsAt-after contents old mid new (kicks_text c given p.lines) (kick_line c one) q.sent p.sends.writes q.stops));
+            stops = StopsAt-after contents old mid new (kicks_text c given p.lines) (last_line c settled kept) q.sent p.sends.writes q.stops;
             counted = ap (λ f. LogFailed (sent_of f)) q.counted ∙ ap LogFailed count;
           }
-
-    -- ---- the end
-
-    whole : List ℕ
-    whole = kicks_text c given p.lines ++ last_line c settled kept
-
-    ended : (kicks : ℕ) → made ≤ kicks → IsReached c from given kept → IsPolishing c from given kicks settled kept whole
-    unfolding whole
-    ended kicks few reached = record {
-      first = p.first;
-      lines = p.lines;
-      no_dearer = p.no_dearer;
-      is_log = later_log made kicks p.first p.lines few p.is_log;
-      reached = reached;
-      as_told = p.as_told;
-      is_settled = p.is_settled;
-      text_is = refl;
-    }
-
-    pub ends : (kicks : ℕ) (new : Watched W) (after : ℕ) (told : Polished) → made ≤ kicks → IsReached c from given kept → told.settled ≡ settled → told.total ≡ penalty c kept → Sends contents mid new sent after (last_line c settled kept) → Polishes contents c from given kicks kept old new told
-    unfolding whole
-    ends kicks new after told few reached settled_is total_is q = record {
-      text = whole;
-      run = subst (λ b. IsPolishing c from given kicks b kept whole) (sym settled_is) (ended kicks few reached);
-      writes = (Sends-append contents old mid new 0 sent after (kicks_text c given p.lines) (last_line c settled kept) p.sends q).writes;
-      total = total_is;
-    }
-
-    pub end_breaks : (kicks : ℕ) (new : Watched W) (fault : WriteFault) → made ≤ kicks → IsReached c from given kept → BreaksIn contents mid new sent (last_line c settled kept) fault → PolishLogStops contents c from given kicks old new (LogFailed (sent_of fault))
-    unfolding whole
-    end_breaks kicks new fault few reached q =
-        let front : sent ≡ saturated (0 + length (kicks_text c given p.lines)) = p.sends.counted in
-        let count : saturated (sent + q.sent) ≡ saturated (length (kicks_text c given p.lines) + q.sent) = omega arith in
-        record {
-          settled = settled;
-          last = kept;
-          text = whole;
-          run = ended kicks few reached;
-          sent = length (kicks_text c given p.lines) + q.sent;
-          stops = StopsAt-after contents old mid new (kicks_text c given p.lines) (last_line c settled kept) q.sent p.sends.writes q.stops;
-          counted = ap (λ f. LogFailed (sent_of f)) q.counted ∙ ap LogFailed count;
-        }

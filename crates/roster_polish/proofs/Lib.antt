@@ -2,3 +2,4 @@ pub mod KickRows
 pub mod Steps
 pub mod Keeping
 pub mod KickLogs
+pub mod Passes

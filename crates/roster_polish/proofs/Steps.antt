@@ -1,7 +1,7 @@
 -- A step of a settling, and what it spends.
 use Rattle.std.proofs.Common.{◌≡◌, ◌∙◌, ◌+◌, ◌-◌, ◌*◌, ◌<◌, ◌≤◌, ◌⊎◌, ℕ, Bool, true, false, not, inl, inr, ap, arith, mul_assoc, nat_lt, refl, subst, sym}
 use Rattle.std.specs.List.{All}
-use Rattle.std.proofs.lemmas.Bool.{cases_Bool, ltb-false}
+use Rattle.std.proofs.lemmas.Bool.{cases_Bool, ltb-false, ltb-true}
 use Rattle.std.proofs.lemmas.Nat.{mul-le}
 use Rattle.roster_instance.specs.Counting.{one_if}
 use Rattle.roster_instance.specs.Meaning.{Meaning, nurse_count}
@@ -13,7 +13,7 @@ use Rattle.roster_laws.specs.Greatest.{extension_count, greatest_extension_count
 use Rattle.roster_laws.proofs.GreatestLemmas.{greatest_extensions}
 use Rattle.roster_rounds.specs.RunLogs.{extensions_in}
 use Rattle.roster_laws.proofs.SameRows.{same_rows_is}
-use Rattle.roster_laws.proofs.Steps.{step_falls, step_is_least}
+use Rattle.roster_laws.proofs.Steps.{changed_is_cheaper, step_is_least}
 use Rattle.roster_polish.specs.Settled.{HasBestRow, Spends, extensions_of}
 
 -- a Boolean whose negation is false
@@ -22,13 +22,6 @@ not_false true e = refl
 not_false false e = e
 
 module _ (c : Meaning) (from : ℕ) (r new : Rows) (n : ℕ) (is : new ≡ step c (best_row c from) r n) where
-  pub falls : penalty c new ≤ penalty c r
-  falls = go (step_falls c (best_row c from) r n)
-    where
-      go : (step c (best_row c from) r n ≡ r) ⊎ (penalty c (step c (best_row c from) r n) < penalty c r) → penalty c new ≤ penalty c r
-      go (inl same) = omega (arith, ap (penalty c) (is ∙ same))
-      go (inr less) = omega (arith, less, ap (penalty c) is)
-
   -- a step that changes nothing leaves a best row
   module _ (changed : Bool) (changed_is : changed ≡ not (same_rows new r)) (unchanged : changed ≡ false) where
     pub is_same : new ≡ r
@@ -37,7 +30,12 @@ module _ (c : Meaning) (from : ℕ) (r new : Rows) (n : ℕ) (is : new ≡ step 
     pub has_best : HasBestRow c from new n
     has_best = subst (λ s. HasBestRow c from s n) (sym is_same) (subst (λ s. All (λ row. penalty c s ≤ penalty_with c r n row) (allowed_rows c from r n)) (sym is ∙ is_same) (step_is_least c from r n))
 
-one_and_rest : (less size : ℕ) → (less + 1) * size ≡ size + less * size
+  -- a step that changes something makes the roster cheaper
+  pub falls_if : (changed : Bool) → changed ≡ not (same_rows new r) → changed ≡ true → penalty c new < penalty c r
+  falls_if changed changed_is differs =
+      ltb-true (penalty c new) (penalty c r) (ap (λ s. nat_lt (penalty c s) (penalty c r)) is ∙ sym (changed_is_cheaper c (best_row c from) r n) ∙ ap (λ s. not (same_rows s r)) (sym is) ∙ sym changed_is ∙ differs)
+
+pub one_and_rest : (less size : ℕ) → (less + 1) * size ≡ size + less * size
 one_and_rest less size = omega arith
 
 pub both_of : (a b size : ℕ) → (a + b) * size ≡ a * size + b * size

@@ -6,7 +6,8 @@ use Rattle.roster_instance.specs.Rosters.{Rows, fits_case}
 use Rattle.roster_rules.specs.Penalties.{penalty}
 use Rattle.roster_laws.specs.FrozenDays.{FrozenDaysStay}
 use Rattle.roster_rounds.specs.PutIn.{IsAccepted}
-use Rattle.roster_rules.specs.Improver.{line}
+use Rattle.roster_rules.specs.AllowedRows.{best_row}
+use Rattle.roster_rules.specs.Improver.{Run, line, run}
 use Rattle.roster_rounds.specs.declared.outcome.LogFault.{LogFault}
 use Rattle.roster_rounds.specs.declared.outcome.LogFault.TheVariants.{LogFailed}
 use Rattle.roster_best.specs.Known.{IsKnown}
@@ -14,6 +15,15 @@ use Rattle.roster_bound.specs.Workspaces.{FitsFloor}
 use Rattle.roster_polish.specs.declared.run.Polished.{Polished}
 use Rattle.roster_polish.specs.declared.space.PolishSpace.{PolishSpace}
 use Rattle.roster_polish.specs.Settled.{IsSettled}
+
+-- ---- the first settling
+
+abbrev pub most_rounds : ℕ
+most_rounds = 1000000
+
+-- that is `improve`: settled for sure where the given roster costs less than 5 * most_rounds
+abbrev pub first_run : Meaning → ℕ → Rows → Run
+first_run c from given = run c (best_row c from) most_rounds given
 
 -- ---- the memory of a run
 
@@ -27,7 +37,7 @@ pub record FitsPolish (c : Meaning) (w : PolishSpace) : Type 0 where
 
 -- how many searches the first settling makes at most
 abbrev pub first_searches : Meaning → ℕ
-first_searches c = 1000000 * nurse_count c
+first_searches c = most_rounds * nurse_count c
 
 -- the most searches beside these for which a new meter surely has room
 abbrev pub most_searches : ℕ
@@ -78,15 +88,16 @@ last_line c settled r = line (if settled then codes "settled" else codes "stoppe
 
 -- ---- a run
 
--- from the given roster to the last, which is as dear as the last line says, and settled where that is said; with this log
+-- from the given roster to the last, by kicks from where the first settling led; the last roster is as dear as the last line says,
+-- and settled where that is said, as it surely is where the first settling came to its end; with this log
 pub record IsPolishing (c : Meaning) (from : ℕ) (given : Rows) (kicks : ℕ) (settled : Bool) (last : Rows) (text : List ℕ) : Type 0 where
-  pub first : Rows
   pub lines : List KickLine
-  pub no_dearer : penalty c first ≤ penalty c given
-  pub is_log : IsKickLog c from given first kicks lines
+  pub is_log : IsKickLog c from given (first_run c from given).roster kicks lines
   pub reached : IsReached c from given last
-  pub as_told : penalty c last ≡ penalty c (last_kick (no_kick first) lines).roster
+  pub as_told : penalty c last ≡ penalty c (last_kick (no_kick (first_run c from given).roster) lines).roster
+  pub no_dearer : penalty c last ≤ penalty c given
   pub is_settled : settled ≡ true → IsSettled c from last
+  pub surely : (first_run c from given).is_settled ≡ true → settled ≡ true
   pub text_is : text ≡ kicks_text c given lines ++ last_line c settled last
 
 -- the log of a run went out, and the answer is what it came to

@@ -4,7 +4,7 @@ ghost use Rattle.std.specs.Prelude.{◌≡◌, ◌+◌, ◌≤◌};
 ghost use Rattle.roster_polish.specs.Polished.{first_searches, most_searches};
 ghost use Rattle.roster_polish.specs.Settled.{extensions_of};
 
-use crate::settle::MOST_PASSES;
+use crate::settle::MOST_ROUNDS;
 use roster_case::Case;
 use roster_rounds::greatest_extensions;
 
@@ -16,6 +16,6 @@ pub fn most_extensions(case: &Case, searches: u32) -> u64
     requires { searches ≤ most_searches }
     ensures { result ≡ extensions_of case.now (searches + first_searches case.now) }
 {
-    let first = MOST_PASSES as u64 * case.nurses() as u64;
+    let first = MOST_ROUNDS as u64 * case.nurses() as u64;
     (searches as u64 + first) * greatest_extensions(case)
 }

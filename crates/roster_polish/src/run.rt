@@ -2,16 +2,15 @@
 
 ghost use Rattle.std.specs.Prelude.{◌≡◌, ◌+◌, ◌*◌, ◌≤◌, false, true, codes, if◌then◌else◌, IfErr, IfOk};
 ghost use Rattle.roster_bundle.specs.Limits.{greatest_u64};
-ghost use Rattle.roster_rules.specs.Penalties.{penalty};
 ghost use Rattle.roster_laws.specs.FrozenDays.{FrozenDaysStay};
 ghost use Rattle.roster_polish.specs.Polished.{FitsPolish, PolishLogStops, Polishes, first_searches};
-ghost use Rattle.roster_polish.specs.Settled.{IsSettled, extensions_of};
+ghost use Rattle.roster_polish.specs.Settled.{extensions_of};
 
 use crate::kick::{Kicking, try_kick};
 use crate::log::log_kick;
 use crate::random::Random;
 use crate::searches::Searches;
-use crate::settle::{Aim, MOST_PASSES, settle};
+use crate::settle::settle_first;
 use crate::space::PolishSpace;
 use roster_bound::improve_worths;
 use roster_case::Held;
@@ -92,31 +91,6 @@ fn end_word(settled: bool) -> &'static [u8]
     ensures { result.now ≡ (if settled then codes "settled" else codes "stopped") }
 {
     if settled { b"settled" } else { b"stopped" }
-}
-
-/// Settles the roster that was given.
-fn settle_first(held: &mut Held, from: u16, space: &mut PolishSpace, meter: &mut Meter) -> bool
-    requires fits { FitsPolish held.old.case space.old }
-    requires room { meter.old + extensions_of held.old.case (first_searches held.old.case) ≤ greatest_u64 }
-    ensures case { held.new.case ≡ held.old.case }
-    ensures settled { result ≡ true → IsSettled held.old.case from held.new.roster }
-    ensures frozen { FrozenDaysStay held.old.case from held.old.roster held.new.roster }
-    ensures no_dearer { penalty held.old.case held.new.roster ≤ penalty held.old.case held.old.roster }
-    ensures counted { meter.new ≤ meter.old + extensions_of held.old.case (first_searches held.old.case) }
-    ensures fits { FitsPolish held.old.case space.new }
-{
-    held.case().keeps_limits();
-    let mut searches = Searches {
-        left: MOST_PASSES as u64 * held.case().nurses() as u64,
-        from,
-    };
-    let aim = Aim {
-        first: 0,
-        most: held.total(),
-    };
-    let PolishSpace { floor, last, .. } = space;
-    let workspace = &mut floor.rows.workspace;
-    settle(held, aim, &mut searches, workspace, last, meter)
 }
 
 /// Improves the worths by which kicks price, with half of the searches at most.

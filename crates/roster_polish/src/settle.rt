@@ -1,16 +1,20 @@
 //! Steps until no nurse has a cheaper row.
 
-ghost use Rattle.std.specs.Prelude.{◌≡◌, ◌+◌, ◌<◌, ◌≤◌, ℕ, false, true};
+ghost use Rattle.std.specs.Prelude.{◌≡◌, ◌+◌, ◌<◌, ◌≤◌, ℕ, false, true, not, if◌then◌else◌};
 ghost use Rattle.roster_bundle.specs.Limits.{greatest_u64};
 ghost use Rattle.roster_instance.specs.Meaning.{nurse_count};
+ghost use Rattle.roster_rules.specs.AllowedRows.{best_row};
+ghost use Rattle.roster_rules.specs.Improver.{round, same_rows, step};
 ghost use Rattle.roster_rules.specs.Penalties.{penalty};
 ghost use Rattle.roster_laws.specs.FrozenDays.{FrozenDaysStay};
 ghost use Rattle.roster_best.specs.Known.{IsKnown};
 ghost use Rattle.roster_best.specs.Workspaces.{fits_space};
-ghost use Rattle.roster_polish.specs.declared.settle.Pass.TheVariants.{Unchanged};
+ghost use Rattle.roster_polish.specs.declared.settle.Pass.TheVariants.{Changed, Unchanged};
+ghost use Rattle.roster_polish.specs.Polished.{FitsPolish, first_run, first_searches};
 ghost use Rattle.roster_polish.specs.Settled.{HasBestRow, IsSettled, Spends, extensions_of};
 
 use crate::searches::Searches;
+use crate::space::PolishSpace;
 use roster_best::{LastSearches, Workspace};
 use roster_case::Held;
 use roster_rounds::step_unless_known;
@@ -23,8 +27,8 @@ pub(crate) struct Aim {
     pub(crate) most: u64,
 }
 
-/// How many passes a settling makes at most.
-pub(crate) const MOST_PASSES: u32 = 1_000_000;
+/// How many rounds a settling makes at most.
+pub(crate) const MOST_ROUNDS: u32 = 1_000_000;
 
 /// How a pass of steps ended.
 #[derive(Clone, Copy, PartialEq, Eq)]
@@ -34,6 +38,36 @@ enum Pass {
     Changed,
     /// No search was left.
     Stopped,
+}
+
+/// Settles a roster as `improve` does, and says whether it came so far.
+pub(crate) fn settle_first(
+    held: &mut Held,
+    from: u16,
+    space: &mut PolishSpace,
+    meter: &mut Meter,
+) -> bool
+    requires fits { FitsPolish held.old.case space.old }
+    requires room { meter.old + extensions_of held.old.case (first_searches held.old.case) ≤ greatest_u64 }
+    ensures case { held.new.case ≡ held.old.case }
+    ensures roster { held.new.roster ≡ (first_run held.old.case from held.old.roster).roster }
+    ensures settled { result ≡ (first_run held.old.case from held.old.roster).is_settled }
+    ensures counted { meter.new ≤ meter.old + extensions_of held.old.case (first_searches held.old.case) }
+    ensures fits { FitsPolish held.old.case space.new }
+{
+    held.case().keeps_limits();
+    let PolishSpace { floor, last, .. } = space;
+    let workspace = &mut floor.rows.workspace;
+    let mut searches = Searches {
+        left: MOST_ROUNDS as u64 * held.case().nurses() as u64,
+        from,
+    };
+    for rounds_before in 0..MOST_ROUNDS {
+        if let Pass::Unchanged = make_pass(held, 0, &mut searches, workspace, last, meter) {
+            return true;
+        }
+    }
+    false
 }
 
 /// Makes steps until no nurse has a cheaper row, and says whether it came so far: first from a nurse on, then for all, pass by pass.
@@ -60,7 +94,7 @@ pub(crate) fn settle(
     ensures known { IsKnown held.old.case last.new }
 {
     let mut first = aim.first;
-    for pass in 0..MOST_PASSES {
+    for pass in 0..MOST_ROUNDS {
         let end = make_pass(held, first, searches, workspace, last, meter);
         if first == 0 && end == Pass::Unchanged {
             return true;
@@ -95,10 +129,13 @@ fn make_pass(
     requires known { IsKnown held.old.case last.old }
     requires room { meter.old + extensions_of held.old.case searches.old.left ≤ greatest_u64 }
     ensures case { held.new.case ≡ held.old.case }
+    ensures round { first ≡ 0 → nurse_count held.old.case ≤ searches.old.left → held.new.roster ≡ round held.old.case (best_row held.old.case searches.old.from) held.old.roster }
+    ensures end { first ≡ 0 → nurse_count held.old.case ≤ searches.old.left → result ≡ (if same_rows held.new.roster held.old.roster then Unchanged else Changed) }
     ensures unchanged { result ≡ Unchanged → (n : ℕ) → first ≤ n → n < nurse_count held.old.case → HasBestRow held.old.case searches.old.from held.new.roster n }
     ensures frozen { FrozenDaysStay held.old.case searches.old.from held.old.roster held.new.roster }
     ensures no_dearer { penalty held.old.case held.new.roster ≤ penalty held.old.case held.old.roster }
     ensures from { searches.new.from ≡ searches.old.from }
+    ensures few { first ≡ 0 → searches.old.left ≤ searches.new.left + nurse_count held.old.case }
     ensures spends { Spends held.old.case meter.old searches.old.left meter.new searches.new.left }
     ensures fits { fits_space held.old.case workspace.new ≡ true }
     ensures known { IsKnown held.old.case last.new }
@@ -132,10 +169,11 @@ fn step_within(
     requires known { IsKnown held.old.case last.old }
     requires room { meter.old + extensions_of held.old.case searches.old.left ≤ greatest_u64 }
     ensures case { held.new.case ≡ held.old.case }
-    ensures unchanged { result ≡ false → (held.new.roster ≡ held.old.roster) × HasBestRow held.old.case searches.old.from held.new.roster nurse }
+    ensures roster { held.new.roster ≡ step held.old.case (best_row held.old.case searches.old.from) held.old.roster nurse }
+    ensures changed { result ≡ not (same_rows held.new.roster held.old.roster) }
     ensures frozen { FrozenDaysStay held.old.case searches.old.from held.old.roster held.new.roster }
-    ensures no_dearer { penalty held.old.case held.new.roster ≤ penalty held.old.case held.old.roster }
     ensures from { searches.new.from ≡ searches.old.from }
+    ensures one { searches.old.left ≤ searches.new.left + 1 }
     ensures spends { Spends held.old.case meter.old searches.old.left meter.new searches.new.left }
     ensures fits { fits_space held.old.case workspace.new ≡ true }
     ensures known { IsKnown held.old.case last.new }

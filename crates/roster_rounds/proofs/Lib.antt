@@ -1,5 +1,5 @@
 mod Sent
-mod RoundSteps
+pub mod RoundSteps
 mod OneRound
 mod RunSteps
 mod Counts

@@ -6,12 +6,12 @@ use Rattle.roster_instance.specs.Rosters.{Row, Rows, fits_case}
 use Rattle.roster_rules.specs.Penalties.{penalty}
 use Rattle.roster_laws.specs.FrozenDays.{FrozenDaysStay}
 use Rattle.roster_laws.specs.Greatest.{greatest_extension_count}
-use Rattle.roster_laws.proofs.Frozen.{stays_on, stays_self}
+use Rattle.roster_laws.proofs.Frozen.{stays_on}
 use Rattle.roster_rules.specs.Improver.{line}
 use Rattle.roster_polish.specs.Polished.{FitsPolish, first_searches, last_line}
 use Rattle.roster_polish.specs.Settled.{IsSettled, extensions_of}
 use Rattle.roster_polish.proofs.Keeping.{reached_by, same_days}
-use Rattle.roster_polish.proofs.KickLogs.{cheaper_breaks, end_breaks, ends, first_text, start_breaks, underway_cheaper, underway_first, underway_same}
+use Rattle.roster_polish.proofs.KickLogs.{cheaper_breaks, end_breaks, ends, first_kept, first_text, start_breaks, underway_cheaper, underway_first, underway_same}
 use Rattle.roster_polish.proofs.Steps.{both_of}
 use Rattle.roster_polish.proofs.run.polish.Goals as goal
 use Rattle.roster_polish.proofs.run.polish.Goals.{else-total-before, then-total-before+in_ok-sent-2}
@@ -21,8 +21,8 @@ returns-in_err-sent-clause-err g c =
     let p = err_from_is_err_and c.from_residual.result c.from_residual.ensures.1 in
     let k = c.args.held.now.case in
     let given = c.args.held.now.roster in
-    rw (p.1, p.2) (start_breaks g.W.Write.contents k c.args.course.now.from given c.args.log.now c.args.course.now.searches c.log_word.new.log c.in_err-sent.field-0.0
-    (reached_by k k c.args.course.now.from given given refl c.keeps_rules.ensures.fits c.keeps_rules.ensures.keeps (stays_self k c.args.course.now.from given))
+    rw (p.1, p.2) (start_breaks k c.args.course.now.from given g.W.Write.contents c.args.log.now c.args.course.now.searches c.log_word.new.log c.in_err-sent.field-0.0
+    (c.keeps_rules.ensures.fits, c.keeps_rules.ensures.keeps)
     (subst (λ text. BreaksIn g.W.Write.contents c.args.log.now c.log_word.new.log 0 text c.in_err-sent.field-0.0) (first_text k given c.total.result c.total.ensures.total) c.in_err-sent.ensures.err))
 
 -- ---- the first settling
@@ -46,9 +46,9 @@ loop-kicks_before-init g c =
     record {
       case = told.case;
       kept = kept;
-      frozen = told.frozen;
-      going = underway_first g.W.Write.contents k c.args.course.now.from given c.args.log.now c.log_word.new.log c.in_ok-sent.sent c.settle_first-settled.result now.roster told.no_dearer told.settled
-          (subst (Sends g.W.Write.contents c.args.log.now c.log_word.new.log 0 c.in_ok-sent.sent) (first_text k given c.total.result c.total.ensures.total) c.in_ok-sent.ensures.ok);
+      frozen = subst (FrozenDaysStay k c.args.course.now.from given) (sym told.roster) (first_kept k c.args.course.now.from given (c.keeps_rules.ensures.fits, c.keeps_rules.ensures.keeps)).stays;
+      going = rw (told.roster, told.settled) (underway_first k c.args.course.now.from given g.W.Write.contents c.args.log.now c.log_word.new.log c.in_ok-sent.sent
+          (subst (Sends g.W.Write.contents c.args.log.now c.log_word.new.log 0 c.in_ok-sent.sent) (first_text k given c.total.result c.total.ensures.total) c.in_ok-sent.ensures.ok));
       from = c.begin-kicking.ensures.from;
       counted = omega (
         arith,
@@ -61,7 +61,7 @@ loop-kicks_before-init g c =
       fits = record {
         floor = fits.floor;
         known = fits.known;
-        kept_known = c.put.ensures k fits.known;
+        kept_known = c.put.ensures.known k fits.known;
         dearer = fits.dearer;
         kept = subst (λ (rows : Rows). fits_case k rows ≡ true) (sym kept) (subst (λ (m : Meaning). fits_case m now.roster ≡ true) told.case c.keeps_rules-2.ensures.fits);
       };
@@ -80,8 +80,8 @@ loop-kicks_before-preserved-then-not-try_kick g c =
       case = told.case ∙ i.case;
       kept = told.kept;
       frozen = subst (FrozenDaysStay k c.args.course.now.from c.args.held.now.roster) (sym back) i.frozen;
-      going = underway_same g.W.Write.contents k c.args.course.now.from c.args.held.now.roster c.args.log.now l.log l.kicks_before l.sent l.settled l.held.roster i.going l.settled c.try_kick.new.held.roster (ap (penalty k) back)
-          (λ e. subst (IsSettled k c.args.course.now.from) (sym back) (i.going.is_settled e));
+      going = underway_same k c.args.course.now.from c.args.held.now.roster g.W.Write.contents c.args.log.now l.log l.kicks_before l.sent l.settled l.held.roster i.going l.settled c.try_kick.new.held.roster (ap (penalty k) back)
+          (λ e. subst (IsSettled k c.args.course.now.from) (sym back) (i.going.is_settled e)) (λ e. e);
       from = told.from ∙ i.from;
       counted = omega (
         arith,
@@ -109,7 +109,7 @@ returns-in_err-sent-2-clause-err g c =
     let frozen = stays_on k from given l.held.roster next i.frozen (subst (λ (m : Meaning). FrozenDaysStay m from l.held.roster next) i.case (subst (λ week. FrozenDaysStay l.held.case week l.held.roster next) i.from told.frozen)) in
     let total : c.total-total.result ≡ penalty k next = c.total-total.ensures.total ∙ ap (λ (m : Meaning). penalty m next) same in
     let before : c.total-before.result ≡ penalty k l.held.roster = c.total-before.ensures.total ∙ ap (λ (m : Meaning). penalty m l.held.roster) i.case in
-    rw (p.1, p.2) (cheaper_breaks g.W.Write.contents k from given c.args.log.now l.log l.kicks_before l.sent l.settled l.held.roster i.going next (omega (arith, total, before, c.if-total-before.true))
+    rw (p.1, p.2) (cheaper_breaks k from given g.W.Write.contents c.args.log.now l.log l.kicks_before l.sent l.settled l.held.roster i.going next (omega (arith, total, before, c.if-total-before.true))
     (reached_by c.try_kick.new.held.case k from given next same c.keeps_rules-in-loop-kicks_before.ensures.fits c.keeps_rules-in-loop-kicks_before.ensures.keeps frozen) settled
     c.args.course.now.searches c.log_kick.new.log c.in_err-sent-2.field-0.0 c.loop-kicks_before-test.true
     (subst (λ n. BreaksIn g.W.Write.contents l.log c.log_kick.new.log l.sent (line (codes "kick " ++ decimal (l.kicks_before + 1)) n) c.in_err-sent-2.field-0.0) total c.in_err-sent-2.ensures.err))
@@ -135,12 +135,12 @@ loop-kicks_before-preserved g c =
       frozen = frozen;
       going = elim c.if-total-before.branch [
         | then-total-before+in_ok-sent-2 w ↦
-            rw (w.log-is, w.sent-is) (underway_cheaper g.W.Write.contents k from given c.args.log.now l.log l.kicks_before l.sent l.settled l.held.roster i.going next (omega (arith, total, before, w.if-total-before.true))
+            rw (w.log-is, w.sent-is) (underway_cheaper k from given g.W.Write.contents c.args.log.now l.log l.kicks_before l.sent l.settled l.held.roster i.going next (omega (arith, total, before, w.if-total-before.true))
             (reached_by c.try_kick.new.held.case k from given next same c.keeps_rules-in-loop-kicks_before.ensures.fits c.keeps_rules-in-loop-kicks_before.ensures.keeps frozen) settled
             w.log_kick.new.log w.in_ok-sent-2.sent
             (subst (λ n. Sends g.W.Write.contents l.log w.log_kick.new.log l.sent w.in_ok-sent-2.sent (line (codes "kick " ++ decimal (l.kicks_before + 1)) n)) total w.in_ok-sent-2.ensures.ok))
         | else-total-before w ↦
-            rw (w.log-is, w.sent-is) (underway_same g.W.Write.contents k from given c.args.log.now l.log l.kicks_before l.sent l.settled l.held.roster i.going true next (omega (arith, total, before, no_dearer, w.if-total-before.false)) (λ e. settled))
+            rw (w.log-is, w.sent-is) (underway_same k from given g.W.Write.contents c.args.log.now l.log l.kicks_before l.sent l.settled l.held.roster i.going true next (omega (arith, total, before, no_dearer, w.if-total-before.false)) (λ e. settled) (λ e. refl))
       ];
       from = told.from ∙ i.from;
       counted = omega (
@@ -165,7 +165,7 @@ returns-in_err-log_word-clause-err g c =
     let i = l.invariant in
     let total : c.total-total-2.result ≡ penalty k l.held.roster = c.total-total-2.ensures.total ∙ ap (λ (m : Meaning). penalty m l.held.roster) i.case in
     let text : line c.end_word.result.now c.total-total-2.result ≡ last_line k l.settled l.held.roster = λ j. line (c.end_word.ensures j) (total j) in
-    rw (p.1, p.2) (end_breaks g.W.Write.contents k from given c.args.log.now l.log l.kicks_before l.sent l.settled l.held.roster i.going c.args.course.now.searches c.log_word-2.new.log c.in_err-log_word.field-0.0
+    rw (p.1, p.2) (end_breaks k from given g.W.Write.contents c.args.log.now l.log l.kicks_before l.sent l.settled l.held.roster i.going c.args.course.now.searches c.log_word-2.new.log c.in_err-log_word.field-0.0
     (omega (arith, l.auto.kicks_before-end)) (reached_by l.held.case k from given l.held.roster i.case c.keeps_rules-3.ensures.fits c.keeps_rules-3.ensures.keeps i.frozen)
     (subst (λ end. BreaksIn g.W.Write.contents l.log c.log_word-2.new.log l.sent end c.in_err-log_word.field-0.0) text c.in_err-log_word.ensures.err))
 
@@ -178,6 +178,6 @@ returns-clause-ok g c =
     let i = l.invariant in
     let total : c.total-total-2.result ≡ penalty k l.held.roster = c.total-total-2.ensures.total ∙ ap (λ (m : Meaning). penalty m l.held.roster) i.case in
     let text : line c.end_word.result.now c.total-total-2.result ≡ last_line k l.settled l.held.roster = λ j. line (c.end_word.ensures j) (total j) in
-    ends g.W.Write.contents k from given c.args.log.now l.log l.kicks_before l.sent l.settled l.held.roster i.going c.args.course.now.searches c.log_word-2.new.log c.in_ok-log_word.field-0 (record { settled = l.settled; total = c.total-total-2.result })
+    ends k from given g.W.Write.contents c.args.log.now l.log l.kicks_before l.sent l.settled l.held.roster i.going c.args.course.now.searches c.log_word-2.new.log c.in_ok-log_word.field-0 (record { settled = l.settled; total = c.total-total-2.result })
     (omega (arith, l.auto.kicks_before-end)) (reached_by l.held.case k from given l.held.roster i.case c.keeps_rules-3.ensures.fits c.keeps_rules-3.ensures.keeps i.frozen) refl total
     (subst (Sends g.W.Write.contents l.log c.log_word-2.new.log l.sent c.in_ok-log_word.field-0) text c.in_ok-log_word.ensures.ok)

@@ -1,18 +1,18 @@
-use Rattle.std.proofs.Common.{◌≡◌, ◌<◌, ◌≤◌, ℕ, false, true}
-use Rattle.roster_rules.specs.Penalties.{penalty}
+use Rattle.std.proofs.Common.{◌≡◌, ◌+◌, ◌≤◌, true}
 use Rattle.roster_laws.specs.FrozenDays.{FrozenDaysStay}
 use Rattle.roster_best.specs.Known.{IsKnown}
 use Rattle.roster_best.specs.Workspaces.{fits_space}
-use Rattle.roster_polish.specs.Settled.{HasBestRow, Spends}
+use Rattle.roster_polish.specs.Settled.{Spends}
+use Rattle.roster_polish.proofs.Passes.{PassTo}
 use Rattle.roster_polish.proofs.settle.make_pass.Given as goal
 
 abbrev pub invariant-loop-nurse : goal.invariant-loop-nurse
 invariant-loop-nurse l = record {
   case : l.held.case ≡ l.fn.held.case;
-  unchanged : l.changed ≡ false → (n : ℕ) → l.fn.first ≤ n → n < l.nurse → HasBestRow l.fn.held.case l.fn.searches.from l.held.roster n;
+  pass : PassTo l.fn.held.case l.fn.searches.from l.fn.held.roster l.held.roster l.changed l.fn.first l.nurse;
   frozen : FrozenDaysStay l.fn.held.case l.fn.searches.from l.fn.held.roster l.held.roster;
-  no_dearer : penalty l.fn.held.case l.held.roster ≤ penalty l.fn.held.case l.fn.held.roster;
   from : l.searches.from ≡ l.fn.searches.from;
+  few : l.fn.searches.left + l.fn.first ≤ l.searches.left + l.nurse;
   spends : Spends l.fn.held.case l.fn.meter l.fn.searches.left l.meter l.searches.left;
   fits : fits_space l.fn.held.case l.workspace ≡ true;
   known : IsKnown l.fn.held.case l.last;

@@ -1,0 +1,135 @@
+-- A pass: the steps of some nurses in their order.
+use Rattle.std.proofs.Common.{◌≡◌, ◌∙◌, ◌+◌, ◌-◌, ◌*◌, ◌<◌, ◌≤◌, ◌⊎◌, ℕ, suc, Bool, true, false, not, inl, inr, ap, arith, nat_lt, refl, subst, sym}
+use Rattle.std.specs.Prelude.{if◌then◌else◌}
+use Rattle.std.specs.List.{fold, range_with_len}
+use Rattle.std.proofs.lemmas.Bool.{cases_Bool, false_from_ne_true, ltb-false, ltb-true, true≢false}
+use Rattle.roster_instance.specs.Meaning.{Meaning, nurse_count}
+use Rattle.roster_instance.specs.Rosters.{Rows}
+use Rattle.roster_rules.specs.AllowedRows.{best_row}
+use Rattle.roster_rules.specs.Improver.{Run, round, run, same_rows, step}
+use Rattle.roster_rules.specs.Penalties.{penalty}
+use Rattle.roster_laws.proofs.Runs.{run-goes_on, run-settled, run-stopped}
+use Rattle.roster_laws.proofs.SameRows.{same_rows_is, same_rows_of}
+use Rattle.roster_rounds.proofs.RoundSteps.{fold_more}
+use Rattle.roster_polish.specs.declared.settle.Pass.{Pass}
+use Rattle.roster_polish.specs.declared.settle.Pass.TheVariants.{Changed, Stopped, Unchanged}
+use Rattle.roster_polish.specs.Settled.{HasBestRow}
+use Rattle.roster_polish.proofs.Steps.{falls_if, has_best, is_same, one_and_rest}
+
+-- the steps of the nurses from the first to before this one led from one roster to another, and changed it or not
+pub record PassTo (c : Meaning) (from : ℕ) (old now : Rows) (changed : Bool) (first n : ℕ) : Type 0 where
+  pub steps : first ≡ 0 → now ≡ fold (step c (best_row c from)) old (range_with_len 0 n)
+  pub same : changed ≡ false → now ≡ old
+  pub falls : changed ≡ true → penalty c now < penalty c old
+  pub no_dearer : penalty c now ≤ penalty c old
+  pub best : changed ≡ false → (m : ℕ) → first ≤ m → m < n → HasBestRow c from now m
+
+module _ (c : Meaning) (from : ℕ) (old : Rows) (first : ℕ) where
+  pub pass_begins : PassTo c from old old false first first
+  pass_begins = record {
+    steps = λ none. sym (ap (λ m. fold (step c (best_row c from)) old (range_with_len 0 m)) none);
+    same = λ e. refl;
+    falls = λ e. absurd (true≢false (sym e));
+    no_dearer = omega arith;
+    best = λ e m above below. absurd (below_none first m above below);
+  }
+    where
+      below_none : (a m : ℕ) → a ≤ m → m < a → ⊥
+      below_none a m above below = omega (arith, above, below)
+
+  module _ (now : Rows) (changed : Bool) (n : ℕ) (p : PassTo c from old now changed first n) where
+    module _ (new : Rows) (is : new ≡ step c (best_row c from) now n) (moved : Bool) (moved_is : moved ≡ not (same_rows new now)) where
+      steps_more : first ≡ 0 → new ≡ fold (step c (best_row c from)) old (range_with_len 0 (n + 1))
+      steps_more none = is ∙ ap (λ s. step c (best_row c from) s n) (p.steps none) ∙ sym (fold_more c (best_row c from) old n)
+
+      pub pass_moves : moved ≡ true → PassTo c from old new true first (n + 1)
+      pass_moves moves =
+          let less : penalty c new < penalty c now = falls_if c from now new n is moved moved_is moves in
+          record {
+            steps = steps_more;
+            same = λ e. absurd (true≢false e);
+            falls = λ e. omega (arith, less, p.no_dearer);
+            no_dearer = omega (arith, less, p.no_dearer);
+            best = λ e. absurd (true≢false e);
+          }
+
+      pub pass_stays : moved ≡ false → PassTo c from old new changed first (n + 1)
+      pass_stays stays =
+          let still : new ≡ now = is_same c from now new n is moved moved_is stays in
+          let last : HasBestRow c from new n = has_best c from now new n is moved moved_is stays in
+          let go : (e : changed ≡ false) (m : ℕ) → first ≤ m → m < n + 1 → (nat_lt m n ≡ true) ⊎ (nat_lt m n ≡ false) → HasBestRow c from new m =
+          λ e m above below. elim [
+            | inl before ↦ subst (λ s. HasBestRow c from s m) (sym still) (p.best e m above (ltb-true m n before))
+            | inr not_before ↦ (let here : n ≡ m = omega (arith, below, ltb-false m n not_before) in subst (HasBestRow c from new) here last)
+          ] in
+          record {
+            steps = steps_more;
+            same = λ e. still ∙ p.same e;
+            falls = λ e. omega (arith, ap (penalty c) still, p.falls e);
+            no_dearer = omega (arith, ap (penalty c) still, p.no_dearer);
+            best = λ e m above below. go e m above below (cases_Bool (nat_lt m n));
+          }
+
+    -- ---- its end
+
+    pub pass_is_round : first ≡ 0 → n ≡ nurse_count c → now ≡ round c (best_row c from) old
+    unfolding round
+    pass_is_round none all = p.steps none ∙ ap (λ m. fold (step c (best_row c from)) old (range_with_len 0 m)) all
+
+    pub pass_differs : changed ≡ true → same_rows now old ≡ false
+    pass_differs some = false_from_ne_true (same_rows now old) (λ e. no_less (penalty c now) (penalty c old) (p.falls some) (ap (penalty c) (same_rows_is now old e)))
+      where
+        no_less : (a b : ℕ) → a < b → a ≡ b → ⊥
+        no_less a b less same = omega (arith, less, same)
+
+    pub pass_same : changed ≡ false → same_rows now old ≡ true
+    pass_same none = same_rows_of now old (p.same none)
+
+-- ---- a round in a run
+
+module _ (c : Meaning) (from : ℕ) (old now : Rows) (rounds made : ℕ) (next : made < rounds) (is_round : now ≡ round c (best_row c from) old) where
+  one_more : rounds - made ≡ suc (rounds - (made + 1))
+  one_more = omega (arith, next)
+
+  pub run_goes_on : same_rows now old ≡ false → run c (best_row c from) (rounds - made) old ≡ run c (best_row c from) (rounds - (made + 1)) now
+  run_goes_on differs =
+      ap (λ m. run c (best_row c from) m old) one_more ∙ run-goes_on c (best_row c from) (rounds - (made + 1)) old (ap (λ r. same_rows r old) (sym is_round) ∙ differs)
+      ∙ ap (run c (best_row c from) (rounds - (made + 1))) (sym is_round)
+
+  pub run_ends : same_rows now old ≡ true → run c (best_row c from) (rounds - made) old ≡ record { roster = now; is_settled = true }
+  run_ends same =
+      ap (λ m. run c (best_row c from) m old) one_more ∙ run-settled c (best_row c from) (rounds - (made + 1)) old (ap (λ r. same_rows r old) (sym is_round) ∙ same)
+      ∙ ap settled_at (sym (same_rows_is now old same))
+    where
+      settled_at : Rows → Run
+      settled_at r = record { roster = r; is_settled = true }
+
+pub run_stops : (c : Meaning) (from : ℕ) (r : Rows) (rounds made : ℕ) → made ≡ rounds → run c (best_row c from) (rounds - made) r ≡ record { roster = r; is_settled = false }
+run_stops c from r rounds made all = let none : rounds - made ≡ 0 = omega (arith, all) in ap (λ m. run c (best_row c from) m r) none ∙ run-stopped c (best_row c from) r
+
+-- how it ended tells whether it changed the roster
+pub was_same : (same : Bool) (end : Pass) → end ≡ (if same then Unchanged else Changed) → end ≡ Unchanged → same ≡ true
+was_same true end is unchanged = refl
+was_same false end is unchanged = absurd (true≢false (sym (ap is_unchanged (sym is ∙ unchanged))))
+  where
+    is_unchanged : Pass → Bool
+    is_unchanged Unchanged = true
+    is_unchanged Changed = false
+    is_unchanged Stopped = false
+
+pub was_other : (same : Bool) (end : Pass) → end ≡ (if same then Unchanged else Changed) → (end ≡ Unchanged → ⊥) → same ≡ false
+was_other true end is changed = absurd (changed is)
+was_other false end is changed = refl
+
+-- searches for the rounds that are left are enough for the next one
+module _ (nurses rounds made left : ℕ) (next : made < rounds) (enough : (rounds - made) * nurses ≤ left) where
+  one_round : (rounds - made) * nurses ≡ nurses + (rounds - (made + 1)) * nurses
+  one_round =
+      let is : rounds - made ≡ rounds - (made + 1) + 1 = omega (arith, next) in
+      ap (λ m. m * nurses) is ∙ one_and_rest (rounds - (made + 1)) nurses
+
+  pub enough_for_one : nurses ≤ left
+  enough_for_one = omega (arith, one_round, enough)
+
+  pub enough_after : (left_new : ℕ) → left ≤ left_new + nurses → (rounds - (made + 1)) * nurses ≤ left_new
+  enough_after left_new few = omega (arith, one_round, enough, few)

@@ -1,0 +1,64 @@
+use Rattle.std.proofs.Common.{◌≡◌, ◌∙◌, ◌+◌, ◌≤◌, ap, arith, refl, subst, sym, true}
+use Rattle.roster_instance.specs.Meaning.{Meaning, nurse_count}
+use Rattle.roster_best.specs.Known.{IsKnown}
+use Rattle.roster_best.specs.Workspaces.{fits_space}
+use Rattle.roster_rules.specs.AllowedRows.{best_row}
+use Rattle.roster_rules.specs.Improver.{Run, round, same_rows}
+use Rattle.roster_polish.specs.Polished.{first_run, first_searches, most_rounds}
+use Rattle.roster_polish.specs.Settled.{Spends}
+use Rattle.roster_polish.proofs.Passes.{enough_after, enough_for_one, run_ends, run_goes_on, run_stops, was_other, was_same}
+use Rattle.roster_polish.proofs.Steps.{spent_both}
+use Rattle.roster_polish.proofs.settle.settle_first.Goals as goal
+
+pub loop-rounds_before-preserved : goal.loop-rounds_before-preserved
+loop-rounds_before-preserved c =
+    let k = c.args.held.now.case in
+    let from = c.args.from in
+    let l = c.loop-rounds_before in
+    let i = l.invariant in
+    let told = c.make_pass.ensures in
+    let next = c.make_pass.new.held.roster in
+    let one : nurse_count l.held.case ≤ l.searches.left = subst (λ (m : Meaning). nurse_count m ≤ l.searches.left) (sym i.case) (enough_for_one (nurse_count k) most_rounds l.rounds_before l.searches.left c.loop-rounds_before-test.true i.left) in
+    let is_round : next ≡ round k (best_row k from) l.held.roster = subst (λ (m : Meaning). next ≡ round m (best_row m from) l.held.roster) i.case (subst (λ week. next ≡ round l.held.case (best_row l.held.case week) l.held.roster) i.from (told.round refl one)) in
+    let differs = was_other (same_rows next l.held.roster) c.make_pass.result (told.end refl one) c.in_default.not-Unchanged in
+    record {
+      case = told.case ∙ i.case;
+      run_is = i.run_is ∙ run_goes_on k from l.held.roster next most_rounds l.rounds_before c.loop-rounds_before-test.true is_round differs;
+      left = enough_after (nurse_count k) most_rounds l.rounds_before l.searches.left c.loop-rounds_before-test.true i.left c.make_pass.new.searches.left (subst (λ (m : Meaning). l.searches.left ≤ c.make_pass.new.searches.left + nurse_count m) i.case (told.few refl));
+      from = told.from ∙ i.from;
+      spends = spent_both k c.args.meter.now (first_searches k) l.meter l.searches.left c.make_pass.new.meter c.make_pass.new.searches.left i.spends (subst (λ (m : Meaning). Spends m l.meter l.searches.left c.make_pass.new.meter c.make_pass.new.searches.left) i.case told.spends);
+      fits = subst (λ (m : Meaning). fits_space m c.make_pass.new.workspace ≡ true) i.case told.fits;
+      known = subst (λ (m : Meaning). IsKnown m c.make_pass.new.last) i.case told.known;
+    }
+
+pub returns-clause-roster : goal.returns-clause-roster
+returns-clause-roster c =
+    let k = c.args.held.now.case in
+    let l = c.loop-rounds_before in
+    sym (ap (λ (r : Run). r.roster) (l.invariant.run_is ∙ run_stops k c.args.from l.held.roster most_rounds l.rounds_before (omega (arith, l.auto.rounds_before-end, c.loop-rounds_before-test.false))))
+
+pub returns-clause-settled : goal.returns-clause-settled
+returns-clause-settled c =
+    let k = c.args.held.now.case in
+    let l = c.loop-rounds_before in
+    sym (ap (λ (r : Run). r.is_settled) (l.invariant.run_is ∙ run_stops k c.args.from l.held.roster most_rounds l.rounds_before (omega (arith, l.auto.rounds_before-end, c.loop-rounds_before-test.false))))
+
+-- the round that was made is the last one
+ended : (c : goal.After-drop-searches) → first_run c.args.held.now.case c.args.from c.args.held.now.roster ≡ record { roster = c.make_pass.new.held.roster; is_settled = true }
+ended c =
+    let k = c.args.held.now.case in
+    let from = c.args.from in
+    let l = c.loop-rounds_before in
+    let i = l.invariant in
+    let told = c.make_pass.ensures in
+    let next = c.make_pass.new.held.roster in
+    let one : nurse_count l.held.case ≤ l.searches.left = subst (λ (m : Meaning). nurse_count m ≤ l.searches.left) (sym i.case) (enough_for_one (nurse_count k) most_rounds l.rounds_before l.searches.left c.loop-rounds_before-test.true i.left) in
+    let is_round : next ≡ round k (best_row k from) l.held.roster = subst (λ (m : Meaning). next ≡ round m (best_row m from) l.held.roster) i.case (subst (λ week. next ≡ round l.held.case (best_row l.held.case week) l.held.roster) i.from (told.round refl one)) in
+    let same = was_same (same_rows next l.held.roster) c.make_pass.result (told.end refl one) c.in-Unchanged.is in
+    i.run_is ∙ run_ends k from l.held.roster next most_rounds l.rounds_before c.loop-rounds_before-test.true is_round same
+
+pub returns-in-Unchanged-clause-roster : goal.returns-in-Unchanged-clause-roster
+returns-in-Unchanged-clause-roster c = sym (ap (λ (r : Run). r.roster) (ended c))
+
+pub returns-in-Unchanged-clause-settled : goal.returns-in-Unchanged-clause-settled
+returns-in-Unchanged-clause-settled c = sym (ap (λ (r : Run). r.is_settled) (ended c))
