@@ -91,7 +91,7 @@ pub(crate) fn try_kick(
     }
 }
 
-/// Gives two or three nurses the best rows by the prices of a kick, and answers the nurse after the last of them.
+/// Gives one to three nurses the best rows by the prices of a kick, and answers the nurse after the last of them.
 fn kick_nurses(
     held: &mut Held,
     kicking: &mut Kicking,
@@ -109,7 +109,7 @@ fn kick_nurses(
 {
     let draw = draw_kick(held.case().weeks(), kicking);
     let mut after = 0;
-    for _ in 0..2 + kicking.random.below(2) {
+    for _ in 0..1 + kicking.random.below(3) {
         if kicking.searches.left == 0 {
             break;
         }
@@ -118,17 +118,20 @@ fn kick_nurses(
     after
 }
 
-/// What the next kick is.
+/// How many of four kicks price by worths, on average.
+const BY_WORTH: u32 = 2;
+
+/// What the next kick is: its weeks are one to four.
 fn draw_kick(weeks: u16, kicking: &mut Kicking) -> Draw
     ensures from { kicking.new.searches.from ≡ kicking.old.searches.from }
     ensures left { kicking.new.searches.left ≡ kicking.old.searches.left }
 {
     let random = &mut kicking.random;
     let frozen = kicking.searches.from.min(weeks);
-    let length = (2 + random.below(7)).min((weeks - frozen) as u32);
+    let length = (1 + random.below(4)).min((weeks - frozen) as u32);
     let first = frozen as u32 + random.below((weeks - frozen) as u32 - length + 1);
     Draw {
-        by_worth: random.below(2) == 0,
+        by_worth: random.below(4) < BY_WORTH,
         first: first as u16,
         last: (first + length) as u16,
         share: 10 + random.below(61),

@@ -107,11 +107,12 @@ pub(crate) fn settle(
     false
 }
 
-/// How far above the penalty a roster may be after a pass.
+/// How far above the penalty a roster may be after a pass. The first one has no limit, since it may begin with a late nurse.
 fn slack(pass: u32) -> u64 {
     match pass {
-        0 => 60,
-        1 => 30,
+        0 => u64::MAX,
+        1 => 60,
+        2 => 30,
         _ => 15,
     }
 }

@@ -189,7 +189,7 @@ pub(crate) const POLISH: &str =
 pub(crate) const POLISH_HELP: &str =
     "A roster is settled where no nurse has a cheaper row while the others keep
 theirs. 'roster improve' ends there. This command settles the roster too, and
-then makes kicks, as long as searches are left. A kick gives two or three nurses
+then makes kicks, as long as searches are left. A kick gives one to three nurses
 the best rows by other prices, and settles the roster again. Where it is no
 dearer than before the kick, it is kept; else the one from before comes back.
 
