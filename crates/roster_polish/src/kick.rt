@@ -121,7 +121,7 @@ fn kick_nurses(
 /// How many of four kicks price by worths, on average.
 const BY_WORTH: u32 = 2;
 
-/// What the next kick is: its weeks are one to four.
+/// What the next kick is: its weeks are one to four, or as many as may change where these are fewer.
 fn draw_kick(weeks: u16, kicking: &mut Kicking) -> Draw
     ensures from { kicking.new.searches.from ≡ kicking.old.searches.from }
     ensures left { kicking.new.searches.left ≡ kicking.old.searches.left }

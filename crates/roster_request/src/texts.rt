@@ -144,27 +144,27 @@ Examples:
 The files are read one after another, in the order given. Without a file, the
 texts are read from standard input.";
 
-pub(crate) const BOUND: &str = "Write a bound below which no roster costs";
+pub(crate) const BOUND: &str = "Write a number that no roster costs less than";
 
 pub(crate) const BOUND_HELP: &str =
     "How good a roster can get. Two lines are written, what the roster costs, and a
 number that no roster costs less than, however it is made:
   roster 3150
-  bound 720
+  bound 745
 So at most the difference can still be saved. The bound is for all rosters of
 the instance that keep the hard rules. There may be none that costs so little.
 
 The hard rules are asked first, as for 'roster cost'. To standard error goes a
 log, each line as soon as it is known:
-  start 3150    what the roster costs
-  round 1 720   the bound that round 1 found. A round that finds no greater one
-                has no line.
+  start 3150     what the roster costs
+  round 85 745   the bound that round 85 found. A round that finds no greater one
+                 has no line.
 A round takes each nurse once, as a round of 'roster improve' does. More rounds
 mostly find a greater bound, but not always. With --rounds 0 the bound is 0.
 
 With --from V the weeks 0 to V - 1 are frozen: the bound is for those rosters in
 which each nurse's days in them are as they stand. Where V is above the last
-week, there is no other such roster.
+week, that is the given roster alone.
 
 What isn't promised: how near the bound is to the cheapest roster; how long the
 run takes. For its memory and the greatest number of steps for a nurse see
@@ -178,35 +178,37 @@ Examples:
 The files are read one after another, in the order given. Without a file, the
 texts are read from standard input.";
 
-pub(crate) const SEARCH_COUNT: &str = "The kicks take so many searches at most, 0 to 10000000";
+pub(crate) const SEARCH_COUNT: &str =
+    "After the first settling the run takes so many searches at most, 0 to 10000000";
 
 pub(crate) const SEED_NUMBER: &str =
     "What the random numbers of the kicks begin with, 0 to 4294967295";
 
-pub(crate) const POLISH: &str =
-    "Make the rosters cheaper where 'improve' is settled, and write them";
+pub(crate) const POLISH: &str = "Make the rosters cheaper by kicks, and write them";
 
 pub(crate) const POLISH_HELP: &str =
     "A roster is settled where no nurse has a cheaper row while the others keep
-theirs. 'roster improve' ends there. This command settles the roster too, and
-then makes kicks, as long as searches are left. A kick gives one to three nurses
-the best rows by other prices, and settles the roster again. Where it is no
-dearer than before the kick, it is kept; else the one from before comes back.
+theirs. 'roster improve' ends there, if its rounds are enough. This command
+settles the roster too, and then makes kicks, as long as searches are left. A
+kick gives one to three nurses the best rows by other prices, on the days of one
+to four weeks, and settles the roster again. Where it settles, and is no dearer
+than before the kick, it stays; else, also where no search is left, the one from
+before comes back.
 
 The hard rules are asked first, as for 'roster cost', and the rosters written
 keep them too. To standard error goes a log, each line as soon as it is known:
-  start 3150      what the roster costs before the run
-  kick 4 1630     kick 4 made it cheaper: it costs 1630 now. A kick that doesn't
-                  make it cheaper has no line.
-  settled 1630    what the rosters written cost. They are settled.
-In place of 'settled' stands 'stopped' where the first settling took more than
-1,000,000 rounds, and no kick was kept.
+  start 3150     what the roster costs before the run
+  kick 853 920   kick 853 made it cheaper: it costs 920 now. A kick that doesn't
+                 make it cheaper has no line.
+  settled 920    what the rosters written cost. They are settled.
+In place of 'settled' stands 'stopped' where the first settling was not at its
+end after 1,000,000 rounds, and no kick was kept.
 
 A search is one for the best row of a nurse. The first settling takes as many as
-it needs. After it the run takes at most as many as --searches allows: up to a
-half of them to find prices, and the others for kicks. With --searches 0 there
-is no kick. The same texts, --searches, --seed and --from give the same rosters.
-It pays to try several seeds.
+it needs, in up to 1,000,000 rounds. After it the run takes at most as many as
+--searches allows: up to a half of them to find prices, and the others for
+kicks. With --searches 0 there is no kick. The same texts, --searches, --seed
+and --from give the same rosters. It pays to try several seeds.
 
 With --from V the weeks 0 to V - 1 are frozen: each nurse's days in them stay as
 they stand. All weeks are read, and count for what the roster costs. Where V is
