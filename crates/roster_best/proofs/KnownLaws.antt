@@ -39,15 +39,15 @@ use Rattle.roster_best.proofs.SearchLaws.{best_is}
 
 -- ---- the prices of a day
 
-place_fits : (c : Meaning) → shift_count c ≤ most_shifts → (x : Offer) → IsOfferOf c x → price_place (shift_of x.choice) < 9
+place_fits : (c : Meaning) → shift_count c ≤ most_shifts → (x : Offer) → IsOfferOf c x → price_place (shift_of x.choice) < 1 + most_shifts
 place_fits c few x of_case = go x.choice of_case.choice
   where
-    go : (choice : Choice) → is_choice_of c choice ≡ true → price_place (shift_of choice) < 9
+    go : (choice : Choice) → is_choice_of c choice ≡ true → price_place (shift_of choice) < 1 + most_shifts
     go Off is = omega arith
     go (Work s k) is = omega (arith, few, ltb-true s.0 (shift_count c) (and_parts (nat_lt s.0 (shift_count c)) (nat_lt k.0 (skill_count c)) is).0)
 
-pub places_fit : (c : Meaning) (n : ℕ) (offers : List Offer) → shift_count c ≤ most_shifts → AreDayOffers c n offers → All (λ x. price_place (shift_of x.choice) < 9) offers
-places_fit c n offers few are = All-weaker (IsOfferOf c) (λ x. price_place (shift_of x.choice) < 9) (place_fits c few) offers are.of_case
+pub places_fit : (c : Meaning) (n : ℕ) (offers : List Offer) → shift_count c ≤ most_shifts → AreDayOffers c n offers → All (λ x. price_place (shift_of x.choice) < 1 + most_shifts) offers
+places_fit c n offers few are = All-weaker (IsOfferOf c) (λ x. price_place (shift_of x.choice) < 1 + most_shifts) (place_fits c few) offers are.of_case
 
 -- an offer's price is put at its place
 pub price_put : (offers : List Offer) (prices : List ℕ) (i at : ℕ) (d : Offer) → i < length offers → at < length prices → at ≡ price_place (shift_of (slice_index_or offers i d).choice) → ArePrices offers prices → ArePrices offers (slice_set prices at (slice_index_or offers i d).price)

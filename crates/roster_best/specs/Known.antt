@@ -2,6 +2,7 @@
 use Rattle.std.specs.Prelude.{◌≡◌, ◌≢◌, ℕ, ◌+◌, ◌*◌, ◌<◌, ◌≤◌, ◌==◌, ◌&&◌, Bool, Contains, IfSome, List, [], Option, Some, None, length, slice_index, slice_index_or}
 use Rattle.roster_instance.specs.declared.choice.Shift.{Shift}
 use Rattle.roster_instance.specs.Choices.{shift_of}
+use Rattle.roster_instance.specs.Limits.{most_shifts}
 use Rattle.roster_instance.specs.Meaning.{Meaning, day_count, nurse_count}
 use Rattle.roster_search.specs.declared.offer.Offer.{Offer}
 use Rattle.roster_search.specs.Search.{best_over}
@@ -11,7 +12,7 @@ use Rattle.roster_best.specs.declared.last.LastSearches.{LastSearches}
 abbrev pub not_offered : ℕ
 not_offered = 4294967295
 
--- where the price of a shift stands among nine: to be off comes first
+-- where the price of a shift stands among those of a day: to be off comes first
 abbrev pub price_place : Option Shift → ℕ
 price_place None = 0
 price_place (Some shift) = shift.0 + 1
@@ -25,11 +26,11 @@ pub record IsPriceOf (offers : List Offer) (place price : ℕ) : Type 0 where
 
 -- so is each of these prices, where there is one
 abbrev pub ArePrices : List Offer → List ℕ → Type 0
-ArePrices offers prices = (place : ℕ) → place < 9 → slice_index prices place ≢ not_offered → IsPriceOf offers place (slice_index prices place)
+ArePrices offers prices = (place : ℕ) → place < 1 + most_shifts → slice_index prices place ≢ not_offered → IsPriceOf offers place (slice_index prices place)
 
 -- there is a price for the offer's shift, and the offer's own is higher than that by at least `rise`, less `fall`
 pub record IsDearer (prices : List ℕ) (rise fall : ℕ) (offer : Offer) : Type 0 where
-  pub place : price_place (shift_of offer.choice) < 9
+  pub place : price_place (shift_of offer.choice) < 1 + most_shifts
   pub offered : slice_index prices (price_place (shift_of offer.choice)) ≢ not_offered
   pub price : slice_index prices (price_place (shift_of offer.choice)) + rise ≤ offer.price + fall
 

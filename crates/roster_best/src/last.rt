@@ -1,7 +1,8 @@
 //! What the last search for each nurse tells of the next.
 
-ghost use Rattle.std.specs.Prelude.{◌≡◌, ◌<◌, ℕ, true, All, IfOk, IfSome, None, length, replicate};
+ghost use Rattle.std.specs.Prelude.{◌≡◌, ◌+◌, ◌<◌, ℕ, true, All, IfOk, IfSome, None, length, replicate};
 ghost use Rattle.roster_instance.specs.Choices.{shift_of};
+ghost use Rattle.roster_instance.specs.Limits.{most_shifts};
 ghost use Rattle.roster_instance.specs.Meaning.{Meaning, nurse_count};
 ghost use Rattle.roster_instance.specs.Rosters.{Row};
 ghost use Rattle.roster_rules.specs.AllowedRows.{best_row};
@@ -13,7 +14,7 @@ ghost use Rattle.roster_best.specs.Workspaces.{AreOffersOf, AreShiftOffers};
 use crate::workspace::BestFault;
 use arrayvec::ArrayVec;
 use roster_case::{Case, Choice, Held};
-use roster_search::Offer;
+use roster_search::{MOST_OFFERS, Offer};
 use roster_state::start;
 use std::alloc::Global;
 
@@ -25,7 +26,7 @@ const NOT_OFFERED: u32 = u32::MAX;
 /// most. One serves all nurses of a case, one after another.
 pub struct LastSearches {
     /// For each nurse and day the price to be off, and the price of each shift.
-    pub(crate) prices: Vec<[u32; 9]>,
+    pub(crate) prices: Vec<[u32; MOST_OFFERS]>,
     /// For each nurse what the best row cost, beside what the start owes; none before the first search.
     pub(crate) costs: Vec<Option<u32>>,
 }
@@ -52,7 +53,7 @@ impl LastSearches {
         let nurses = case.nurses();
         let days = case.days() as usize;
         Ok(LastSearches {
-            prices: vec![in alloc; [NOT_OFFERED; 9]; nurses * days]?,
+            prices: vec![in alloc; [NOT_OFFERED; MOST_OFFERS]; nurses * days]?,
             costs: vec![in alloc; None; nurses]?,
         })
     }
@@ -90,7 +91,7 @@ impl LastSearches {
         &self,
         held: &Held,
         nurse: usize,
-        offers: &[ArrayVec<Offer, 9>],
+        offers: &[ArrayVec<Offer, MOST_OFFERS>],
     ) -> bool
         requires nurse { nurse < nurse_count held.now.case }
         requires known { IsKnown held.now.case self.now }
@@ -122,7 +123,7 @@ impl LastSearches {
         &mut self,
         held: &Held,
         nurse: usize,
-        offers: &[ArrayVec<Offer, 9>],
+        offers: &[ArrayVec<Offer, MOST_OFFERS>],
         cost: u32,
     )
         requires nurse { nurse < nurse_count held.now.case }
@@ -149,8 +150,8 @@ struct Change {
 }
 
 /// How the prices have changed since these, if each offer had one.
-fn change_since(prices: &[u32; 9], offers: &[Offer]) -> Option<Change>
-    requires places { All (λ offer. price_place (shift_of offer.choice) < 9) offers.now }
+fn change_since(prices: &[u32; MOST_OFFERS], offers: &[Offer]) -> Option<Change>
+    requires places { All (λ offer. price_place (shift_of offer.choice) < 1 + most_shifts) offers.now }
     ensures { IfSome result (λ change. All (IsDearer prices.now change.rise change.fall) offers.now) }
 {
     let mut rise = u32::MAX;
@@ -167,11 +168,11 @@ fn change_since(prices: &[u32; 9], offers: &[Offer]) -> Option<Change>
 }
 
 /// The price of each shift on a day.
-fn prices_by_shift(offers: &[Offer]) -> [u32; 9]
-    requires places { All (λ offer. price_place (shift_of offer.choice) < 9) offers.now }
+fn prices_by_shift(offers: &[Offer]) -> [u32; MOST_OFFERS]
+    requires places { All (λ offer. price_place (shift_of offer.choice) < 1 + most_shifts) offers.now }
     ensures { ArePrices offers.now result }
 {
-    let mut prices = [NOT_OFFERED; 9];
+    let mut prices = [NOT_OFFERED; MOST_OFFERS];
     for offer in offers {
         prices[price_place(offer.choice)] = offer.price;
     }

@@ -14,10 +14,10 @@ ghost use Rattle.roster_best.specs.Workspaces.{AreOffersOf, AreShiftOffers, Coun
 
 use crate::by_shift::choices_by_shift;
 use crate::last::LastSearches;
-use crate::workspace::Workspace;
+use crate::workspace::{DayOffers, SearchSpace, Workspace};
 use arrayvec::ArrayVec;
 use roster_case::Held;
-use roster_search::{MOST_DAYS, Offer, RowSearch};
+use roster_search::{MOST_OFFERS, Offer, RowSearch};
 use roster_state::{Meter, start};
 
 /// What the search for a nurse's best row gives beside the row.
@@ -54,12 +54,13 @@ pub fn best_row(
     ensures each_day { meter.old + day_count held.now.case ≤ meter.new }
     ensures counted { meter.new ≤ meter.old + extension_count held.now.case nurse }
     ensures standing { CountsStanding held.now.case from held.now.roster nurse meter.old meter.new }
-    ensures room { SameRoom workspace.old workspace.new }
+    ensures same_room { SameRoom workspace.old workspace.new }
     ensures fits { fits_space held.now.case workspace.new ≡ true }
 {
     held.keeps_rules();
-    let table = offers_of_days(held, nurse, from);
-    let (_, best) = search_offers(held, nurse, table.as_slice(), workspace, meter);
+    let Workspace { offers, space } = workspace;
+    offers_of_days(held, nurse, from, offers);
+    let (_, best) = search_offers(held, nurse, offers.as_slice(), space, meter);
     best
 }
 
@@ -87,17 +88,18 @@ pub fn cheaper_row(
     // What it takes.
     ensures spared { IfNone result (meter.new ≡ meter.old) }
     ensures counted { meter.new ≤ meter.old + extension_count held.now.case nurse }
-    ensures room { SameRoom workspace.old workspace.new }
+    ensures same_room { SameRoom workspace.old workspace.new }
     ensures fits { fits_space held.now.case workspace.new ≡ true }
     ensures known { IsKnown held.now.case last.new }
 {
     held.keeps_rules();
-    let table = offers_of_days(held, nurse, from);
-    if last.has_none_cheaper(held, nurse, table.as_slice()) {
+    let Workspace { offers, space } = workspace;
+    offers_of_days(held, nurse, from, offers);
+    if last.has_none_cheaper(held, nurse, offers.as_slice()) {
         return None;
     }
-    let (cost, best) = search_offers(held, nurse, table.as_slice(), workspace, meter);
-    last.remember(held, nurse, table.as_slice(), cost);
+    let (cost, best) = search_offers(held, nurse, offers.as_slice(), space, meter);
+    last.remember(held, nurse, offers.as_slice(), cost);
     Some(best)
 }
 
@@ -105,21 +107,21 @@ pub fn cheaper_row(
 fn search_offers(
     held: &Held,
     nurse: usize,
-    offers: &[ArrayVec<Offer, 9>],
-    workspace: &mut Workspace,
+    offers: &[ArrayVec<Offer, MOST_OFFERS>],
+    space: &mut SearchSpace,
     meter: &mut Meter,
 ) -> (u32, Best)
     requires nurse { nurse < nurse_count held.now.case }
     requires offers { AreOffersOf held.now.case held.now.roster nurse offers.now }
-    requires fits { fits_space held.now.case workspace.old ≡ true }
+    requires fits { fits_space held.now.case space.old ≡ true }
     requires room { meter.old + extension_count held.now.case nurse ≤ greatest_u64 }
-    ensures found { IsFound (best_over held.now.case nurse (offers_on offers.now)) result.0 workspace.new.row }
+    ensures found { IsFound (best_over held.now.case nurse (offers_on offers.now)) result.0 space.new.row }
     ensures total { result.1.total ≡ rest_of held.now.case held.now.roster nurse + due held.now.case nurse [] + result.0 }
     ensures each_day { meter.old + day_count held.now.case ≤ meter.new }
     ensures counted { meter.new ≤ meter.old + extension_count held.now.case nurse }
     ensures standing { CountsStates held.now.case nurse (offers_on offers.now) meter.old meter.new }
-    ensures room { SameRoom workspace.old workspace.new }
-    ensures fits { fits_space held.now.case workspace.new ≡ true }
+    ensures same_room { SameRoom space.old space.new }
+    ensures fits { fits_space held.now.case space.new ≡ true }
 {
     // The case has small numbers, and the roster keeps the hard rules: so each day has an offer, and there is a best row.
     held.case().keeps_limits();
@@ -129,26 +131,21 @@ fn search_offers(
         nurse,
         offers,
     };
-    let cost = workspace.search(&search, meter);
+    let cost = space.search(&search, meter);
     let (_, owed) = start(held.case(), nurse);
     let total = held.rest(nurse) + owed as u64 + cost as u64;
     (cost, Best { total })
 }
 
-/// The offers of each day, one for each shift.
-pub(crate) fn offers_of_days(
-    held: &Held,
-    nurse: usize,
-    from: u16,
-) -> ArrayVec<ArrayVec<Offer, 9>, MOST_DAYS>
+/// Puts the offers of each day, one for each shift, in the place of others.
+fn offers_of_days(held: &Held, nurse: usize, from: u16, offers: &mut DayOffers)
     requires nurse { nurse < nurse_count held.now.case }
-    ensures offers { AreShiftOffers held.now.case from held.now.roster nurse result.items }
+    ensures offers { AreShiftOffers held.now.case from held.now.roster nurse offers.new.items }
 {
     let case = held.case();
     case.keeps_limits();
-    let mut offers = ArrayVec::new();
+    offers.clear();
     for day in 0..case.days() {
         offers.push(choices_by_shift(held, nurse, day, from));
     }
-    offers
 }

@@ -9,26 +9,46 @@ ghost use Rattle.roster_search.specs.Search.{AreOffers, CountsStates, IsFound, b
 ghost use Rattle.roster_search.specs.Tables.{no_row};
 ghost use Rattle.roster_best.specs.Workspaces.{SameRoom, fits_space};
 
+use arrayvec::ArrayVec;
 use roster_case::{Case, Choice};
-use roster_search::{RowSearch, Tables, search_row};
+use roster_search::{MOST_DAYS, MOST_OFFERS, Offer, RowSearch, Tables, search_row};
 use roster_state::Meter;
 use std::alloc::{AllocError, Global};
 use std::marker::Model;
 use thiserror::Error;
 
-/// What a search for a best row writes into: the tables of the search, and one row. One workspace serves all nurses of a case, one after
-/// another.
+/// What a search for a best row writes into: the offers of a nurse, the tables of the search, and one row. One workspace serves all
+/// nurses of a case, one after another.
 pub struct Workspace {
+    /// For each day those of the last nurse whose best row was searched.
+    pub(crate) offers: DayOffers,
+    pub(crate) space: SearchSpace,
+}
+
+/// A list of offers for each day.
+pub(crate) type DayOffers = ArrayVec<ArrayVec<Offer, MOST_OFFERS>, MOST_DAYS>;
+
+/// What a search over offers writes into, wherever these come from.
+pub(crate) struct SearchSpace {
     pub(crate) tables: Tables,
     pub(crate) choices: Vec<Choice>,
     /// How many of the choices are those of the last best row: none before the first.
     pub(crate) filled: usize,
 }
 
-// By hand, so that who drops a workspace has one call to prove.
+// Both by hand, so that who drops a workspace has one call to prove.
 impl Drop for Workspace {
     fn drop(self) {
         let Workspace {
+            offers: _,
+            space: _,
+        } = self;
+    }
+}
+
+impl Drop for SearchSpace {
+    fn drop(self) {
+        let SearchSpace {
             tables: _,
             choices: _,
             filled: _,
@@ -37,6 +57,14 @@ impl Drop for Workspace {
 }
 
 impl Model for Workspace {
+    ghost use Rattle.roster_best.specs.Workspaces.{Space};
+
+    ghost Value = { Space };
+
+    ghost view = { λ w. w.space };
+}
+
+impl Model for SearchSpace {
     ghost use Rattle.std.specs.Prelude.{◌≤◌, length, take};
     ghost use Rattle.roster_best.specs.Workspaces.{Space};
 
@@ -80,9 +108,12 @@ impl Workspace {
         let states = greatest_states(case) as usize;
         let days = case.days() as usize;
         Ok(Workspace {
-            tables: Tables::new(alloc, states, days)?,
-            choices: vec![in alloc; Choice::Off; days]?,
-            filled: 0,
+            offers: ArrayVec::new(),
+            space: SearchSpace {
+                tables: Tables::new(alloc, states, days)?,
+                choices: vec![in alloc; Choice::Off; days]?,
+                filled: 0,
+            },
         })
     }
 
@@ -90,14 +121,14 @@ impl Workspace {
     pub fn labels(&self) -> usize
         ensures { result ≡ self.now.labels }
     {
-        self.tables.labels()
+        self.space.tables.labels()
     }
 
     /// How many pointers there are: one for each of these states and each day.
     pub fn pointers(&self) -> usize
         ensures { result ≡ self.now.pointers }
     {
-        self.tables.pointers()
+        self.space.tables.pointers()
     }
 
     /// Whether the numbers of labels and pointers are those of the case, and a row of it has room.
@@ -108,7 +139,7 @@ impl Workspace {
         let days = case.days() as usize;
         self.labels() == 2 * states
             && self.pointers() == states * days
-            && days <= self.choices.len()
+            && days <= self.space.choices.len()
     }
 
     /// Searches the best row over a table of offers, wherever these come from, as `search_row` does. `row` shows it afterwards, and the
@@ -128,19 +159,43 @@ impl Workspace {
         ensures each_day { meter.old + day_count search.now.case.now ≤ meter.new }
         ensures counted { meter.new ≤ meter.old + extension_count search.now.case.now search.now.nurse }
         ensures standing { CountsStates search.now.case.now search.now.nurse (offers_on search.now.offers.now) meter.old meter.new }
-        ensures room { SameRoom self.old self.new }
+        ensures same_room { SameRoom self.old self.new }
         ensures fits { fits_space search.now.case.now self.new ≡ true }
     {
-        let cost = search_row(search, &mut self.tables, &mut self.choices, meter);
-        self.filled = search.case.days() as usize;
-        cost
+        self.space.search(search, meter)
     }
 
     /// The row of the last search, with a choice for each day; empty before the first.
     pub fn row(&self) -> &[Choice]
         ensures { result.now ≡ self.now.row }
     {
-        &self.choices[..self.filled]
+        &self.space.choices[..self.space.filled]
+    }
+}
+
+impl SearchSpace {
+    /// What `Workspace::search` does, beside the offers that a workspace may lend it.
+    pub(crate) fn search(&mut self, search: &RowSearch<'_>, meter: &mut Meter) -> u32
+        requires nurse { search.now.nurse < nurse_count search.now.case.now }
+        requires offers { AreOffers search.now.case.now search.now.nurse search.now.offers.now }
+        requires some { IsSome (best_over search.now.case.now search.now.nurse (offers_on search.now.offers.now)) }
+        requires fits { fits_space search.now.case.now self.old ≡ true }
+        requires room { meter.old + extension_count search.now.case.now search.now.nurse ≤ greatest_u64 }
+
+        // The row, and its cost.
+        ensures best { IsFound (best_over search.now.case.now search.now.nurse (offers_on search.now.offers.now)) result self.new.row }
+        ensures below { result < no_row }
+
+        // What it takes.
+        ensures each_day { meter.old + day_count search.now.case.now ≤ meter.new }
+        ensures counted { meter.new ≤ meter.old + extension_count search.now.case.now search.now.nurse }
+        ensures standing { CountsStates search.now.case.now search.now.nurse (offers_on search.now.offers.now) meter.old meter.new }
+        ensures same_room { SameRoom self.old self.new }
+        ensures fits { fits_space search.now.case.now self.new ≡ true }
+    {
+        let cost = search_row(search, &mut self.tables, &mut self.choices, meter);
+        self.filled = search.case.days() as usize;
+        cost
     }
 }
 

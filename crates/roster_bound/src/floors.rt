@@ -20,7 +20,7 @@ use crate::workspace::RowSpace;
 use crate::worths::MOST_WORTH;
 use arrayvec::ArrayVec;
 use roster_rules::Case;
-use roster_search::{MOST_DAYS, Offer, RowSearch, cheapest_by_shift};
+use roster_search::{MOST_DAYS, MOST_OFFERS, Offer, RowSearch, cheapest_by_shift};
 use roster_state::{Meter, start};
 
 /// A floor by worths: no roster costs less that fits the case, keeps the hard rules and agrees with the given one on the days before
@@ -87,7 +87,10 @@ pub fn row_floor(terms: &Terms<'_>, nurse: usize, rows: &mut RowSpace, meter: &m
 }
 
 /// The offers of each day: to be off, and for each shift the cheapest, of equally cheap ones the first.
-fn offers_of_days(terms: &Terms<'_>, nurse: usize) -> ArrayVec<ArrayVec<Offer, 9>, MOST_DAYS>
+fn offers_of_days(
+    terms: &Terms<'_>,
+    nurse: usize,
+) -> ArrayVec<ArrayVec<Offer, MOST_OFFERS>, MOST_DAYS>
     requires nurse { nurse < nurse_count terms.now.case.now }
     requires worths { terms.now.worths.now.days ≡ day_count terms.now.case.now }
     ensures offers { AreWorthOffers terms.now.case.now terms.now.from terms.now.given.now (worths_of terms.now.worths.now) nurse result.items }
@@ -101,7 +104,7 @@ fn offers_of_days(terms: &Terms<'_>, nurse: usize) -> ArrayVec<ArrayVec<Offer, 9
 }
 
 /// The offers of one day.
-fn offers_of_day(terms: &Terms<'_>, nurse: usize, day: u16) -> ArrayVec<Offer, 9>
+fn offers_of_day(terms: &Terms<'_>, nurse: usize, day: u16) -> ArrayVec<Offer, MOST_OFFERS>
     requires nurse { nurse < nurse_count terms.now.case.now }
     requires day { day < day_count terms.now.case.now }
     requires worths { terms.now.worths.now.days ≡ day_count terms.now.case.now }

@@ -13,7 +13,7 @@ use arrayvec::ArrayVec;
 use roster_best::{choices, request_cost};
 use roster_bound::{MOST_WORTH, Worths};
 use roster_case::{Case, Choice, Held};
-use roster_search::{MOST_DAYS, Offer, cheapest_by_shift};
+use roster_search::{MOST_DAYS, MOST_OFFERS, Offer, cheapest_by_shift};
 
 /// How a kick prices what is offered, and in which weeks it offers more than the present row.
 #[derive(Clone, Copy)]
@@ -97,7 +97,7 @@ pub(crate) fn offers_of_days(
     held: &Held,
     nurse: usize,
     kick: &Kick<'_>,
-) -> ArrayVec<ArrayVec<Offer, 9>, MOST_DAYS>
+) -> ArrayVec<ArrayVec<Offer, MOST_OFFERS>, MOST_DAYS>
     requires nurse { nurse < nurse_count held.now.case }
     requires kick { FitsKick held.now.case kick.now }
     ensures { AreKickOffers held.now.case held.now.roster nurse kick.now result.items }
@@ -111,7 +111,12 @@ pub(crate) fn offers_of_days(
 }
 
 /// The offers of one day, at the prices of the kick.
-fn offers_of_day(held: &Held, nurse: usize, day: u16, kick: &Kick<'_>) -> ArrayVec<Offer, 9>
+fn offers_of_day(
+    held: &Held,
+    nurse: usize,
+    day: u16,
+    kick: &Kick<'_>,
+) -> ArrayVec<Offer, MOST_OFFERS>
     requires nurse { nurse < nurse_count held.now.case }
     requires day { day < day_count held.now.case }
     requires kick { FitsKick held.now.case kick.now }

@@ -17,7 +17,7 @@ use Rattle.roster_state.proofs.CodeLemmas.{all-fit, fits-all, numbered-within}
 use Rattle.roster_lanes.specs.Lanes.{SameOutside, pointer_by, raised}
 use Rattle.roster_search.specs.declared.day.SearchDay.{SearchDay}
 use Rattle.roster_search.specs.declared.offer.Offer.{Offer}
-use Rattle.roster_search.specs.Tables.{AreLabels, AreOfLeast, Around, BestOnward, IsReady, IsStretchOf, LeadsOn, LeastFrom, PlacesKept, RunCells, Stands, StretchCells, best_by, label_of, most_price, no_row}
+use Rattle.roster_search.specs.Tables.{AreLabels, AreOfLeast, Around, BestOnward, IsReady, IsStretchOf, LeadsOn, LeastFrom, PlacesKept, RunCells, Stands, StretchCells, best_by, label_of, most_places, most_price, no_row}
 use Rattle.roster_search.proofs.BlockLaws.{place_kept, place_lowered, place_set}
 use Rattle.roster_search.proofs.LabelLaws.{label_at-is, label_refused, step_low}
 
@@ -195,7 +195,7 @@ module _ (c : Meaning) (at : SearchDay) (here : List Area) (stretch : Stretch) (
   pub count_within : stretch.from + count ≤ stretch.rows * at.ranges.assignments
   count_within = omega (arith, one_row_less stretch.rows at.ranges.assignments good.some_rows, good.assignments, good.some_places)
 
-  pub count_short : count ≤ 1000
+  pub count_short : count ≤ most_places
   count_short = omega (arith, count_within, good.short)
 
   pub rows_in_table : code_of at.ranges stretch.block + stretch.rows * at.ranges.assignments ≤ product at.ranges

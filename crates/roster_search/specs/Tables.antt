@@ -141,6 +141,10 @@ pub record IsReady (c : Meaning) (at : SearchDay) (rest : Around) (xs : List Off
 
 -- ---- a stretch of states
 
+-- how many places a stretch has at most, with what stands between its rows
+abbrev pub most_places : ℕ
+most_places = 1000
+
 -- it is within the ranges, is not longer than there is room for, and each of its states stands
 pub record IsStretchOf (c : Meaning) (at : SearchDay) (here : List Area) (stretch : Stretch) : Type 0 where
   pub fits : fits_sizes at.ranges stretch.block ≡ true
@@ -149,7 +153,7 @@ pub record IsStretchOf (c : Meaning) (at : SearchDay) (here : List Area) (stretc
   pub some_places : stretch.from < stretch.end
   pub weekends : stretch.block.weekends + stretch.rows ≤ at.ranges.weekends
   pub assignments : stretch.end ≤ at.ranges.assignments
-  pub short : stretch.rows * at.ranges.assignments ≤ 1000
+  pub short : stretch.rows * at.ranges.assignments ≤ most_places
   pub stands : (i b : ℕ) → i < stretch.rows → b < stretch.end - stretch.from → Stands c at.nurse here (stretch_state stretch.block stretch.from i b)
 
 -- the label and the pointer of the state with so many assignments are those of the least of some offers

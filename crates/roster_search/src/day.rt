@@ -2,7 +2,7 @@
 
 use crate::offer::Offer;
 use roster_rules::Case;
-use roster_state::{Area, Ranges};
+use roster_state::{AREAS, Area, Ranges};
 
 /// A day of the search for a nurse's row: the nurse, the day, and the ranges of the nurse's state.
 #[derive(Clone, Copy, Debug, PartialEq, Eq)]
@@ -18,7 +18,7 @@ pub struct SearchDay {
 pub struct OpenDay<'a> {
     pub case: &'a Case,
     pub at: SearchDay,
-    pub areas: &'a [Area; 9],
+    pub areas: &'a [Area; AREAS],
     pub offers: &'a [Offer],
     pub later: &'a [u32],
     pub first: u32,

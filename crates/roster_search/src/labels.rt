@@ -13,24 +13,30 @@ ghost use Rattle.roster_state.specs.Stretches.{IsAlike};
 ghost use Rattle.roster_lanes.specs.Lanes.{SameOutside};
 ghost use Rattle.roster_search.specs.Halves.{IsWritten};
 ghost use Rattle.roster_search.specs.Counts.{states_on, states_with};
-ghost use Rattle.roster_search.specs.Tables.{AreLabels, ArePointers, Around, IsReady, IsStretchOf, LabelsOf, PointersOf, PlacesKept, RunCells, Stands, StandsLike, StretchCells, best_at_end, best_on, label_of, no_row};
+ghost use Rattle.roster_search.specs.Tables.{AreLabels, ArePointers, Around, IsReady, IsStretchOf, LabelsOf, PointersOf, PlacesKept, RunCells, Stands, StandsLike, StretchCells, best_at_end, best_on, label_of, most_places, no_row};
 
 use crate::day::OpenDay;
 use crate::pointers::Pointers;
 use roster_lanes::{lower_all, set_all};
 use roster_rules::Case;
-use roster_state::{Area, Block, Meter, Ranges, Stretch, end_cost, extend_stretch};
+use roster_state::{AREAS, Area, Block, Meter, Ranges, Stretch, end_cost, extend_stretch};
 
 /// The label of a state from which no row goes on. Each row costs less.
 pub const NO_ROW: u32 = 1_073_741_824;
 
 /// The labels after the last day, of the states that stand there: what is missing in the end.
-pub fn label_end(case: &Case, nurse: usize, ranges: &Ranges, areas: &[Area; 9], labels: &mut [u32])
+pub fn label_end(
+    case: &Case,
+    nurse: usize,
+    ranges: &Ranges,
+    areas: &[Area; AREAS],
+    labels: &mut [u32],
+)
     ghost here: { List Area }
     requires nurse { nurse < nurse_count case.now }
     requires ranges { ranges.now ≡ sizes_of case.now nurse }
     requires here { here ≡ areas.now }
-    requires room { product ranges.now ≤ length labels.old }
+    requires places { product ranges.now ≤ length labels.old }
     ensures labels { AreLabels case.now nurse here (best_at_end case.now nurse) labels.new }
     ensures length { length labels.new ≡ length labels.old }
 {
@@ -63,7 +69,7 @@ fn label_group_end(
     requires fits { fits_sizes ranges.now group ≡ true }
     requires first { (group.weekends ≡ 0) × (group.assignments ≡ 0) }
     requires area { area.now ≡ area_at here (shift_digit group.last) }
-    requires room { product ranges.now ≤ length labels.old }
+    requires places { product ranges.now ≤ length labels.old }
     ensures labels { LabelsOf (StandsLike case.now nurse here group) case.now nurse (best_at_end case.now nurse) labels.new }
     ensures others { SameOutside (code_of ranges.now group) (code_of ranges.now group + ranges.now.weekends * ranges.now.assignments) labels.old labels.new }
     ensures length { length labels.new ≡ length labels.old }
@@ -80,7 +86,7 @@ fn label_block_end(case: &Case, nurse: usize, ranges: &Ranges, block: Block, lab
     requires nurse { nurse < nurse_count case.now }
     requires ranges { ranges.now ≡ sizes_of case.now nurse }
     requires fits { fits_sizes ranges.now block ≡ true }
-    requires room { product ranges.now ≤ length labels.old }
+    requires places { product ranges.now ≤ length labels.old }
     ensures labels { (a : ℕ) → a < ranges.now.assignments → slice_index_or labels.new (code_of ranges.now block + a) 0 ≡ label_of (best_at_end case.now nurse (with_assignments block a)) }
     ensures others { SameOutside (code_of ranges.now block) (code_of ranges.now block + ranges.now.assignments) labels.old labels.new }
     ensures length { length labels.new ≡ length labels.old }
@@ -92,7 +98,13 @@ fn label_block_end(case: &Case, nurse: usize, ranges: &Ranges, block: Block, lab
 }
 
 /// The labels and the pointers of the states that stand on a day. For each of these states and each offer the meter counts one.
-pub fn label_day(day: &OpenDay<'_>, labels: &mut [u32], pointers: &mut Pointers, meter: &mut Meter)
+pub fn label_day(
+    day: &OpenDay<'_>,
+    labels: &mut [u32],
+    pointers: &mut Pointers,
+    room: &mut StretchRoom,
+    meter: &mut Meter,
+)
     ghost rest: { Around }
     requires ready { IsReady day.now.case.now day.now.at rest day.now.offers.now day.now.later.now }
     requires here { rest.here ≡ day.now.areas.now }
@@ -109,10 +121,6 @@ pub fn label_day(day: &OpenDay<'_>, labels: &mut [u32], pointers: &mut Pointers,
 {
     let ranges = day.at.ranges;
     let (runs, shift_runs) = (ranges.run(), ranges.shift_run());
-    let mut room = Room {
-        labels: [0; MOST_PLACES],
-        numbers: [0; MOST_PLACES],
-    };
     for last in 0..ranges.last() {
         let area = area_of(day.areas, last);
         let (first_run, end_run) = area.run.below(runs);
@@ -120,25 +128,35 @@ pub fn label_day(day: &OpenDay<'_>, labels: &mut [u32], pointers: &mut Pointers,
             let (first_shift_run, end_shift_run) = area.shift_run.below(shift_runs);
             for shift_run in first_shift_run..end_shift_run {
                 let group = Block::of_runs(last, run as u16, shift_run as u16);
-                label_group(day, group, labels, pointers, &mut room, meter);
+                label_group(day, group, labels, pointers, room, meter);
             }
         }
     }
 }
 
-/// The greatest number of places of a block, and of a stretch with what stands between its rows.
+/// The greatest number of places of a block, and of a stretch with what stands between its rows, `most_places` of the tables.
 const MOST_PLACES: usize = 1000;
 
-/// Where the labels and the numbers of a stretch are reckoned.
+/// Where the labels and the numbers of a stretch are reckoned. What it holds before is never read, so that one serves all days.
 #[derive(Drop)]
-struct Room {
-    labels: [u32; 1000],
-    numbers: [u8; 1000],
+pub struct StretchRoom {
+    labels: [u32; MOST_PLACES],
+    numbers: [u8; MOST_PLACES],
+}
+
+impl StretchRoom {
+    /// Room for any stretch.
+    pub fn new() -> StretchRoom {
+        StretchRoom {
+            labels: [0; MOST_PLACES],
+            numbers: [0; MOST_PLACES],
+        }
+    }
 }
 
 /// The area of a last shift's number, 0 where there is none.
 #[inline(always)]
-fn area_of(areas: &[Area; 9], last: u32) -> Area
+fn area_of(areas: &[Area; AREAS], last: u32) -> Area
     requires { last < 9 }
     ensures { result ≡ area_at areas.now last }
 {
@@ -151,7 +169,7 @@ fn label_group(
     group: Block,
     labels: &mut [u32],
     pointers: &mut Pointers,
-    room: &mut Room,
+    room: &mut StretchRoom,
     meter: &mut Meter,
 )
     ghost rest: { Around }
@@ -204,10 +222,10 @@ fn label_group(
 /// So many rows where there is room for them, with what stands between them, else one.
 fn rows_with_room(rows: u32, side: u32) -> u32
     requires some { 0 < rows }
-    requires few { (rows ≤ 1000) × (side ≤ 1000) }
+    requires few { (rows ≤ most_places) × (side ≤ most_places) }
     ensures some { 0 < result }
     ensures within { result ≤ rows }
-    ensures room { result * side ≤ 1000 }
+    ensures places { result * side ≤ most_places }
 {
     if rows * side <= MOST_PLACES as u32 {
         return rows;
@@ -221,7 +239,7 @@ fn label_rows(
     rows: &Stretch,
     labels: &mut [u32],
     pointers: &mut Pointers,
-    room: &mut Room,
+    room: &mut StretchRoom,
     meter: &mut Meter,
 )
     ghost rest: { Around }
@@ -267,7 +285,7 @@ fn label_stretch(
     requires alike { IsAlike day.now.case.now day.now.at.nurse day.now.at.day stretch.now.block stretch.now.rows stretch.now.from stretch.now.end }
     requires labels_room { product day.now.at.ranges ≤ length labels.old }
     requires pointers_room { day.now.first + product day.now.at.ranges ≤ length pointers.old }
-    requires numbers_room { 1000 ≤ length numbers.old }
+    requires numbers_room { most_places ≤ length numbers.old }
     requires room { meter.old + length day.now.offers.now * (stretch.now.rows * (stretch.now.end - stretch.now.from)) ≤ greatest_u64 }
     ensures least { StretchCells day.now.case.now day.now.at rest.best stretch.now.block day.now.offers.now stretch.now.rows stretch.now.from stretch.now.end (code_of day.now.at.ranges stretch.now.block) (day.now.first + code_of day.now.at.ranges stretch.now.block) labels.new pointers.new }
     ensures labels_others { SameOutside (code_of day.now.at.ranges stretch.now.block) (code_of day.now.at.ranges stretch.now.block + stretch.now.rows * day.now.at.ranges.assignments) labels.old labels.new }
@@ -297,7 +315,7 @@ fn label_apart(
     stretch: &Stretch,
     labels: &mut [u32],
     pointers: &mut Pointers,
-    room: &mut Room,
+    room: &mut StretchRoom,
     meter: &mut Meter,
 )
     ghost rest: { Around }
@@ -315,7 +333,7 @@ fn label_apart(
     ensures lengths { (length labels.new ≡ length labels.old) × (length pointers.new ≡ length pointers.old) }
     ensures counted { meter.new ≡ meter.old + length day.now.offers.now * (stretch.now.rows * (stretch.now.end - stretch.now.from)) }
 {
-    let Room {
+    let StretchRoom {
         labels: apart,
         numbers,
     } = room;
@@ -335,8 +353,8 @@ fn label_room(
     requires ready { IsReady day.now.case.now day.now.at rest day.now.offers.now day.now.later.now }
     requires stretch { IsStretchOf day.now.case.now day.now.at rest.here stretch.now }
     requires alike { IsAlike day.now.case.now day.now.at.nurse day.now.at.day stretch.now.block stretch.now.rows stretch.now.from stretch.now.end }
-    requires apart_room { 1000 ≤ length apart.old }
-    requires numbers_room { 1000 ≤ length numbers.old }
+    requires apart_room { most_places ≤ length apart.old }
+    requires numbers_room { most_places ≤ length numbers.old }
     requires room { meter.old + length day.now.offers.now * (stretch.now.rows * (stretch.now.end - stretch.now.from)) ≤ greatest_u64 }
     ensures least { RunCells day.now.case.now day.now.at rest.best stretch.now day.now.offers.now apart.new numbers.new }
     ensures small { (a : ℕ) → a < (stretch.now.rows - 1) * day.now.at.ranges.assignments + (stretch.now.end - stretch.now.from) → slice_index_or numbers.new a 0 < 16 }
@@ -367,8 +385,8 @@ fn put_rows(
     requires stretch { IsStretchOf day.now.case.now day.now.at rest.here stretch.now }
     requires least { RunCells day.now.case.now day.now.at rest.best stretch.now day.now.offers.now apart.now numbers.now }
     requires small { (a : ℕ) → a < (stretch.now.rows - 1) * day.now.at.ranges.assignments + (stretch.now.end - stretch.now.from) → slice_index_or numbers.now a 0 < 16 }
-    requires apart_room { 1000 ≤ length apart.now }
-    requires numbers_room { 1000 ≤ length numbers.now }
+    requires apart_room { most_places ≤ length apart.now }
+    requires numbers_room { most_places ≤ length numbers.now }
     requires labels_room { product day.now.at.ranges ≤ length labels.old }
     requires pointers_room { day.now.first + product day.now.at.ranges ≤ length pointers.old }
     ensures least { StretchCells day.now.case.now day.now.at rest.best stretch.now.block day.now.offers.now stretch.now.rows stretch.now.from stretch.now.end (code_of day.now.at.ranges stretch.now.block) (day.now.first + code_of day.now.at.ranges stretch.now.block) labels.new pointers.new }

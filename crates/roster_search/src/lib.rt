@@ -23,12 +23,12 @@ mod tables;
 
 pub use by_shift::cheapest_by_shift;
 pub use day::{OpenDay, SearchDay};
-pub use labels::{NO_ROW, label_day, label_end};
+pub use labels::{NO_ROW, StretchRoom, label_day, label_end};
 pub use laws::{
     best_row_is_found_by_states, cheapest_offered_row_is_found, cheapest_row_is_found_by_states,
     cost_rises_with_prices, offers_are_few, one_offer_for_each_shift_is_enough,
 };
-pub use offer::{MOST_CHOICES, Offer};
+pub use offer::{MOST_CHOICES, MOST_OFFERS, Offer};
 pub use pointers::Pointers;
 pub use read::read_day;
 pub use search::{MOST_DAYS, RowSearch, search_row};

@@ -5,6 +5,9 @@ use roster_rules::Choice;
 /// The greatest number of choices that a nurse has on a day: to be off, and each shift with each skill.
 pub const MOST_CHOICES: usize = 65;
 
+/// The greatest number of offers that a search goes over on a day: to be off, and one for each shift.
+pub const MOST_OFFERS: usize = 9;
+
 /// A choice that is offered to a nurse on a day, with its price in penalty points: that day's staffing with it, and the
 /// nurse's own requests.
 #[derive(Clone, Copy, Debug, PartialEq, Eq)]

@@ -72,7 +72,7 @@ impl Pointers {
 
     /// Sets the pointers of consecutive places, each below 16; the others stay.
     pub fn set_run(&mut self, first: usize, run: &[u8])
-        requires room { first + length run.now ≤ length self.old }
+        requires within { first + length run.now ≤ length self.old }
         requires small { (i : ℕ) → i < length run.now → slice_index_or run.now i 0 < 16 }
         ensures inside { (i : ℕ) → i < length run.now → slice_index_or self.new (first + i) 0 ≡ slice_index_or run.now i 0 }
         ensures others { SameOutside first (first + length run.now) self.old self.new }
@@ -84,7 +84,7 @@ impl Pointers {
 
 /// Sets a stretch of pointers in the halves of bytes: it may begin in the low ones and end in the high ones.
 fn set_stretch(bytes: &mut [u8], first: usize, run: &[u8])
-    requires room { first + length run.now ≤ length (halves bytes.old) }
+    requires within { first + length run.now ≤ length (halves bytes.old) }
     requires small { (i : ℕ) → i < length run.now → slice_index_or run.now i 0 < 16 }
     ensures { IsWritten first run.now (halves bytes.old) (halves bytes.new) }
 {
@@ -103,7 +103,7 @@ fn set_stretch(bytes: &mut [u8], first: usize, run: &[u8])
 
 /// Sets the low halves of a stretch of bytes.
 fn set_low_run(bytes: &mut [u8], first: usize, run: &[u8])
-    requires room { first + length run.now ≤ length bytes.old }
+    requires within { first + length run.now ≤ length bytes.old }
     requires small { (i : ℕ) → i < length run.now → slice_index_or run.now i 0 < 16 }
     ensures { IsWritten first run.now (halves bytes.old) (halves bytes.new) }
 {
@@ -112,7 +112,7 @@ fn set_low_run(bytes: &mut [u8], first: usize, run: &[u8])
 
 /// Sets the high halves of a stretch of bytes.
 fn set_high_run(bytes: &mut [u8], first: usize, run: &[u8])
-    requires room { first + length run.now ≤ length bytes.old }
+    requires within { first + length run.now ≤ length bytes.old }
     requires small { (i : ℕ) → i < length run.now → slice_index_or run.now i 0 < 16 }
     ensures { IsWritten (length bytes.old + first) run.now (halves bytes.old) (halves bytes.new) }
 {

@@ -16,15 +16,15 @@ ghost use Rattle.roster_search.specs.Tables.{AreLabels, ArePointers, Around, Beg
 ghost use Rattle.roster_search.specs.declared.offer.Offer.{Offer};
 
 use crate::day::{OpenDay, SearchDay};
-use crate::labels::{label_day, label_end};
-use crate::offer::Offer;
+use crate::labels::{StretchRoom, label_day, label_end};
+use crate::offer::{MOST_OFFERS, Offer};
 use crate::pointers::Pointers;
 use crate::read::read_day;
 use crate::stand::areas_after;
 use crate::tables::Tables;
 use arrayvec::ArrayVec;
 use roster_rules::{Case, Choice};
-use roster_state::{AREAS, Area, Meter, NOWHERE, Ranges, State, areas_of, start};
+use roster_state::{AREAS, Area, Meter, Ranges, State, areas_of, start};
 use std::mem;
 
 /// The greatest number of days of a case, `most_days` of the limits of an instance.
@@ -35,7 +35,7 @@ pub const MOST_DAYS: usize = 364;
 pub struct RowSearch<'a> {
     pub case: &'a Case,
     pub nurse: usize,
-    pub offers: &'a [ArrayVec<Offer, 9>],
+    pub offers: &'a [ArrayVec<Offer, MOST_OFFERS>],
 }
 
 /// Searches the best row over a table of offers, wherever these come from. `row` then begins with its choices, one for each day, and the
@@ -73,21 +73,22 @@ pub fn search_row(
     } = *search;
     case.keeps_limits();
     let ranges = Ranges::of(case, nurse);
-    let mut areas = [[NOWHERE; AREAS]; MOST_DAYS + 1];
-    stand_days(search, &ranges, &mut areas);
+    let Tables {
+        labels,
+        later,
+        pointers,
+        areas,
+        room,
+    } = tables;
+    stand_days(search, &ranges, &mut areas.days);
     let days = Days {
         case,
         nurse,
         ranges,
         offers,
-        areas: &areas,
+        areas: &areas.days,
     };
-    let Tables {
-        labels,
-        later,
-        pointers,
-    } = tables;
-    label_days(&days, labels, later, pointers, meter);
+    label_days(&days, labels, later, pointers, room, meter);
     read_row(&days, pointers, row);
     let (first, _) = start(case, nurse);
     later[first.code(&ranges) as usize]
@@ -99,7 +100,7 @@ struct Days<'a> {
     case: &'a Case,
     nurse: usize,
     ranges: Ranges,
-    offers: &'a [ArrayVec<Offer, 9>],
+    offers: &'a [ArrayVec<Offer, MOST_OFFERS>],
     areas: &'a [[Area; AREAS]],
 }
 
@@ -108,7 +109,7 @@ fn stand_days(search: &RowSearch<'_>, ranges: &Ranges, areas: &mut [[Area; AREAS
     requires nurse { search.now.nurse < nurse_count search.now.case.now }
     requires ranges { ranges.now ≡ sizes_of search.now.case.now search.now.nurse }
     requires offers { AreOffers search.now.case.now search.now.nurse search.now.offers.now }
-    requires room { day_count search.now.case.now < length areas.old }
+    requires long { day_count search.now.case.now < length areas.old }
     ensures start { Stands search.now.case.now search.now.nurse (areas_on areas.new 0) (summary_of search.now.case.now search.now.nurse []) }
     ensures lead { AreasLead search.now.case.now search.now.nurse (offers_on search.now.offers.now) areas.new }
 {
@@ -134,6 +135,7 @@ fn label_days(
     labels: &mut Vec<u32>,
     later: &mut Vec<u32>,
     pointers: &mut Pointers,
+    room: &mut StretchRoom,
     meter: &mut Meter,
 )
     requires nurse { days.now.nurse < nurse_count days.now.case.now }
@@ -163,53 +165,62 @@ fn label_days(
             day,
             ranges: days.ranges,
         };
-        label_before(days, &at, later, labels, pointers, meter);
+        let ahead = Ahead { at, later };
+        label_before(days, &ahead, labels, pointers, room, meter);
         mem::swap(labels, later);
     }
+}
+
+/// A day that is still to be labelled, with the labels of the day after it.
+#[derive(Clone, Copy)]
+struct Ahead<'a> {
+    at: SearchDay,
+    later: &'a [u32],
 }
 
 /// Sets the labels and the pointers of a day, by its offers and by the labels of the day after it.
 fn label_before(
     days: &Days<'_>,
-    at: &SearchDay,
-    later: &[u32],
+    ahead: &Ahead<'_>,
     labels: &mut [u32],
     pointers: &mut Pointers,
+    room: &mut StretchRoom,
     meter: &mut Meter,
 )
     ghost rest: { Around }
-    requires day { IsDayOf days.now.case.now at.now }
-    requires offers { AreOffers days.now.case.now at.now.nurse days.now.offers.now }
-    requires here { rest.here ≡ areas_on days.now.areas.now at.now.day }
+    requires day { IsDayOf days.now.case.now ahead.now.at }
+    requires offers { AreOffers days.now.case.now ahead.now.at.nurse days.now.offers.now }
+    requires here { rest.here ≡ areas_on days.now.areas.now ahead.now.at.day }
     requires areas_room { day_count days.now.case.now < length days.now.areas.now }
-    requires leads { All (LeadsOn days.now.case.now at.now rest.here rest.next) (offers_on days.now.offers.now at.now.day) }
-    requires stand { SomeStands days.now.case.now at.now.nurse rest.here }
-    requires later { AreLabels days.now.case.now at.now.nurse rest.next rest.best later.now }
-    requires all { product at.now.ranges ≤ length later.now }
-    requires labels_room { product at.now.ranges ≤ length labels.old }
-    requires pointers_room { day_count days.now.case.now * product at.now.ranges ≤ length pointers.old }
-    requires room { meter.old + product at.now.ranges * choice_count days.now.case.now at.now.nurse ≤ greatest_u64 }
-    ensures labels { AreLabels days.now.case.now at.now.nurse rest.here (best_on days.now.case.now at.now (offers_on days.now.offers.now at.now.day) rest.best) labels.new }
-    ensures pointers { ArePointers days.now.case.now at.now rest.here (offers_on days.now.offers.now at.now.day) rest.best (at.now.day * product at.now.ranges) pointers.new }
-    ensures others { SameOutside (at.now.day * product at.now.ranges) (at.now.day * product at.now.ranges + product at.now.ranges) pointers.old pointers.new }
+    requires leads { All (LeadsOn days.now.case.now ahead.now.at rest.here rest.next) (offers_on days.now.offers.now ahead.now.at.day) }
+    requires stand { SomeStands days.now.case.now ahead.now.at.nurse rest.here }
+    requires later { AreLabels days.now.case.now ahead.now.at.nurse rest.next rest.best ahead.now.later.now }
+    requires all { product ahead.now.at.ranges ≤ length ahead.now.later.now }
+    requires labels_room { product ahead.now.at.ranges ≤ length labels.old }
+    requires pointers_room { day_count days.now.case.now * product ahead.now.at.ranges ≤ length pointers.old }
+    requires room { meter.old + product ahead.now.at.ranges * choice_count days.now.case.now ahead.now.at.nurse ≤ greatest_u64 }
+    ensures labels { AreLabels days.now.case.now ahead.now.at.nurse rest.here (best_on days.now.case.now ahead.now.at (offers_on days.now.offers.now ahead.now.at.day) rest.best) labels.new }
+    ensures pointers { ArePointers days.now.case.now ahead.now.at rest.here (offers_on days.now.offers.now ahead.now.at.day) rest.best (ahead.now.at.day * product ahead.now.at.ranges) pointers.new }
+    ensures others { SameOutside (ahead.now.at.day * product ahead.now.at.ranges) (ahead.now.at.day * product ahead.now.at.ranges + product ahead.now.at.ranges) pointers.old pointers.new }
     ensures lengths { (length labels.new ≡ length labels.old) × (length pointers.new ≡ length pointers.old) }
     ensures some { meter.old < meter.new }
-    ensures counted { meter.new ≤ meter.old + product at.now.ranges * choice_count days.now.case.now at.now.nurse }
-    ensures exactly { meter.new ≡ meter.old + states_on days.now.case.now at.now.nurse rest.here * length (offers_on days.now.offers.now at.now.day) }
+    ensures counted { meter.new ≤ meter.old + product ahead.now.at.ranges * choice_count days.now.case.now ahead.now.at.nurse }
+    ensures exactly { meter.new ≡ meter.old + states_on days.now.case.now ahead.now.at.nurse rest.here * length (offers_on days.now.offers.now ahead.now.at.day) }
 {
+    let Ahead { at, later } = *ahead;
     let case = days.case;
     case.keeps_limits();
     let offers = days.offers[at.day as usize].as_slice();
     let first = at.day as u32 * at.ranges.product();
     let open = OpenDay {
         case,
-        at: *at,
+        at,
         areas: &days.areas[at.day as usize],
         offers,
         later,
         first,
     };
-    label_day(&open, labels, pointers, meter);
+    label_day(&open, labels, pointers, room, meter);
 }
 
 /// Reads the best row by the pointers of all days, from the first day to the last.

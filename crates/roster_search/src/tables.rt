@@ -3,16 +3,21 @@
 ghost use Rattle.std.specs.Prelude.{◌≡◌, ◌*◌, ◌≤◌, IfOk};
 ghost use Rattle.roster_bundle.specs.Limits.{greatest_u64};
 
+use crate::labels::StretchRoom;
 use crate::pointers::Pointers;
+use crate::stand::DayAreas;
 use std::alloc::{AllocError, Global};
 use std::marker::Model;
 
 /// What a search writes into: two tables of labels, one for the states of the day at hand and one for those of the next, and a
-/// pointer for each state and day. The same tables serve one search after another.
+/// pointer for each state and day; the areas of each day and of the one after the last, and room for a stretch. The same tables serve
+/// one search after another.
 pub struct Tables {
     pub(crate) labels: Vec<u32>,
     pub(crate) later: Vec<u32>,
     pub(crate) pointers: Pointers,
+    pub(crate) areas: DayAreas,
+    pub(crate) room: StretchRoom,
 }
 
 // By hand, so that who drops the tables has one call to prove.
@@ -22,6 +27,8 @@ impl Drop for Tables {
             labels: _,
             later: _,
             pointers: _,
+            areas: _,
+            room: _,
         } = self;
     }
 }
@@ -44,7 +51,7 @@ impl Tables {
     ///
     /// A growth was refused.
     pub fn new(alloc: Global, states: usize, days: usize) -> Result<Tables, AllocError>
-        requires room { states * days ≤ greatest_u64 }
+        requires within { states * days ≤ greatest_u64 }
         ensures labels { IfOk result (λ tables. tables.labels ≡ 2 * states) }
         ensures pointers { IfOk result (λ tables. tables.pointers ≡ states * days) }
     {
@@ -52,6 +59,8 @@ impl Tables {
             labels: vec![in alloc; 0; states]?,
             later: vec![in alloc; 0; states]?,
             pointers: Pointers::new(alloc, states * days)?,
+            areas: DayAreas::new(),
+            room: StretchRoom::new(),
         })
     }
 

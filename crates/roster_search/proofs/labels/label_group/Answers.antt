@@ -155,7 +155,7 @@ label_rows-requires g c =
       some_places = c.if-end-from.false;
       weekends = omega (arith, block_w, few, over.up_to);
       assignments = over.places;
-      short = omega (arith, e_rows.room, ap (λ j. rows * j) c.assignments-side.ensures.assignments);
+      short = omega (arith, e_rows.places, ap (λ j. rows * j) c.assignments-side.ensures.assignments);
       stands = stands;
     } in
     let alike : 1 < rows → block.weekends + rows + weekends_more at.day (is_some block.last) true ≤ (contract_of k n).weekends + 1 =

@@ -1,5 +1,6 @@
 use Rattle.std.proofs.Common.{◌≡◌, ◌∙◌, ◌+◌, ◌-◌, ◌*◌, ◌≤◌, ap, arith, length}
 use Rattle.roster_state.specs.Codes.{Sizes, code_of, product}
+use Rattle.roster_search.specs.Tables.{most_places}
 use Rattle.roster_search.proofs.CellLaws.{outside_then}
 use Rattle.roster_search.proofs.StretchLaws.{part_of, places_counted, places_more, places_room}
 use Rattle.roster_search.proofs.labels.label_rows.Goals as goal
@@ -14,7 +15,7 @@ label_stretch-requires g c =
     let rows = c.args.rows.now in
     let e = c.alike_end-end.ensures in
     let end = c.alike_end-end.result in
-    let numbers_room : 1000 ≤ length c.args.room.now.numbers = omega (arith, c.told-room) in
+    let numbers_room : most_places ≤ length c.args.room.now.numbers = omega (arith, c.told-room) in
     let room = places_room (length day.offers.now) rows.rows rows.from end rows.end c.args.meter.now 18446744073709551615 e.within r.1.1.1.1.1 in
     (r.0, (part_of day.case.now day.at g.rest.here rows r.1.0 rows.from end (omega arith) e.some e.within, (record { weekends = r.1.1.0; assignments = e.places; level = e.level }, (r.1.1.1.0, (r.1.1.1.1.0, (numbers_room, room))))))
 

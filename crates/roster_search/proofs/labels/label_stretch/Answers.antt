@@ -31,8 +31,8 @@ slice_bounds-numbers-end g c =
     let is = count_is stretch.rows c.assignments.result day.at.ranges.assignments (stretch.end - stretch.from) c.assignments.ensures.assignments in
     omega (arith, is, count_short day.case.now day.at g.rest.here stretch r.1.0, r.1.1.1.1.1.0)
 
-pub set_run-requires-clause-room : goal.set_run-requires-clause-room
-set_run-requires-clause-room g c =
+pub set_run-requires-clause-within : goal.set_run-requires-clause-within
+set_run-requires-clause-within g c =
     let r = c.requires in
     let day = c.args.day.now in
     let stretch = c.args.stretch.now in

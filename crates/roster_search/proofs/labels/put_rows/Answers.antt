@@ -40,8 +40,8 @@ slice_bounds-set_run-end g c =
     let fits = row_in_count stretch.rows (stretch.end - stretch.from) day.at.ranges.assignments row c.loop-row-test.true in
     omega (arith, at_is, fits, count_short day.case.now day.at g.rest.here stretch r.0, r.1.1.1.1.0)
 
-pub set_run-requires-clause-room : goal.set_run-requires-clause-room
-set_run-requires-clause-room g c =
+pub set_run-requires-clause-within : goal.set_run-requires-clause-within
+set_run-requires-clause-within g c =
     let r = c.requires in
     let day = c.args.day.now in
     let stretch = c.args.stretch.now in

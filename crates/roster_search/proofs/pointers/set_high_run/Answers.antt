@@ -10,4 +10,4 @@ returns c =
     let run = c.args.run.now in
     let part = c.set_high.new.bytes in
     let long : length part ≡ length run = omega (arith, length-map part high, ap length c.set_high.ensures.high) in
-    high_written first c.args.bytes.now part run long c.requires.room (first + length run - first) (omega (arith, long)) c.set_high.ensures.high c.set_high.ensures.low
+    high_written first c.args.bytes.now part run long c.requires.within (first + length run - first) (omega (arith, long)) c.set_high.ensures.high c.set_high.ensures.low

@@ -10,4 +10,4 @@ returns c =
     let run = c.args.run.now in
     let part = c.set_low.new.bytes in
     let long : length part ≡ length run = omega (arith, length-map part low, ap length c.set_low.ensures.low) in
-    low_written first c.args.bytes.now part run long c.requires.room (first + length run - first) (omega (arith, long)) c.set_low.ensures.low c.set_low.ensures.high
+    low_written first c.args.bytes.now part run long c.requires.within (first + length run - first) (omega (arith, long)) c.set_low.ensures.low c.set_low.ensures.high

@@ -1,4 +1,5 @@
 use Rattle.std.proofs.Common.{◌≡◌, ◌∙◌, ◌+◌, ◌*◌, ◌≤◌, arith, ap, length, refl, subst, sym}
+use Rattle.std.proofs.Math.Path.{transport}
 use Rattle.std.proofs.lemmas.Nat.{mul-le}
 use Rattle.std.specs.List.{All}
 use Rattle.roster_instance.specs.Meaning.{day_count}
@@ -6,20 +7,20 @@ use Rattle.roster_instance.specs.Sizes.{choice_count}
 use Rattle.roster_state.specs.Codes.{product}
 use Rattle.roster_search.specs.Counts.{states_on}
 use Rattle.roster_search.specs.Search.{offers_on}
-use Rattle.roster_search.specs.Tables.{IsOfferOf, IsReady, LeadsOn}
+use Rattle.roster_search.specs.Tables.{ArePointers, IsOfferOf, IsReady, LeadsOn}
 use Rattle.roster_search.proofs.SearchLaws.{areas_read, offers_read}
 use Rattle.roster_search.proofs.search.label_before.Goals as goal
 use Rattle.roster_search.proofs.search.label_before.Goals.{After-as_slice-offers}
 
 -- the day's offers, as they are read from the table
-offers_here : (g : _) (c : After-as_slice-offers g) → c.as_slice-offers.result.now ≡ offers_on c.args.days.now.offers.now c.args.at.now.day
+offers_here : (g : _) (c : After-as_slice-offers g) → c.as_slice-offers.result.now ≡ offers_on c.args.days.now.offers.now c.args.ahead.now.at.day
 offers_here g c =
-    c.as_slice-offers.ensures.value ∙ offers_read c.args.days.now.case.now c.args.at.now.nurse c.args.days.now.offers.now c.requires.1.0 c.args.at.now.day c.requires.0.day _ c.index-days-at.result refl
+    c.as_slice-offers.ensures.value ∙ offers_read c.args.days.now.case.now c.args.ahead.now.at.nurse c.args.days.now.offers.now c.requires.1.0 c.args.ahead.now.at.day c.requires.0.day _ c.index-days-at.result refl
 
 pub label_day-requires : goal.label_day-requires
 label_day-requires g c =
     let k = c.args.days.now.case.now in
-    let at = c.args.at.now in
+    let at = c.args.ahead.now.at in
     let size = product at.ranges in
     let r = c.requires in
     let day = r.1.0.each at.day r.0.day in
@@ -29,7 +30,7 @@ label_day-requires g c =
     let here = r.1.1.0 ∙ sym (areas_read c.args.days.now.areas.now at.day _ (omega (arith, r.0.day, r.1.1.1.0))) in
     let pointers_room : at.day * c.product.result + size ≤ length c.args.pointers.now = omega (arith, r.1.1.1.1.1.1.1.1.1.0, c.product.ensures.product, ap (λ n. at.day * n) c.product.ensures.product, mul-le (at.day + 1) size (day_count k) size (omega (arith, r.0.day)) (omega arith)) in
     let room : c.args.meter.now + size * length c.as_slice-offers.result.now ≤ 18446744073709551615 = omega (arith, r.1.1.1.1.1.1.1.1.1.1, length_is, mul-le size (length c.as_slice-offers.result.now) size (choice_count k at.nurse) (omega arith) (omega (arith, day.few, length_is))) in
-    let ready : IsReady k at g.rest c.as_slice-offers.result.now c.args.later.now = record {
+    let ready : IsReady k at g.rest c.as_slice-offers.result.now c.args.ahead.now.later.now = record {
       day = r.0;
       offers = subst (All (IsOfferOf k)) back day.of_case;
       few = omega (arith, c.as_slice-offers.ensures.fits);
@@ -39,16 +40,24 @@ label_day-requires g c =
     } in
     (ready, (here, (r.1.1.1.1.1.1.1.1.0, (pointers_room, room))))
 
+pub returns-clause-pointers : goal.returns-clause-pointers
+returns-clause-pointers g c =
+    let k = c.args.days.now.case.now in
+    let at = c.args.ahead.now.at in
+    let offers = offers_here g (goal.at.returns-clause-pointers g c).After-as_slice-offers in
+    let first : at.day * c.product.result ≡ at.day * product at.ranges = ap (λ n. at.day * n) c.product.ensures.product in
+    transport (λ i. ArePointers k at g.rest.here (offers i) g.rest.best (first i) c.label_day.new.pointers) c.label_day.ensures.pointers
+
 pub returns-clause-some : goal.returns-clause-some
 returns-clause-some g c =
     let stand = c.requires.1.1.1.1.1.0 in
     let offers = offers_here g (goal.at.returns-clause-some g c).After-as_slice-offers in
-    c.label_day.ensures.some (omega (arith, (c.requires.1.0.each c.args.at.now.day c.requires.0.day).some, ap length offers)) stand.state stand.stands
+    c.label_day.ensures.some (omega (arith, (c.requires.1.0.each c.args.ahead.now.at.day c.requires.0.day).some, ap length offers)) stand.state stand.stands
 
 pub returns-clause-counted : goal.returns-clause-counted
 returns-clause-counted g c =
     let k = c.args.days.now.case.now in
-    let at = c.args.at.now in
+    let at = c.args.ahead.now.at in
     let size = product at.ranges in
     let offers = offers_here g (goal.at.returns-clause-counted g c).After-as_slice-offers in
     let few = (c.requires.1.0.each at.day c.requires.0.day).few in
@@ -57,4 +66,4 @@ returns-clause-counted g c =
 pub returns-clause-exactly : goal.returns-clause-exactly
 returns-clause-exactly g c =
     let offers = offers_here g (goal.at.returns-clause-exactly g c).After-as_slice-offers in
-    c.label_day.ensures.exactly ∙ (λ i. c.args.meter.now + states_on c.args.days.now.case.now c.args.at.now.nurse g.rest.here * length (offers i))
+    c.label_day.ensures.exactly ∙ (λ i. c.args.meter.now + states_on c.args.days.now.case.now c.args.ahead.now.at.nurse g.rest.here * length (offers i))

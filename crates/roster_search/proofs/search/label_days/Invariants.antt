@@ -12,9 +12,9 @@ ghost-label_end a = a.areas.now
 
 abbrev pub ghost-label_before : goal.ghost-label_before
 ghost-label_before a = record {
-  here = areas_on a.days.now.areas.now a.at.now.day;
-  next = areas_on a.days.now.areas.now (a.at.now.day + 1);
-  best = onward a.days.now.case.now a.at.now.nurse (offers_on a.days.now.offers.now) (a.at.now.day + 1);
+  here = areas_on a.days.now.areas.now a.ahead.now.at.day;
+  next = areas_on a.days.now.areas.now (a.ahead.now.at.day + 1);
+  best = onward a.days.now.case.now a.ahead.now.at.nurse (offers_on a.days.now.offers.now) (a.ahead.now.at.day + 1);
 }
 
 abbrev pub invariant-loop-day : goal.invariant-loop-day

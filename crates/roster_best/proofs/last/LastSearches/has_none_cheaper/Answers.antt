@@ -3,6 +3,7 @@ use Rattle.std.specs.Prelude.{All}
 use Rattle.std.proofs.Math.Path.{transport}
 use Rattle.std.proofs.lemmas.Bool.{leb-true}
 use Rattle.std.proofs.lemmas.List.{get_or_read}
+use Rattle.roster_instance.specs.Limits.{most_shifts}
 use Rattle.roster_instance.specs.Meaning.{Meaning, day_count}
 use Rattle.roster_rules.specs.Penalties.{penalty}
 use Rattle.roster_rules.specs.Prefix.{due}
@@ -75,7 +76,7 @@ change_since-requires c =
     let are = ready (goal.at.change_since-requires c).After-keeps_rules in
     let inside = day_in (goal.at.change_since-requires c).In-loop-day in
     record {
-      places = subst (All (λ offer. price_place (shift_of offer.choice) < 9)) (sym (offers_here c are inside)) (places_fit k c.args.nurse (offers_on c.args.offers.now c.loop-day.day) (limits (goal.at.change_since-requires c).After-keeps_rules).shifts (are.each c.loop-day.day inside));
+      places = subst (All (λ offer. price_place (shift_of offer.choice) < 1 + most_shifts)) (sym (offers_here c are inside)) (places_fit k c.args.nurse (offers_on c.args.offers.now c.loop-day.day) (limits (goal.at.change_since-requires c).After-keeps_rules).shifts (are.each c.loop-day.day inside));
     }
 
 pub loop-day-preserved : goal.loop-day-preserved

@@ -3,6 +3,7 @@ use Rattle.std.specs.Prelude.{All}
 use Rattle.std.specs.Vec.{with_item}
 use Rattle.std.proofs.lemmas.List.{length-set}
 use Rattle.roster_instance.specs.Choices.{shift_of}
+use Rattle.roster_instance.specs.Limits.{most_shifts}
 use Rattle.roster_instance.specs.Meaning.{day_count}
 use Rattle.roster_search.specs.Search.{AreOffers, offers_on}
 use Rattle.roster_search.proofs.SearchLaws.{offers_read}
@@ -40,7 +41,7 @@ prices_by_shift-requires c =
     let are = ready (goal.at.prices_by_shift-requires c).After-keeps_rules in
     let inside = day_in (goal.at.prices_by_shift-requires c).In-loop-day in
     record {
-      places = subst (All (λ offer. price_place (shift_of offer.choice) < 9)) (sym (offers_here c are inside)) (places_fit k c.args.nurse (offers_on c.args.offers.now c.loop-day.day) (limits (goal.at.prices_by_shift-requires c).After-keeps_rules).shifts (are.each c.loop-day.day inside));
+      places = subst (All (λ offer. price_place (shift_of offer.choice) < 1 + most_shifts)) (sym (offers_here c are inside)) (places_fit k c.args.nurse (offers_on c.args.offers.now c.loop-day.day) (limits (goal.at.prices_by_shift-requires c).After-keeps_rules).shifts (are.each c.loop-day.day inside));
     }
 
 pub loop-day-preserved : goal.loop-day-preserved

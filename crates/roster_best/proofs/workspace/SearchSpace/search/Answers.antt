@@ -5,7 +5,7 @@ use Rattle.roster_instance.specs.Sizes.{state_count}
 use Rattle.roster_laws.specs.Greatest.{greatest_state_count}
 use Rattle.roster_best.specs.Workspaces.{Space}
 use Rattle.roster_best.proofs.BestLaws.{room_of, states_within}
-use Rattle.roster_best.proofs.workspace.Workspace.search.Goals as goal
+use Rattle.roster_best.proofs.workspace.SearchSpace.search.Goals as goal
 
 pub search_row-cost-requires-clause-tables : goal.search_row-cost-requires-clause-tables
 search_row-cost-requires-clause-tables c =
