@@ -14,10 +14,10 @@ ghost use Rattle.roster_best.specs.Workspaces.{AreOffersOf, AreShiftOffers, Coun
 
 use crate::by_shift::choices_by_shift;
 use crate::last::LastSearches;
-use crate::workspace::{DayOffers, SearchSpace, Workspace};
+use crate::workspace::{SearchSpace, Workspace};
 use arrayvec::ArrayVec;
 use roster_case::Held;
-use roster_search::{MOST_OFFERS, Offer, RowSearch};
+use roster_search::{DayOffers, MOST_OFFERS, Offer, RowSearch};
 use roster_state::{Meter, start};
 
 /// What the search for a nurse's best row gives beside the row.

@@ -11,7 +11,7 @@ ghost use Rattle.roster_best.specs.Workspaces.{SameRoom, fits_space};
 
 use arrayvec::ArrayVec;
 use roster_case::{Case, Choice};
-use roster_search::{MOST_DAYS, MOST_OFFERS, Offer, RowSearch, Tables, search_row};
+use roster_search::{DayOffers, RowSearch, Tables, search_row};
 use roster_state::Meter;
 use std::alloc::{AllocError, Global};
 use std::marker::Model;
@@ -24,9 +24,6 @@ pub struct Workspace {
     pub(crate) offers: DayOffers,
     pub(crate) space: SearchSpace,
 }
-
-/// A list of offers for each day.
-pub(crate) type DayOffers = ArrayVec<ArrayVec<Offer, MOST_OFFERS>, MOST_DAYS>;
 
 /// What a search over offers writes into, wherever these come from.
 pub(crate) struct SearchSpace {

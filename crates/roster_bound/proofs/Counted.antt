@@ -2,9 +2,8 @@
 use Rattle.std.proofs.Common.{◌+◌, ◌*◌, ◌<◌, ◌≤◌, ℕ, arith}
 use Rattle.std.proofs.lemmas.Nat.{mul-le}
 use Rattle.roster_instance.specs.Meaning.{Meaning, nurse_count}
-use Rattle.roster_laws.specs.Greatest.{extension_count, greatest_extension_count}
+use Rattle.roster_laws.specs.Greatest.{extension_count, extensions_in, greatest_extension_count}
 use Rattle.roster_laws.proofs.GreatestLemmas.{greatest_extensions}
-use Rattle.roster_rounds.specs.RunLogs.{extensions_in}
 
 -- ---- after the searches of the first n nurses
 module _ (c : Meaning) (n start meter : ℕ) (so_far : meter ≤ start + n * greatest_extension_count c) (inside : n < nurse_count c) where

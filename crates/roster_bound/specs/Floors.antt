@@ -5,8 +5,8 @@ use Rattle.roster_instance.specs.Meaning.{Meaning}
 use Rattle.roster_instance.specs.Rosters.{Rows}
 use Rattle.roster_rules.specs.Penalties.{penalty}
 use Rattle.roster_rules.specs.Improver.{line}
-use Rattle.roster_rounds.specs.declared.outcome.LogFault.{LogFault}
-use Rattle.roster_rounds.specs.declared.outcome.LogFault.TheVariants.{LogFailed}
+use Rattle.roster_log.specs.declared.fault.LogFault.{LogFault}
+use Rattle.roster_log.specs.declared.fault.LogFault.TheVariants.{LogFailed}
 use Rattle.roster_bound.specs.Worths.{IsLowerBound}
 
 -- a line of the log: a round, and the floor that it reached

@@ -20,7 +20,7 @@ use crate::workspace::RowSpace;
 use crate::worths::MOST_WORTH;
 use arrayvec::ArrayVec;
 use roster_rules::Case;
-use roster_search::{MOST_DAYS, MOST_OFFERS, Offer, RowSearch, cheapest_by_shift};
+use roster_search::{DayOffers, MOST_OFFERS, Offer, RowSearch, cheapest_by_shift};
 use roster_state::{Meter, start};
 
 /// A floor by worths: no roster costs less that fits the case, keeps the hard rules and agrees with the given one on the days before
@@ -73,34 +73,34 @@ pub fn row_floor(terms: &Terms<'_>, nurse: usize, rows: &mut RowSpace, meter: &m
 {
     let case = terms.case;
     case.keeps_limits();
-    let table = offers_of_days(terms, nurse);
+    let RowSpace {
+        workspace,
+        offers,
+        cover,
+    } = rows;
+    offers_of_days(terms, nurse, offers);
     let search = RowSearch {
         case,
         nurse,
-        offers: table.as_slice(),
+        offers: offers.as_slice(),
     };
-    let RowSpace { workspace, cover } = rows;
     let cost = workspace.search(&search, meter);
     count_row(workspace.row(), cover);
     let (_, owed) = start(case, nurse);
     owed as u64 + cost as u64
 }
 
-/// The offers of each day: to be off, and for each shift the cheapest, of equally cheap ones the first.
-fn offers_of_days(
-    terms: &Terms<'_>,
-    nurse: usize,
-) -> ArrayVec<ArrayVec<Offer, MOST_OFFERS>, MOST_DAYS>
+/// Puts the offers of each day in the place of others: to be off, and for each shift the cheapest, of equally cheap ones the first.
+fn offers_of_days(terms: &Terms<'_>, nurse: usize, offers: &mut DayOffers)
     requires nurse { nurse < nurse_count terms.now.case.now }
     requires worths { terms.now.worths.now.days ≡ day_count terms.now.case.now }
-    ensures offers { AreWorthOffers terms.now.case.now terms.now.from terms.now.given.now (worths_of terms.now.worths.now) nurse result.items }
+    ensures offers { AreWorthOffers terms.now.case.now terms.now.from terms.now.given.now (worths_of terms.now.worths.now) nurse offers.new.items }
 {
     terms.case.keeps_limits();
-    let mut offers = ArrayVec::new();
+    offers.clear();
     for day in 0..terms.case.days() {
         offers.push(offers_of_day(terms, nurse, day));
     }
-    offers
 }
 
 /// The offers of one day.

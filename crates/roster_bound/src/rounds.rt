@@ -4,8 +4,7 @@ ghost use Rattle.std.specs.Prelude.{◌≡◌, ◌+◌, ◌*◌, ◌<◌, ◌≤
 ghost use Rattle.roster_bundle.specs.Limits.{greatest_u64};
 ghost use Rattle.roster_instance.specs.Meaning.{nurse_count};
 ghost use Rattle.roster_rules.specs.Penalties.{penalty};
-ghost use Rattle.roster_laws.specs.Greatest.{greatest_extension_count};
-ghost use Rattle.roster_rounds.specs.RunLogs.{extensions_in};
+ghost use Rattle.roster_laws.specs.Greatest.{extensions_in, greatest_extension_count};
 ghost use Rattle.roster_bound.specs.Floors.{FloorLogStops, RaisesFloor};
 ghost use Rattle.roster_bound.specs.Workspaces.{FitsFloor};
 ghost use Rattle.roster_bound.specs.Worths.{IsLowerBound};
@@ -15,7 +14,7 @@ use crate::moves::{farthest, learn, most_step};
 use crate::offers::Terms;
 use crate::workspace::FloorWorkspace;
 use roster_case::{Case, Held};
-use roster_rounds::{LogFault, log_round, log_word};
+use roster_log::{LogFault, log_round, log_word};
 use roster_state::Meter;
 use roster_text::Watch;
 use std::io::Write;

@@ -7,14 +7,17 @@ ghost use Rattle.roster_bound.specs.Workspaces.{FitsFloor, FitsRows};
 use crate::moves::Covers;
 use crate::rounds::FIRST;
 use crate::worths::Worths;
+use arrayvec::ArrayVec;
 use roster_best::{BestFault, Workspace};
 use roster_case::Case;
+use roster_search::DayOffers;
 use std::alloc::Global;
 
-/// What the searches for the nurses' cheapest rows write into: the workspace of a search, and how many of these rows are at each place,
-/// 64 places for each day.
+/// What the searches for the nurses' cheapest rows write into: the workspace of a search, the offers of a nurse, and how many of these
+/// rows are at each place, 64 places for each day.
 pub struct RowSpace {
     pub workspace: Workspace,
+    pub(crate) offers: DayOffers,
     pub(crate) cover: Vec<u16>,
 }
 
@@ -23,13 +26,14 @@ impl Drop for RowSpace {
     fn drop(self) {
         let RowSpace {
             workspace: _,
+            offers: _,
             cover: _,
         } = self;
     }
 }
 
-/// What a run that raises a floor writes into: what its searches do, the worths, and the covers by which they move. For each day that
-/// is 64 times 14 bytes beside the tables of a search and a row: 326 kB at most. One serves one run after another.
+/// What a run that raises a floor writes into: what its searches do, the worths, and the covers by which they move. Beside a search's
+/// workspace and a nurse's offers that is 64 times 14 bytes for each day: 326 kB at most. One serves one run after another.
 pub struct FloorWorkspace {
     pub rows: RowSpace,
     pub worths: Worths,
@@ -58,6 +62,7 @@ impl RowSpace {
     {
         Ok(RowSpace {
             workspace: Workspace::for_case(alloc, case)?,
+            offers: ArrayVec::new(),
             cover: vec![in alloc; 0; 64 * case.days() as usize]?,
         })
     }

@@ -1,7 +1,7 @@
 -- A day's table: what is lacking with one nurse more, and the tables of a roster with one row replaced.
 use Rattle.std.proofs.Common.{◌≡◌, ◌∙◌, ◌+◌, ◌*◌, ◌<◌, ◌≤◌, ◌&&◌, ℕ, true, ap, ap₂, arith, refl, sym, List, [], length, nat_lt, slice_index_or}
 use Rattle.std.proofs.lemmas.Bool.{and_parts, eq-eqb, ltb-true}
-use Rattle.std.proofs.lemmas.List.Sums.{count_by-le-length, sum_by-set}
+use Rattle.std.proofs.lemmas.List.Sums.{sum_by-set}
 use Rattle.roster_instance.specs.declared.choice.Choice.{Choice}
 use Rattle.roster_instance.specs.declared.choice.Choice.TheVariants.{Off, Work}
 use Rattle.roster_instance.specs.declared.rules.Limits.{Limits}
@@ -9,10 +9,9 @@ use Rattle.roster_instance.specs.declared.choice.Shift.{Shift}
 use Rattle.roster_instance.specs.declared.choice.Skill.{Skill}
 use Rattle.roster_instance.specs.Choices.{same_choice}
 use Rattle.roster_instance.specs.Counting.{one_if}
-use Rattle.roster_instance.specs.Limits.{most_nurses}
 use Rattle.roster_instance.specs.Meaning.{Meaning, need, optimum, shift_at, shift_count, skill_at, skill_count}
 use Rattle.roster_instance.specs.Rosters.{Row, Rows, choice_on, cover, is_choice_of, row_of}
-use Rattle.roster_rules.specs.Covers.{AreCovers, IsTable, number_at}
+use Rattle.roster_rules.specs.Covers.{AreCovers, IsTable}
 use Rattle.roster_case.specs.DayTables.{HasPlace, IsCounted}
 use Rattle.roster_laws.specs.OneRow.{others}
 use Rattle.roster_laws.specs.Staffing.{lacking, with_choice}
@@ -53,7 +52,3 @@ module _ (r : Rows) (n : ℕ) (within : n < length r) where
       let own : with_choice (others r n d) (choice_on (row_of r n) d) shift.0 skill.0 ≡ others r n d shift.0 skill.0 + 1 =
       (λ i. with_choice (others r n d) (sym is i) shift.0 skill.0) ∙ ap (λ b. others r n d shift.0 skill.0 + one_if b) (ap₂ (λ a b. a && b) (eq-eqb shift.0 shift.0 refl) (eq-eqb skill.0 skill.0 refl)) in
       omega (arith, are shift.0 skill.0 place.0 place.1, cover-parts d shift.0 skill.0, own)
-
--- no number of a table is above that of the nurses
-pub room : (r : Rows) (d : ℕ) (table : List ℕ) → AreCovers r d table → length r ≤ most_nurses → (s k : ℕ) → s < 8 → k < 8 → number_at table s k < 65535
-room r d table are few s k s_in k_in = omega (arith, are s k s_in k_in, count_by-le-length (λ row. same_choice (choice_on row d) (Work (shift_at s) (skill_at k))) r, few)

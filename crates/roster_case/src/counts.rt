@@ -6,12 +6,12 @@ ghost use Rattle.roster_instance.specs.Limits.{most_nurses};
 ghost use Rattle.roster_instance.specs.Meaning.{day_count, nurse_count};
 ghost use Rattle.roster_instance.specs.Rosters.{days_of_nurse, fits_case, is_row_of, with_row};
 ghost use Rattle.roster_rules.specs.Covers.{AreCovers, number_at};
-ghost use Rattle.roster_rules.specs.Penalties.{nurse_cost};
+ghost use Rattle.roster_rules.specs.Penalties.{nurse_cost, staffing_cost};
 ghost use Rattle.roster_rules.specs.Room.{most_staffing};
 ghost use Rattle.roster_case.specs.Held.{AreCounts};
 
 use crate::recount::recount;
-use roster_costs::{covers, nurse_cost, place, staffing_cost};
+use roster_costs::{covers, nurse_cost, place, staffing_cost_of_day};
 use roster_rules::weights::STAFFING;
 use roster_rules::{Case, Choice, Roster, Shift, Skill};
 use std::alloc::{AllocError, Global};
@@ -42,10 +42,11 @@ impl Counts {
         requires { fits_case case.now roster.now ≡ true }
         ensures { IfOk result (AreCounts case.now roster.now) }
     {
+        let (covers, staffing_cost) = staffing_of(alloc, case, roster)?;
         Ok(Counts {
-            covers: covers_of(alloc, case, roster)?,
+            covers,
             nurse_costs: nurse_costs_of(alloc, case, roster)?,
-            staffing_cost: staffing_cost(case, roster),
+            staffing_cost,
         })
     }
 
@@ -104,17 +105,27 @@ impl Counts {
     }
 }
 
-fn covers_of(alloc: Global, case: &Case, roster: &Roster) -> Result<Vec<[u16; 64]>, AllocError>
+/// The tables of all days, and what the staffing costs by them.
+#[tactic(auto, using(roster_rules::proofs::CountLemmas::sum_more))]
+fn staffing_of(
+    alloc: Global,
+    case: &Case,
+    roster: &Roster,
+) -> Result<(Vec<[u16; 64]>, u64), AllocError>
     requires { fits_case case.now roster.now ≡ true }
-    ensures days { IfOk result (λ tables. length tables.items ≡ day_count case.now) }
-    ensures covers { IfOk result (λ tables. (d : ℕ) → d < day_count case.now → AreCovers roster.now d (slice_index_or tables.items d [])) }
+    ensures days { IfOk result (λ r. length r.0.items ≡ day_count case.now) }
+    ensures covers { IfOk result (λ r. (d : ℕ) → d < day_count case.now → AreCovers roster.now d (slice_index_or r.0.items d [])) }
+    ensures cost { IfOk result (λ r. r.1 ≡ staffing_cost case.now roster.now) }
 {
     case.keeps_limits();
     let mut tables = Vec::with_capacity(alloc, case.days() as usize)?;
+    let mut cost = 0;
     for day in 0..case.days() {
-        tables.push(covers(case, roster, day))?;
+        let table = covers(case, roster, day);
+        cost += staffing_cost_of_day(case, day, &table);
+        tables.push(table)?;
     }
-    Ok(tables)
+    Ok((tables, cost))
 }
 
 fn nurse_costs_of(alloc: Global, case: &Case, roster: &Roster) -> Result<Vec<u32>, AllocError>

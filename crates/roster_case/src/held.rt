@@ -1,19 +1,19 @@
 //! A roster that keeps the hard rules.
 
-ghost use Rattle.std.specs.Prelude.{◌≡◌, ◌<◌, true, [], IfOk, IfErr, OnOk, length};
+ghost use Rattle.std.specs.Prelude.{◌≡◌, ◌<◌, ◌≤◌, true, [], IfOk, IfErr, OnOk, length};
 ghost use Rattle.roster_instance.specs.Meaning.{day_count, nurse_count, shift_count, skill_count};
 ghost use Rattle.roster_instance.specs.Rosters.{fits_case, row_of, with_row};
 ghost use Rattle.roster_rules.specs.AllowedRows.{row_keeps};
 ghost use Rattle.roster_rules.specs.HardRules.{hard_faults, keeps_hard};
-ghost use Rattle.roster_rules.specs.Penalties.{penalty};
-ghost use Rattle.roster_rules.specs.Room.{penalty_room};
+ghost use Rattle.roster_rules.specs.Penalties.{costs_of, penalty, total_cost};
+ghost use Rattle.roster_rules.specs.Room.{most_staffing, penalty_room};
 ghost use Rattle.roster_case.specs.Held.{IsHandedBack};
 ghost use Rattle.roster_laws.specs.OneRow.{others, rest_of};
 
 use crate::allowed::is_open_row;
 use crate::counts::Counts;
-use roster_costs::first_hard;
-use roster_rules::{Case, Choice, HardFault, Roster, Shift, Skill, choice_on, row_fits};
+use roster_costs::{costs_with, first_hard};
+use roster_rules::{Case, Choice, Costs, HardFault, Roster, Shift, Skill, choice_on, row_fits};
 use std::alloc::Global;
 use std::fmt::{self, Debug, Formatter};
 use std::marker::Model;
@@ -148,6 +148,15 @@ impl Held {
     {
         self.case.keeps_limits();
         self.counts.rest(nurse)
+    }
+
+    /// What the roster costs by each soft rule. What the staffing costs is known, and isn't counted anew.
+    pub fn costs(&self) -> Costs
+        ensures costs { result ≡ costs_of self.now.case self.now.roster }
+        ensures within { total_cost result < penalty_room }
+        ensures staffing { result.s1 ≤ most_staffing }
+    {
+        costs_with(&self.case, &self.roster, self.counts.staffing_cost)
     }
 
     /// The roster's penalty, below 2^33.

@@ -2,6 +2,7 @@
 
 ghost use Rattle.std.specs.Prelude.{◌≡◌, ◌+◌, ◌*◌, ◌<◌, ◌≤◌, ℕ, [], true, length, slice_index_or};
 ghost use Rattle.roster_instance.specs.Counting.{one_if};
+ghost use Rattle.roster_instance.specs.Limits.{most_days, most_shifts, most_skills};
 ghost use Rattle.roster_instance.specs.Meaning.{day_count, nurse_count, optimum};
 ghost use Rattle.roster_instance.specs.Rosters.{fits_case, is_choice_of, is_row_of, with_row};
 ghost use Rattle.roster_rules.specs.Covers.{AreCovers, IsTable, number_at};
@@ -36,8 +37,8 @@ pub(crate) fn recount(
     ensures days { length tables.new ≡ day_count case.now }
     ensures covers { (d : ℕ) → d < day_count case.now → AreCovers (with_row roster.now nurse row.now) d (slice_index_or tables.new d []) }
     ensures staffing { staffing_cost case.now (with_row roster.now nurse row.now) + staffing_weight * result.fewer ≡ staffing_cost case.now roster.now + staffing_weight * result.more }
-    ensures more { result.more ≤ 65536 }
-    ensures fewer { result.fewer ≤ 65536 }
+    ensures more { result.more ≤ most_days }
+    ensures fewer { result.fewer ≤ most_days }
 {
     case.keeps_limits();
     let old = roster.row(nurse);
@@ -55,7 +56,7 @@ pub(crate) fn recount(
 fn exchange(case: &Case, day: u16, table: &mut [u16; 64], old: Choice, new: Choice) -> Change
     requires old { is_choice_of case.now old ≡ true }
     requires new { is_choice_of case.now new ≡ true }
-    requires room { (s k : ℕ) → s < 8 → k < 8 → number_at table.old s k < 65535 }
+    requires numbers { (s k : ℕ) → s < most_shifts → k < most_skills → number_at table.old s k < u16.MAX }
     requires counted { IsCounted table.old old }
     ensures table { (have : ℕ → ℕ → ℕ) → IsTable (with_choice have old) table.old → IsTable (with_choice have new) table.new }
     ensures lacking { (have : ℕ → ℕ → ℕ) → IsTable (with_choice have old) table.old →
@@ -91,7 +92,7 @@ fn lacks(case: &Case, day: u16, table: &[u16; 64], choice: Choice) -> bool
 /// One nurse more with this choice.
 fn put(table: &mut [u16; 64], choice: Choice)
     requires place { HasPlace choice }
-    requires room { (s k : ℕ) → s < 8 → k < 8 → number_at table.old s k < 65535 }
+    requires numbers { (s k : ℕ) → s < most_shifts → k < most_skills → number_at table.old s k < u16.MAX }
     ensures { (have : ℕ → ℕ → ℕ) → IsTable have table.old → IsTable (with_choice have choice) table.new }
 {
     if let Choice::Work(shift, skill) = choice {

@@ -1,5 +1,5 @@
 -- Which fault a failing reader or writer gives, and what a bundle means.
-use Rattle.std.proofs.Common.{◌≡◌, ◌∙◌, ◌∷◌, ◌++◌, [], ◌<◌, ℕ, arith, Err, List, Option, None, Some, Result, Ok, ap, length, lit<, refl, subst, sym, true≢false, is_some, true, false}
+use Rattle.std.proofs.Common.{◌≡◌, ◌∙◌, ◌∷◌, [], ◌<◌, ℕ, arith, Err, List, Option, None, Some, Result, Ok, ap, length, lit<, refl, subst, sym, true≢false, is_some, true}
 use Rattle.std.specs.Prelude.{Contains, IfErr, IfSome, IsErrOf, OnOk, string_bytes}
 use Rattle.std.proofs.lemmas.List.{length-map}
 use Rattle.std.proofs.lemmas.List.Elements.{All-nil}

@@ -5,7 +5,7 @@ use Rattle.roster_text.specs.Io.{Watched, one_more}
 use Rattle.roster_text.specs.declared.fault.TextFault.TheVariants as text
 use Rattle.roster_instance.specs.declared.fault.CaseFault.{CaseFault}
 use Rattle.roster_instance.specs.declared.fault.CaseFault.TheVariants as case
-use Rattle.roster_commands.specs.Answer.{Input, IsLogFailed, IsSilent, Logged, Logs, Output, ReadsAndAnswers, Refuses, StopsLog, StopsRun, Tells, TellsOutput, Untouched}
+use Rattle.roster_commands.specs.Answer.{Input, IsLogFailed, IsSilent, Logged, Logs, Output, ReadsAndAnswers, StopsCommand, StopsLog, StopsRun, Tells, TellsOutput, Untouched}
 use Rattle.roster_commands.specs.Lines.{Text, case_status, status_of}
 use Rattle.roster_commands.specs.declared.fault.Fault.{Fault}
 use Rattle.roster_commands.specs.declared.fault.Fault.TheVariants as fault
@@ -41,7 +41,7 @@ module _ {R W L : Type 0} (input : Input R) (output : Output W) (log : Output L)
     of_log : f ≡ fault.Log → ReadOn → Untouched output → (IsSilent command → ⊥) → log.after.failures ≡ one_more log.before.failures → Cause f
     of_none : (status_of f ≡ 3 → ⊥) → ReadOn → Untouched output → Cause f
 
-  pub cause : (f : Fault) → Refuses input output log command f → Cause f
+  pub cause : (f : Fault) → StopsCommand input output log command f → Cause f
   cause (fault.Text text.Memory) (inl h) = of_none (λ e. cc) h.0 h.1
   cause (fault.Text text.Memory) (inr h) = of_none (λ e. cc) h.read.failures h.answers.1
   cause (fault.Text text.ReadFailed) (inl h) = of_input refl h.1 h.2 h.0

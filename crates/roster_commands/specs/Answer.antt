@@ -381,8 +381,8 @@ IsUnread input (fault.Text text.TooLong) = (input.after.failures ≡ input.befor
 IsUnread input _ = ⊥
 
 -- why the command stopped, and what it left on the output and on the log
-abbrev pub Refuses : {R W L : Type 0} → Input R → Output W → Output L → Command → Fault → Type 0
-Refuses input output log command f =
+abbrev pub StopsCommand : {R W L : Type 0} → Input R → Output W → Output L → Command → Fault → Type 0
+StopsCommand input output log command f =
     (IsUnread input f × Untouched output × Untouched log) ⊎ ReadsAndAnswers input output log command (Some f)
 
 -- The run stopped for a fault, with its status. `met` is the log when the fault came, and after that the fault is told.
@@ -390,7 +390,7 @@ pub record StopsRun {R W L : Type 0} (input : Input R) (output : Output W) (log 
   pub fault : Fault
   pub status_is : status ≡ status_of fault
   pub met : Watched L
-  pub refused : Refuses input output (record log { after = met }) command fault
+  pub refused : StopsCommand input output (record log { after = met }) command fault
   pub told : Tells log.contents met log.after fault
 
 -- an output that failed was told after the command's log

@@ -16,9 +16,10 @@ ghost use Rattle.roster_best.specs.Workspaces.{fits_space};
 use crate::fault::Fault;
 use crate::held::hold;
 use crate::reading::Instance;
-use roster_best::{Workspace, best_row, most_steps};
+use roster_best::{Workspace, best_row};
 use roster_case::Held;
 use roster_reports::write_weeks;
+use roster_rounds::search_has_room;
 use roster_state::Meter;
 use roster_text::{Piece, Watch, write_pieces};
 use std::alloc::Global;
@@ -26,7 +27,7 @@ use std::io::Write;
 
 /// Writes the weeks of an instance with the best row of the nurse of this name from a week on put in, also where it isn't cheaper.
 /// What the roster costs before and with it goes to the log first.
-pub(crate) fn best<'a, Out: Write, Log: Write>(
+pub(crate) fn report_best<'a, Out: Write, Log: Write>(
     alloc: Global,
     name: &'a [u8],
     from: u16,
@@ -47,8 +48,7 @@ pub(crate) fn best<'a, Out: Write, Log: Write>(
     let Ok(mut workspace) = Workspace::for_case(alloc, held.case()) else {
         return Err(Fault::Memory);
     };
-    // A new meter has room for so many.
-    let _ = most_steps(held.case(), nurse);
+    search_has_room(held.case(), nurse);
     put_best_row(
         &mut held,
         name,

@@ -3,7 +3,7 @@
 ghost use Rattle.std.specs.Prelude.{◌≡◌, ◌+◌, ◌≤◌, true, IfErr, IfOk};
 ghost use Rattle.roster_bundle.specs.Limits.{greatest_u64};
 ghost use Rattle.roster_instance.specs.Rosters.{fits_case};
-ghost use Rattle.roster_rounds.specs.RunLogs.{extensions_in};
+ghost use Rattle.roster_laws.specs.Greatest.{extensions_in};
 ghost use Rattle.roster_bound.specs.Floors.{RaisesFloor};
 ghost use Rattle.roster_bound.specs.Workspaces.{FitsFloor};
 ghost use Rattle.roster_commands.specs.Answer.{IsBoundReport, Reports, StopsFloors, outcome_of, output_of};
@@ -14,7 +14,7 @@ use crate::reading::Instance;
 use roster_bound::{FloorWorkspace, raise_floor};
 use roster_case::Held;
 use roster_reports::write_bound;
-use roster_rounds::{LogFault, most_extensions};
+use roster_rounds::{LogFault, rounds_have_room};
 use roster_state::Meter;
 use roster_text::Watch;
 use std::alloc::Global;
@@ -22,7 +22,7 @@ use std::io::Write;
 
 /// Writes what the roster of an instance costs, and the greatest floor that so many rounds find under each roster that keeps the weeks
 /// before a week. The floors go to the log first, line by line as they are found.
-pub(crate) fn bound<'a, Out: Write, Log: Write>(
+pub(crate) fn report_bound<'a, Out: Write, Log: Write>(
     alloc: Global,
     rounds: u16,
     from: u16,
@@ -39,8 +39,7 @@ pub(crate) fn bound<'a, Out: Write, Log: Write>(
     let Ok(mut workspace) = FloorWorkspace::for_case(alloc, held.case()) else {
         return Err(Fault::Memory);
     };
-    // A new meter has room for so many.
-    let _ = most_extensions(held.case(), rounds);
+    rounds_have_room(held.case(), rounds);
     let bound = find_bound(&held, rounds, from, &mut workspace, &mut meter, log)?;
     Ok(write_bound(output, held.total(), bound)?)
 }

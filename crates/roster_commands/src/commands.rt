@@ -9,14 +9,14 @@ ghost use Rattle.roster_case.specs.Shown.{weeks_text};
 ghost use Rattle.roster_commands.specs.Answer.{Ends, IsReportOf, Reports, StopsOutput, cost_report, outcome_of, output_of};
 ghost use Rattle.roster_commands.specs.Lines.{costs_text, sizes_text};
 
-use crate::best::best;
-use crate::bound::bound;
+use crate::best::report_best;
+use crate::bound::report_bound;
 use crate::fault::Fault;
 use crate::held::hold;
-use crate::improve::improve;
-use crate::polish::polish;
+use crate::improve::report_improve;
+use crate::polish::report_polish;
 use crate::reading::Instance;
-use roster_case::{Case, Roster, costs};
+use roster_case::{Case, Roster};
 use roster_polish::Course;
 use roster_reports::{write_costs, write_sizes, write_weeks};
 use roster_request::Command;
@@ -38,11 +38,11 @@ pub(crate) fn report<'a, Out: Write, Log: Write>(
     ensures { Reports (output_of Out.contents output.old output.new) (output_of Log.contents log.old log.new) (IsReportOf command.now instance.case instance.roster) source.now instance.bundle (outcome_of result) }
 {
     match command {
-        Command::Show => show(&instance.case, &instance.roster, output),
-        Command::Cost => cost(alloc, source, instance, output),
-        Command::Sizes => sizes(&instance.case, output),
+        Command::Show => report_show(&instance.case, &instance.roster, output),
+        Command::Cost => report_cost(alloc, source, instance, output),
+        Command::Sizes => report_sizes(&instance.case, output),
         Command::Best { nurse, from } => {
-            best(
+            report_best(
                 alloc,
                 nurse.as_bytes(),
                 *from,
@@ -53,10 +53,10 @@ pub(crate) fn report<'a, Out: Write, Log: Write>(
             )
         }
         Command::Improve { rounds, from } => {
-            improve(alloc, *rounds, *from, source, instance, output, log)
+            report_improve(alloc, *rounds, *from, source, instance, output, log)
         }
         Command::Bound { rounds, from } => {
-            bound(alloc, *rounds, *from, source, instance, output, log)
+            report_bound(alloc, *rounds, *from, source, instance, output, log)
         }
         Command::Polish {
             searches,
@@ -68,12 +68,12 @@ pub(crate) fn report<'a, Out: Write, Log: Write>(
                 seed: *seed as u64,
                 from: *from,
             };
-            polish(alloc, &course, source, instance, output, log)
+            report_polish(alloc, &course, source, instance, output, log)
         }
     }
 }
 
-fn show<'a, Out: Write>(
+fn report_show<'a, Out: Write>(
     case: &Case,
     roster: &Roster,
     output: &mut Watch<Out>,
@@ -85,7 +85,7 @@ fn show<'a, Out: Write>(
     Ok(write_weeks(output, case, roster)?)
 }
 
-fn cost<'a, Out: Write>(
+fn report_cost<'a, Out: Write>(
     alloc: Global,
     source: &'a [u8],
     instance: Instance,
@@ -95,10 +95,10 @@ fn cost<'a, Out: Write>(
     ensures ends { Ends (output_of Out.contents output.old output.new) (cost_report instance.case instance.roster) source.now instance.bundle (outcome_of result) }
 {
     let held = hold(alloc, source, instance)?;
-    Ok(write_costs(output, costs(held.case(), held.roster()))?)
+    Ok(write_costs(output, held.costs())?)
 }
 
-fn sizes<'a, Out: Write>(case: &Case, output: &mut Watch<Out>) -> Result<(), Fault<'a>>
+fn report_sizes<'a, Out: Write>(case: &Case, output: &mut Watch<Out>) -> Result<(), Fault<'a>>
     ensures ok { OnOk result (Writes Out.contents output.old output.new (sizes_text case.now)) }
     ensures err { IfErr result (StopsOutput Out.contents output.old output.new (sizes_text case.now)) }
 {

@@ -4,7 +4,7 @@ ghost use Rattle.std.specs.Prelude.{◌≡◌, ◌+◌, ◌≤◌, true, IfErr, 
 ghost use Rattle.roster_bundle.specs.Limits.{greatest_u64};
 ghost use Rattle.roster_text.specs.Io.{Writes};
 ghost use Rattle.roster_instance.specs.Rosters.{fits_case};
-ghost use Rattle.roster_rounds.specs.RunLogs.{extensions_in};
+ghost use Rattle.roster_laws.specs.Greatest.{extensions_in};
 ghost use Rattle.roster_rounds.specs.Spaces.{fits_run};
 ghost use Rattle.roster_commands.specs.Answer.{Ends, LeavesLog, StopsSearch, improve_report, improved, outcome_of, output_of, run_log};
 
@@ -13,7 +13,7 @@ use crate::held::hold;
 use crate::reading::Instance;
 use roster_case::Held;
 use roster_reports::write_weeks;
-use roster_rounds::{LogFault, RunSpace, most_extensions};
+use roster_rounds::{LogFault, RunSpace, rounds_have_room};
 use roster_state::Meter;
 use roster_text::Watch;
 use std::alloc::Global;
@@ -21,7 +21,7 @@ use std::io::Write;
 
 /// Writes the weeks of an instance after a run of at most so many rounds from a week on. The run's log goes to the log first, line by
 /// line as it is made.
-pub(crate) fn improve<'a, Out: Write, Log: Write>(
+pub(crate) fn report_improve<'a, Out: Write, Log: Write>(
     alloc: Global,
     rounds: u16,
     from: u16,
@@ -39,8 +39,7 @@ pub(crate) fn improve<'a, Out: Write, Log: Write>(
     let Ok(mut space) = RunSpace::for_case(alloc, held.case()) else {
         return Err(Fault::Memory);
     };
-    // A new meter has room for so many.
-    let _ = most_extensions(held.case(), rounds);
+    rounds_have_room(held.case(), rounds);
     run_rounds(&mut held, rounds, from, &mut space, &mut meter, log)?;
     Ok(write_weeks(output, held.case(), held.roster())?)
 }

@@ -11,7 +11,7 @@ use crate::fault::Fault;
 use crate::held::hold;
 use crate::reading::Instance;
 use roster_case::Held;
-use roster_polish::{Course, MOST_SEARCHES, PolishSpace, most_extensions};
+use roster_polish::{Course, MOST_SEARCHES, PolishSpace, searches_have_room};
 use roster_reports::write_weeks;
 use roster_rounds::LogFault;
 use roster_state::Meter;
@@ -20,7 +20,7 @@ use std::alloc::Global;
 use std::io::Write;
 
 /// Writes the weeks of an instance after a run of kicks. The run's log goes to the log first, line by line as it is made.
-pub(crate) fn polish<'a, Out: Write, Log: Write>(
+pub(crate) fn report_polish<'a, Out: Write, Log: Write>(
     alloc: Global,
     course: &Course,
     source: &'a [u8],
@@ -37,8 +37,7 @@ pub(crate) fn polish<'a, Out: Write, Log: Write>(
         return Err(Fault::Memory);
     };
     let course = within_room(course);
-    // A new meter has room for so many.
-    let _ = most_extensions(held.case(), course.searches);
+    searches_have_room(held.case(), course.searches);
     make_kicks(&mut held, &course, &mut space, &mut meter, log)?;
     Ok(write_weeks(output, held.case(), held.roster())?)
 }

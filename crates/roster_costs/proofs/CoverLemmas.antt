@@ -1,15 +1,19 @@
 -- The table of a day's covers, nurse by nurse.
-use Rattle.std.proofs.Common.{◌≡◌, ◌∙◌, ◌+◌, ◌*◌, ◌<◌, ◌≤◌, ◌⊎◌, ◌&&◌, ◌==◌, ℕ, Bool, true, false, inl, inr, ap, ap₂, arith, sym, refl, List, [], length, replicate, take, nat_lt, slice_index_or, slice_set}
+use Rattle.std.proofs.Common.{◌≡◌, ◌∙◌, ◌+◌, ◌-◌, ◌*◌, ◌<◌, ◌≤◌, ◌⊎◌, ◌&&◌, ◌==◌, ℕ, Bool, true, false, inl, inr, ap, ap₂, arith, sym, refl, List, [], length, replicate, take, nat_lt, slice_index_or, slice_set}
 use Rattle.std.proofs.Common.{eq-eqb}
 use Rattle.std.proofs.lemmas.Bool.{cases_eq, ne_eqb}
 use Rattle.std.proofs.lemmas.List.{get_or-replicate, get_or-set_other, get_or-set_same}
 use Rattle.std.proofs.lemmas.List.Sums.{count_by_more_no, count_by_more_yes}
 use Rattle.roster_instance.specs.Choices.{same_choice}
-use Rattle.roster_rules.specs.Covers.{AreCovers}
+use Rattle.roster_rules.specs.Covers.{AreCovers, IsTable, number_at}
+use Rattle.roster_rules.specs.Penalties.{staffing_cost_by}
+use Rattle.roster_rules.specs.Weights.{staffing_weight}
+use Rattle.roster_rules.proofs.RunSums.{sum_same}
 use Rattle.roster_rules.specs.HardRules.{staffing_fault}
 use Rattle.roster_rules.specs.declared.fault.HardFault.TheVariants.{H2}
 use Rattle.roster_instance.specs.Faults.{fault_if}
-use Rattle.roster_instance.specs.Meaning.{Meaning, minimum, shift_at, skill_at}
+use Rattle.roster_instance.specs.Limits.{most_shifts, most_skills}
+use Rattle.roster_instance.specs.Meaning.{Meaning, minimum, optimum, shift_at, shift_count, skill_at, skill_count}
 use Rattle.roster_instance.specs.Rosters.{Row, Rows, choice_on, cover, row_of}
 use Rattle.roster_instance.specs.declared.choice.Choice.{Choice}
 use Rattle.roster_instance.specs.declared.choice.Choice.TheVariants.{Off, Work}
@@ -88,7 +92,13 @@ module _ (r : Rows) (day n : ℕ) (inside : n < length r) (row : Row) (choice : 
           go (inl e) (inr g) = elsewhere s k s_in k_in (λ h. g (omega (arith, h, e, place_is))) (own_by s k ∙ ap (λ b. (shift.0 == s) && b) (ne_eqb skill.0 k (λ h. g (sym h))) ∙ and_false (shift.0 == s))
           go (inr g) f = elsewhere s k s_in k_in (λ h. g (omega (arith, h, place_is, s_in, k_in, shift_in, skill_in))) (own_by s k ∙ ap (λ b. b && (skill.0 == k)) (ne_eqb shift.0 s (λ h. g (sym h))))
 
--- a day's table tells the breaches of its minimums
+-- a day's table tells what its staffing costs
+pub cost_by_table : (c : Meaning) (d : ℕ) (table : List ℕ) (have : ℕ → ℕ → ℕ) → shift_count c ≤ most_shifts → skill_count c ≤ most_skills → IsTable have table
+    → staffing_cost_by c d (number_at table) ≡ staffing_cost_by c d have
+cost_by_table c d table have shifts skills is =
+    sum_same (shift_count c) _ _ (λ s s_in. sum_same (skill_count c) _ _ (λ k k_in. ap (λ n. staffing_weight * (optimum c d s k - n)) (is s k (omega (arith, s_in, shifts)) (omega (arith, k_in, skills)))))
+
+-- and the breaches of its minimums
 pub fault_by_table : (c : Meaning) (r : Rows) (d : ℕ) (counts : List ℕ) → AreCovers r d counts → (s k place : ℕ) → s < 8 → k < 8 → place ≡ 8 * s + k
     → fault_if (nat_lt (slice_index_or counts place 0) (minimum c d s k)) (H2 d (shift_at s) (skill_at k) (slice_index_or counts place 0) (minimum c d s k)) ≡ staffing_fault c r d s k
 fault_by_table c r d counts counted s k place s_in k_in place_is =

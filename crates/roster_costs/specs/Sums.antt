@@ -7,6 +7,18 @@ use Rattle.roster_instance.specs.Rosters.{Rows, days_of_nurse}
 use Rattle.roster_rules.specs.declared.penalties.Costs.{Costs}
 use Rattle.roster_rules.specs.Penalties.{free_run_cost, off_request_cost, shift_run_cost, split_cost, staffing_cost, totals_cost, weekends_cost, wish_cost, working_run_cost}
 
+-- what the staffing of a day costs at most: 2^27
+abbrev pub most_staffing_of_day : ℕ
+most_staffing_of_day = 134217728
+
+-- what one part of a rule costs for a nurse at most: 2^32
+abbrev pub most_of_part : ℕ
+most_of_part = 4294967296
+
+-- and what a rule costs: S2 has two parts, runs of working days and runs of a shift, and each other rule has one
+abbrev pub most_of_rule : ℕ
+most_of_rule = 2 * most_of_part
+
 -- the costs with those of a nurse's days, by each rule but staffing
 abbrev pub with_nurse : Meaning → ℕ → Days → Costs → Costs
 with_nurse c n days k = record {
@@ -33,12 +45,12 @@ costs_before c r n = record {
   s8 = sum_below n (λ m. wish_cost c m (days_of_nurse r m));
 }
 
--- no sum but that of staffing is above what so many nurses can cost
+-- no sum but that of staffing is above what the rule costs for so many nurses at most
 pub record AreWithin (k : Costs) (n : ℕ) : Type 0 where
-  pub s2 : k.s2 ≤ 8589934592 * n
-  pub s3 : k.s3 ≤ 8589934592 * n
-  pub s4 : k.s4 ≤ 8589934592 * n
-  pub s5 : k.s5 ≤ 8589934592 * n
-  pub s6 : k.s6 ≤ 8589934592 * n
-  pub s7 : k.s7 ≤ 8589934592 * n
-  pub s8 : k.s8 ≤ 8589934592 * n
+  pub s2 : k.s2 ≤ most_of_rule * n
+  pub s3 : k.s3 ≤ most_of_rule * n
+  pub s4 : k.s4 ≤ most_of_rule * n
+  pub s5 : k.s5 ≤ most_of_rule * n
+  pub s6 : k.s6 ≤ most_of_rule * n
+  pub s7 : k.s7 ≤ most_of_rule * n
+  pub s8 : k.s8 ≤ most_of_rule * n

@@ -3,7 +3,7 @@
 ghost use Rattle.std.specs.Prelude.{◌≡◌, ◌+◌, ◌<◌, ◌≤◌, true, length};
 ghost use Rattle.roster_instance.specs.Choices.{days_of};
 ghost use Rattle.roster_instance.specs.Meaning.{day_count, nurse_count};
-ghost use Rattle.roster_rules.specs.Penalties.{costs_of, nurse_cost, total_cost};
+ghost use Rattle.roster_rules.specs.Penalties.{costs_of, nurse_cost, staffing_cost, total_cost};
 ghost use Rattle.roster_rules.specs.Room.{most_staffing, penalty_room};
 ghost use Rattle.roster_costs.specs.Sums.{AreWithin, with_nurse};
 ghost use Rattle.roster_instance.specs.Rosters.{fits_case};
@@ -27,8 +27,19 @@ pub fn costs(case: &Case, roster: &Roster) -> Costs
     ensures within { total_cost result < penalty_room }
     ensures staffing { result.s1 ≤ most_staffing }
 {
+    costs_with(case, roster, staffing_cost(case, roster))
+}
+
+/// The same where it is known what the staffing costs.
+pub fn costs_with(case: &Case, roster: &Roster, staffing: u64) -> Costs
+    requires fitting { fits_case case.now roster.now ≡ true }
+    requires staffing { staffing ≡ staffing_cost case.now roster.now }
+    ensures costs { result ≡ costs_of case.now roster.now }
+    ensures within { total_cost result < penalty_room }
+    ensures staffing { result.s1 ≤ most_staffing }
+{
     case.keeps_limits();
-    by_rule(case, roster)
+    by_rule(case, roster, staffing)
 }
 
 /// What a nurse's row costs, apart from staffing.
@@ -52,12 +63,13 @@ pub fn nurse_cost(case: &Case, nurse: usize, row: &[Choice]) -> u32
 }
 
 #[tactic(auto, unfolding(roster_rules::specs::Penalties::costs_of))]
-fn by_rule(case: &Case, roster: &Roster) -> Costs
-    requires { fits_case case.now roster.now ≡ true }
+fn by_rule(case: &Case, roster: &Roster, staffing: u64) -> Costs
+    requires fitting { fits_case case.now roster.now ≡ true }
+    requires staffing { staffing ≡ staffing_cost case.now roster.now }
     ensures { result ≡ costs_of case.now roster.now }
 {
     let mut costs = Costs {
-        s1: staffing_cost(case, roster),
+        s1: staffing,
         ..Costs::default()
     };
     for nurse in 0..case.nurses() {

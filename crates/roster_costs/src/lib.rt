@@ -13,6 +13,6 @@ mod staffing;
 mod totals;
 mod weekends;
 
-pub use costing::{costs, nurse_cost};
+pub use costing::{costs, costs_with, nurse_cost};
 pub use hard::first_hard;
-pub use staffing::{covers, place, staffing_cost};
+pub use staffing::{covers, place, staffing_cost, staffing_cost_of_day};

@@ -4,6 +4,7 @@ ghost use Rattle.std.specs.Prelude.{◌≡◌, ◌<◌, ◌≤◌, length};
 ghost use Rattle.roster_instance.specs.Choices.{days_of};
 ghost use Rattle.roster_instance.specs.Limits.{most_days};
 ghost use Rattle.roster_instance.specs.Meaning.{nurse_count};
+ghost use Rattle.roster_costs.specs.Sums.{most_of_part};
 ghost use Rattle.roster_rules.specs.Penalties.{breaks_off_request, off_request_cost, wish_cost};
 
 use roster_instance::{Case, Choice, Shift};
@@ -15,7 +16,7 @@ pub(crate) fn off_request_cost(case: &Case, nurse: usize, row: &[Choice]) -> u64
     requires nurse { nurse < nurse_count case.now }
     requires days { length row.now ≤ most_days }
     ensures cost { result ≡ off_request_cost case.now nurse (days_of row.now) }
-    ensures within { result ≤ 4294967296 }
+    ensures within { result ≤ most_of_part }
 {
     let mut cost = 0;
     for (day, choice) in row.iter().enumerate() {
@@ -41,7 +42,7 @@ pub(crate) fn wish_cost(case: &Case, nurse: usize, row: &[Choice]) -> u64
     requires nurse { nurse < nurse_count case.now }
     requires days { length row.now ≤ most_days }
     ensures cost { result ≡ wish_cost case.now nurse (days_of row.now) }
-    ensures within { result ≤ 4294967296 }
+    ensures within { result ≤ most_of_part }
 {
     let mut cost = 0;
     for (day, choice) in row.iter().enumerate() {

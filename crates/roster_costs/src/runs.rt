@@ -5,6 +5,7 @@ ghost use Rattle.roster_instance.specs.Choices.{days_of, shift_of};
 ghost use Rattle.roster_instance.specs.Days.{shift_on};
 ghost use Rattle.roster_instance.specs.Limits.{most_days};
 ghost use Rattle.roster_costs.specs.Kinds.{is_of};
+ghost use Rattle.roster_costs.specs.Sums.{most_of_part};
 ghost use Rattle.roster_rules.specs.Penalties.{free_before, free_run_cost, shift_run_before, shift_run_cost, run_cost_of_shift, worked_before, working_run_cost};
 ghost use Rattle.roster_rules.specs.Runs.{run_violations};
 ghost use Rattle.roster_rules.specs.Weights.{shift_run_weight};
@@ -24,7 +25,7 @@ pub(crate) enum Kind {
 pub(crate) fn working_run_cost(case: &Case, nurse: usize, row: &[Choice]) -> u64
     requires { length row.now ≤ most_days }
     ensures cost { result ≡ working_run_cost case.now nurse (days_of row.now) }
-    ensures within { result ≤ 4294967296 }
+    ensures within { result ≤ most_of_part }
 {
     let before = worked_before(case.past(nurse).border);
     let limits = case.contract_rules(nurse).working;
@@ -35,7 +36,7 @@ pub(crate) fn working_run_cost(case: &Case, nurse: usize, row: &[Choice]) -> u64
 pub(crate) fn free_run_cost(case: &Case, nurse: usize, row: &[Choice]) -> u64
     requires { length row.now ≤ most_days }
     ensures cost { result ≡ free_run_cost case.now nurse (days_of row.now) }
-    ensures within { result ≤ 4294967296 }
+    ensures within { result ≤ most_of_part }
 {
     let before = free_before(case.past(nurse).border);
     let limits = case.contract_rules(nurse).free;
@@ -47,7 +48,7 @@ pub(crate) fn free_run_cost(case: &Case, nurse: usize, row: &[Choice]) -> u64
 pub(crate) fn shift_run_cost(case: &Case, nurse: usize, row: &[Choice]) -> u64
     requires { length row.now ≤ most_days }
     ensures cost { result ≡ shift_run_cost case.now nurse (days_of row.now) }
-    ensures within { result ≤ 4294967296 }
+    ensures within { result ≤ most_of_part }
 {
     let mut cost = 0;
     for shift in 0..case.shifts() {

@@ -1,10 +1,11 @@
 //! The staffing of a roster against the optimum.
 
-ghost use Rattle.std.specs.Prelude.{◌≡◌, ◌+◌, ◌*◌, ◌<◌, ◌≤◌, true, length, slice_index_or, slice_set};
-ghost use Rattle.roster_rules.specs.Covers.{AreCovers};
+ghost use Rattle.std.specs.Prelude.{◌≡◌, ℕ, ◌+◌, ◌*◌, ◌<◌, ◌≤◌, true, length, slice_index_or, slice_set};
+ghost use Rattle.roster_rules.specs.Covers.{AreCovers, IsTable};
 ghost use Rattle.roster_instance.specs.Limits.{most_days, most_shifts, most_skills};
 ghost use Rattle.roster_instance.specs.Meaning.{shift_count, skill_count};
-ghost use Rattle.roster_rules.specs.Penalties.{staffing_cost, staffing_cost_of_day};
+ghost use Rattle.roster_costs.specs.Sums.{most_staffing_of_day};
+ghost use Rattle.roster_rules.specs.Penalties.{staffing_cost, staffing_cost_by};
 ghost use Rattle.roster_instance.specs.Rosters.{fits_case};
 
 use roster_instance::{Case, Choice, Roster, Shift, Skill, choice_on};
@@ -15,24 +16,23 @@ use roster_rules::weights::STAFFING;
 pub fn staffing_cost(case: &Case, roster: &Roster) -> u64
     requires { fits_case case.now roster.now ≡ true }
     ensures cost { result ≡ staffing_cost case.now roster.now }
-    ensures within { result ≤ most_days * 134217728 }
+    ensures within { result ≤ most_days * most_staffing_of_day }
 {
+    case.keeps_limits();
     let mut cost = 0;
     for day in 0..case.days() {
-        cost += staffing_cost_of_day(case, roster, day);
+        cost += staffing_cost_of_day(case, day, &covers(case, roster, day));
     }
     cost
 }
 
-/// The same of a day, whose nurses are counted once.
+/// The same of a day, by its table.
 #[tactic(auto, using(roster_rules::proofs::CountLemmas::sum_more))]
-fn staffing_cost_of_day(case: &Case, roster: &Roster, day: u16) -> u64
-    requires { fits_case case.now roster.now ≡ true }
-    ensures cost { result ≡ staffing_cost_of_day case.now roster.now day }
-    ensures within { result ≤ 134217728 }
+pub fn staffing_cost_of_day(case: &Case, day: u16, covers: &[u16; 64]) -> u64
+    ensures cost { (have : ℕ → ℕ → ℕ) → IsTable have covers.now → result ≡ staffing_cost_by case.now day have }
+    ensures within { result ≤ most_staffing_of_day }
 {
     let (shifts, skills) = (case.shifts(), case.skills());
-    let covers = covers(case, roster, day);
     let mut cost = 0;
     for shift in 0..shifts {
         for skill in 0..skills {

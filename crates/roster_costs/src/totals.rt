@@ -4,6 +4,7 @@ ghost use Rattle.std.specs.Prelude.{◌≡◌, ◌≤◌, length};
 ghost use Rattle.roster_instance.specs.Choices.{days_of};
 ghost use Rattle.roster_instance.specs.Days.{days_worked};
 ghost use Rattle.roster_instance.specs.Limits.{most_days};
+ghost use Rattle.roster_costs.specs.Sums.{most_of_part};
 ghost use Rattle.roster_rules.specs.Penalties.{extra_cost, missing_cost, totals_cost};
 
 use roster_instance::{Case, Choice};
@@ -13,7 +14,7 @@ use roster_rules::weights::ASSIGNMENT;
 pub(crate) fn totals_cost(case: &Case, nurse: usize, row: &[Choice]) -> u64
     requires { length row.now ≤ most_days }
     ensures cost { result ≡ totals_cost case.now nurse (days_of row.now) }
-    ensures within { result ≤ 4294967296 }
+    ensures within { result ≤ most_of_part }
 {
     let total = case.past(nurse).assignments as u64 + days_worked(row);
     let limits = case.contract_rules(nurse).total;

@@ -4,6 +4,7 @@ ghost use Rattle.std.specs.Prelude.{◌≡◌, ◌*◌, ◌≤◌, length};
 ghost use Rattle.roster_instance.specs.Choices.{days_of};
 ghost use Rattle.roster_instance.specs.Days.{one_alone, split_weekends, worked_weekends, works};
 ghost use Rattle.roster_instance.specs.Limits.{most_weeks};
+ghost use Rattle.roster_costs.specs.Sums.{most_of_part};
 ghost use Rattle.roster_rules.specs.Penalties.{split_cost, weekends_cost};
 
 use roster_instance::{Case, Choice};
@@ -14,7 +15,7 @@ pub(crate) fn split_cost(case: &Case, nurse: usize, row: &[Choice], weeks: u16) 
     requires days { length row.now ≡ 7 * weeks }
     requires weeks { weeks ≤ most_weeks }
     ensures cost { result ≡ split_cost case.now nurse (days_of row.now) }
-    ensures within { result ≤ 4294967296 }
+    ensures within { result ≤ most_of_part }
 {
     if !case.contract_rules(nurse).whole_weekends {
         return 0;
@@ -27,7 +28,7 @@ pub(crate) fn weekends_cost(case: &Case, nurse: usize, row: &[Choice], weeks: u1
     requires days { length row.now ≡ 7 * weeks }
     requires weeks { weeks ≤ most_weeks }
     ensures cost { result ≡ weekends_cost case.now nurse (days_of row.now) }
-    ensures within { result ≤ 4294967296 }
+    ensures within { result ≤ most_of_part }
 {
     let weekends = case.past(nurse).weekends as u64 + worked_weekends(row, weeks);
     WEEKEND as u64 * weekends.saturating_sub(case.contract_rules(nurse).weekends as u64)

@@ -1,15 +1,16 @@
 -- The sizes of the search.
-use Rattle.std.proofs.Common.{◌≡◌, ◌∙◌, ◌+◌, ◌*◌, ◌≤◌, ◌<◌, ◌⊎◌, ℕ, suc, Bool, Some, max, ap, arith, false, inl, inr, le-ltb, lt-ltb, get_or, nat_lt, subst, sym, true, List, [], ◌∷◌, ◌++◌, map}
+use Rattle.std.proofs.Common.{◌≡◌, ◌∙◌, ◌+◌, ◌*◌, ◌≤◌, ◌<◌, ◌⊎◌, ℕ, suc, Bool, Some, max, ap, arith, false, inl, inr, le-ltb, lt-ltb, get_or, nat_lt, subst, sym, true, List, [], ◌∷◌, ◌++◌, length, map}
 use Rattle.std.proofs.lemmas.Bool.{cases_eq}
 use Rattle.std.proofs.lemmas.Nat.{mul-le}
 use Rattle.roster_bundle.specs.declared.bundle.Nurse.{Nurse}
 use Rattle.roster_instance.specs.declared.fault.CaseFault.TheVariants.{TooManyStates}
 use Rattle.roster_instance.specs.declared.rules.Limits.{Limits}
+use Rattle.roster_instance.specs.Building.{HaveFewSkills}
 use Rattle.roster_instance.specs.Faults.{fault_if, first_fault}
-use Rattle.roster_instance.specs.Meaning.{Meaning, contract_of, no_limits, shift_count}
+use Rattle.roster_instance.specs.Meaning.{Meaning, contract_of, no_limits, nurse_at, shift_count}
 use Rattle.roster_instance.specs.Refusals.{state_fault}
-use Rattle.roster_instance.specs.Limits.{most_small, most_states}
-use Rattle.roster_instance.specs.Sizes.{greatest_of, state_count, cap}
+use Rattle.roster_instance.specs.Limits.{most_shifts, most_skills, most_small, most_states}
+use Rattle.roster_instance.specs.Sizes.{cap, choice_count, greatest_of, state_count}
 use Rattle.roster_instance.specs.Small.{AreSmall}
 
 pub greatest_of-push : (ns : List ℕ) (n : ℕ) → greatest_of (ns ++ n ∷ []) ≡ max (greatest_of ns) n
@@ -34,6 +35,11 @@ pub states-are : (c : Meaning) (n s r g a w : ℕ) → s ≡ shift_count c → r
     → a ≡ cap (contract_of c n).total → w ≡ (contract_of c n).weekends → (s + 1) * (r + 1) * (g + 1) * (a + 1) * (w + 1) ≡ state_count c n
 unfolding state_count
 states-are c n s r g a w shifts run shift_run total weekends = λ i. (shifts i + 1) * (run i + 1) * (shift_run i + 1) * (total i + 1) * (weekends i + 1)
+
+-- few shifts and few skills leave few choices
+pub few_choices : (c : Meaning) → shift_count c ≤ most_shifts → HaveFewSkills c.nurses → (n : ℕ) → choice_count c n ≤ 1 + most_shifts * most_skills
+unfolding choice_count
+few_choices c shifts skills n = omega (arith, mul-le (shift_count c) (length (nurse_at c n).skills) most_shifts most_skills shifts (skills n))
 
 -- one number more that is within a bound
 pub within-more : (f : ℕ → ℕ) (i most : ℕ) → ((n : ℕ) → n < i → f n ≤ most) → f i ≤ most → (n : ℕ) → n < i + 1 → f n ≤ most

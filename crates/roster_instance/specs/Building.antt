@@ -1,9 +1,10 @@
 -- What holds of the parts of a scenario while it is read.
-use Rattle.std.specs.Prelude.{◌≡◌, ℕ, ◌<◌, ◌≤◌, Bool, List, map}
+use Rattle.std.specs.Prelude.{◌≡◌, ℕ, ◌<◌, ◌≤◌, Bool, List, length, map, slice_index_or}
 use Rattle.roster_bundle.specs.declared.token.Token.{Token}
 use Rattle.roster_instance.specs.declared.choice.Skill.{Skill}
 use Rattle.roster_instance.specs.Bundles.{Names, numbers_among, skill_named}
 use Rattle.roster_instance.specs.Limits.{most_nurses, most_shifts, most_skills, most_weeks}
+use Rattle.roster_instance.specs.Meaning.{NurseFacts, nobody}
 
 -- how many weeks, skills, shifts and nurses there may be (our profile)
 pub record HasCounts (weeks skills shifts nurses : ℕ) : Type 0 where
@@ -20,3 +21,7 @@ pub record HasCounts (weeks skills shifts nurses : ℕ) : Type 0 where
 pub record HasSkills (source : List ℕ) (skills : Names) (ts : List Token) (taken : List Bool) (own : List Skill) : Type 0 where
   pub flags : taken ≡ numbers_among source skills ts
   pub own_are : own ≡ map (skill_named source skills) ts
+
+-- none of these nurses has more skills than there may be
+abbrev pub HaveFewSkills : List NurseFacts → Type 0
+HaveFewSkills nurses = (n : ℕ) → length (slice_index_or nurses n nobody).skills ≤ most_skills

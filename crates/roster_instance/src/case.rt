@@ -118,6 +118,15 @@ impl Case {
         self.nurses();
     }
 
+    /// A law: no nurse's search has more states than the limit, and no nurse has more choices on a day than to be off and each
+    /// shift with each skill.
+    pub fn keeps_sizes(&self)
+        ensures states { HasFewStates self.now }
+        ensures choices { (n : ℕ) → choice_count self.now n ≤ 1 + most_shifts * most_skills }
+    {
+        let _ = &self.scenario;
+    }
+
     // ---- how many there are
 
     /// How many weeks, 1 at least.

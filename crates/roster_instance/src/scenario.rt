@@ -7,7 +7,7 @@ ghost use Rattle.roster_bundle.specs.declared.bundle.Nurse.{Nurse};
 ghost use Rattle.roster_bundle.specs.declared.bundle.Pair.{Pair};
 ghost use Rattle.roster_bundle.specs.declared.bundle.ShiftType.{ShiftType};
 ghost use Rattle.roster_bundle.specs.declared.token.Token.{Token};
-ghost use Rattle.roster_instance.specs.Building.{HasCounts, HasSkills};
+ghost use Rattle.roster_instance.specs.Building.{HasCounts, HasSkills, HaveFewSkills};
 ghost use Rattle.roster_instance.specs.Bundles.{contract_meant, limits_of, nurse_meant, numbers_among, skill_named, successions_meant};
 ghost use Rattle.roster_instance.specs.Checking.{IsFirst};
 ghost use Rattle.roster_instance.specs.Faults.{each};
@@ -50,6 +50,7 @@ pub(crate) struct Scenario {
     pub(crate) nurse_rules: Vec<NurseRules>,
     pub(crate) weeks: usize,
     ghost counts: { HasCounts weeks (length skills) (length shifts) (length nurses) },
+    ghost few_skills: { HaveFewSkills nurse_rules.items },
 }
 
 // By hand, so that who drops a scenario has one call to prove and not the drops of all its parts.
@@ -138,6 +139,7 @@ struct Staff {
     contract_rules: Vec<ContractRules>,
     nurses: Names,
     nurse_rules: Vec<NurseRules>,
+    ghost few_skills: { HaveFewSkills nurse_rules.items },
 }
 
 fn read_staff(
@@ -532,6 +534,7 @@ struct NurseSection<'a> {
     names: Names,
     rules: Vec<NurseRules>,
     ghost few: { length skills.now ≤ most_skills },
+    ghost few_skills: { HaveFewSkills rules.items },
 }
 
 impl<'a> Section<Nurse> for NurseSection<'a> {
@@ -563,6 +566,7 @@ fn nurses_of(
     ensures names { IfOk result (λ r. r.0 ≡ names_of source.now (map (λ (n : Nurse). n.name) nurses.now.items)) }
     ensures few { IfOk result (λ r. (0 < length r.0) × (length r.0 ≤ most_nurses)) }
     ensures rules { IfOk result (λ r. r.1.items ≡ map (nurse_meant source.now contracts.now skills.now) nurses.now.items) }
+    ensures few_skills { IfOk result (λ r. HaveFewSkills r.1.items) }
     ensures none { OnOk result (listed_faults most_nurses (nurse_faults source.now contracts.now skills.now) nurses.now ≡ []) }
     ensures first { IfErr result (IsFirst (listed_faults most_nurses (nurse_faults source.now contracts.now skills.now) nurses.now)) }
 {

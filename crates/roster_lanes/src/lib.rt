@@ -3,4 +3,4 @@
 
 mod lower;
 
-pub use lower::{lower_all, lower16, set_all};
+pub use lower::{LANES, lower_all, lower16, set_all};

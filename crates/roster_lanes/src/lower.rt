@@ -1,4 +1,4 @@
-//! Lowering labels by vectors of 16.
+//! Lowering labels by vectors.
 
 ghost use Rattle.std.specs.Prelude.{◌≡◌, ℕ, ◌+◌, ◌<◌, ◌≤◌, length, min, nat_lt, slice_index_or, if◌then◌else◌, ◌==◌};
 ghost use Rattle.std.specs.Int.{bit_at};
@@ -6,14 +6,14 @@ ghost use Rattle.roster_lanes.specs.Lanes.{LabelsLowered, LabelsSet, PointersSet
 
 use std::simd::prelude::*;
 
-// How many places one vector holds.
-const LANES: usize = 16;
+/// How many places one vector holds.
+pub const LANES: usize = 16;
 
 /// Each place becomes the smaller of the two. Bit i of the answer is set just where the second was strictly smaller at place i.
 #[inline(always)]
-pub fn lower16(labels: &mut [u32; 16], others: &[u32; 16]) -> u16
-    ensures labels { (i : ℕ) → i < 16 → slice_index_or labels.new i 0 ≡ min (slice_index_or labels.old i 0) (slice_index_or others.now i 0) }
-    ensures bits { (i : ℕ) → i < 16 → bit_at result i ≡ (if nat_lt (slice_index_or others.now i 0) (slice_index_or labels.old i 0) then 1 else 0) }
+pub fn lower16(labels: &mut [u32; LANES], others: &[u32; LANES]) -> u16
+    ensures labels { (i : ℕ) → i < LANES → slice_index_or labels.new i 0 ≡ min (slice_index_or labels.old i 0) (slice_index_or others.now i 0) }
+    ensures bits { (i : ℕ) → i < LANES → bit_at result i ≡ (if nat_lt (slice_index_or others.now i 0) (slice_index_or labels.old i 0) then 1 else 0) }
 {
     let old = u32x16::from_slice(&labels[..]);
     let least = old.simd_min(u32x16::from_slice(&others[..]));
@@ -62,7 +62,7 @@ fn lower_few(labels: &mut [u32], pointers: &mut [u8], others: &[u32], more: u32,
     }
 }
 
-/// The same for 16 places from a first one on.
+/// The same for `LANES` places from a first one on.
 #[inline(always)]
 fn lower_at(
     labels: &mut [u32],
@@ -72,13 +72,13 @@ fn lower_at(
     more: u32,
     pointer: u8,
 )
-    requires labels { first + 16 ≤ length labels.old }
-    requires pointers { first + 16 ≤ length pointers.old }
-    requires others { first + 16 ≤ length others.now }
-    ensures labels { LabelsLowered first (first + 16) others.now more labels.old labels.new }
-    ensures pointers { PointersSet first (first + 16) others.now more pointer labels.old pointers.old pointers.new }
-    ensures labels_others { SameOutside first (first + 16) labels.old labels.new }
-    ensures pointers_others { SameOutside first (first + 16) pointers.old pointers.new }
+    requires labels { first + LANES ≤ length labels.old }
+    requires pointers { first + LANES ≤ length pointers.old }
+    requires others { first + LANES ≤ length others.now }
+    ensures labels { LabelsLowered first (first + LANES) others.now more labels.old labels.new }
+    ensures pointers { PointersSet first (first + LANES) others.now more pointer labels.old pointers.old pointers.new }
+    ensures labels_others { SameOutside first (first + LANES) labels.old labels.new }
+    ensures pointers_others { SameOutside first (first + LANES) pointers.old pointers.new }
 {
     let old = load(labels, first);
     let candidates = raised_at(others, first, more);
@@ -123,52 +123,52 @@ fn set_few(labels: &mut [u32], others: &[u32], more: u32, most: u32)
     }
 }
 
-/// The same for 16 places from a first one on.
+/// The same for `LANES` places from a first one on.
 #[inline(always)]
 fn set_at(labels: &mut [u32], others: &[u32], first: usize, more: u32, most: u32)
-    requires labels { first + 16 ≤ length labels.old }
-    requires others { first + 16 ≤ length others.now }
-    ensures labels { LabelsSet first (first + 16) others.now more most labels.new }
-    ensures labels_others { SameOutside first (first + 16) labels.old labels.new }
+    requires labels { first + LANES ≤ length labels.old }
+    requires others { first + LANES ≤ length others.now }
+    ensures labels { LabelsSet first (first + LANES) others.now more most labels.new }
+    ensures labels_others { SameOutside first (first + LANES) labels.old labels.new }
 {
     let mut candidates = raised_at(others, first, more);
-    lower16(&mut candidates, &[most; 16]);
+    lower16(&mut candidates, &[most; LANES]);
     store(&mut labels[first..first + LANES], &candidates);
 }
 
-/// Sets 16 numbers.
+/// Sets `LANES` numbers.
 #[inline(always)]
-fn store(numbers: &mut [u32], new: &[u32; 16])
-    requires { length numbers.old ≡ 16 }
-    ensures { (i : ℕ) → i < 16 → slice_index_or numbers.new i 0 ≡ slice_index_or new.now i 0 }
+fn store(numbers: &mut [u32], new: &[u32; LANES])
+    requires { length numbers.old ≡ LANES }
+    ensures { (i : ℕ) → i < LANES → slice_index_or numbers.new i 0 ≡ slice_index_or new.now i 0 }
 {
     numbers.copy_from_slice(&new[..]);
 }
 
-/// The 16 numbers from a place on.
+/// The `LANES` numbers from a place on.
 #[inline(always)]
-fn load(numbers: &[u32], first: usize) -> [u32; 16]
-    requires { first + 16 ≤ length numbers.now }
-    ensures { (i : ℕ) → i < 16 → slice_index_or result i 0 ≡ slice_index_or numbers.now (first + i) 0 }
+fn load(numbers: &[u32], first: usize) -> [u32; LANES]
+    requires { first + LANES ≤ length numbers.now }
+    ensures { (i : ℕ) → i < LANES → slice_index_or result i 0 ≡ slice_index_or numbers.now (first + i) 0 }
 {
     u32x16::from_slice(&numbers[first..]).to_array()
 }
 
-/// The 16 numbers from a place on, each with so much more.
+/// The `LANES` numbers from a place on, each with so much more.
 #[inline(always)]
-fn raised_at(others: &[u32], first: usize, more: u32) -> [u32; 16]
-    requires room { first + 16 ≤ length others.now }
-    ensures { (i : ℕ) → i < 16 → slice_index_or result i 0 ≡ raised others.now more (first + i) }
+fn raised_at(others: &[u32], first: usize, more: u32) -> [u32; LANES]
+    requires others { first + LANES ≤ length others.now }
+    ensures { (i : ℕ) → i < LANES → slice_index_or result i 0 ≡ raised others.now more (first + i) }
 {
     (u32x16::from_slice(&others[first..]) + u32x16::splat(more)).to_array()
 }
 
-/// Lowers 16 labels. The answer is 0 where none becomes smaller.
+/// Lowers `LANES` labels. The answer is 0 where none becomes smaller.
 #[inline(always)]
-fn lower_labels(labels: &mut [u32], candidates: &[u32; 16]) -> u16
-    requires { length labels.old ≡ 16 }
-    ensures labels { (i : ℕ) → i < 16 → slice_index_or labels.new i 0 ≡ min (slice_index_or labels.old i 0) (slice_index_or candidates.now i 0) }
-    ensures bits { (i : ℕ) → i < 16 → bit_at result i ≡ (if nat_lt (slice_index_or candidates.now i 0) (slice_index_or labels.old i 0) then 1 else 0) }
+fn lower_labels(labels: &mut [u32], candidates: &[u32; LANES]) -> u16
+    requires { length labels.old ≡ LANES }
+    ensures labels { (i : ℕ) → i < LANES → slice_index_or labels.new i 0 ≡ min (slice_index_or labels.old i 0) (slice_index_or candidates.now i 0) }
+    ensures bits { (i : ℕ) → i < LANES → bit_at result i ≡ (if nat_lt (slice_index_or candidates.now i 0) (slice_index_or labels.old i 0) then 1 else 0) }
 {
     let Some(places) = labels.as_mut_array() else {
         unreachable!()
@@ -176,12 +176,12 @@ fn lower_labels(labels: &mut [u32], candidates: &[u32; 16]) -> u16
     lower16(places, candidates)
 }
 
-/// Sets the pointers of 16 labels where the label isn't the old one.
+/// Sets the pointers of `LANES` labels where the label isn't the old one.
 #[inline(always)]
-fn set_pointers(pointers: &mut [u8], old: &[u32; 16], labels: &[u32], pointer: u8)
-    requires pointers { length pointers.old ≡ 16 }
-    requires labels { length labels.now ≡ 16 }
-    ensures { (i : ℕ) → i < 16 → slice_index_or pointers.new i 0 ≡ (if slice_index_or labels.now i 0 == slice_index_or old.now i 0 then slice_index_or pointers.old i 0 else pointer) }
+fn set_pointers(pointers: &mut [u8], old: &[u32; LANES], labels: &[u32], pointer: u8)
+    requires pointers { length pointers.old ≡ LANES }
+    requires labels { length labels.now ≡ LANES }
+    ensures { (i : ℕ) → i < LANES → slice_index_or pointers.new i 0 ≡ (if slice_index_or labels.now i 0 == slice_index_or old.now i 0 then slice_index_or pointers.old i 0 else pointer) }
 {
     let stays = u32x16::from_slice(labels).simd_eq(u32x16::from_slice(&old[..]));
     stays

@@ -20,6 +20,10 @@ greatest_state_count c = greatest_over_nurses c state_count
 unfoldable pub greatest_extension_count : Meaning → ℕ
 greatest_extension_count c = greatest_over_nurses c extension_count
 
+-- how often a run of rounds extends a label, at most
+abbrev pub extensions_in : Meaning → ℕ → ℕ
+extensions_in c rounds = rounds * (nurse_count c * greatest_extension_count c)
+
 -- it is at least that of each nurse, and that of one of them
 pub record IsGreatest (nurses : ℕ) (size : ℕ → ℕ) (greatest : ℕ) : Type 0 where
   pub above : (n : ℕ) → n < nurses → size n ≤ greatest

@@ -15,7 +15,7 @@ use Rattle.roster_laws.proofs.Frozen.{stays_self, steps_stay}
 use Rattle.roster_laws.proofs.Kept.{IsKept, run_keeps, step_keeps}
 use Rattle.roster_laws.proofs.Runs.{fall, settled_rows}
 use Rattle.roster_rounds.specs.PutIn.{IsAccepted}
-use Rattle.roster_rounds.specs.declared.outcome.LogFault.TheVariants.{LogFailed}
+use Rattle.roster_log.specs.declared.fault.LogFault.TheVariants.{LogFailed}
 use Rattle.roster_polish.specs.declared.run.Polished.{Polished}
 use Rattle.roster_polish.specs.Polished.{Falls, IsKickLog, IsPolishing, IsReached, KickLine, PolishLogStops, Polishes, first_run, kick_line, kicks_text, last_kick, last_line, most_rounds, no_kick}
 use Rattle.roster_polish.specs.Settled.{IsSettled}

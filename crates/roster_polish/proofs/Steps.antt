@@ -9,9 +9,8 @@ use Rattle.roster_instance.specs.Rosters.{Rows}
 use Rattle.roster_rules.specs.AllowedRows.{allowed_rows, best_row, penalty_with}
 use Rattle.roster_rules.specs.Improver.{same_rows, step}
 use Rattle.roster_rules.specs.Penalties.{penalty}
-use Rattle.roster_laws.specs.Greatest.{extension_count, greatest_extension_count}
+use Rattle.roster_laws.specs.Greatest.{extension_count, extensions_in, greatest_extension_count}
 use Rattle.roster_laws.proofs.GreatestLemmas.{greatest_extensions}
-use Rattle.roster_rounds.specs.RunLogs.{extensions_in}
 use Rattle.roster_laws.proofs.SameRows.{same_rows_is}
 use Rattle.roster_laws.proofs.Steps.{changed_is_cheaper, step_is_least}
 use Rattle.roster_polish.specs.Settled.{HasBestRow, Spends, extensions_of}

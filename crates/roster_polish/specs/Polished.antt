@@ -8,8 +8,8 @@ use Rattle.roster_laws.specs.FrozenDays.{FrozenDaysStay}
 use Rattle.roster_rounds.specs.PutIn.{IsAccepted}
 use Rattle.roster_rules.specs.AllowedRows.{best_row}
 use Rattle.roster_rules.specs.Improver.{Run, line, run}
-use Rattle.roster_rounds.specs.declared.outcome.LogFault.{LogFault}
-use Rattle.roster_rounds.specs.declared.outcome.LogFault.TheVariants.{LogFailed}
+use Rattle.roster_log.specs.declared.fault.LogFault.{LogFault}
+use Rattle.roster_log.specs.declared.fault.LogFault.TheVariants.{LogFailed}
 use Rattle.roster_best.specs.Known.{IsKnown}
 use Rattle.roster_bound.specs.Workspaces.{FitsFloor}
 use Rattle.roster_polish.specs.declared.run.Polished.{Polished}

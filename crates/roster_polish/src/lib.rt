@@ -15,6 +15,6 @@ mod searches;
 mod settle;
 mod space;
 
-pub use room::{MOST_SEARCHES, most_extensions};
+pub use room::{MOST_SEARCHES, searches_have_room};
 pub use run::{Course, Polished, polish};
 pub use space::PolishSpace;

@@ -13,7 +13,7 @@ use arrayvec::ArrayVec;
 use roster_best::{choices, request_cost};
 use roster_bound::{MOST_WORTH, Worths};
 use roster_case::{Case, Choice, Held};
-use roster_search::{MOST_DAYS, MOST_OFFERS, Offer, cheapest_by_shift};
+use roster_search::{MOST_CHOICES, MOST_DAYS, MOST_OFFERS, Offer, cheapest_by_shift};
 
 /// How a kick prices what is offered, and in which weeks it offers more than the present row.
 #[derive(Clone, Copy)]
@@ -124,7 +124,7 @@ fn offers_of_day(
 {
     held.case().keeps_limits();
     let open = choices(held, nurse, day, from_on(kick, day));
-    let mut offers = ArrayVec::<Offer, 65>::new();
+    let mut offers = ArrayVec::<Offer, MOST_CHOICES>::new();
     for place in 0..open.len() {
         let offer = open[place];
         let price = price(kick, held.case(), nurse, day, offer);

@@ -2,6 +2,7 @@
 
 ghost use Rattle.std.specs.Prelude.{◌≡◌, ◌+◌, ◌*◌, ◌≤◌, false, true, codes, if◌then◌else◌, IfErr, IfOk};
 ghost use Rattle.roster_bundle.specs.Limits.{greatest_u64};
+ghost use Rattle.roster_instance.specs.Limits.{most_nurses};
 ghost use Rattle.roster_laws.specs.FrozenDays.{FrozenDaysStay};
 ghost use Rattle.roster_polish.specs.Polished.{FitsPolish, PolishLogStops, Polishes, first_searches};
 ghost use Rattle.roster_polish.specs.Settled.{extensions_of};
@@ -14,7 +15,7 @@ use crate::settle::settle_first;
 use crate::space::PolishSpace;
 use roster_bound::improve_worths;
 use roster_case::Held;
-use roster_rounds::{LogFault, log_word};
+use roster_log::{LogFault, log_word};
 use roster_state::Meter;
 use roster_text::Watch;
 use std::io::Write;
@@ -116,7 +117,7 @@ fn begin(held: &Held, course: &Course, space: &mut PolishSpace, meter: &mut Mete
 
 /// How many rounds over all nurses the worths are improved: a hundred, or as many as take half of the searches.
 fn rounds_within(searches: u32, nurses: u32) -> u32
-    requires { nurses ≤ 400 }
+    requires { nurses ≤ most_nurses }
     ensures few { result ≤ 100 }
     ensures within { result * nurses ≤ searches }
 {

@@ -2,15 +2,16 @@
 use Rattle.std.proofs.Common.{◌≡◌, ◌∙◌, ◌+◌, ◌*◌, ◌<◌, ◌≤◌, ℕ, ap, arith, map}
 use Rattle.std.specs.List.{range_with_len}
 use Rattle.std.proofs.lemmas.Nat.{mul-le}
-use Rattle.roster_instance.specs.Meaning.{Meaning, nurse_count}
-use Rattle.roster_instance.specs.Sizes.{greatest_of}
-use Rattle.roster_laws.specs.Greatest.{extension_count, greatest_extension_count}
+use Rattle.roster_instance.specs.CaseParts.{HasFewStates}
+use Rattle.roster_instance.specs.Limits.{most_days, most_nurses, most_shifts, most_skills, most_states, most_weeks}
+use Rattle.roster_instance.specs.Meaning.{Meaning, day_count, nurse_count, week_count}
+use Rattle.roster_instance.specs.Sizes.{choice_count, greatest_of, state_count}
+use Rattle.roster_laws.specs.Greatest.{extension_count, extensions_in, greatest_extension_count}
 use Rattle.roster_laws.proofs.GreatestLemmas.{greatest_extensions}
 use Rattle.roster_best.specs.Workspaces.{SameRoom, Space}
-use Rattle.roster_rounds.specs.RunLogs.{extensions_in}
 
-pub same_room : (a b c : Space) → SameRoom a b → SameRoom b c → SameRoom a c
-same_room a b c p q = record { labels = q.labels ∙ p.labels; pointers = q.pointers ∙ p.pointers; room = q.room ∙ p.room }
+pub room_stays : (a b c : Space) → SameRoom a b → SameRoom b c → SameRoom a c
+room_stays a b c p q = record { labels = q.labels ∙ p.labels; pointers = q.pointers ∙ p.pointers; room = q.room ∙ p.room }
 
 -- ---- the steps of the first nurses of a round; the case is known by an equation
 
@@ -45,6 +46,23 @@ module _ (c now : Meaning) (same : now ≡ c) (made start meter : ℕ) (so_far :
   round_within rounds new within more =
       let all = nurse_count c * greatest_extension_count c in
       omega (arith, round_counted new more, mul-le (made + 1) all rounds all (omega (arith, within)) (omega arith))
+
+-- ---- a new meter
+
+-- the limits of a case leave few extensions to a search
+pub few_extensions : (c : Meaning) (n : ℕ) → n < nurse_count c → week_count c ≤ most_weeks → HasFewStates c → ((m : ℕ) → choice_count c m ≤ 1 + most_shifts * most_skills)
+    → extension_count c n ≤ most_states * most_days * (1 + most_shifts * most_skills)
+unfolding extension_count
+few_extensions c n inside weeks states choices =
+    mul-le (state_count c n * day_count c) (choice_count c n) (most_states * most_days) (1 + most_shifts * most_skills)
+    (mul-le (state_count c n) (day_count c) most_states most_days (states n inside) (omega (arith, weeks))) (choices n)
+
+-- and so to some searches for each nurse
+pub few_in_all : (c : Meaning) (rounds most : ℕ) → rounds ≤ most → nurse_count c ≤ most_nurses → (greatest_extension_count c ≤ most_states * most_days * (1 + most_shifts * most_skills))
+    → extensions_in c rounds ≤ most * (most_nurses * (most_states * most_days * (1 + most_shifts * most_skills)))
+few_in_all c rounds most within nurses few =
+    let one = most_states * most_days * (1 + most_shifts * most_skills) in
+    mul-le rounds (nurse_count c * greatest_extension_count c) most (most_nurses * one) within (mul-le (nurse_count c) (greatest_extension_count c) most_nurses one nurses few)
 
 -- more rounds count no less
 pub counted_within : (c : Meaning) (made rounds start meter : ℕ) → made ≤ rounds → meter ≤ start + extensions_in c made → meter ≤ start + extensions_in c rounds

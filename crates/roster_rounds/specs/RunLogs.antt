@@ -10,13 +10,9 @@ use Rattle.roster_instance.specs.Rosters.{Rows}
 use Rattle.roster_rules.specs.Improver.{BestRows, Entry, changes, line_of, log_of, round, round_log, run}
 use Rattle.roster_laws.specs.Greatest.{greatest_extension_count}
 use Rattle.roster_laws.specs.Logs as laws
-use Rattle.roster_rounds.specs.declared.outcome.LogFault.{LogFault}
-use Rattle.roster_rounds.specs.declared.outcome.LogFault.TheVariants.{LogFailed}
+use Rattle.roster_log.specs.declared.fault.LogFault.{LogFault}
+use Rattle.roster_log.specs.declared.fault.LogFault.TheVariants.{LogFailed}
 use Rattle.roster_rounds.specs.declared.outcome.Outcome.{Outcome}
-
--- how often a run extends a label, at most
-abbrev pub extensions_in : Meaning → ℕ → ℕ
-extensions_in c rounds = rounds * (nurse_count c * greatest_extension_count c)
 
 -- the text of some entries
 abbrev pub text_of : Meaning → List Entry → List ℕ

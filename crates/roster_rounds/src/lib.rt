@@ -6,7 +6,6 @@
 #![tactic(auto)]
 
 mod headline;
-mod log;
 mod nurse;
 mod outcome;
 mod room;
@@ -14,9 +13,11 @@ mod rounds;
 mod space;
 
 pub use headline::each_row_put_in_is_best;
-pub use log::{log_round, log_word};
 pub use nurse::{step, step_unless_known};
-pub use outcome::{LogFault, Outcome, Step};
-pub use room::{greatest_extensions, most_extensions};
+pub use outcome::{Outcome, Step};
+pub use room::{
+    extensions_are_few, greatest_extensions, most_extensions, rounds_have_room, search_has_room,
+};
+pub use roster_log::LogFault;
 pub use rounds::improve;
 pub use space::RunSpace;

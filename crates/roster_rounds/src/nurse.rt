@@ -37,7 +37,7 @@ pub fn step(
     ensures best { IsBestRow held.old.case from held.old.roster nurse workspace.new.row }
     ensures each_day { meter.old + day_count held.old.case ≤ meter.new }
     ensures counted { meter.new ≤ meter.old + extension_count held.old.case nurse }
-    ensures room { SameRoom workspace.old workspace.new }
+    ensures same_room { SameRoom workspace.old workspace.new }
     ensures fits { fits_space held.old.case workspace.new ≡ true }
 {
     let best = best_row(held, nurse, from, workspace, meter);
@@ -65,7 +65,7 @@ pub fn step_unless_known(
     ensures after { result.after ≡ penalty held.old.case held.new.roster }
     ensures changed { result.changed ≡ not (same_rows held.new.roster held.old.roster) }
     ensures counted { meter.new ≤ meter.old + extension_count held.old.case nurse }
-    ensures room { SameRoom workspace.old workspace.new }
+    ensures same_room { SameRoom workspace.old workspace.new }
     ensures fits { fits_space held.old.case workspace.new ≡ true }
     ensures known { IsKnown held.old.case last.new }
 {

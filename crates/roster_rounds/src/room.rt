@@ -1,14 +1,15 @@
 //! How much a run counts on its meter at most.
 
-ghost use Rattle.std.specs.Prelude.{◌≡◌, ◌+◌, ◌*◌, ◌≤◌};
+ghost use Rattle.std.specs.Prelude.{◌≡◌, ◌+◌, ◌*◌, ◌<◌, ◌≤◌};
+ghost use Rattle.roster_bundle.specs.Limits.{greatest_u64};
 ghost use Rattle.roster_instance.specs.Limits.{most_days, most_shifts, most_skills, most_states};
-ghost use Rattle.roster_laws.specs.Greatest.{greatest_extension_count};
-ghost use Rattle.roster_rounds.specs.RunLogs.{extensions_in};
+ghost use Rattle.roster_instance.specs.Meaning.{nurse_count};
+ghost use Rattle.roster_laws.specs.Greatest.{extension_count, extensions_in, greatest_extension_count};
 
 use roster_best::most_steps;
 use roster_case::Case;
 
-/// How often a run of so many rounds extends a label at most. A new meter has room for it.
+/// How often a run of so many rounds extends a label at most. A new meter has room for it: `rounds_have_room`.
 pub fn most_extensions(case: &Case, rounds: u16) -> u64
     ensures { result ≡ extensions_in case.now rounds }
 {
@@ -25,4 +26,31 @@ pub fn greatest_extensions(case: &Case) -> u64
         greatest = greatest.max(most_steps(case, nurse));
     }
     greatest
+}
+
+// ---- laws, which do nothing
+
+/// A law: no search of a case extends a label more often than the limits allow.
+pub fn extensions_are_few(case: &Case)
+    ensures { greatest_extension_count case.now ≤ most_states * most_days * (1 + most_shifts * most_skills) }
+{
+    case.keeps_limits();
+    case.keeps_sizes();
+    case.nurses();
+}
+
+/// A law: a new meter has room for the search of a nurse.
+pub fn search_has_room(case: &Case, nurse: usize)
+    requires { nurse < nurse_count case.now }
+    ensures { extension_count case.now nurse ≤ greatest_u64 }
+{
+    extensions_are_few(case);
+}
+
+/// A law: a new meter has room for a run of so many rounds.
+pub fn rounds_have_room(case: &Case, rounds: u16)
+    ensures { extensions_in case.now rounds ≤ greatest_u64 }
+{
+    case.keeps_limits();
+    extensions_are_few(case);
 }

@@ -6,17 +6,17 @@ ghost use Rattle.roster_instance.specs.Meaning.{nurse_count};
 ghost use Rattle.roster_rules.specs.AllowedRows.{best_row};
 ghost use Rattle.roster_rules.specs.Improver.{round_log};
 ghost use Rattle.roster_laws.specs.FrozenDays.{FrozenDaysStay};
-ghost use Rattle.roster_laws.specs.Greatest.{greatest_extension_count};
+ghost use Rattle.roster_laws.specs.Greatest.{extensions_in, greatest_extension_count};
 ghost use Rattle.roster_best.specs.Workspaces.{SameRoom, fits_space};
 ghost use Rattle.roster_best.specs.Known.{IsKnown};
 ghost use Rattle.roster_rounds.specs.Spaces.{fits_run};
-ghost use Rattle.roster_rounds.specs.RunLogs.{BreaksAmong, LogStops, Ran, RoundMade, extensions_in};
+ghost use Rattle.roster_rounds.specs.RunLogs.{BreaksAmong, LogStops, Ran, RoundMade};
 
-use crate::log::{log_change, log_round, log_word};
 use crate::nurse::step_unless_known;
-use crate::outcome::{LogFault, Outcome};
+use crate::outcome::Outcome;
 use crate::space::RunSpace;
 use roster_case::Held;
+use roster_log::{LogFault, log_change, log_round, log_word};
 use roster_state::Meter;
 use roster_text::{Watch, WriteFault};
 use std::io::Write;
@@ -43,14 +43,18 @@ pub fn improve<W: Write>(
     ensures err { IfErr result (LogStops W.contents held.old.case (best_row held.old.case from) rounds held.old.roster held.new.roster log.old log.new) }
     ensures frozen { FrozenDaysStay held.old.case from held.old.roster held.new.roster }
     ensures counted { meter.new ≤ meter.old + extensions_in held.old.case rounds }
-    ensures room { SameRoom space.old.workspace space.new.workspace }
+    ensures same_room { SameRoom space.old.workspace space.new.workspace }
     ensures fits { fits_run held.old.case space.new ≡ true }
 {
     space.last.forget();
     let mut sent = log_word(log, 0, b"start", held.total())?;
     let mut changes = 0;
     for rounds_before in 0..rounds {
-        let made = make_round(held, rounds_before + 1, from, space, meter, log, sent)?;
+        let plan = RoundPlan {
+            round: rounds_before + 1,
+            from,
+        };
+        let made = make_round(held, plan, space, meter, log, sent)?;
         sent = made.sent;
         changes += made.changes;
         if made.changes == 0 {
@@ -74,6 +78,13 @@ pub fn improve<W: Write>(
     })
 }
 
+/// A round to make: its number, from 1, and the first week that may change.
+#[derive(Clone, Copy)]
+struct RoundPlan {
+    round: u16,
+    from: u16,
+}
+
 /// A round that was made: how many bytes of the log are sent, and how many steps changed the roster.
 #[derive(Clone, Copy)]
 struct Round {
@@ -84,8 +95,7 @@ struct Round {
 /// A step for each nurse, a line for each that changed the roster, and the line of the round.
 fn make_round<W: Write>(
     held: &mut Held,
-    round: u16,
-    from: u16,
+    plan: RoundPlan,
     space: &mut RunSpace,
     meter: &mut Meter,
     log: &mut Watch<W>,
@@ -95,11 +105,11 @@ fn make_round<W: Write>(
     requires known { IsKnown held.old.case space.old.last }
     requires room { meter.old + nurse_count held.old.case * greatest_extension_count held.old.case ≤ greatest_u64 }
     ensures case { held.new.case ≡ held.old.case }
-    ensures ok { IfOk result (λ made. RoundMade W.contents held.old.case (best_row held.old.case from) round held.old.roster held.new.roster log.old log.new sent made.sent made.changes) }
-    ensures err { IfErr result (BreaksAmong W.contents held.old.case (round_log held.old.case (best_row held.old.case from) round held.old.roster) held.new.roster log.old log.new sent) }
-    ensures frozen { FrozenDaysStay held.old.case from held.old.roster held.new.roster }
+    ensures ok { IfOk result (λ made. RoundMade W.contents held.old.case (best_row held.old.case plan.from) plan.round held.old.roster held.new.roster log.old log.new sent made.sent made.changes) }
+    ensures err { IfErr result (BreaksAmong W.contents held.old.case (round_log held.old.case (best_row held.old.case plan.from) plan.round held.old.roster) held.new.roster log.old log.new sent) }
+    ensures frozen { FrozenDaysStay held.old.case plan.from held.old.roster held.new.roster }
     ensures counted { meter.new ≤ meter.old + nurse_count held.old.case * greatest_extension_count held.old.case }
-    ensures room { SameRoom space.old.workspace space.new.workspace }
+    ensures same_room { SameRoom space.old.workspace space.new.workspace }
     ensures fits { fits_space held.old.case space.new.workspace ≡ true }
     ensures known { IsKnown held.old.case space.new.last }
 {
@@ -108,7 +118,7 @@ fn make_round<W: Write>(
         let step = step_unless_known(
             held,
             nurse,
-            from,
+            plan.from,
             &mut space.workspace,
             &mut space.last,
             meter,
@@ -117,8 +127,14 @@ fn make_round<W: Write>(
             continue;
         }
         changes += 1;
-        sent = log_change(log, sent, round, held.case().nurse_name(nurse), step.after)?;
+        sent = log_change(
+            log,
+            sent,
+            plan.round,
+            held.case().nurse_name(nurse),
+            step.after,
+        )?;
     }
-    sent = log_round(log, sent, round, held.total())?;
+    sent = log_round(log, sent, plan.round, held.total())?;
     Ok(Round { sent, changes })
 }

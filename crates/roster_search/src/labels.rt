@@ -2,6 +2,7 @@
 
 ghost use Rattle.std.specs.Prelude.{◌≡◌, ◌+◌, ◌-◌, ◌*◌, ◌<◌, ◌≤◌, true, false, ℕ, List, is_some, length, replicate, slice_index_or, take};
 ghost use Rattle.roster_bundle.specs.Limits.{greatest_u64};
+ghost use Rattle.roster_instance.specs.Limits.{most_shifts};
 ghost use Rattle.roster_rules.specs.DayLaw.{weekends_more};
 ghost use Rattle.roster_instance.specs.Meaning.{contract_of, nurse_count};
 ghost use Rattle.roster_rules.specs.Prefix.{Summary};
@@ -157,7 +158,7 @@ impl StretchRoom {
 /// The area of a last shift's number, 0 where there is none.
 #[inline(always)]
 fn area_of(areas: &[Area; AREAS], last: u32) -> Area
-    requires { last < 9 }
+    requires { last < 1 + most_shifts }
     ensures { result ≡ area_at areas.now last }
 {
     areas[last as usize]

@@ -31,6 +31,6 @@ pub use laws::{
 pub use offer::{MOST_CHOICES, MOST_OFFERS, Offer};
 pub use pointers::Pointers;
 pub use read::read_day;
-pub use search::{MOST_DAYS, RowSearch, search_row};
+pub use search::{DayOffers, MOST_DAYS, RowSearch, search_row};
 pub use stand::areas_after;
 pub use tables::Tables;

@@ -30,6 +30,9 @@ use std::mem;
 /// The greatest number of days of a case, `most_days` of the limits of an instance.
 pub const MOST_DAYS: usize = 364;
 
+/// A table of offers, with room for a list for each day of any case. It is long, so that who searches often keeps one.
+pub type DayOffers = ArrayVec<ArrayVec<Offer, MOST_OFFERS>, MOST_DAYS>;
+
 /// What a search goes over: a nurse of a case, and for each day what the nurse is offered.
 #[derive(Clone, Copy)]
 pub struct RowSearch<'a> {

@@ -1,5 +1,5 @@
 use Rattle.std.proofs.Common.{◌+◌, ◌≤◌}
-use Rattle.roster_rounds.specs.RunLogs.{extensions_in}
+use Rattle.roster_laws.specs.Greatest.{extensions_in}
 use Rattle.roster_bound.specs.Workspaces.{FitsFloor}
 use Rattle.roster_bound.proofs.rounds.improve_worths.Given as goal
 

@@ -1,7 +1,7 @@
 -- The rounds so far are made, and the lines so far are sent.
 use Rattle.std.proofs.Common.{◌+◌, ◌≤◌}
 use Rattle.roster_rules.specs.Penalties.{penalty}
-use Rattle.roster_rounds.specs.RunLogs.{extensions_in}
+use Rattle.roster_laws.specs.Greatest.{extensions_in}
 use Rattle.roster_bound.specs.Workspaces.{FitsFloor}
 use Rattle.roster_bound.specs.Worths.{IsLowerBound}
 use Rattle.roster_bound.proofs.FloorLogs.{Going}

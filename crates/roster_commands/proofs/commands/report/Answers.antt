@@ -7,26 +7,26 @@ use Rattle.roster_commands.proofs.commands.report.Goals as goal
 
 pub returns-in-Show : goal.returns-in-Show
 returns-in-Show g c =
-    let output : Output g.row.Out.Denot = record { contents = g.Out.Write.contents; before = c.args.output.now; after = c.show.new.output } in
+    let output : Output g.row.Out.Denot = record { contents = g.Out.Write.contents; before = c.args.output.now; after = c.report_show.new.output } in
     let log : Output g.row.Log.Denot = record { contents = g.Log.Write.contents; before = c.args.log.now; after = c.args.log.now } in
     let p = plain (weeks_text c.args.instance.case c.args.instance.roster) in
-    let e = plain_ends output (weeks_text c.args.instance.case c.args.instance.roster) c.args.source.now c.args.instance.bundle c.show.result c.show.ensures.ok c.show.ensures.err in
-    record { report = p; is = subst (λ x. IsReportOf x c.args.instance.case c.args.instance.roster p) (sym c.in-Show.is) refl; ends = e; logged = silent_log output log p c.args.source.now c.args.instance.bundle (outcome_of c.show.result) refl e refl }
+    let e = plain_ends output (weeks_text c.args.instance.case c.args.instance.roster) c.args.source.now c.args.instance.bundle c.report_show.result c.report_show.ensures.ok c.report_show.ensures.err in
+    record { report = p; is = subst (λ x. IsReportOf x c.args.instance.case c.args.instance.roster p) (sym c.in-Show.is) refl; ends = e; logged = silent_log output log p c.args.source.now c.args.instance.bundle (outcome_of c.report_show.result) refl e refl }
 
 pub returns-in-Cost : goal.returns-in-Cost
 returns-in-Cost g c =
-    let output : Output g.row.Out.Denot = record { contents = g.Out.Write.contents; before = c.args.output.now; after = c.cost.new.output } in
+    let output : Output g.row.Out.Denot = record { contents = g.Out.Write.contents; before = c.args.output.now; after = c.report_cost.new.output } in
     let log : Output g.row.Log.Denot = record { contents = g.Log.Write.contents; before = c.args.log.now; after = c.args.log.now } in
     let p = cost_report c.args.instance.case c.args.instance.roster in
-    record { report = p; is = subst (λ x. IsReportOf x c.args.instance.case c.args.instance.roster p) (sym c.in-Cost.is) refl; ends = c.cost.ensures.ends; logged = silent_log output log p c.args.source.now c.args.instance.bundle (outcome_of c.cost.result) refl c.cost.ensures.ends refl }
+    record { report = p; is = subst (λ x. IsReportOf x c.args.instance.case c.args.instance.roster p) (sym c.in-Cost.is) refl; ends = c.report_cost.ensures.ends; logged = silent_log output log p c.args.source.now c.args.instance.bundle (outcome_of c.report_cost.result) refl c.report_cost.ensures.ends refl }
 
 pub returns-in-Sizes : goal.returns-in-Sizes
 returns-in-Sizes g c =
-    let output : Output g.row.Out.Denot = record { contents = g.Out.Write.contents; before = c.args.output.now; after = c.sizes.new.output } in
+    let output : Output g.row.Out.Denot = record { contents = g.Out.Write.contents; before = c.args.output.now; after = c.report_sizes.new.output } in
     let log : Output g.row.Log.Denot = record { contents = g.Log.Write.contents; before = c.args.log.now; after = c.args.log.now } in
     let p = plain (sizes_text c.args.instance.case) in
-    let e = plain_ends output (sizes_text c.args.instance.case) c.args.source.now c.args.instance.bundle c.sizes.result c.sizes.ensures.ok c.sizes.ensures.err in
-    record { report = p; is = subst (λ x. IsReportOf x c.args.instance.case c.args.instance.roster p) (sym c.in-Sizes.is) refl; ends = e; logged = silent_log output log p c.args.source.now c.args.instance.bundle (outcome_of c.sizes.result) refl e refl }
+    let e = plain_ends output (sizes_text c.args.instance.case) c.args.source.now c.args.instance.bundle c.report_sizes.result c.report_sizes.ensures.ok c.report_sizes.ensures.err in
+    record { report = p; is = subst (λ x. IsReportOf x c.args.instance.case c.args.instance.roster p) (sym c.in-Sizes.is) refl; ends = e; logged = silent_log output log p c.args.source.now c.args.instance.bundle (outcome_of c.report_sizes.result) refl e refl }
 
 pub returns-in-Best : goal.returns-in-Best
 returns-in-Best g c =
@@ -34,8 +34,8 @@ returns-in-Best g c =
     record {
       report = p;
       is = subst (λ x. IsReportOf x c.args.instance.case c.args.instance.roster p) (sym c.in-Best.is) (ap (λ name. best_report name c.in-Best.from c.args.instance.case c.args.instance.roster) c.as_bytes.ensures.value);
-      ends = c.best.ensures.ends;
-      logged = c.best.ensures.logged;
+      ends = c.report_best.ensures.ends;
+      logged = c.report_best.ensures.logged;
     }
 
 pub returns-in-Improve : goal.returns-in-Improve
@@ -44,16 +44,16 @@ returns-in-Improve g c =
     record {
       report = p;
       is = subst (λ x. IsReportOf x c.args.instance.case c.args.instance.roster p) (sym c.in-Improve.is) refl;
-      ends = c.improve.ensures.ends;
-      logged = c.improve.ensures.logged;
+      ends = c.report_improve.ensures.ends;
+      logged = c.report_improve.ensures.logged;
     }
 
 pub returns-in-Bound : goal.returns-in-Bound
 returns-in-Bound g c =
-    let made = c.bound.ensures in
+    let made = c.report_bound.ensures in
     record { report = made.report; is = subst (λ x. IsReportOf x c.args.instance.case c.args.instance.roster made.report) (sym c.in-Bound.is) made.is; ends = made.ends; logged = made.logged }
 
 pub returns : goal.returns
 returns g c =
-    let made = c.polish.ensures in
+    let made = c.report_polish.ensures in
     record { report = made.report; is = subst (λ x. IsReportOf x c.args.instance.case c.args.instance.roster made.report) (sym c.in-Polish.is) made.is; ends = made.ends; logged = made.logged }

@@ -12,7 +12,7 @@ use Rattle.roster_best.specs.Known.{IsKnown, fits_last}
 use Rattle.roster_best.specs.Workspaces.{fits_space}
 use Rattle.roster_best.proofs.KnownLaws.{forgotten}
 use Rattle.roster_rounds.specs.RunLogs.{BreaksAmong, RoundMade}
-use Rattle.roster_rounds.proofs.Counts.{round_counted, round_room, round_within, same_room}
+use Rattle.roster_rounds.proofs.Counts.{round_counted, round_room, round_within, room_stays}
 use Rattle.roster_rounds.proofs.OneRound.{settled_line, start_line, stopped_line}
 use Rattle.roster_rounds.proofs.RunSteps.{Going-round, Going-settled, Going-start, Going-stopped, round_breaks, settled_breaks, start_breaks, stopped_breaks}
 use Rattle.roster_rounds.proofs.rounds.improve.Given as given
@@ -47,7 +47,7 @@ loop-rounds_before-init g c =
       case_is = refl;
       counted = omega arith;
       frozen = stays_self c.args.held.now.case c.args.from c.args.held.now.roster;
-      room = record { labels = refl; pointers = refl; room = refl };
+      same_room = record { labels = refl; pointers = refl; room = refl };
       fits = (and_parts (fits_space c.args.held.now.case c.args.space.now.workspace) (fits_last c.args.held.now.case c.args.space.now.last) c.requires.fits).0;
       known = forgotten c.args.held.now.case c.args.space.now.last c.forget.new.self (and_parts (fits_space c.args.held.now.case c.args.space.now.workspace) (fits_last c.args.held.now.case c.args.space.now.last) c.requires.fits).1 c.forget.ensures.prices c.forget.ensures.costs;
       going = Going-start g.W.Write.contents c.args.held.now.case (best_row c.args.held.now.case c.args.from) c.args.rounds c.args.held.now.roster c.args.log.now c.log_word.new.log c.in_ok-sent.sent
@@ -106,7 +106,7 @@ loop-rounds_before-preserved g c =
       case_is = c.make_round.ensures.case ∙ l.invariant.case_is;
       counted = round_counted case l.held.case l.invariant.case_is l.rounds_before c.args.meter.now l.meter l.invariant.counted c.make_round.new.meter c.make_round.ensures.counted;
       frozen = stayed g (goal.at.loop-rounds_before-preserved g c).After-make_round;
-      room = same_room _ _ _ l.invariant.room c.make_round.ensures.room;
+      same_room = room_stays _ _ _ l.invariant.same_room c.make_round.ensures.same_room;
       fits = subst (λ (m : Meaning). fits_space m c.make_round.new.space.workspace ≡ true) l.invariant.case_is c.make_round.ensures.fits;
       known = subst (λ (m : Meaning). IsKnown m c.make_round.new.space.last) l.invariant.case_is c.make_round.ensures.known;
       going = Going-round contents case (best_row case c.args.from) c.args.rounds c.args.held.now.roster c.args.log.now now next l.log c.make_round.new.log l.sent made.sent l.changes l.rounds_before made.changes l.invariant.going

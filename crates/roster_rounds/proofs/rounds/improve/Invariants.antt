@@ -4,7 +4,7 @@ use Rattle.roster_rules.specs.AllowedRows.{best_row}
 use Rattle.roster_laws.specs.FrozenDays.{FrozenDaysStay}
 use Rattle.roster_best.specs.Known.{IsKnown}
 use Rattle.roster_best.specs.Workspaces.{SameRoom, fits_space}
-use Rattle.roster_rounds.specs.RunLogs.{extensions_in}
+use Rattle.roster_laws.specs.Greatest.{extensions_in}
 use Rattle.roster_rounds.proofs.RunSteps.{Going}
 use Rattle.roster_rounds.proofs.rounds.improve.Given as goal
 
@@ -14,7 +14,7 @@ invariant-loop-rounds_before g l = record {
   going : Going g.W.Write.contents l.fn.held.case (best_row l.fn.held.case l.from) l.rounds l.fn.held.roster l.held.roster l.fn.log l.log l.sent l.changes l.rounds_before;
   counted : l.meter ≤ l.fn.meter + extensions_in l.fn.held.case l.rounds_before;
   frozen : FrozenDaysStay l.fn.held.case l.from l.fn.held.roster l.held.roster;
-  room : SameRoom l.fn.space.workspace l.space.workspace;
+  same_room : SameRoom l.fn.space.workspace l.space.workspace;
   fits : fits_space l.fn.held.case l.space.workspace ≡ true;
   known : IsKnown l.fn.held.case l.space.last;
 }

@@ -10,7 +10,7 @@ use Rattle.roster_laws.specs.FrozenDays.{FrozenDaysStay}
 use Rattle.roster_laws.proofs.Frozen.{stays_on}
 use Rattle.roster_best.specs.Known.{IsKnown}
 use Rattle.roster_best.specs.Workspaces.{fits_space}
-use Rattle.roster_rounds.proofs.Counts.{same_room, step_counted, step_room, step_within}
+use Rattle.roster_rounds.proofs.Counts.{room_stays, step_counted, step_room, step_within}
 use Rattle.roster_rounds.proofs.OneRound.{SoFar-breaks, SoFar-changed, SoFar-done, SoFar-done_breaks, SoFar-same, change_line, is_changed, round_line, unchanged}
 use Rattle.roster_rounds.proofs.rounds.make_round.Goals as goal
 use Rattle.roster_rounds.proofs.rounds.make_round.Goals.{After-loop-nurse, After-nurse_name, After-step_unless_known-step, In-loop-nurse}
@@ -24,8 +24,8 @@ step_unless_known-step-requires-clause-room g c =
     step_room c.args.held.now.case c.loop-nurse.held.case c.loop-nurse.invariant.case_is c.loop-nurse.nurse c.args.meter.now c.loop-nurse.meter c.loop-nurse.invariant.counted (inside g (goal.at.step_unless_known-step-requires-clause-room g c).In-loop-nurse) 18446744073709551615 c.requires.room
 
 -- the step in the case of the round
-taken : (g : _) (c : After-step_unless_known-step g) → c.step_unless_known-step.new.held.roster ≡ step c.args.held.now.case (best_row c.args.held.now.case c.args.from) c.loop-nurse.held.roster c.loop-nurse.nurse
-taken g c = c.step_unless_known-step.ensures.roster ∙ ap (λ (m : Meaning). step m (best_row m c.args.from) c.loop-nurse.held.roster c.loop-nurse.nurse) c.loop-nurse.invariant.case_is
+taken : (g : _) (c : After-step_unless_known-step g) → c.step_unless_known-step.new.held.roster ≡ step c.args.held.now.case (best_row c.args.held.now.case c.args.plan.from) c.loop-nurse.held.roster c.loop-nurse.nurse
+taken g c = c.step_unless_known-step.ensures.roster ∙ ap (λ (m : Meaning). step m (best_row m c.args.plan.from) c.loop-nurse.held.roster c.loop-nurse.nurse) c.loop-nurse.invariant.case_is
 
 counted : (g : _) (c : After-step_unless_known-step g) → c.loop-nurse.nurse < nurse_count c.args.held.now.case → c.step_unless_known-step.new.meter ≤ c.args.meter.now + (c.loop-nurse.nurse + 1) * greatest_extension_count c.args.held.now.case
 counted g c within =
@@ -41,11 +41,11 @@ pub step_unless_known-step-requires-clause-known : goal.step_unless_known-step-r
 step_unless_known-step-requires-clause-known g c = subst (λ (m : Meaning). IsKnown m c.loop-nurse.space.last) (sym c.loop-nurse.invariant.case_is) c.loop-nurse.invariant.known
 
 -- the frozen days after the step
-stayed : (g : _) (c : After-step_unless_known-step g) → FrozenDaysStay c.args.held.now.case c.args.from c.args.held.now.roster c.step_unless_known-step.new.held.roster
+stayed : (g : _) (c : After-step_unless_known-step g) → FrozenDaysStay c.args.held.now.case c.args.plan.from c.args.held.now.roster c.step_unless_known-step.new.held.roster
 stayed g c =
     let l = c.loop-nurse in
-    stays_on c.args.held.now.case c.args.from c.args.held.now.roster l.held.roster c.step_unless_known-step.new.held.roster l.invariant.frozen
-    (subst (λ (m : Meaning). FrozenDaysStay m c.args.from l.held.roster c.step_unless_known-step.new.held.roster) l.invariant.case_is c.step_unless_known-step.ensures.frozen)
+    stays_on c.args.held.now.case c.args.plan.from c.args.held.now.roster l.held.roster c.step_unless_known-step.new.held.roster l.invariant.frozen
+    (subst (λ (m : Meaning). FrozenDaysStay m c.args.plan.from l.held.roster c.step_unless_known-step.new.held.roster) l.invariant.case_is c.step_unless_known-step.ensures.frozen)
 
 pub loop-nurse-preserved-then-not-step : goal.loop-nurse-preserved-then-not-step
 loop-nurse-preserved-then-not-step g c =
@@ -56,16 +56,16 @@ loop-nurse-preserved-then-not-step g c =
       so_far = SoFar-same _ _ _ _ _ _ _ c.loop-nurse.held.roster c.step_unless_known-step.new.held.roster _ _ _ c.loop-nurse.nurse i.so_far (taken g at) (unchanged c.step_unless_known-step.result.changed _ c.step_unless_known-step.ensures.changed c.if-not-step.true);
       counted = counted g at (inside g (goal.at.loop-nurse-preserved-then-not-step g c).In-loop-nurse);
       frozen = stayed g at;
-      room = same_room _ _ _ i.room c.step_unless_known-step.ensures.room;
+      same_room = room_stays _ _ _ i.same_room c.step_unless_known-step.ensures.same_room;
       fits = fitting g at;
       known = knowing g at;
     }
 
 -- the line of the nurse whose row was replaced
-line_is : (g : _) (c : After-nurse_name g) → line (decimal c.args.round ++ codes " " ++ c.nurse_name.result.now) c.step_unless_known-step.result.after ≡ line_of c.args.held.now.case (entry (changed c.args.round c.loop-nurse.nurse) c.step_unless_known-step.new.held.roster)
+line_is : (g : _) (c : After-nurse_name g) → line (decimal c.args.plan.round ++ codes " " ++ c.nurse_name.result.now) c.step_unless_known-step.result.after ≡ line_of c.args.held.now.case (entry (changed c.args.plan.round c.loop-nurse.nurse) c.step_unless_known-step.new.held.roster)
 line_is g c =
     let same = c.loop-nurse.invariant.case_is in
-    change_line c.args.held.now.case c.args.round c.loop-nurse.nurse c.step_unless_known-step.new.held.roster c.nurse_name.result.now c.step_unless_known-step.result.after
+    change_line c.args.held.now.case c.args.plan.round c.loop-nurse.nurse c.step_unless_known-step.new.held.roster c.nurse_name.result.now c.step_unless_known-step.result.after
     (c.nurse_name.ensures ∙ ap (λ (m : Meaning). nurse_name m c.loop-nurse.nurse) (c.case-in-loop-nurse.ensures ∙ c.step_unless_known-step.ensures.case ∙ same))
     (c.step_unless_known-step.ensures.after ∙ ap (λ (m : Meaning). penalty m c.step_unless_known-step.new.held.roster) same)
 
@@ -79,7 +79,7 @@ loop-nurse-preserved g c =
           (subst (Sends g.W.Write.contents c.loop-nurse.log c.log_change.new.log c.loop-nurse.sent c.in_ok-sent.sent) (line_is g (goal.at.loop-nurse-preserved g c).After-nurse_name) c.in_ok-sent.ensures.ok);
       counted = counted g at (inside g (goal.at.loop-nurse-preserved g c).In-loop-nurse);
       frozen = stayed g at;
-      room = same_room _ _ _ i.room c.step_unless_known-step.ensures.room;
+      same_room = room_stays _ _ _ i.same_room c.step_unless_known-step.ensures.same_room;
       fits = fitting g at;
       known = knowing g at;
     }
@@ -107,7 +107,7 @@ returns-in_err-sent-2-clause-err g c =
     let p = err_from_is_err_and c.from_residual-in_err-sent-2.result c.from_residual-in_err-sent-2.ensures.1 in
     let case = c.args.held.now.case in
     let now = c.loop-nurse.held.roster in
-    let last = round_line case c.args.round now c.total.result (c.total.ensures.total ∙ ap (λ (m : Meaning). penalty m now) c.loop-nurse.invariant.case_is) in
+    let last = round_line case c.args.plan.round now c.total.result (c.total.ensures.total ∙ ap (λ (m : Meaning). penalty m now) c.loop-nurse.invariant.case_is) in
     rw (p.1, p.2) (SoFar-done_breaks _ _ _ _ _ _ _ now _ _ _ _ c.loop-nurse.nurse _ c.loop-nurse.invariant.so_far (all_nurses g (goal.at.returns-in_err-sent-2-clause-err g c).After-loop-nurse)
     (subst (λ text. BreaksIn g.W.Write.contents c.loop-nurse.log c.log_round.new.log c.loop-nurse.sent text c.in_err-sent-2.field-0.0) last c.in_err-sent-2.ensures.err))
 
@@ -115,6 +115,6 @@ pub returns-clause-ok : goal.returns-clause-ok
 returns-clause-ok g c =
     let case = c.args.held.now.case in
     let now = c.loop-nurse.held.roster in
-    let last = round_line case c.args.round now c.total.result (c.total.ensures.total ∙ ap (λ (m : Meaning). penalty m now) c.loop-nurse.invariant.case_is) in
+    let last = round_line case c.args.plan.round now c.total.result (c.total.ensures.total ∙ ap (λ (m : Meaning). penalty m now) c.loop-nurse.invariant.case_is) in
     SoFar-done _ _ _ _ _ _ _ now _ _ _ _ _ c.loop-nurse.nurse c.loop-nurse.invariant.so_far (all_nurses g (goal.at.returns-clause-ok g c).After-loop-nurse) (omega (arith, c.loop-nurse-test.false, c.loop-nurse.auto.nurse-end, c.nurses-nurse-end.ensures.within))
     (subst (Sends g.W.Write.contents c.loop-nurse.log c.log_round.new.log c.loop-nurse.sent c.in_ok-sent-2.sent) last c.in_ok-sent-2.ensures.ok)

@@ -11,10 +11,10 @@ use Rattle.roster_rounds.proofs.rounds.make_round.Given as goal
 abbrev pub invariant-loop-nurse : goal.invariant-loop-nurse
 invariant-loop-nurse g l = record {
   case_is : l.held.case ≡ l.fn.held.case;
-  so_far : SoFar g.W.Write.contents l.fn.held.case (best_row l.fn.held.case l.from) l.round l.fn.held.roster l.held.roster l.fn.log l.log l.fn.sent l.sent l.changes l.nurse;
+  so_far : SoFar g.W.Write.contents l.fn.held.case (best_row l.fn.held.case l.plan.from) l.plan.round l.fn.held.roster l.held.roster l.fn.log l.log l.fn.sent l.sent l.changes l.nurse;
   counted : l.meter ≤ l.fn.meter + l.nurse * greatest_extension_count l.fn.held.case;
-  frozen : FrozenDaysStay l.fn.held.case l.from l.fn.held.roster l.held.roster;
-  room : SameRoom l.fn.space.workspace l.space.workspace;
+  frozen : FrozenDaysStay l.fn.held.case l.plan.from l.fn.held.roster l.held.roster;
+  same_room : SameRoom l.fn.space.workspace l.space.workspace;
   fits : fits_space l.fn.held.case l.space.workspace ≡ true;
   known : IsKnown l.fn.held.case l.space.last;
 }

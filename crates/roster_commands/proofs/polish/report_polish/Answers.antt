@@ -11,7 +11,7 @@ use Rattle.roster_polish.specs.declared.run.Course.{Course}
 use Rattle.roster_commands.specs.Answer.{IsUnheld, Kicks, Output, StopsKicks}
 use Rattle.roster_commands.specs.declared.fault.Fault.TheVariants as fault
 use Rattle.roster_commands.proofs.PolishLemmas.{polish_ends, polish_stops, polish_unheld}
-use Rattle.roster_commands.proofs.polish.polish.Goals as goal
+use Rattle.roster_commands.proofs.polish.report_polish.Goals as goal
 
 pub returns-in_err-held : goal.returns-in_err-held
 returns-in_err-held g c =

@@ -30,7 +30,7 @@ pub fn log_word<W: Write>(
 }
 
 /// The line of a nurse whose row was replaced in this round.
-pub(crate) fn log_change<W: Write>(
+pub fn log_change<W: Write>(
     log: &mut Watch<W>,
     sent: usize,
     round: u16,

@@ -10,7 +10,7 @@ use Rattle.roster_commands.specs.Answer.{IsUnheld, Output, StopsFloors}
 use Rattle.roster_commands.specs.Lines.{bound_text}
 use Rattle.roster_commands.specs.declared.fault.Fault.TheVariants as fault
 use Rattle.roster_commands.proofs.BoundLemmas.{bound_ends, bound_stops, bound_unheld}
-use Rattle.roster_commands.proofs.bound.bound.Goals as goal
+use Rattle.roster_commands.proofs.bound.report_bound.Goals as goal
 
 pub returns-in_err-held : goal.returns-in_err-held
 returns-in_err-held g c =

@@ -1,0 +1,8 @@
+//! The lines of a run's log, and the fault of a log that takes no more of it.
+#![tactic(auto)]
+
+mod fault;
+mod lines;
+
+pub use fault::LogFault;
+pub use lines::{log_change, log_round, log_word};
