@@ -12,8 +12,8 @@ use Rattle.roster_request.specs.declared.request.Command.{Command}
 use Rattle.roster_request.specs.declared.request.Request.{Request}
 
 -- with status 0 the output took the text and sent all on, and nothing was logged; else the output failed, and that is told
-abbrev pub Sends : {Out Log : Type 0} → (Out → Option Text) → (Out → Text) → (Log → Option Text) → Text → ℕ → Out → Out → Watched Log → Watched Log → Type 0
-Sends contents held logged text status output output_after log log_after =
+abbrev pub SendsText : {Out Log : Type 0} → (Out → Option Text) → (Out → Text) → (Log → Option Text) → Text → ℕ → Out → Out → Watched Log → Watched Log → Type 0
+SendsText contents held logged text status output output_after log log_after =
     (status ≡ 0 → Appends (contents output) (contents output_after) text × (held output_after ≡ []) × (log_after ≡ log))
     × ((status ≡ 0 → ⊥) → (status ≡ 3) × Logs logged log log_after (codes "write failed\n"))
 
@@ -21,7 +21,7 @@ Sends contents held logged text status output output_after log log_after =
 abbrev pub TellsWords : {Out Log : Type 0} → (Out → Option Text) → (Out → Text) → (Log → Option Text) → CliFault → ℕ → Out → Out → Watched Log → Watched Log → Type 0
 TellsWords contents held logged cli.Memory status output output_after log log_after = (status ≡ 4) × (output_after ≡ output) × Logs logged log log_after (codes "no memory\n")
 TellsWords contents held logged (cli.Usage text) status output output_after log log_after = (status ≡ 2) × (output_after ≡ output) × Logs logged log log_after (string_bytes text)
-TellsWords contents held logged (cli.Help text) status output output_after log log_after = Sends contents held logged (string_bytes text) status output output_after log log_after
+TellsWords contents held logged (cli.Help text) status output output_after log log_after = SendsText contents held logged (string_bytes text) status output output_after log log_after
 
 -- the bytes spell a bundle that the command takes; the output took the text of its report, and the log what it tells
 pub record IsDone {Out Log : Type 0} (contents : Out → Option Text) (logged : Log → Option Text) (command : Command) (bytes : Text) (output output_after : Out) (log log_after : Watched Log) : Type 0 where

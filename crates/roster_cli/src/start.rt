@@ -4,7 +4,7 @@ ghost use Rattle.std.specs.Prelude.{◌≡◌, [], codes, map, string_bytes};
 ghost use Rattle.std.specs.Io.KnownBytes.{Keeps};
 ghost use Rattle.std.specs.Io.Buffered.{writer_buffer, writer_contents};
 ghost use Rattle.roster_commands.specs.Answer.{Logs};
-ghost use Rattle.roster_cli.specs.Start.{AnswersWords, ReadsAndSends, Sends, TellsWords, given_for};
+ghost use Rattle.roster_cli.specs.Start.{AnswersWords, ReadsAndSends, SendsText, TellsWords, given_for};
 
 use roster_commands::{refuse, refuse_output, run};
 use roster_joined::Joined;
@@ -86,7 +86,7 @@ fn help<Out: Write + Drop, Log: Write>(
     mut output: BufWriter<Out>,
     log: &mut Watch<Log>,
 ) -> (u8, BufWriter<Out>)
-    ensures sent { Sends (writer_contents Out.contents) writer_buffer Log.contents text.now result.0 output result.1 log.old log.new }
+    ensures sent { SendsText (writer_contents Out.contents) writer_buffer Log.contents text.now result.0 output result.1 log.old log.new }
 {
     match output.write_all(text) {
         Ok(()) => flush(output, log),
@@ -108,10 +108,10 @@ fn answer_request<R: Files + AllocGlobal, In: Read + Drop, Out: Write + Drop, Lo
 {
     let alloc = rt.alloc();
     if request.files.is_empty() {
-        return answer(alloc, request, input, output, log);
+        return run_and_flush(alloc, request, input, output, log);
     }
     match open_all(alloc, &request.files, |path| fs::open(rt, path)) {
-        Ok(files) => answer(alloc, request, Joined::new(files), output, log),
+        Ok(files) => run_and_flush(alloc, request, Joined::new(files), output, log),
         Err(fault) => (refuse(fault, log), output),
     }
 }
@@ -136,7 +136,7 @@ fn open_all<T: Drop, F: Fn(&str) -> io::Result<T>>(
 }
 
 /// Answers a request over the bytes of one reader.
-fn answer<In: Read + Drop, Out: Write + Drop, Log: Write>(
+fn run_and_flush<In: Read + Drop, Out: Write + Drop, Log: Write>(
     alloc: Global,
     request: &Request,
     input: In,

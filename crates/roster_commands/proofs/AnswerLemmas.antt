@@ -19,7 +19,7 @@ use Rattle.roster_instance.specs.declared.fault.CaseFault.{CaseFault}
 use Rattle.roster_instance.specs.declared.fault.CaseFault.TheVariants as case
 use Rattle.roster_case.proofs.Sections.{IsFirst-after}
 use Rattle.roster_rules.specs.declared.fault.HardFault.{HardFault}
-use Rattle.roster_commands.specs.Answer.{Answers, Ends, Input, IsAnswer, IsOutcomeOf, IsReportOf, IsUnheld, IsUnread, IsBoundReport, IsPolishReport, Leaves, LeavesLog, Outcome, Output, Report, Reports, Says, StopsOutput, StopsReading, Untouched, best_report, bound_report, cost_report, improve_report, outcome_of, plain, polish_report, roster_of}
+use Rattle.roster_commands.specs.Answer.{Answers, Ends, Input, IsAnswer, IsOutcomeOf, IsReportOf, IsUnheld, IsUnread, IsBoundReport, IsPolishReport, Leaves, LeavesLog, Outcome, Output, Report, Reports, SpellsInstance, StopsOutput, StopsReading, Untouched, best_report, bound_report, cost_report, improve_report, outcome_of, plain, polish_report, roster_of}
 use Rattle.roster_commands.specs.Lines.{Text, sizes_text, status_of}
 use Rattle.roster_commands.specs.declared.fault.Fault.{Fault}
 use Rattle.roster_commands.specs.declared.fault.Fault.TheVariants as fault
@@ -132,7 +132,7 @@ refused_reading output log command source fault.Log h o l = absurd h
 
 -- ---- an instance, once it is read
 
-module _ {W L : Type 0} (output : Output W) (log : Output L) (command : Command) (source : Text) (i : Instance) (says : Says source i) where
+module _ {W L : Type 0} (output : Output W) (log : Output L) (command : Command) (source : Text) (i : Instance) (says : SpellsInstance source i) where
   report_meant : (p : Report) → IsReportOf command i.case i.roster p → IsAnswer command source i.bundle p
   report_meant p is =
       let roster = says.roster ∙ ap (λ m. rows_of source m i.bundle) says.case in

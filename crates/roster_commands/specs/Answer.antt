@@ -352,7 +352,7 @@ pub record HasCaseFault (bytes : Text) (f : CaseFault) (nurse : Text) : Type 0 w
   pub refused : IsRefusedFor bytes bundle f nurse
 
 -- the bytes spell the bundle of the instance, in which nothing is refused, and it has its case and its roster
-pub record Says (bytes : Text) (instance : Instance) : Type 0 where
+pub record SpellsInstance (bytes : Text) (instance : Instance) : Type 0 where
   pub spelled : SpellsBundle bytes instance.bundle
   pub taken : all_faults bytes instance.bundle ≡ []
   pub case : instance.case ≡ meaning_of bytes instance.bundle

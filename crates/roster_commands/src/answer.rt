@@ -44,10 +44,10 @@ pub fn run<R: Read, Out: Write, Log: Write>(
         ⊎ (output.new.failures ≡ one_more output.old.failures)
         ⊎ IsLogFailed (output_of Log.contents log.old log.new) request.now.command }
 {
-    answer(alloc, &request.command, input, output, log)
+    run_command(alloc, &request.command, input, output, log)
 }
 
-fn answer<R: Read, Out: Write, Log: Write>(
+fn run_command<R: Read, Out: Write, Log: Write>(
     alloc: Global,
     command: &Command,
     input: &mut Watch<R>,
@@ -65,14 +65,14 @@ fn answer<R: Read, Out: Write, Log: Write>(
         Ok(source) => source,
         Err(fault) => return tell(Fault::Text(fault), log),
     };
-    match answer_bytes(alloc, command, &source, output, log) {
+    match report_bytes(alloc, command, &source, output, log) {
         Ok(()) => 0,
         Err(fault) => tell(fault, log),
     }
 }
 
-/// Answers a command for the instance that the bytes spell.
-fn answer_bytes<'a, Out: Write, Log: Write>(
+/// Reports on the instance that the bytes spell.
+fn report_bytes<'a, Out: Write, Log: Write>(
     alloc: Global,
     command: &'a Command,
     source: &'a [u8],

@@ -5,7 +5,7 @@ ghost use Rattle.roster_instance.specs.Bundles.{meaning_of, rows_of};
 ghost use Rattle.roster_instance.specs.Faults.{first_fault};
 ghost use Rattle.roster_instance.specs.Refusals.{all_faults};
 ghost use Rattle.roster_instance.specs.Rosters.{fits_case};
-ghost use Rattle.roster_commands.specs.Answer.{HasFault, Says, SpellsBundle, StopsReading};
+ghost use Rattle.roster_commands.specs.Answer.{HasFault, SpellsBundle, SpellsInstance, StopsReading};
 
 use crate::fault::Fault;
 use roster_case::{Case, CaseFault, Roster};
@@ -49,7 +49,7 @@ impl Instance {
 
 /// What the bytes of an input say, or why they are refused.
 pub(crate) fn read_instance<'a>(alloc: Global, source: &'a [u8]) -> Result<Instance, Fault<'a>>
-    ensures says { IfOk result (Says source.now) }
+    ensures says { IfOk result (SpellsInstance source.now) }
     ensures refused { IfErr result (StopsReading source.now) }
 {
     let bundle = match bundle_of(alloc, source) {

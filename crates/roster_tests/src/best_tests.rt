@@ -1,7 +1,8 @@
 //! The best rows of nurses, and what the search for them takes.
 
 use crate::held_tests::put;
-use crate::texts::{changed, read};
+use crate::instances::read;
+use crate::texts::changed;
 use roster_best::{Workspace, best_row, most_steps};
 use roster_case::{Choice, Held, Shift, Skill};
 use roster_state::Meter;

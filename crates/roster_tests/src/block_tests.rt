@@ -6,7 +6,8 @@ ghost use Rattle.roster_rules.specs.Weights.{assignment_weight};
 ghost use Rattle.roster_state.specs.Codes.{fits_sizes, sizes_of};
 ghost use Rattle.roster_state.specs.Room.{most_of_step};
 
-use crate::texts::{changed, read};
+use crate::instances::read;
+use crate::texts::changed;
 use roster_case::{Case, Shift};
 use roster_state::{Block, BlockStep, Meter, Ranges, State, extend, extend_block};
 use std::cmp::min;

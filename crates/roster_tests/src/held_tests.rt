@@ -3,7 +3,8 @@
 ghost use Rattle.std.specs.Prelude.{◌≡◌, ◌<◌};
 ghost use Rattle.roster_instance.specs.Meaning.{nurse_count};
 
-use crate::texts::{big, changed, read};
+use crate::instances::{big, read};
+use crate::texts::changed;
 use roster_best::{Offer, choices};
 use roster_case::{Choice, Held, Shift, Skill, costs};
 use roster_costs::nurse_cost;

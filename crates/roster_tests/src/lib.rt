@@ -1,4 +1,4 @@
-//! Tests that cross crates, over stand-in devices. It has no code of its own.
+//! Tests of public calls below the command line, over stand-in devices, and the texts that they share with `roster_cli_tests`.
 #![tactic(auto)]
 
 #[cfg(test)]
@@ -6,13 +6,9 @@ mod best_tests;
 #[cfg(test)]
 mod block_tests;
 #[cfg(test)]
-mod devices_tests;
-#[cfg(test)]
-mod failing_tests;
-#[cfg(test)]
 mod held_tests;
 #[cfg(test)]
-mod hostile_tests;
+mod instances;
 #[cfg(test)]
 mod lanes_tests;
 #[cfg(test)]
@@ -20,8 +16,5 @@ mod library_tests;
 #[cfg(test)]
 mod rounds_tests;
 #[cfg(test)]
-mod start_tests;
-#[cfg(test)]
 mod state_tests;
-#[cfg(test)]
-mod texts;
+pub mod texts;

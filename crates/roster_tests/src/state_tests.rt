@@ -3,7 +3,8 @@
 ghost use Rattle.std.specs.Prelude.{◌≡◌, true};
 ghost use Rattle.roster_instance.specs.Rosters.{fits_case};
 
-use crate::texts::{MINI, changed, read};
+use crate::instances::read;
+use crate::texts::{MINI, changed};
 use roster_case::{Case, Roster, costs};
 use roster_state::{Meter, Ranges, State, row_cost};
 use std::alloc::Global;

@@ -7,5 +7,5 @@ pub returns-in-Ok : goal.returns-in-Ok
 returns-in-Ok g c = record {
   done = λ zero.
       of_files (writer_contents g.Out.Write.contents) writer_buffer g.Log.Write.contents c.args.request.now.command c.args.request.now.files.len (g.In.Read.remaining c.args.input) _ _ _ _ _ (search rules)
-      (c.answer-in-Ok.ensures.done zero);
+      (c.run_and_flush-in-Ok.ensures.done zero);
 }

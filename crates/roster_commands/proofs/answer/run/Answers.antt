@@ -6,13 +6,13 @@ use Rattle.roster_commands.proofs.RunLemmas.{write_failed}
 use Rattle.roster_commands.proofs.answer.run.Goals as goal
 
 pub returns-clause-status : goal.returns-clause-status
-returns-clause-status g c = go (cases_eq c.answer.result 0)
+returns-clause-status g c = go (cases_eq c.run_command.result 0)
   where
-    go : (c.answer.result ≡ 0) ⊎ (c.answer.result ≡ 0 → ⊥) → Contains (0 ∷ 1 ∷ 3 ∷ 4 ∷ []) c.answer.result
+    go : (c.run_command.result ≡ 0) ⊎ (c.run_command.result ≡ 0 → ⊥) → Contains (0 ∷ 1 ∷ 3 ∷ 4 ∷ []) c.run_command.result
     go (inl done) = subst (Contains (0 ∷ 1 ∷ 3 ∷ 4 ∷ [])) (sym done) (0, lit< tt, refl)
-    go (inr other) = let stops = c.answer.ensures.refused other in subst (Contains (0 ∷ 1 ∷ 3 ∷ 4 ∷ [])) (sym stops.status_is) (status_listed stops.fault)
+    go (inr other) = let stops = c.run_command.ensures.refused other in subst (Contains (0 ∷ 1 ∷ 3 ∷ 4 ∷ [])) (sym stops.status_is) (status_listed stops.fault)
 
 pub returns-clause-write_failed : goal.returns-clause-write_failed
 returns-clause-write_failed g c =
-    write_failed (record { remaining = g.R.Read.remaining; before = c.args.input.now; after = c.answer.new.input }) (record { contents = g.Out.Write.contents; before = c.args.output.now; after = c.answer.new.output })
-    (record { contents = g.Log.Write.contents; before = c.args.log.now; after = c.answer.new.log }) c.args.request.now.command c.answer.result c.answer.ensures.done c.answer.ensures.refused
+    write_failed (record { remaining = g.R.Read.remaining; before = c.args.input.now; after = c.run_command.new.input }) (record { contents = g.Out.Write.contents; before = c.args.output.now; after = c.run_command.new.output })
+    (record { contents = g.Log.Write.contents; before = c.args.log.now; after = c.run_command.new.log }) c.args.request.now.command c.run_command.result c.run_command.ensures.done c.run_command.ensures.refused

@@ -1,7 +1,7 @@
 use Rattle.std.proofs.Common.{inl, inr, refl, rules}
 use Rattle.roster_commands.specs.declared.fault.Fault.TheVariants as fault
 use Rattle.roster_commands.proofs.AnswerLemmas.{unread}
-use Rattle.roster_commands.proofs.answer.answer.Goals as goal
+use Rattle.roster_commands.proofs.answer.run_command.Goals as goal
 
 pub returns-in-Err-clause-refused : goal.returns-in-Err-clause-refused
 returns-in-Err-clause-refused g c = λ other. record {
@@ -18,13 +18,13 @@ returns-in-Err-clause-refused g c = λ other. record {
 
 pub returns-clause-refused : goal.returns-clause-refused
 returns-clause-refused g c = λ other. record {
-  fault = c.in-Err-answer_bytes.fault;
-  status_is = c.tell-in-Err-answer_bytes.ensures.status;
-  met = c.answer_bytes.new.log;
+  fault = c.in-Err-report_bytes.fault;
+  status_is = c.tell-in-Err-report_bytes.ensures.status;
+  met = c.report_bytes.new.log;
   refused = inr (record {
     bytes = c.deref.result.now;
     read = record { all = search rules; end = search rules; kept = search rules; failures = search rules };
-    answers = c.in-Err-answer_bytes.ensures;
+    answers = c.in-Err-report_bytes.ensures;
   });
-  told = c.tell-in-Err-answer_bytes.ensures.line;
+  told = c.tell-in-Err-report_bytes.ensures.line;
 }

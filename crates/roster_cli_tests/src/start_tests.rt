@@ -2,9 +2,9 @@
 
 ghost use Rattle.std.specs.Prelude.{IsErr};
 
-use crate::texts::{MINI, SHOWN};
 use roster_cli::{CliFault, Command, Request, answer_command_line, request_of};
 use roster_devices::{AtEnd, ShortWriter};
+use roster_tests::texts::{MINI, SHOWN};
 use roster_text::Watch;
 use std::alloc::{Allocator, Global};
 use std::cell::Cell;

@@ -2,7 +2,7 @@ use Rattle.std.proofs.Common.{refl}
 use Rattle.std.proofs.lemmas.Result.{err_from_is_err_and}
 use Rattle.roster_commands.specs.Answer.{Output}
 use Rattle.roster_commands.proofs.AnswerLemmas.{refused_reading}
-use Rattle.roster_commands.proofs.answer.answer_bytes.Goals as goal
+use Rattle.roster_commands.proofs.answer.report_bytes.Goals as goal
 
 pub returns-in_err-instance : goal.returns-in_err-instance
 returns-in_err-instance g c =

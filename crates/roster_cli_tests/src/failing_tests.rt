@@ -1,10 +1,8 @@
 //! Runs of which a read fails, or an output or a log after each byte in turn.
 
-use crate::best_tests::{ready, row_of};
-use crate::texts::{MINI, SHOWN, changed};
 use roster_cli::{Command, Request, run};
 use roster_devices::{AtEnd, FailingReader, OneByteReader, ShortWriter};
-use roster_rounds::{LogFault, RunSpace, improve, most_extensions};
+use roster_tests::texts::{MINI, RUN_LOG, SHOWN, changed, fill};
 use roster_text::Watch;
 use std::alloc::{AllocError, Global};
 use std::io::{ErrorKind, Read};
@@ -29,10 +27,6 @@ const IMPROVED: &str =
     "SOLUTION\n0 mini\n\nASSIGNMENTS = 7\nAnn Mon Early Nurse\nAnn Wed Early Nurse\n\
     Ann Thu Early Nurse\nAnn Fri Early Nurse\nBob Tue Early Nurse\nBob Sat Early Nurse\n\
     Bob Sun Early Nurse\n";
-
-/// The log of a run over mini.
-const RUN_LOG: &str =
-    "start 470\n1 Ann 180\n1 Bob 20\nround 1 20\n2 Ann 0\nround 2 0\nround 3 0\nsettled 0\n";
 
 const ANSWERS: [Answer; 7] = [
     Answer {
@@ -111,11 +105,6 @@ const AMPLE: Room = Room {
 
 /// How a run is to end: its status, and what its output and its log are as far as there is room.
 type End<'a> = (u8, &'a str, &'a str);
-
-/// Whether these are the bytes of a text, as many of them as there is room for.
-fn fill(written: &[u8], text: &str, room: usize) -> bool {
-    text.as_bytes().starts_with(written) && written.len() == text.len().min(room)
-}
 
 /// Whether a run of the command of this name over an input ends so.
 fn ends(
@@ -256,48 +245,6 @@ fn a_log_of_a_floor_that_fails_after_each_byte(rt: HostRuntime) -> Result<(), Fa
         }
     }
     assert!(rt; ends(alloc, "bound", text.as_bytes(), AMPLE, (0, output, told))?);
-    Ok(())
-}
-
-/// After how many bytes a log may fail (the first and the last number), and the total and the weeks of Ann and Bob that a run
-/// over mini leaves then.
-type Left = (usize, usize, u64, &'static [u8; 7], &'static [u8; 7]);
-
-const LEFT: [Left; 4] = [
-    // The roster as it was read.
-    (0, 9, 470, b"-------", b"-------"),
-    // Ann's row was replaced in round 1.
-    (10, 19, 180, b"E-EEEEE", b"-------"),
-    // Bob's row was replaced too.
-    (20, 39, 20, b"E-EEEEE", b"-E---EE"),
-    // Ann's row was replaced again, in round 2.
-    (40, 77, 0, b"E-EEE--", b"-E---EE"),
-];
-
-#[test]
-fn rosters_after_a_log_that_fails(rt: HostRuntime) -> Result<(), Fail> {
-    for (first, last, total, ann, bob) in LEFT {
-        for sent in first..last + 1 {
-            let (mut held, _, mut meter) = ready(rt.alloc(), &[])?;
-            if meter.room() < most_extensions(held.case(), 100) {
-                return Err(Fail::new("no room"));
-            }
-            let Ok(mut space) = RunSpace::for_case(rt.alloc(), held.case()) else {
-                return Err(Fail::new("no space"));
-            };
-            let mut log_room = [0; 78];
-            let writer = ShortWriter::new(&mut log_room[..sent.min(78)], AtEnd::Fail);
-            let mut log = Watch::new(writer);
-            let ended = improve(&mut held, 100, 0, &mut space, &mut meter, &mut log);
-            assert!(rt; ended == Err(LogFault::LogFailed { sent }), "{sent}");
-            assert!(rt; fill(log.into_inner().written(), RUN_LOG, sent), "{sent}");
-            // The line of the start goes out before the first search.
-            assert!(rt; (meter.count() > 0) == (sent > 9), "{sent}");
-            assert!(rt; held.total() == total, "{sent}");
-            assert!(rt; held.roster().row(0) == row_of(ann).as_slice(), "{sent}");
-            assert!(rt; held.roster().row(1) == row_of(bob).as_slice(), "{sent}");
-        }
-    }
     Ok(())
 }
 

@@ -1,7 +1,7 @@
 use Rattle.std.proofs.Common.{ap}
 use Rattle.std.specs.Io.Buffered.{writer_buffer, writer_contents}
 use Rattle.roster_cli.proofs.StartLemmas.{done_once_flushed}
-use Rattle.roster_cli.proofs.start.answer.Goals as goal
+use Rattle.roster_cli.proofs.start.run_and_flush.Goals as goal
 
 pub returns : goal.returns
 returns g c = record {

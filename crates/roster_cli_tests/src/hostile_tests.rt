@@ -1,7 +1,7 @@
 //! Runs over texts that are cut off or spoilt at each byte.
 
-use crate::texts::{MINI, SHOWN};
 use roster_cli::{Command, Request, run};
+use roster_tests::texts::{MINI, SHOWN};
 use roster_text::Watch;
 use std::alloc::Global;
 use std::test::Fail;
