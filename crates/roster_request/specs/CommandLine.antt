@@ -23,21 +23,21 @@ files_rule = record (new_rule (codes "FILE")) {
   range = Some (record { start_inclusive = 0; end_inclusive = usize_max });
 }
 
--- a nurse's name, which has to be given
-abbrev pub nurse_rule : Rule
-nurse_rule = record (new_rule (codes "nurse")) {
-  long = Some (codes "nurse");
-  action = Some action.Set;
-  value_names = 1;
-  required = true;
-}
-
--- a number from 0 to the greatest, and what it is where it isn't given
-abbrev pub number_rule : Text → ℕ → Text → Rule
-number_rule name most default = record (new_rule name) {
+-- an option with a value
+abbrev pub value_rule : Text → Rule
+value_rule name = record (new_rule name) {
   long = Some name;
   action = Some action.Set;
   value_names = 1;
+}
+
+-- a nurse's name, which has to be given
+abbrev pub nurse_rule : Rule
+nurse_rule = record (value_rule (codes "nurse")) { required = true }
+
+-- a number from 0 to the greatest, and what it is where it isn't given
+abbrev pub number_rule : Text → ℕ → Text → Rule
+number_rule name most default = record (value_rule name) {
   parser = Some (parser.Signed (pos 0) (pos most));
   defaults = default ∷ [];
 }

@@ -1,8 +1,9 @@
 //! The command line of the program, as `clap` reads it.
 
-ghost use Rattle.std.specs.Prelude.{◌≡◌, [], ◌∷◌, codes, IfOk, false};
-ghost use Rattle.clap.specs.Words.{app_of, rule_of, with_subcommand};
-ghost use Rattle.roster_request.specs.CommandLine.{command_of, files_rule, from_rule, number_rule, nurse_rule, own_command_of, program, searches_rule, seed_rule};
+ghost use Rattle.std.specs.Prelude.{◌≡◌, [], ◌∷◌, codes, drop, IfOk, false};
+ghost use Rattle.std.specs.List.{fold};
+ghost use Rattle.clap.specs.Words.{app_of, new_app, rule_of, with_rule, with_subcommand};
+ghost use Rattle.roster_request.specs.CommandLine.{bare, command_of, commands, files_rule, from_rule, number_rule, nurse_rule, own_command_of, program, rounds_rule, searches_rule, seed_rule, value_rule};
 
 use crate::texts::{
     ABOUT, BEST, BEST_HELP, BOUND, BOUND_HELP, COST, COST_HELP, EXAMPLES, FIRST_WEEK, IMPROVE,
@@ -69,26 +70,37 @@ pub(crate) const FROM: NumberOption = NumberOption {
 pub(crate) fn program<'a>(alloc: Global) -> Result<Command<'a>, AllocError>
     ensures { IfOk result (λ c. app_of c ≡ program) }
 {
-    let bare = Command::new(alloc, "roster")
+    let with_show = with_files_command(alloc, bare(alloc), "show", SHOW, SHOW_HELP)?;
+    let with_cost = with_files_command(alloc, with_show, "cost", COST, COST_HELP)?;
+    let with_sizes = with_files_command(alloc, with_cost, "sizes", SIZES, SIZES_HELP)?;
+    with_searches(alloc, with_sizes)
+}
+
+/// A program with the commands that search, after those that it has.
+fn with_searches<'a>(alloc: Global, program: Command<'a>) -> Result<Command<'a>, AllocError>
+    ensures { IfOk result (λ c. app_of c ≡ fold with_subcommand (app_of program.entry) (drop 3 commands)) }
+{
+    let with_best = program.subcommand(best_command(alloc)?)?;
+    let improve = rounds_command(alloc, "improve", IMPROVE, IMPROVE_HELP)?;
+    let with_improve = with_best.subcommand(improve)?;
+    let bound = rounds_command(alloc, "bound", BOUND, BOUND_HELP)?;
+    let with_bound = with_improve.subcommand(bound)?;
+    with_bound.subcommand(polish_command(alloc)?)
+}
+
+/// The program before its commands.
+fn bare<'a>(alloc: Global) -> Command<'a>
+    ensures { app_of result ≡ bare }
+{
+    Command::new(alloc, "roster")
         .version("1.0.0")
         .about(ABOUT)
         .after_help(EXAMPLES)
         .subcommand_required(true)
-        .arg_required_else_help(true);
-    let with_show = with_files_command(alloc, bare, "show", SHOW, SHOW_HELP)?;
-    let with_cost = with_files_command(alloc, with_show, "cost", COST, COST_HELP)?;
-    let with_sizes = with_files_command(alloc, with_cost, "sizes", SIZES, SIZES_HELP)?;
-    let best = own_command(alloc, "best", BEST, BEST_HELP, nurse_arg(alloc))?;
-    let rounds = number_arg(alloc, ROUNDS);
-    let improve = own_command(alloc, "improve", IMPROVE, IMPROVE_HELP, rounds)?;
-    let bound = own_command(alloc, "bound", BOUND, BOUND_HELP, number_arg(alloc, ROUNDS))?;
-    let polish = polish_command(alloc)?;
-    with_sizes
-        .subcommand(best)?
-        .subcommand(improve)?
-        .subcommand(bound)?
-        .subcommand(polish)
+        .arg_required_else_help(true)
 }
+
+// ---- commands
 
 /// A program with one more command that reads files.
 fn with_files_command<'a>(
@@ -100,55 +112,77 @@ fn with_files_command<'a>(
 ) -> Result<Command<'a>, AllocError>
     ensures { IfOk result (λ c. app_of c ≡ with_subcommand (app_of program.entry) (command_of name.now).top) }
 {
-    program.subcommand(files_command(alloc, name, about, help)?)
+    program.subcommand(with_files(alloc, command(alloc, name, about, help))?)
 }
 
-/// A command that reads files, with what its help says.
-fn files_command<'a>(
+/// The command `best`.
+fn best_command<'a>(alloc: Global) -> Result<Command<'a>, AllocError>
+    ensures { IfOk result (λ c. app_of c ≡ own_command_of (nurse_rule ∷ from_rule ∷ []) (codes "best")) }
+{
+    let with_nurse = command(alloc, "best", BEST, BEST_HELP).arg(nurse_arg(alloc))?;
+    with_weeks(alloc, with_nurse)
+}
+
+/// A command that makes rounds.
+fn rounds_command<'a>(
     alloc: Global,
     name: &'a str,
     about: &'a str,
     help: &'a str,
 ) -> Result<Command<'a>, AllocError>
-    ensures { IfOk result (λ c. app_of c ≡ command_of name.now) }
+    ensures { IfOk result (λ c. app_of c ≡ own_command_of (rounds_rule ∷ from_rule ∷ []) name.now) }
 {
-    Command::new(alloc, name)
-        .about(about)
-        .after_help(help)
-        .arg(files_arg(alloc))
+    let with_rounds = with_number(alloc, command(alloc, name, about, help), ROUNDS)?;
+    with_weeks(alloc, with_rounds)
 }
 
-/// A command that reads files and has an argument of its own and a first week, with what its help says.
-fn own_command<'a>(
-    alloc: Global,
-    name: &'a str,
-    about: &'a str,
-    help: &'a str,
-    own: Arg<'a>,
-) -> Result<Command<'a>, AllocError>
-    requires local { own.global ≡ false }
-    ensures { IfOk result (λ c. app_of c ≡ own_command_of (rule_of own.entry ∷ from_rule ∷ []) name.now) }
-{
-    Command::new(alloc, name)
-        .about(about)
-        .after_help(help)
-        .arg(own)?
-        .arg(number_arg(alloc, FROM))?
-        .arg(files_arg(alloc))
-}
-
-/// The command `polish`, which has two arguments of its own.
+/// The command `polish`.
 fn polish_command<'a>(alloc: Global) -> Result<Command<'a>, AllocError>
     ensures { IfOk result (λ c. app_of c ≡ own_command_of (searches_rule ∷ seed_rule ∷ from_rule ∷ []) (codes "polish")) }
 {
-    Command::new(alloc, "polish")
-        .about(POLISH)
-        .after_help(POLISH_HELP)
-        .arg(number_arg(alloc, SEARCHES))?
-        .arg(number_arg(alloc, SEED))?
-        .arg(number_arg(alloc, FROM))?
-        .arg(files_arg(alloc))
+    let with_searches = with_number(
+        alloc,
+        command(alloc, "polish", POLISH, POLISH_HELP),
+        SEARCHES,
+    )?;
+    let with_seed = with_number(alloc, with_searches, SEED)?;
+    with_weeks(alloc, with_seed)
 }
+
+/// A command before its arguments, with what its help says.
+fn command<'a>(alloc: Global, name: &'a str, about: &'a str, help: &'a str) -> Command<'a>
+    ensures { app_of result ≡ new_app name.now }
+{
+    Command::new(alloc, name).about(about).after_help(help)
+}
+
+/// A command with a first week that may change, and the files, as its last arguments.
+fn with_weeks<'a>(alloc: Global, command: Command<'a>) -> Result<Command<'a>, AllocError>
+    ensures { IfOk result (λ c. app_of c ≡ with_rule (with_rule (app_of command.entry) from_rule) files_rule) }
+{
+    let with_from = with_number(alloc, command, FROM)?;
+    with_files(alloc, with_from)
+}
+
+/// A command with one more number that may be left out.
+fn with_number<'a>(
+    alloc: Global,
+    command: Command<'a>,
+    option: NumberOption,
+) -> Result<Command<'a>, AllocError>
+    ensures { IfOk result (λ c. app_of c ≡ with_rule (app_of command.entry) (number_rule option.name.now option.most option.default.now)) }
+{
+    command.arg(number_arg(alloc, option))
+}
+
+/// A command that reads any number of files.
+fn with_files<'a>(alloc: Global, command: Command<'a>) -> Result<Command<'a>, AllocError>
+    ensures { IfOk result (λ c. app_of c ≡ with_rule (app_of command.entry) files_rule) }
+{
+    command.arg(files_arg(alloc))
+}
+
+// ---- arguments
 
 /// Any number of files.
 fn files_arg<'a>(alloc: Global) -> Arg<'a>
@@ -166,10 +200,7 @@ fn nurse_arg<'a>(alloc: Global) -> Arg<'a>
     ensures rule { rule_of result ≡ nurse_rule }
     ensures local { result.global ≡ false }
 {
-    Arg::new(alloc, NURSE)
-        .long("nurse")
-        .value_name("NAME")
-        .action(ArgAction::Set)
+    value_arg(alloc, NURSE, "NAME")
         .required(true)
         .help(NURSE_NAME)
 }
@@ -179,11 +210,19 @@ fn number_arg<'a>(alloc: Global, option: NumberOption) -> Arg<'a>
     ensures rule { rule_of result ≡ number_rule option.name.now option.most option.default.now }
     ensures local { result.global ≡ false }
 {
-    Arg::new(alloc, option.name)
-        .long(option.name)
-        .value_name(option.value)
-        .action(ArgAction::Set)
+    value_arg(alloc, option.name, option.value)
         .value_parser(value_parser!(u32).range(0..=option.most as i64))
         .default_value(option.default)
         .help(option.help)
+}
+
+/// An option with a value, which the help calls `value`.
+fn value_arg<'a>(alloc: Global, name: &'a str, value: &'a str) -> Arg<'a>
+    ensures rule { rule_of result ≡ value_rule name.now }
+    ensures local { result.global ≡ false }
+{
+    Arg::new(alloc, name)
+        .long(name)
+        .value_name(value)
+        .action(ArgAction::Set)
 }
