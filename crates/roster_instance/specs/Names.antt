@@ -1,5 +1,6 @@
 -- The names of a bundle: bytes of its source, numbered in the order of the scenario.
-use Rattle.std.specs.Prelude.{ℕ, Bool, List, map, Option, is_some, position, unwrap_or, bytes_eq}
+use Rattle.std.specs.Prelude.{◌≡◌, ℕ, Bool, List, map, Option, is_some, position, unwrap_or, bytes_eq}
+use Rattle.std.specs.Map.{lookup}
 use Rattle.roster_bundle.specs.declared.bundle.Bundle.{Bundle}
 use Rattle.roster_bundle.specs.declared.bundle.Contract.{Contract}
 use Rattle.roster_bundle.specs.declared.bundle.Nurse.{Nurse}
@@ -38,6 +39,10 @@ nurse_names source b = names_of source (map (λ (n : Nurse). n.name) b.scenario.
 -- the number of the first of the names that is this text
 abbrev pub find_name : List (List ℕ) → List ℕ → Option ℕ
 find_name names text = position (bytes_eq text) names
+
+-- a table of keys, each with its text, has the number of each name, and nothing else
+abbrev pub AreNumbers : {K : Type 0} → List (List ℕ) → (K → List ℕ) → List (K × ℕ) → Type 0
+AreNumbers names text entries = (name : List ℕ) → lookup (λ k. bytes_eq name (text k)) entries ≡ find_name names name
 
 -- the number of a token's name, if it is one of these
 abbrev pub found : List ℕ → List (List ℕ) → Token → Option ℕ

@@ -8,29 +8,36 @@ ghost use Rattle.roster_instance.specs.Names.{find_name, found, names_of};
 ghost use Rattle.roster_instance.specs.Refusals.{repeated_fault, unknown_fault};
 
 use crate::fault::CaseFault;
-use indexmap::IndexSet;
 use roster_bundle::Token;
 use std::alloc::{AllocError, Global};
+use std::collections::HashMap;
 use std::marker::Model;
 
 /// Different names, numbered from 0 in the order in which they came.
 pub(crate) struct Names {
-    names: IndexSet<Vec<u8>>,
+    names: Vec<Vec<u8>>,
+    numbers: HashMap<Vec<u8>, usize>,
 }
 
 // By hand, so that who lets names go has one call to prove.
 impl Drop for Names {
     fn drop(self) {
-        let Names { names: _ } = self;
+        let Names {
+            names: _,
+            numbers: _,
+        } = self;
     }
 }
 
 impl Model for Names {
     ghost use Rattle.std.specs.Prelude.{ℕ, List, map};
+    ghost use Rattle.roster_instance.specs.Names.{AreNumbers};
 
     ghost Value = { List (List ℕ) };
 
-    ghost view = { λ n. map (λ name. name.items) n.names.keys };
+    ghost view = { λ n. map (λ name. name.items) n.names.items };
+
+    ghost invariant = { λ n. AreNumbers (map (λ name. name.items) n.names.items) (λ name. name.items) n.numbers.entries };
 }
 
 impl Names {
@@ -39,7 +46,8 @@ impl Names {
         ensures { IfOk result (λ names. names ≡ []) }
     {
         Ok(Names {
-            names: IndexSet::with_capacity(alloc, count)?,
+            names: Vec::with_capacity(alloc, count)?,
+            numbers: HashMap::with_capacity(alloc, count)?,
         })
     }
 
@@ -48,10 +56,16 @@ impl Names {
         ensures taken { IfOk result (λ taken. taken ≡ not (is_some (find_name self.old name.now))) }
         ensures added { IfOk result (λ taken. self.new ≡ (if taken then self.old ++ name.now ∷ [] else self.old)) }
     {
-        if self.names.contains(name) {
+        if self.numbers.contains_key(name) {
             return Ok(false);
         }
-        self.names.insert(Vec::from_slice(alloc, name)?)?;
+        let number = self.len();
+        let key = Vec::from_slice(alloc, name)?;
+        self.names.push(Vec::from_slice(alloc, name)?)?;
+        if self.numbers.insert(key, number).is_err() {
+            self.names.pop();
+            return Err(AllocError);
+        }
         Ok(true)
     }
 
@@ -83,7 +97,7 @@ impl Names {
         ensures number { result ≡ find_name self.now name.now }
         ensures within { IfSome result (λ number. number < length self.now) }
     {
-        self.names.get_index_of(name)
+        self.numbers.get(name).copied()
     }
 
     /// The name with a number.
@@ -91,7 +105,7 @@ impl Names {
         requires { number < length self.now }
         ensures { result.now ≡ slice_index_or self.now number [] }
     {
-        self.names.as_slice()[number].as_slice()
+        self.names[number].as_slice()
     }
 
     /// The number of a token's name.
