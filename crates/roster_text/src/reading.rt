@@ -33,7 +33,9 @@ pub fn read_all<R: Read>(alloc: Global, input: &mut Watch<R>) -> Result<Vec<u8>,
     let mut bytes = Vec::new(alloc);
     let mut chunk = [0; CHUNK];
     'reading: loop {
-        let taken = input.read(&mut chunk).map_err(|_| TextFault::ReadFailed)?;
+        let Ok(taken) = input.read(&mut chunk) else {
+            return Err(TextFault::ReadFailed);
+        };
         if taken == 0 {
             return Ok(bytes);
         }

@@ -1,4 +1,4 @@
-use Rattle.std.proofs.Common.{ap, refl, rules, sym}
+use Rattle.std.proofs.Common.{ap, rules, sym}
 use Rattle.roster_text.proofs.watch.Watch.flush_once.Goals as goal
 
 pub returns-clause-called : goal.returns-clause-called
