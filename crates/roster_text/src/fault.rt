@@ -7,7 +7,7 @@ use std::fmt;
 use thiserror::Error;
 
 /// A word that begins a part of the four texts.
-#[derive(Clone, Copy, Debug, PartialEq, Eq)]
+#[derive(Clone, Copy, Debug)]
 pub enum Keyword {
     Scenario,
     Weeks,
@@ -54,7 +54,7 @@ impl Keyword {
 }
 
 /// What is due at a place of the grammar.
-#[derive(Clone, Copy, Debug, PartialEq, Eq)]
+#[derive(Clone, Copy, Debug)]
 pub enum What {
     Keyword(Keyword),
     Equals,
@@ -98,7 +98,7 @@ impl fmt::Display for What {
 }
 
 /// Why a text was not read. A line counts from 1.
-#[derive(Clone, Copy, Debug, PartialEq, Eq, Error)]
+#[derive(Clone, Copy, Debug, Error)]
 pub enum TextFault {
     /// A growth was refused.
     #[error("no memory")]
