@@ -6,7 +6,7 @@ use roster_rounds::LogFault;
 use roster_text::{TextFault, WriteFault};
 
 /// Why the weeks aren't written, or not all of them.
-#[derive(Clone, Copy, Debug, PartialEq, Eq)]
+#[derive(Clone, Copy, Debug)]
 pub enum Stop {
     /// The bytes were not read, or are not what the grammar says.
     Text(TextFault),
