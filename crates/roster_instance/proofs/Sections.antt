@@ -1,14 +1,26 @@
 -- The faults of the items of a section, one after the other.
-use Rattle.std.proofs.Common.{◌≡◌, ◌∙◌, ◌+◌, ◌<◌, ℕ, refl, sym, ap, ap₂, arith, subst, List, [], ◌∷◌, ◌++◌, append_assoc, get_or, length, take, drop, Some}
+use Rattle.std.proofs.Common.{◌≡◌, ◌∙◌, ◌+◌, ◌<◌, ℕ, refl, sym, ap, ap₂, arith, subst, List, [], ◌∷◌, ◌++◌, append_assoc, get_or, length, map, take, drop, Some}
 use Rattle.std.specs.List.{enumerate_from, flat_map}
 use Rattle.std.specs.Prelude.{IfErr, Result}
 use Rattle.std.specs.Result.{IsErrAnd}
 use Rattle.std.proofs.lemmas.Result.{err_from_is_err_and}
-use Rattle.std.proofs.lemmas.List.{append-nil, drop_more, length-take-le, length_push, take-append-drop, take_more}
+use Rattle.std.proofs.lemmas.List.{append-nil, drop_more, length-take-le, length_push, map_push, take-append-drop, take_more}
+use Rattle.roster_bundle.specs.Token.{text_of}
+use Rattle.roster_bundle.specs.declared.token.Token.{Token}
 use Rattle.roster_instance.specs.Checking.{IsFirst}
 use Rattle.roster_instance.specs.Faults.{each, each_after, first_fault}
+use Rattle.roster_instance.specs.Names.{names_of}
 use Rattle.roster_instance.specs.declared.fault.CaseFault.{CaseFault}
 use Rattle.roster_instance.specs.declared.fault.CaseFault.TheVariants.{Memory}
+
+-- ---- what is built of one more item
+
+pub built_more : {A B : Type 0} (f : A → B) (earlier : List A) (x : A) (old new : List B) (y : B) → old ≡ map f earlier → new ≡ old ++ y ∷ [] → y ≡ f x → new ≡ map f (earlier ++ x ∷ [])
+built_more f earlier x old new y so_far pushed meant = pushed ∙ ap₂ (λ ys z. ys ++ z ∷ []) so_far meant ∙ sym (map_push f earlier x)
+
+pub names_more : {A : Type 0} (source : List ℕ) (name : A → Token) (earlier : List A) (x : A) (old new : List (List ℕ)) → old ≡ names_of source (map name earlier) → new ≡ old ++ text_of source (name x) ∷ [] → new ≡ names_of source (map name (earlier ++ x ∷ []))
+names_more source name earlier x old new so_far added =
+    built_more (text_of source) (map name earlier) (name x) old new _ so_far added refl ∙ sym (ap (map (text_of source)) (map_push name earlier x))
 
 -- ---- the first of two lists of faults
 
