@@ -1,6 +1,6 @@
 -- A part of a list is written anew.
-use Rattle.std.proofs.Common.{◌≡◌, ◌+◌, ◌<◌, ◌≤◌, ℕ, arith, List, ◌++◌, length, get_or}
-use Rattle.std.proofs.lemmas.List.{places}
+use Rattle.std.proofs.Common.{◌≡◌, ◌+◌, ◌<◌, ◌≤◌, ℕ, arith, List, ◌++◌, drop, length, get_or}
+use Rattle.std.proofs.lemmas.List.{length-append, length-drop, places}
 use borrow.Rule.Slice.PartMut.{put_mid}
 use Rattle.roster_lanes.specs.Lanes.{SameOutside}
 use Rattle.roster_search.specs.Halves.{IsWritten}
@@ -27,3 +27,6 @@ module _ (a : ℕ) (old part : List ℕ) (room : a + length part ≤ length old)
 -- the first part of a list is written anew
 pub front_inside : (part rest : List ℕ) (j : ℕ) → j < length part → get_or (part ++ rest) j 0 ≡ get_or part j 0
 front_inside part rest j below = grind (arith, places)
+
+pub front_length : (part old : List ℕ) (n : ℕ) → length part ≡ n → n ≤ length old → length (part ++ drop n old) ≡ length old
+front_length part old n long room = omega (arith, length-append part (drop n old), length-drop n old, long, room)

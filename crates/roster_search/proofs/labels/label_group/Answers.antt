@@ -78,6 +78,12 @@ returns-then-not-can_be-clause-exactly g c =
     let same : c.args.meter.now ≡ c.args.meter.now + 0 * length c.args.day.now.offers.now = omega arith in
     same ∙ ap (λ k. c.args.meter.now + k * length c.args.day.now.offers.now) (sym none)
 
+pub returns-then-not-can_be-clause-labels_others : goal.returns-then-not-can_be-clause-labels_others
+returns-then-not-can_be-clause-labels_others g c = record { before = λ i below. refl; after = λ i from. refl }
+
+pub returns-then-not-can_be-clause-pointers_others : goal.returns-then-not-can_be-clause-pointers_others
+returns-then-not-can_be-clause-pointers_others g c = record { before = λ i below. refl; after = λ i from. refl }
+
 none_between : (g : _) (c : After-below-from g) → c.below-from.result.1 ≤ c.below-from.result.0 → (s : Summary) → StandsLike c.args.day.now.case.now c.args.day.now.at.nurse g.rest.here c.args.group s → ⊥
 none_between g c short s like =
     let here = area_here g c in
@@ -92,6 +98,12 @@ returns-then-end-from-clause-pointers g c s like = absurd (none_between g (goal.
 
 pub returns-then-end-from-clause-some : goal.returns-then-end-from-clause-some
 returns-then-end-from-clause-some g c offered s like = absurd (none_between g (goal.at.returns-then-end-from-clause-some g c).After-below-from c.if-end-from.true s like)
+
+pub returns-then-end-from-clause-labels_others : goal.returns-then-end-from-clause-labels_others
+returns-then-end-from-clause-labels_others g c = record { before = λ i below. refl; after = λ i from. refl }
+
+pub returns-then-end-from-clause-pointers_others : goal.returns-then-end-from-clause-pointers_others
+returns-then-end-from-clause-pointers_others g c = record { before = λ i below. refl; after = λ i from. refl }
 
 pub returns-then-end-from-clause-exactly : goal.returns-then-end-from-clause-exactly
 returns-then-end-from-clause-exactly g c =
@@ -296,6 +308,15 @@ returns-clause-pointers g c s like =
     let at_pointer : day.first + code_of z group + (s.weekends * z.assignments + s.assignments) ≡ day.first + code_of (sizes_of k n) s = omega (arith, there) in
     subst (λ j. PointsWhereBest (best_by k at g.rest.best s) day.offers.now (best_on k at day.offers.now g.rest.best s) (slice_index_or c.loop-weekends.pointers j 0)) at_pointer
     (subst (λ (t : Summary). PointsWhereBest (best_by k at g.rest.best t) day.offers.now (best_on k at day.offers.now g.rest.best t) (slice_index_or c.loop-weekends.pointers (day.first + code_of z group + (s.weekends * z.assignments + s.assignments)) 0)) state cell.points)
+
+pub returns-clause-labels_others : goal.returns-clause-labels_others
+returns-clause-labels_others g c = c.loop-weekends.invariant.labels_others
+
+pub returns-clause-pointers_others : goal.returns-clause-pointers_others
+returns-clause-pointers_others g c = c.loop-weekends.invariant.pointers_others
+
+pub returns-clause-lengths : goal.returns-clause-lengths
+returns-clause-lengths g c = (c.loop-weekends.invariant.labels_length, c.loop-weekends.invariant.pointers_length)
 
 pub returns-clause-some : goal.returns-clause-some
 returns-clause-some g c offered s like =

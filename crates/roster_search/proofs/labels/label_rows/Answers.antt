@@ -83,3 +83,12 @@ returns-clause-counted g c =
     let old = c.loop-from.invariant in
     let at_end : c.loop-from.from ≡ c.args.rows.now.end = omega (arith, old.inside, c.loop-from-test.false) in
     old.counted ∙ ap (λ k. c.args.meter.now + length c.args.day.now.offers.now * (c.args.rows.now.rows * (k - c.args.rows.now.from))) at_end
+
+pub returns-clause-labels_others : goal.returns-clause-labels_others
+returns-clause-labels_others g c = c.loop-from.invariant.labels_others
+
+pub returns-clause-pointers_others : goal.returns-clause-pointers_others
+returns-clause-pointers_others g c = c.loop-from.invariant.pointers_others
+
+pub returns-clause-lengths : goal.returns-clause-lengths
+returns-clause-lengths g c = (c.loop-from.invariant.labels_length, c.loop-from.invariant.pointers_length)

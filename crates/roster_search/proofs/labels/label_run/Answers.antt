@@ -1,7 +1,8 @@
-use Rattle.std.proofs.Common.{◌≡◌, ◌∙◌, ◌-◌, ◌*◌, ◌+◌, ◌<◌, [], arith, length, refl, replicate, slice_index_or, subst, sym}
-use Rattle.std.proofs.lemmas.List.{get_or-replicate}
+use Rattle.std.proofs.Common.{◌≡◌, ◌∙◌, ◌-◌, ◌*◌, ◌+◌, ◌<◌, [], arith, length, refl, replicate, slice_index_or, subst, sym, ap}
+use Rattle.std.proofs.lemmas.List.{get_or-replicate, take_all}
 use Rattle.roster_state.specs.Stretches.{stretch_state}
-use Rattle.roster_search.specs.Tables.{AreOfLeast, best_by, no_row}
+use Rattle.std.proofs.Math.Path.{transport}
+use Rattle.roster_search.specs.Tables.{AreOfLeast, best_by, no_row, RunCells}
 use Rattle.roster_search.proofs.LabelLaws.{least_of_none}
 use Rattle.roster_search.proofs.StretchLaws.{in_stretch}
 use Rattle.roster_search.proofs.CellLaws.{room_for_more}
@@ -75,3 +76,48 @@ loop-place-preserved g c =
             counted = omega (arith, w.set_run-is_set.ensures.counted, old.counted);
           }
     ]
+
+-- ---- no offer is allowed
+
+pub returns-then-not-is_set-clause-least : goal.returns-then-not-is_set-clause-least
+returns-then-not-is_set-clause-least g c i b in_rows in_width =
+    let r = c.requires in
+    let day = c.args.day.now in
+    let stretch = c.args.stretch.now in
+    let old = c.loop-place.invariant in
+    let count = length c.loop-place.labels in
+    let j = i * day.at.ranges.assignments + b in
+    let there : j < count = omega (arith, in_stretch stretch.rows (stretch.end - stretch.from) day.at.ranges.assignments i b in_rows in_width, old.labels_length, r.1.1.1.0) in
+    let in_numbers : j < length c.loop-place.numbers = omega (arith, there, old.labels_length, r.1.1.1.0, old.numbers_length, r.1.1.1.1.0) in
+    let label = get_or-replicate count j no_row 0 there ∙ sym (c.fill.ensures.clones j 0 there refl) in
+    let number = get_or-replicate count j 0 0 there ∙ sym (c.fill-then-not-is_set.ensures.clones j 0 in_numbers refl) in
+    let all = take_all c.loop-place.place day.offers.now (omega (arith, c.loop-place-test.false)) in
+    let by = best_by day.case.now day.at g.rest.best (stretch_state stretch.block stretch.from i b) in
+    transport (λ q. AreOfLeast by (all q) (label q) (number q)) (old.none c.if-not-is_set.true i b in_rows in_width)
+
+pub returns-then-not-is_set-clause-small : goal.returns-then-not-is_set-clause-small
+returns-then-not-is_set-clause-small g c a below =
+    subst (λ k. k < 16) (sym (c.fill-then-not-is_set.ensures.clones a 0 (omega (arith, below, c.fill-then-not-is_set.auto.self)) refl)) (omega arith)
+
+-- ---- some is
+
+pub returns-else-not-is_set-clause-least : goal.returns-else-not-is_set-clause-least
+returns-else-not-is_set-clause-least g c =
+    let day = c.args.day.now in
+    let all = take_all c.loop-place.place day.offers.now (omega (arith, c.loop-place-test.false)) in
+    transport (λ q. RunCells day.case.now day.at g.rest.best c.args.stretch.now (all q) c.loop-place.labels c.loop-place.numbers) (c.loop-place.invariant.least c.if-not-is_set.false)
+
+pub returns-else-not-is_set-clause-small : goal.returns-else-not-is_set-clause-small
+returns-else-not-is_set-clause-small g c = c.loop-place.invariant.small c.if-not-is_set.false
+
+-- ---- how many were counted
+
+pub returns-then-not-is_set-clause-counted : goal.returns-then-not-is_set-clause-counted
+returns-then-not-is_set-clause-counted g c =
+    let every : c.loop-place.place ≡ length c.args.day.now.offers.now = omega (arith, c.loop-place-test.false, c.loop-place.auto.place-end) in
+    c.loop-place.invariant.counted ∙ ap (λ j. c.args.meter.now + j * (c.args.stretch.now.rows * (c.args.stretch.now.end - c.args.stretch.now.from))) every
+
+pub returns-else-not-is_set-clause-counted : goal.returns-else-not-is_set-clause-counted
+returns-else-not-is_set-clause-counted g c =
+    let every : c.loop-place.place ≡ length c.args.day.now.offers.now = omega (arith, c.loop-place-test.false, c.loop-place.auto.place-end) in
+    c.loop-place.invariant.counted ∙ ap (λ j. c.args.meter.now + j * (c.args.stretch.now.rows * (c.args.stretch.now.end - c.args.stretch.now.from))) every

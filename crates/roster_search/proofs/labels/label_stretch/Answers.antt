@@ -1,11 +1,11 @@
-use Rattle.std.proofs.Common.{◌≡◌, ◌∙◌, ◌-◌, ◌*◌, ◌+◌, ◌≤◌, ℕ, ap, arith, get_or, length, subst}
+use Rattle.std.proofs.Common.{◌≡◌, ◌∙◌, ◌-◌, ◌*◌, ◌+◌, ◌≤◌, ℕ, ap, arith, get_or, length, subst, sym}
 use Rattle.std.proofs.lemmas.List.{length-take-le}
 use Rattle.std.proofs.lemmas.List.Edits.{length-between}
 use borrow.Rule.Slice.PartMut.{put_mid}
 use Rattle.roster_state.specs.Codes.{code_of}
 use Rattle.roster_lanes.specs.Lanes.{SameOutside}
 use Rattle.roster_search.proofs.CellLaws.{outside_wider}
-use Rattle.roster_search.proofs.PartLaws.{part_inside, part_outside}
+use Rattle.roster_search.proofs.PartLaws.{front_length, part_inside, part_length, part_outside}
 use Rattle.roster_search.proofs.StretchLaws.{count_short, count_within, rows_in_table, stretch_moved}
 use Rattle.roster_search.proofs.labels.label_stretch.Goals as goal
 
@@ -30,6 +30,35 @@ slice_bounds-numbers-end g c =
     let stretch = c.args.stretch.now in
     let is = count_is stretch.rows c.assignments.result day.at.ranges.assignments (stretch.end - stretch.from) c.assignments.ensures.assignments in
     omega (arith, is, count_short day.case.now day.at g.rest.here stretch r.1.0, r.1.1.1.1.1.0)
+
+pub slice_bounds-numbers-end-2 : goal.slice_bounds-numbers-end-2
+slice_bounds-numbers-end-2 g c =
+    let r = c.requires in
+    let day = c.args.day.now in
+    let stretch = c.args.stretch.now in
+    let long = (stretch.rows - 1) * c.assignments.result + (stretch.end - stretch.from) in
+    let is = count_is stretch.rows c.assignments.result day.at.ranges.assignments (stretch.end - stretch.from) c.assignments.ensures.assignments in
+    sym (length-take-le long c.args.numbers.now (omega (arith, is, count_short day.case.now day.at g.rest.here stretch r.1.0, r.1.1.1.1.1.0)))
+
+pub label_run-requires : goal.label_run-requires
+label_run-requires g c =
+    let r = c.requires in
+    let day = c.args.day.now in
+    let stretch = c.args.stretch.now in
+    let long = (stretch.rows - 1) * c.assignments.result + (stretch.end - stretch.from) in
+    let is = count_is stretch.rows c.assignments.result day.at.ranges.assignments (stretch.end - stretch.from) c.assignments.ensures.assignments in
+    let within = count_within day.case.now day.at g.rest.here stretch r.1.0 in
+    let table = rows_in_table day.case.now day.at g.rest.here stretch r.1.0 in
+    let short = count_short day.case.now day.at g.rest.here stretch r.1.0 in
+    let code = c.first.result + stretch.from in
+    let room : code + long ≤ length c.args.labels.now = omega (arith, is, within, table, c.first.ensures.first, r.1.1.1.0) in
+    let width : code + long - code ≡ long = omega arith in
+    let labels_length = length-between c.args.labels.now code (code + long) room ∙ width ∙ is in
+    let numbers_length = length-take-le long c.args.numbers.now (omega (arith, is, short, r.1.1.1.1.1.0)) ∙ is in
+    (r.0, (r.1.0, (r.1.1.0, (labels_length, (numbers_length, r.1.1.1.1.1.1)))))
+
+pub set_run-requires-clause-small : goal.set_run-requires-clause-small
+set_run-requires-clause-small g c = c.label_run.ensures.small
 
 pub set_run-requires-clause-within : goal.set_run-requires-clause-within
 set_run-requires-clause-within g c =
@@ -96,3 +125,34 @@ returns-clause-pointers_others g c =
     let short = count_short day.case.now day.at g.rest.here stretch r.1.0 in
     let long_numbers : length c.label_run.new.numbers ≡ (stretch.rows - 1) * c.assignments.result + (stretch.end - stretch.from) = c.label_run.ensures.lengths.1 ∙ length-take-le _ c.args.numbers.now (omega (arith, is, short, r.1.1.1.1.1.0)) in
     outside_wider _ _ _ _ c.args.pointers.now c.set_run.new.self (omega (arith, c.first.ensures.first)) (omega (arith, c.first.ensures.first, long_numbers, within, is)) c.set_run.ensures.others
+
+pub returns-clause-lengths : goal.returns-clause-lengths
+returns-clause-lengths g c =
+    let r = c.requires in
+    let day = c.args.day.now in
+    let stretch = c.args.stretch.now in
+    let labels = c.args.labels.now in
+    let long = (stretch.rows - 1) * c.assignments.result + (stretch.end - stretch.from) in
+    let is = count_is stretch.rows c.assignments.result day.at.ranges.assignments (stretch.end - stretch.from) c.assignments.ensures.assignments in
+    let within = count_within day.case.now day.at g.rest.here stretch r.1.0 in
+    let table = rows_in_table day.case.now day.at g.rest.here stretch r.1.0 in
+    let code = c.first.result + stretch.from in
+    let room : code + long ≤ length labels = omega (arith, is, within, table, c.first.ensures.first, r.1.1.1.0) in
+    let new = c.label_run.new.labels in
+    let width : length new ≡ code + long - code = c.label_run.ensures.lengths.0 ∙ length-between labels code (code + long) room in
+    let inside : code + length new ≤ length labels = omega (arith, width, room) in
+    (subst (λ w. length (put_mid code w labels new) ≡ length labels) width (part_length code labels new inside), c.set_run.ensures.length)
+
+pub returns-clause-numbers : goal.returns-clause-numbers
+returns-clause-numbers g c =
+    let r = c.requires in
+    let day = c.args.day.now in
+    let stretch = c.args.stretch.now in
+    let numbers = c.args.numbers.now in
+    let long = (stretch.rows - 1) * c.assignments.result + (stretch.end - stretch.from) in
+    let is = count_is stretch.rows c.assignments.result day.at.ranges.assignments (stretch.end - stretch.from) c.assignments.ensures.assignments in
+    let room : long ≤ length numbers = omega (arith, is, count_short day.case.now day.at g.rest.here stretch r.1.0, r.1.1.1.1.1.0) in
+    front_length c.label_run.new.numbers numbers long (c.label_run.ensures.lengths.1 ∙ length-take-le long numbers room) room
+
+pub returns-clause-counted : goal.returns-clause-counted
+returns-clause-counted g c = c.label_run.ensures.counted

@@ -1,7 +1,7 @@
-use Rattle.std.proofs.Common.{◌≡◌, ◌∙◌, ◌+◌, ◌-◌, ◌*◌, ◌≤◌, arith, length, refl, sym}
+use Rattle.std.proofs.Common.{◌≡◌, ◌∙◌, ◌+◌, ◌-◌, ◌*◌, ◌≤◌, arith, length, refl, sym, ap, true, subst}
 use Rattle.std.proofs.lemmas.List.Edits.{get_or-between}
 use Rattle.std.proofs.lemmas.List.Elements.{All-get_or}
-use Rattle.roster_state.specs.Codes.{product}
+use Rattle.roster_state.specs.Codes.{product, Sizes, fits_sizes}
 use Rattle.roster_search.specs.Tables.{IsOfferOf, LeadsOn}
 use Rattle.roster_search.proofs.StandLaws.{no_offer}
 use Rattle.roster_search.proofs.StretchLaws.{small_pointed, stretch_lowered, stretch_same, stretch_within}
@@ -51,3 +51,19 @@ returns-in_default-clause-least g c =
     let day = c.args.day.now in
     stretch_same day.case.now day.at g.rest.best c.args.stretch.now day.offers.now c.args.place r.1.1.1.0 no_offer c.shift-shift.result c.shift-shift.ensures c.args.labels.now c.args.numbers.now r.1.1.1.1.1.1.0
     c.in_default.ensures.steps
+
+pub extend_stretch-requires-clause-fits : goal.extend_stretch-requires-clause-fits
+extend_stretch-requires-clause-fits g c = subst (λ (z : Sizes). fits_sizes z c.args.stretch.now.block ≡ true) c.requires.0.day.ranges c.requires.1.0.fits
+
+pub extend_stretch-requires-clause-places : goal.extend_stretch-requires-clause-places
+extend_stretch-requires-clause-places g c =
+    omega (arith, c.requires.1.0.some_places, c.requires.1.0.assignments, ap (λ (z : Sizes). z.assignments) c.requires.0.day.ranges)
+
+pub extend_stretch-requires-clause-alike : goal.extend_stretch-requires-clause-alike
+extend_stretch-requires-clause-alike g c = c.requires.1.1.0
+
+pub extend_stretch-requires-clause-room : goal.extend_stretch-requires-clause-room
+extend_stretch-requires-clause-room g c = c.requires.1.1.1.1.1.1.1.1
+
+pub code-after-requires : goal.code-after-requires
+code-after-requires g c = subst (λ (z : Sizes). fits_sizes z c.in-Some.step.0 ≡ true) (sym c.requires.0.day.ranges) c.in-Some.ensures.next_fits

@@ -127,3 +127,18 @@ loop-row-preserved g c =
 
 pub returns-clause-least : goal.returns-clause-least
 returns-clause-least g c i a in_rows low high = c.loop-row.invariant.least i a (omega (arith, in_rows, c.loop-row-test.false)) low high
+
+pub returns-clause-labels_kept : goal.returns-clause-labels_kept
+returns-clause-labels_kept g c = c.loop-row.invariant.labels_kept
+
+pub returns-clause-pointers_kept : goal.returns-clause-pointers_kept
+returns-clause-pointers_kept g c = c.loop-row.invariant.pointers_kept
+
+pub returns-clause-labels_others : goal.returns-clause-labels_others
+returns-clause-labels_others g c = c.loop-row.invariant.labels_others
+
+pub returns-clause-pointers_others : goal.returns-clause-pointers_others
+returns-clause-pointers_others g c = c.loop-row.invariant.pointers_others
+
+pub returns-clause-lengths : goal.returns-clause-lengths
+returns-clause-lengths g c = (c.loop-row.invariant.labels_length, c.loop-row.invariant.pointers_length)

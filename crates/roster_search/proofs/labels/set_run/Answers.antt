@@ -1,8 +1,8 @@
-use Rattle.std.proofs.Common.{◌+◌, ◌-◌, ◌*◌, ◌≤◌, arith, length, refl, replicate}
+use Rattle.std.proofs.Common.{◌+◌, ◌-◌, ◌*◌, ◌≤◌, arith, length, refl, replicate, ◌≡◌, ap, true, sym, subst}
 use Rattle.std.proofs.lemmas.List.{get_or-replicate}
 use Rattle.std.proofs.lemmas.List.Edits.{get_or-between}
 use Rattle.std.proofs.lemmas.List.Elements.{All-get_or}
-use Rattle.roster_state.specs.Codes.{product}
+use Rattle.roster_state.specs.Codes.{product, Sizes, fits_sizes}
 use Rattle.roster_search.specs.Tables.{IsOfferOf, LeadsOn, no_row}
 use Rattle.roster_search.proofs.StandLaws.{no_offer}
 use Rattle.roster_search.proofs.StretchLaws.{stretch_same, stretch_set, stretch_within}
@@ -45,3 +45,19 @@ returns-clause-least g c _ =
     (λ j below. get_or-replicate count j no_row 0 below)
     c.set_all.ensures.labels
     (λ j below. c.fill.ensures.clones j 0 (omega (arith, below, r.1.1.1.1.0, r.1.1.1.1.1.0)) refl)
+
+pub extend_stretch-requires-clause-fits : goal.extend_stretch-requires-clause-fits
+extend_stretch-requires-clause-fits g c = subst (λ (z : Sizes). fits_sizes z c.args.stretch.now.block ≡ true) c.requires.0.day.ranges c.requires.1.0.fits
+
+pub extend_stretch-requires-clause-places : goal.extend_stretch-requires-clause-places
+extend_stretch-requires-clause-places g c =
+    omega (arith, c.requires.1.0.some_places, c.requires.1.0.assignments, ap (λ (z : Sizes). z.assignments) c.requires.0.day.ranges)
+
+pub extend_stretch-requires-clause-alike : goal.extend_stretch-requires-clause-alike
+extend_stretch-requires-clause-alike g c = c.requires.1.1.0
+
+pub extend_stretch-requires-clause-room : goal.extend_stretch-requires-clause-room
+extend_stretch-requires-clause-room g c = c.requires.1.1.1.1.1.1.1
+
+pub code-after-requires : goal.code-after-requires
+code-after-requires g c = subst (λ (z : Sizes). fits_sizes z c.in-Some.step.0 ≡ true) (sym c.requires.0.day.ranges) c.in-Some.ensures.next_fits

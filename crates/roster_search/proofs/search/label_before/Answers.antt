@@ -5,9 +5,10 @@ use Rattle.std.specs.List.{All}
 use Rattle.roster_instance.specs.Meaning.{day_count}
 use Rattle.roster_instance.specs.Sizes.{choice_count}
 use Rattle.roster_state.specs.Codes.{product}
+use Rattle.roster_lanes.specs.Lanes.{SameOutside}
 use Rattle.roster_search.specs.Counts.{states_on}
 use Rattle.roster_search.specs.Search.{offers_on}
-use Rattle.roster_search.specs.Tables.{ArePointers, IsOfferOf, IsReady, LeadsOn}
+use Rattle.roster_search.specs.Tables.{AreLabels, ArePointers, IsOfferOf, IsReady, LeadsOn, best_on}
 use Rattle.roster_search.proofs.SearchLaws.{areas_read, offers_read}
 use Rattle.roster_search.proofs.search.label_before.Goals as goal
 use Rattle.roster_search.proofs.search.label_before.Goals.{After-as_slice-offers}
@@ -40,6 +41,13 @@ label_day-requires g c =
     } in
     (ready, (here, (r.1.1.1.1.1.1.1.1.0, (pointers_room, room))))
 
+pub returns-clause-labels : goal.returns-clause-labels
+returns-clause-labels g c =
+    let k = c.args.days.now.case.now in
+    let at = c.args.ahead.now.at in
+    let offers = offers_here g (goal.at.returns-clause-labels g c).After-as_slice-offers in
+    transport (λ i. AreLabels k at.nurse g.rest.here (best_on k at (offers i) g.rest.best) c.label_day.new.labels) c.label_day.ensures.labels
+
 pub returns-clause-pointers : goal.returns-clause-pointers
 returns-clause-pointers g c =
     let k = c.args.days.now.case.now in
@@ -47,6 +55,15 @@ returns-clause-pointers g c =
     let offers = offers_here g (goal.at.returns-clause-pointers g c).After-as_slice-offers in
     let first : at.day * c.product.result ≡ at.day * product at.ranges = ap (λ n. at.day * n) c.product.ensures.product in
     transport (λ i. ArePointers k at g.rest.here (offers i) g.rest.best (first i) c.label_day.new.pointers) c.label_day.ensures.pointers
+
+pub returns-clause-others : goal.returns-clause-others
+returns-clause-others g c =
+    let size = product c.args.ahead.now.at.ranges in
+    let first : c.args.ahead.now.at.day * c.product.result ≡ c.args.ahead.now.at.day * size = ap (λ n. c.args.ahead.now.at.day * n) c.product.ensures.product in
+    transport (λ i. SameOutside (first i) (first i + size) c.args.pointers.now c.label_day.new.pointers) c.label_day.ensures.others
+
+pub returns-clause-lengths : goal.returns-clause-lengths
+returns-clause-lengths g c = c.label_day.ensures.lengths
 
 pub returns-clause-some : goal.returns-clause-some
 returns-clause-some g c =

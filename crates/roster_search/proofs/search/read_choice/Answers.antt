@@ -1,9 +1,10 @@
-use Rattle.std.proofs.Common.{◌≡◌, ◌∙◌, ◌+◌, ◌*◌, ◌<◌, IfSome, IsSome, ap, arith, refl, subst, sym}
+use Rattle.std.proofs.Common.{◌≡◌, ◌∙◌, ◌+◌, ◌*◌, ◌<◌, IfSome, IsSome, ap, arith, refl, subst, sym, List}
 use Rattle.std.proofs.Math.Path.{transport}
 use Rattle.std.proofs.lemmas.Nat.{mul-le}
 use Rattle.std.specs.List.{All}
 use Rattle.roster_instance.specs.Meaning.{day_count}
 use Rattle.roster_state.specs.Codes.{product}
+use Rattle.roster_search.specs.declared.offer.Offer.{Offer}
 use Rattle.roster_search.specs.Tables.{ArePointers, IsOfferOf, LeadsOn, best_on, no_row}
 use Rattle.roster_search.proofs.SearchLaws.{offers_read}
 use Rattle.roster_search.proofs.search.read_choice.Goals as goal
@@ -37,3 +38,14 @@ read_day-requires g c =
         ),
       ),
     )
+
+pub returns-clause-begins : goal.returns-clause-begins
+returns-clause-begins g c row is =
+    let k = c.args.days.now.case.now in
+    let at = c.args.at.now in
+    let table = c.requires.1.1.1.1.1.1.1 in
+    let offers = c.as_slice-offers.ensures.value ∙ offers_read k at.nurse c.args.days.now.offers.now table at.day c.requires.0.day _ c.index-days-at.result refl in
+    c.read_day.ensures.begins row (ap (λ (xs : List Offer). best_on k at xs g.rest.best c.args.state.now) offers ∙ is)
+
+pub returns-clause-stands : goal.returns-clause-stands
+returns-clause-stands g c = c.read_day.ensures.stands

@@ -29,6 +29,18 @@ pub label_days-requires-clause-pointers_room : goal.label_days-requires-clause-p
 label_days-requires-clause-pointers_room c =
     omega (arith, ap (λ (t : TableRoom). t.pointers) c.tables.view_is, c.requires.tables.pointers, ap (λ m. day_count c.args.search.now.case.now * m) c.of-ranges.ensures.states)
 
+pub label_days-requires-clause-lead : goal.label_days-requires-clause-lead
+label_days-requires-clause-lead c = c.stand_days.ensures.lead
+
+pub read_row-requires-clause-start : goal.read_row-requires-clause-start
+read_row-requires-clause-start c = c.stand_days.ensures.start
+
+pub read_row-requires-clause-lead : goal.read_row-requires-clause-lead
+read_row-requires-clause-lead c = c.stand_days.ensures.lead
+
+pub read_row-requires-clause-pointers : goal.read_row-requires-clause-pointers
+read_row-requires-clause-pointers c = c.label_days.ensures.pointers
+
 pub read_row-requires-clause-low : goal.read_row-requires-clause-low
 read_row-requires-clause-low c =
     let best = found (goal.at.read_row-requires-clause-low c).After-of-ranges in
@@ -62,3 +74,18 @@ pub returns-clause-below : goal.returns-clause-below
 returns-clause-below c =
     let best = found (goal.at.returns-clause-below c).After-of-ranges in
     omega (arith, label_is (goal.at.returns-clause-below c).After-index best, best.low)
+
+-- ---- what it takes
+
+pub returns-clause-each_day : goal.returns-clause-each_day
+returns-clause-each_day c = c.label_days.ensures.each_day
+
+pub returns-clause-counted : goal.returns-clause-counted
+returns-clause-counted c = c.label_days.ensures.counted
+
+pub returns-clause-standing : goal.returns-clause-standing
+returns-clause-standing c =
+    record { areas = c.stand_days.new.areas; start = c.stand_days.ensures.start; lead = c.stand_days.ensures.lead; counted = c.label_days.ensures.exactly }
+
+pub returns-clause-length : goal.returns-clause-length
+returns-clause-length c = c.read_row.ensures.length
