@@ -90,3 +90,19 @@ returns-clause-small g c a within =
     let long_numbers : length c.label_run.new.numbers ≡ long = c.label_run.ensures.lengths.1 ∙ length-take-le long c.args.numbers.now (omega (arith, is, short, r.1.1.1.1.0)) in
     let below : a < length c.label_run.new.numbers = omega (arith, within, is, long_numbers) in
     subst (λ k. k < 16) (sym (front_inside c.label_run.new.numbers (drop long c.args.numbers.now) a below)) (c.label_run.ensures.small a below)
+
+-- ---- the sums fit
+
+pub overflow_mul-between : goal.overflow_mul-between
+overflow_mul-between g c =
+    let day = c.args.day.now in
+    let stretch = c.args.stretch.now in
+    let is = count_is stretch.rows c.assignments.result day.at.ranges.assignments (stretch.end - stretch.from) c.assignments.ensures.assignments in
+    omega (arith, is, count_short day.case.now day.at g.rest.here stretch c.requires.1.0)
+
+pub overflow_add-count : goal.overflow_add-count
+overflow_add-count g c =
+    let day = c.args.day.now in
+    let stretch = c.args.stretch.now in
+    let is = count_is stretch.rows c.assignments.result day.at.ranges.assignments (stretch.end - stretch.from) c.assignments.ensures.assignments in
+    omega (arith, is, count_short day.case.now day.at g.rest.here stretch c.requires.1.0)

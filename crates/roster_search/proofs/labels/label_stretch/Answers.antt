@@ -156,3 +156,19 @@ returns-clause-numbers g c =
 
 pub returns-clause-counted : goal.returns-clause-counted
 returns-clause-counted g c = c.label_run.ensures.counted
+
+-- ---- the sums fit
+
+pub overflow_mul-between : goal.overflow_mul-between
+overflow_mul-between g c =
+    let day = c.args.day.now in
+    let stretch = c.args.stretch.now in
+    let is = count_is stretch.rows c.assignments.result day.at.ranges.assignments (stretch.end - stretch.from) c.assignments.ensures.assignments in
+    omega (arith, is, count_short day.case.now day.at g.rest.here stretch c.requires.1.0)
+
+pub overflow_add-count : goal.overflow_add-count
+overflow_add-count g c =
+    let day = c.args.day.now in
+    let stretch = c.args.stretch.now in
+    let is = count_is stretch.rows c.assignments.result day.at.ranges.assignments (stretch.end - stretch.from) c.assignments.ensures.assignments in
+    omega (arith, is, count_short day.case.now day.at g.rest.here stretch c.requires.1.0)

@@ -1,14 +1,18 @@
-use Rattle.std.proofs.Common.{◌≡◌, ◌∙◌, ◌+◌, ◌-◌, ◌*◌, ◌≤◌, arith, length, refl, sym, ap, true, subst}
-use Rattle.std.proofs.lemmas.List.Edits.{get_or-between}
+use Rattle.std.proofs.Common.{◌≡◌, ◌∙◌, ◌+◌, ◌-◌, ◌*◌, ◌≤◌, arith, length, refl, sym, ap, true, subst, IfSome, Option, slice_index_or, ◌<◌}
+use Rattle.std.proofs.lemmas.List.Edits.{get_or-between, length-between}
 use Rattle.std.proofs.lemmas.List.Elements.{All-get_or}
 use Rattle.roster_state.specs.Codes.{product, Sizes, fits_sizes}
+use Rattle.roster_instance.specs.declared.choice.Shift.{Shift}
+use Rattle.roster_instance.specs.Meaning.{shift_count}
+use Rattle.roster_search.proofs.LabelLaws.{shift_of_case}
 use Rattle.roster_search.specs.Tables.{IsOfferOf, LeadsOn}
 use Rattle.roster_search.proofs.StandLaws.{no_offer}
 use Rattle.roster_search.proofs.StretchLaws.{small_pointed, stretch_lowered, stretch_same, stretch_within}
 use Rattle.roster_search.proofs.labels.lower_run.Goals as goal
+use Rattle.roster_search.proofs.labels.lower_run.Goals.{After-code-after}
 
-pub slice_bounds-others-end : goal.slice_bounds-others-end
-slice_bounds-others-end g c =
+later_room : (g : _) (c : After-code-after g) → c.code-after.result + length c.args.labels.now ≤ length c.args.day.now.later.now
+later_room g c =
     let r = c.requires in
     let day = c.args.day.now in
     let k = day.case.now in
@@ -18,6 +22,9 @@ slice_bounds-others-end g c =
     stretch_within k day.at g.rest.best c.args.stretch.now offers c.args.place r.1.1.1.0 no_offer c.shift-shift.result c.shift-shift.ensures c.args.labels.now c.args.numbers.now r.1.1.1.1.1.1.0
     g.rest r.1.0 refl day.later.now r.0 leads c.in-Some.step c.in-Some.ensures.steps c.code-after.result c.code-after.ensures.code in
     omega (arith, within, r.0.all, r.1.1.1.1.0)
+
+pub slice_bounds-others-end : goal.slice_bounds-others-end
+slice_bounds-others-end g c = later_room g (goal.at.slice_bounds-others-end g c).After-code-after
 
 pub overflow_add-points : goal.overflow_add-points
 overflow_add-points g c =
@@ -52,6 +59,19 @@ returns-in_default-clause-least g c =
     stretch_same day.case.now day.at g.rest.best c.args.stretch.now day.offers.now c.args.place r.1.1.1.0 no_offer c.shift-shift.result c.shift-shift.ensures c.args.labels.now c.args.numbers.now r.1.1.1.1.1.1.0
     c.in_default.ensures.steps
 
+pub extend_stretch-requires-clause-nurse : goal.extend_stretch-requires-clause-nurse
+extend_stretch-requires-clause-nurse g c = c.requires.0.day.nurse
+
+pub extend_stretch-requires-clause-day : goal.extend_stretch-requires-clause-day
+extend_stretch-requires-clause-day g c = c.requires.0.day.day
+
+pub extend_stretch-requires-clause-shift : goal.extend_stretch-requires-clause-shift
+extend_stretch-requires-clause-shift g c =
+    let k = c.args.day.now.case.now in
+    let offers = c.args.day.now.offers.now in
+    let of_case = All-get_or (IsOfferOf k) offers c.args.place no_offer c.requires.1.1.1.0 c.requires.0.offers in
+    subst (λ (x : Option Shift). IfSome x (λ u. u.0 < shift_count k)) (sym c.shift-shift.ensures) (shift_of_case k (slice_index_or offers c.args.place no_offer).choice of_case.choice)
+
 pub extend_stretch-requires-clause-fits : goal.extend_stretch-requires-clause-fits
 extend_stretch-requires-clause-fits g c = subst (λ (z : Sizes). fits_sizes z c.args.stretch.now.block ≡ true) c.requires.0.day.ranges c.requires.1.0.fits
 
@@ -67,3 +87,27 @@ extend_stretch-requires-clause-room g c = c.requires.1.1.1.1.1.1.1.1
 
 pub code-after-requires : goal.code-after-requires
 code-after-requires g c = subst (λ (z : Sizes). fits_sizes z c.in-Some.step.0 ≡ true) (sym c.requires.0.day.ranges) c.in-Some.ensures.next_fits
+
+pub lower_all-requires-clause-pointers : goal.lower_all-requires-clause-pointers
+lower_all-requires-clause-pointers g c = c.requires.1.1.1.1.1.0 ∙ sym c.requires.1.1.1.1.0
+
+pub lower_all-requires-clause-others : goal.lower_all-requires-clause-others
+lower_all-requires-clause-others g c =
+    let code = c.code-after.result in
+    let count = length c.args.labels.now in
+    let width : code + count - code ≡ count = omega arith in
+    length-between c.args.day.now.later.now code (code + count) (later_room g (goal.at.lower_all-requires-clause-others g c).After-code-after) ∙ width
+
+pub returns-in-Some-clause-lengths : goal.returns-in-Some-clause-lengths
+returns-in-Some-clause-lengths g c = (c.lower_all.auto.labels, c.lower_all.auto.pointers)
+
+pub returns-in-Some-clause-counted : goal.returns-in-Some-clause-counted
+returns-in-Some-clause-counted g c = c.in-Some.ensures.counted
+
+-- ---- where the offer is not allowed
+
+pub returns-in_default-clause-small : goal.returns-in_default-clause-small
+returns-in_default-clause-small g c = c.requires.1.1.1.1.1.1.1.0
+
+pub returns-in_default-clause-counted : goal.returns-in_default-clause-counted
+returns-in_default-clause-counted g c = c.in_default.ensures.counted

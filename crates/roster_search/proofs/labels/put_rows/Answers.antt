@@ -1,4 +1,4 @@
-use Rattle.std.proofs.Common.{◌≡◌, ◌∙◌, ◌+◌, ◌-◌, ◌*◌, ◌<◌, ℕ, ap, arith, refl, slice_index_or, subst, sym}
+use Rattle.std.proofs.Common.{◌≡◌, ◌∙◌, ◌+◌, ◌-◌, ◌*◌, ◌<◌, ℕ, ap, arith, refl, slice_index_or, subst, sym, ◌≤◌}
 use Rattle.std.proofs.lemmas.List.Edits.{get_or-between, length-between}
 use Rattle.roster_state.specs.Codes.{code_of}
 use Rattle.roster_lanes.specs.Lanes.{SameOutside}
@@ -142,3 +142,39 @@ returns-clause-pointers_others g c = c.loop-row.invariant.pointers_others
 
 pub returns-clause-lengths : goal.returns-clause-lengths
 returns-clause-lengths g c = (c.loop-row.invariant.labels_length, c.loop-row.invariant.pointers_length)
+
+-- ---- the sums fit
+
+-- a row begins within the places of the stretch
+row_small : (rows width size side row count : ℕ) → side ≡ size → row < rows → (rows - 1) * size + width ≤ count → row * side + width ≤ count
+row_small rows width size side row count is in_rows short = omega (arith, ap (λ k. row * k) is, row_in_count rows width size row in_rows, short)
+
+pub overflow_mul-at : goal.overflow_mul-at
+overflow_mul-at g c =
+    let day = c.args.day.now in
+    let stretch = c.args.stretch.now in
+    omega (arith, row_small stretch.rows (stretch.end - stretch.from) day.at.ranges.assignments c.assignments-side.result c.loop-row.row 1000 c.assignments-side.ensures.assignments c.loop-row-test.true (count_short day.case.now day.at g.rest.here stretch c.requires.0))
+
+pub overflow_add-code-in-loop-row : goal.overflow_add-code-in-loop-row
+overflow_add-code-in-loop-row g c =
+    let day = c.args.day.now in
+    let stretch = c.args.stretch.now in
+    omega (arith, row_small stretch.rows (stretch.end - stretch.from) day.at.ranges.assignments c.assignments-side.result c.loop-row.row 1000 c.assignments-side.ensures.assignments c.loop-row-test.true (count_short day.case.now day.at g.rest.here stretch c.requires.0))
+
+pub overflow_add-at : goal.overflow_add-at
+overflow_add-at g c =
+    let day = c.args.day.now in
+    let stretch = c.args.stretch.now in
+    omega (arith, row_small stretch.rows (stretch.end - stretch.from) day.at.ranges.assignments c.assignments-side.result c.loop-row.row 1000 c.assignments-side.ensures.assignments c.loop-row-test.true (count_short day.case.now day.at g.rest.here stretch c.requires.0))
+
+pub offset_bounds-apart-at : goal.offset_bounds-apart-at
+offset_bounds-apart-at g c =
+    let day = c.args.day.now in
+    let stretch = c.args.stretch.now in
+    omega (arith, row_small stretch.rows (stretch.end - stretch.from) day.at.ranges.assignments c.assignments-side.result c.loop-row.row 1000 c.assignments-side.ensures.assignments c.loop-row-test.true (count_short day.case.now day.at g.rest.here stretch c.requires.0))
+
+pub overflow_add-day-in-loop-row : goal.overflow_add-day-in-loop-row
+overflow_add-day-in-loop-row g c =
+    let day = c.args.day.now in
+    let stretch = c.args.stretch.now in
+    omega (arith, row_small stretch.rows (stretch.end - stretch.from) day.at.ranges.assignments c.assignments-side.result c.loop-row.row 1000 c.assignments-side.ensures.assignments c.loop-row-test.true (count_short day.case.now day.at g.rest.here stretch c.requires.0))

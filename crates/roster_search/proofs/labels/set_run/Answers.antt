@@ -1,12 +1,16 @@
-use Rattle.std.proofs.Common.{◌+◌, ◌-◌, ◌*◌, ◌≤◌, arith, length, refl, replicate, ◌≡◌, ap, true, sym, subst}
+use Rattle.std.proofs.Common.{◌+◌, ◌-◌, ◌*◌, ◌≤◌, arith, length, refl, replicate, ◌≡◌, ap, true, sym, subst, IfSome, Option, slice_index_or, ◌<◌, ◌∙◌}
 use Rattle.std.proofs.lemmas.List.{get_or-replicate}
-use Rattle.std.proofs.lemmas.List.Edits.{get_or-between}
+use Rattle.std.proofs.lemmas.List.Edits.{get_or-between, length-between}
 use Rattle.std.proofs.lemmas.List.Elements.{All-get_or}
 use Rattle.roster_state.specs.Codes.{product, Sizes, fits_sizes}
+use Rattle.roster_instance.specs.declared.choice.Shift.{Shift}
+use Rattle.roster_instance.specs.Meaning.{shift_count}
+use Rattle.roster_search.proofs.LabelLaws.{shift_of_case}
 use Rattle.roster_search.specs.Tables.{IsOfferOf, LeadsOn, no_row}
 use Rattle.roster_search.proofs.StandLaws.{no_offer}
 use Rattle.roster_search.proofs.StretchLaws.{stretch_same, stretch_set, stretch_within}
 use Rattle.roster_search.proofs.labels.set_run.Goals as goal
+use Rattle.roster_search.proofs.labels.set_run.Goals.{After-code-after}
 
 pub returns-in_default-clause-none : goal.returns-in_default-clause-none
 returns-in_default-clause-none g c _ =
@@ -16,8 +20,8 @@ returns-in_default-clause-none g c _ =
     stretch_same day.case.now day.at g.rest.best c.args.stretch.now day.offers.now c.args.place r.1.1.1.0 no_offer c.shift-shift.result c.shift-shift.ensures (replicate count no_row) (replicate count 0) r.1.1.1.1.1.1.0
     c.in_default.ensures.steps
 
-pub slice_bounds-set_all-end : goal.slice_bounds-set_all-end
-slice_bounds-set_all-end g c =
+later_room : (g : _) (c : After-code-after g) → c.code-after.result + length c.args.labels.now ≤ length c.args.day.now.later.now
+later_room g c =
     let r = c.requires in
     let day = c.args.day.now in
     let k = day.case.now in
@@ -28,6 +32,9 @@ slice_bounds-set_all-end g c =
     stretch_within k day.at g.rest.best c.args.stretch.now offers c.args.place r.1.1.1.0 no_offer c.shift-shift.result c.shift-shift.ensures (replicate count no_row) (replicate count 0) r.1.1.1.1.1.1.0
     g.rest r.1.0 refl day.later.now r.0 leads c.in-Some.step c.in-Some.ensures.steps c.code-after.result c.code-after.ensures.code in
     omega (arith, within, r.0.all, r.1.1.1.1.0)
+
+pub slice_bounds-set_all-end : goal.slice_bounds-set_all-end
+slice_bounds-set_all-end g c = later_room g (goal.at.slice_bounds-set_all-end g c).After-code-after
 
 pub returns-clause-least : goal.returns-clause-least
 returns-clause-least g c _ =
@@ -46,6 +53,19 @@ returns-clause-least g c _ =
     c.set_all.ensures.labels
     (λ j below. c.fill.ensures.clones j 0 (omega (arith, below, r.1.1.1.1.0, r.1.1.1.1.1.0)) refl)
 
+pub extend_stretch-requires-clause-nurse : goal.extend_stretch-requires-clause-nurse
+extend_stretch-requires-clause-nurse g c = c.requires.0.day.nurse
+
+pub extend_stretch-requires-clause-day : goal.extend_stretch-requires-clause-day
+extend_stretch-requires-clause-day g c = c.requires.0.day.day
+
+pub extend_stretch-requires-clause-shift : goal.extend_stretch-requires-clause-shift
+extend_stretch-requires-clause-shift g c =
+    let k = c.args.day.now.case.now in
+    let offers = c.args.day.now.offers.now in
+    let of_case = All-get_or (IsOfferOf k) offers c.args.place no_offer c.requires.1.1.1.0 c.requires.0.offers in
+    subst (λ (x : Option Shift). IfSome x (λ u. u.0 < shift_count k)) (sym c.shift-shift.ensures) (shift_of_case k (slice_index_or offers c.args.place no_offer).choice of_case.choice)
+
 pub extend_stretch-requires-clause-fits : goal.extend_stretch-requires-clause-fits
 extend_stretch-requires-clause-fits g c = subst (λ (z : Sizes). fits_sizes z c.args.stretch.now.block ≡ true) c.requires.0.day.ranges c.requires.1.0.fits
 
@@ -61,3 +81,39 @@ extend_stretch-requires-clause-room g c = c.requires.1.1.1.1.1.1.1
 
 pub code-after-requires : goal.code-after-requires
 code-after-requires g c = subst (λ (z : Sizes). fits_sizes z c.in-Some.step.0 ≡ true) (sym c.requires.0.day.ranges) c.in-Some.ensures.next_fits
+
+pub set_all-requires : goal.set_all-requires
+set_all-requires g c =
+    let code = c.code-after.result in
+    let count = length c.args.labels.now in
+    let width : code + count - code ≡ count = omega arith in
+    length-between c.args.day.now.later.now code (code + count) (later_room g (goal.at.set_all-requires g c).After-code-after) ∙ width
+
+pub returns-clause-small : goal.returns-clause-small
+returns-clause-small g c _ a below =
+    subst (λ k. k < 16) (sym (c.fill.ensures.clones a 0 (omega (arith, below, c.fill.auto.self)) refl)) (omega (arith, c.requires.0.few, c.requires.1.1.1.0))
+
+pub returns-clause-none : goal.returns-clause-none
+returns-clause-none g c e = absurd cc
+
+pub returns-clause-lengths : goal.returns-clause-lengths
+returns-clause-lengths g c = (c.set_all.auto.labels, c.fill.auto.self)
+
+pub returns-clause-counted : goal.returns-clause-counted
+returns-clause-counted g c = c.in-Some.ensures.counted
+
+-- ---- where the offer is not allowed
+
+pub returns-in_default-clause-least : goal.returns-in_default-clause-least
+returns-in_default-clause-least g c e = absurd cc
+
+pub returns-in_default-clause-small : goal.returns-in_default-clause-small
+returns-in_default-clause-small g c e = absurd cc
+
+pub returns-in_default-clause-counted : goal.returns-in_default-clause-counted
+returns-in_default-clause-counted g c = c.in_default.ensures.counted
+
+pub overflow_add-offer : goal.overflow_add-offer
+overflow_add-offer g c =
+    let price = (All-get_or (IsOfferOf c.args.day.now.case.now) c.args.day.now.offers.now c.args.place no_offer c.requires.1.1.1.0 c.requires.0.offers).price in
+    omega (arith, price, c.in-Some.ensures.within)

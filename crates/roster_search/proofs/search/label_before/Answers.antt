@@ -84,3 +84,13 @@ pub returns-clause-exactly : goal.returns-clause-exactly
 returns-clause-exactly g c =
     let offers = offers_here g (goal.at.returns-clause-exactly g c).After-as_slice-offers in
     c.label_day.ensures.exactly ∙ (λ i. c.args.meter.now + states_on c.args.days.now.case.now c.args.ahead.now.at.nurse g.rest.here * length (offers i))
+
+-- ---- the places fit
+
+pub bounds-days-at : goal.bounds-days-at
+bounds-days-at g c = omega (arith, c.requires.0.day, c.requires.1.0.days)
+
+pub overflow_mul-first : goal.overflow_mul-first
+overflow_mul-first g c =
+    let day : c.args.ahead.now.at.day ≤ 364 = omega (arith, c.requires.0.day, c.keeps_limits.ensures.weeks) in
+    omega (arith, mul-le c.args.ahead.now.at.day c.product.result 364 1048576 day (omega (arith, c.product.ensures.within)))

@@ -1,4 +1,4 @@
-use Rattle.std.proofs.Common.{◌≡◌, ◌∙◌, ◌+◌, ◌*◌, ◌<◌, IfSome, IsSome, ap, arith, refl, subst, sym, List}
+use Rattle.std.proofs.Common.{◌≡◌, ◌∙◌, ◌+◌, ◌*◌, ◌<◌, IfSome, IsSome, ap, arith, refl, subst, sym, List, ◌≤◌}
 use Rattle.std.proofs.Math.Path.{transport}
 use Rattle.std.proofs.lemmas.Nat.{mul-le}
 use Rattle.std.specs.List.{All}
@@ -49,3 +49,13 @@ returns-clause-begins g c row is =
 
 pub returns-clause-stands : goal.returns-clause-stands
 returns-clause-stands g c = c.read_day.ensures.stands
+
+-- ---- the places fit
+
+pub bounds-days-at : goal.bounds-days-at
+bounds-days-at g c = omega (arith, c.requires.0.day, c.requires.1.1.1.1.1.1.1.days)
+
+pub overflow_mul-first : goal.overflow_mul-first
+overflow_mul-first g c =
+    let day : c.args.at.now.day ≤ 364 = omega (arith, c.requires.0.day, c.keeps_limits.ensures.weeks) in
+    omega (arith, mul-le c.args.at.now.day c.product.result 364 1048576 day (omega (arith, c.product.ensures.within)))

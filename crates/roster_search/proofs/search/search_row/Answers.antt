@@ -1,7 +1,7 @@
-use Rattle.std.proofs.Common.{◌≡◌, ◌∙◌, ◌*◌, ◌<◌, ◌≤◌, IfSome, List, Some, ap, arith, length, refl, slice_index_or, subst, sym}
+use Rattle.std.proofs.Common.{◌≡◌, ◌∙◌, ◌*◌, ◌<◌, ◌≤◌, IfSome, List, Some, ap, arith, length, refl, slice_index_or, subst, sym, ◌+◌, true}
 use Rattle.std.proofs.lemmas.List.{get_or_read_under}
 use Rattle.roster_instance.specs.Meaning.{day_count}
-use Rattle.roster_state.specs.Codes.{code_of, product, sizes_of}
+use Rattle.roster_state.specs.Codes.{code_of, product, sizes_of, Sizes, fits_sizes}
 use Rattle.roster_search.specs.declared.offer.Offer.{Offer}
 use Rattle.roster_search.specs.Cheapest.{Priced}
 use Rattle.roster_search.specs.Search.{TableRoom, areas_on, best_over, offers_on}
@@ -29,6 +29,9 @@ pub label_days-requires-clause-pointers_room : goal.label_days-requires-clause-p
 label_days-requires-clause-pointers_room c =
     omega (arith, ap (λ (t : TableRoom). t.pointers) c.tables.view_is, c.requires.tables.pointers, ap (λ m. day_count c.args.search.now.case.now * m) c.of-ranges.ensures.states)
 
+pub label_days-requires-clause-same_room : goal.label_days-requires-clause-same_room
+label_days-requires-clause-same_room c = sym c.tables.invariant
+
 pub label_days-requires-clause-lead : goal.label_days-requires-clause-lead
 label_days-requires-clause-lead c = c.stand_days.ensures.lead
 
@@ -45,6 +48,17 @@ pub read_row-requires-clause-low : goal.read_row-requires-clause-low
 read_row-requires-clause-low c =
     let best = found (goal.at.read_row-requires-clause-low c).After-of-ranges in
     subst (λ (o : Priced (List Offer)). IfSome o (λ row. row.0 < no_row)) (sym best.is) best.low
+
+pub read_row-requires-clause-pointers_room : goal.read_row-requires-clause-pointers_room
+read_row-requires-clause-pointers_room c =
+    omega (arith, ap (λ (t : TableRoom). t.pointers) c.tables.view_is, c.requires.tables.pointers, ap (λ m. day_count c.args.search.now.case.now * m) c.of-ranges.ensures.states, c.label_days.ensures.lengths.2)
+
+pub code-requires : goal.code-requires
+code-requires c = subst (λ (z : Sizes). fits_sizes z c.start-first.result.0 ≡ true) (sym c.of-ranges.ensures.sizes) c.start-first.ensures.fits
+
+pub index-requires : goal.index-requires
+index-requires c =
+    omega (arith, c.code.ensures.within, ap (λ (t : TableRoom). t.labels) c.tables.view_is, c.tables.invariant, c.requires.tables.labels, c.of-ranges.ensures.states, c.label_days.ensures.lengths.1)
 
 -- ---- the first label
 
@@ -89,3 +103,15 @@ returns-clause-standing c =
 
 pub returns-clause-length : goal.returns-clause-length
 returns-clause-length c = c.read_row.ensures.length
+
+-- ---- the tables after it
+
+pub invariant_of-tables : goal.invariant_of-tables
+invariant_of-tables c = c.label_days.ensures.lengths.0 ∙ c.tables.invariant ∙ sym c.label_days.ensures.lengths.1
+
+pub returns-clause-tables : goal.returns-clause-tables
+returns-clause-tables c =
+    let lengths = c.label_days.ensures.lengths in
+    let view : record { labels = length c.label_days.new.labels.items + length c.label_days.new.later.items; pointers = length c.label_days.new.pointers } ≡ c.args.tables.now =
+    (λ i. record { labels = lengths.0 i + lengths.1 i; pointers = lengths.2 i }) ∙ c.tables.view_is in
+    view
