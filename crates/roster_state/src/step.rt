@@ -157,7 +157,6 @@ pub fn end_cost(case: &Case, nurse: usize, state: State) -> u32
 
 // ---- the start and the end
 
-#[tactic(auto, unfolding(roster_rules::specs::Prefix::summary_of, roster_rules::specs::Runs::open_run))]
 fn start_state(case: &Case, nurse: usize, past: Past) -> State
     requires { past ≡ past_of case.now nurse }
     ensures { result ≡ summary_of case.now nurse [] }
