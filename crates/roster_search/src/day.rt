@@ -5,7 +5,7 @@ use roster_rules::Case;
 use roster_state::{AREAS, Area, Ranges};
 
 /// A day of the search for a nurse's row: the nurse, the day, and the ranges of the nurse's state.
-#[derive(Clone, Copy, Debug, PartialEq, Eq)]
+#[derive(Clone, Copy)]
 pub struct SearchDay {
     pub nurse: usize,
     pub day: u16,

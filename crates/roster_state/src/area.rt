@@ -13,7 +13,7 @@ use roster_rules::{Case, Shift};
 use std::cmp::{max, min};
 
 /// The numbers from the least to the greatest. None where the least is the greater.
-#[derive(Clone, Copy, Debug, PartialEq, Eq)]
+#[derive(Clone, Copy)]
 pub struct Span {
     pub least: u16,
     pub greatest: u16,
@@ -80,7 +80,7 @@ impl Span {
 }
 
 /// The states with one last shift, or none, whose other numbers are in these spans.
-#[derive(Clone, Copy, Debug, PartialEq, Eq)]
+#[derive(Clone, Copy)]
 pub struct Area {
     pub run: Span,
     pub shift_run: Span,

@@ -21,7 +21,7 @@ use std::cmp::min;
 use std::marker::Model;
 
 /// The states that differ in their assignments alone: place i is the state with i assignments.
-#[derive(Clone, Copy, Debug, PartialEq, Eq)]
+#[derive(Clone, Copy)]
 pub struct Block {
     /// Place 0.
     pub(crate) state: State,
@@ -200,7 +200,7 @@ fn excess(past: Past) -> u32
 }
 
 /// What a day does to the places of a block.
-#[derive(Clone, Copy, Debug, PartialEq, Eq)]
+#[derive(Clone, Copy)]
 pub struct BlockStep {
     /// The block after the day.
     pub next: Block,

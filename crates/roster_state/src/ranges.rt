@@ -12,7 +12,7 @@ use std::marker::Model;
 
 /// How many values each of the five numbers of a nurse's state has: the last shift or none, the run of working days or
 /// days off, the run of the shift, the assignments and the worked weekends, each from 0 up to its cap.
-#[derive(Clone, Copy, Debug, PartialEq, Eq)]
+#[derive(Clone, Copy)]
 pub struct Ranges {
     pub(crate) last: u32,
     pub(crate) run: u32,

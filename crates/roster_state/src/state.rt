@@ -11,7 +11,7 @@ use std::marker::Model;
 
 /// What the costs of the days to come depend on: the last shift or none, the days in a row of work or off, the days in a
 /// row with that shift, the assignments and the worked weekends, each up to its cap.
-#[derive(Clone, Copy, Debug, PartialEq, Eq)]
+#[derive(Clone, Copy)]
 pub struct State {
     pub(crate) last: Option<Shift>,
     pub(crate) run: u16,

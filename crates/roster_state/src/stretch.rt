@@ -18,7 +18,7 @@ use roster_rules::{Case, Shift};
 
 /// The places from one up to an end of so many rows: the first row is a block, and each further one the block with one worked weekend
 /// more.
-#[derive(Clone, Copy, Debug, PartialEq, Eq)]
+#[derive(Clone, Copy)]
 pub struct Stretch {
     pub block: Block,
     pub rows: u32,
