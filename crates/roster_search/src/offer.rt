@@ -10,7 +10,7 @@ pub const MOST_OFFERS: usize = 9;
 
 /// A choice that is offered to a nurse on a day, with its price in penalty points: that day's staffing with it, and the
 /// nurse's own requests.
-#[derive(Clone, Copy)]
+#[derive(Clone, Copy, Debug, PartialEq, Eq)]
 pub struct Offer {
     pub choice: Choice,
     pub price: u32,
