@@ -19,6 +19,10 @@ pub missing-line : (a week b day c shift d skill e have f need end : Text)
     → a ++ (week ++ (b ++ (day ++ (c ++ (shift ++ (d ++ (skill ++ (e ++ (have ++ (f ++ (need ++ end))))))))))) ≡ a ++ week ++ b ++ day ++ c ++ shift ++ d ++ skill ++ e ++ have ++ f ++ need ++ end
 missing-line a week b day c shift d skill e have f need end = simp append_assoc
 
+-- the eight pieces of a line
+pub nurse_day-line : (rule a week b day c nurse end : Text) → rule ++ (a ++ (week ++ (b ++ (day ++ (c ++ (nurse ++ end)))))) ≡ rule ++ a ++ week ++ b ++ day ++ c ++ nurse ++ end
+nurse_day-line rule a week b day c nurse end = simp append_assoc
+
 -- ---- the report of `cost`
 
 -- nine lines, each a word and a number
