@@ -19,7 +19,7 @@ use Rattle.roster_instance.specs.declared.fault.CaseFault.{CaseFault}
 use Rattle.roster_instance.specs.declared.fault.CaseFault.TheVariants as case
 use Rattle.roster_case.proofs.Sections.{IsFirst-after}
 use Rattle.roster_rules.specs.declared.fault.HardFault.{HardFault}
-use Rattle.roster_commands.specs.Answer.{Answers, Ends, Input, IsAnswer, IsOutcomeOf, IsReportOf, IsUnheld, IsUnread, IsBoundReport, IsPolishReport, Leaves, LeavesLog, Outcome, Output, Report, Reports, SpellsInstance, StopsOutput, StopsReading, Untouched, best_report, bound_report, cost_report, improve_report, outcome_of, plain, polish_report, roster_of}
+use Rattle.roster_commands.specs.Answer.{Answers, Ends, Input, IsAllowed, IsAnswer, IsBoundReport, IsOutcomeOf, IsPolishReport, IsReportOf, IsUnheld, IsUnread, Leaves, LeavesLog, Logged, Outcome, Output, Report, Reports, SpellsInstance, StopsOutput, StopsReading, StopsSearch, Untouched, best_report, bound_report, cost_report, improve_report, outcome_of, plain, polish_report, roster_of}
 use Rattle.roster_commands.specs.Lines.{Text, sizes_text, status_of}
 use Rattle.roster_commands.specs.declared.fault.Fault.{Fault}
 use Rattle.roster_commands.specs.declared.fault.Fault.TheVariants as fault
@@ -154,17 +154,55 @@ module _ {W L : Type 0} (output : Output W) (log : Output L) (command : Command)
 
 -- ---- a command for an instance
 
+-- one that is allowed, and whose text is written at last
+pub written_ends : {W X : Type 0} (output : Output W) (p : Report) (source : Text) (b : Bundle) (result : Result X Fault) → IsAllowed p
+    → OnOk result (Writes output.contents output.before output.after p.output) → IfErr result (StopsOutput output.contents output.before output.after p.output)
+    → Ends output p source b (outcome_of result)
+written_ends output p source b (Ok x) allowed ok err = record { ends = allowed; left = ok }
+written_ends output p source b (Err (fault.Text f)) allowed ok err = absurd err
+written_ends output p source b (Err (fault.Case f nurse)) allowed ok err = absurd err
+written_ends output p source b (Err (fault.Hard f names)) allowed ok err = absurd err
+written_ends output p source b (Err (fault.Nurse name)) allowed ok err = absurd err
+written_ends output p source b (Err fault.Memory) allowed ok err = absurd err
+written_ends output p source b (Err fault.Output) allowed ok err = record { ends = allowed; left = err }
+written_ends output p source b (Err fault.Log) allowed ok err = absurd err
+
+-- all of its log was written before
+pub written_log : {W L X : Type 0} (output : Output W) (log : Output L) (told : Option Text) (text : Text) (result : Result X Fault) → Logged log told
+    → IfErr result (StopsOutput output.contents output.before output.after text) → LeavesLog log told (outcome_of result)
+written_log output log told text (Ok x) logged err = logged
+written_log output log told text (Err (fault.Text f)) logged err = absurd err
+written_log output log told text (Err (fault.Case f nurse)) logged err = absurd err
+written_log output log told text (Err (fault.Hard f names)) logged err = absurd err
+written_log output log told text (Err (fault.Nurse name)) logged err = absurd err
+written_log output log told text (Err fault.Memory) logged err = absurd err
+written_log output log told text (Err fault.Output) logged err = logged
+written_log output log told text (Err fault.Log) logged err = absurd err
+
 -- one that only writes a text
 pub plain_ends : {W X : Type 0} (output : Output W) (text source : Text) (b : Bundle) (result : Result X Fault) → OnOk result (Writes output.contents output.before output.after text)
     → IfErr result (StopsOutput output.contents output.before output.after text) → Ends output (plain text) source b (outcome_of result)
-plain_ends output text source b (Ok x) ok err = record { ends = record { kept = refl; known = refl }; left = ok }
-plain_ends output text source b (Err (fault.Text f)) ok err = absurd err
-plain_ends output text source b (Err (fault.Case f nurse)) ok err = absurd err
-plain_ends output text source b (Err (fault.Hard f names)) ok err = absurd err
-plain_ends output text source b (Err (fault.Nurse name)) ok err = absurd err
-plain_ends output text source b (Err fault.Memory) ok err = absurd err
-plain_ends output text source b (Err fault.Output) ok err = record { ends = record { kept = refl; known = refl }; left = err }
-plain_ends output text source b (Err fault.Log) ok err = absurd err
+plain_ends output text source b result ok err = written_ends output (plain text) source b result (record { kept = refl; known = refl }) ok err
+
+-- one whose log failed
+pub stopped_ends : {W L : Type 0} (output : Output W) (log : Output L) (p : Report) (told source : Text) (b : Bundle) (f : Fault) → IsAllowed p → p.log ≡ Some told
+    → StopsSearch log.contents log.before log.after told f → Untouched output → Ends output p source b (Some f)
+stopped_ends output log p told source b (fault.Text f) allowed tells h same = absurd h
+stopped_ends output log p told source b (fault.Case f nurse) allowed tells h same = absurd h
+stopped_ends output log p told source b (fault.Hard f names) allowed tells h same = absurd h
+stopped_ends output log p told source b (fault.Nurse name) allowed tells h same = absurd h
+stopped_ends output log p told source b fault.Memory allowed tells h same = absurd h
+stopped_ends output log p told source b fault.Output allowed tells h same = absurd h
+stopped_ends output log p told source b fault.Log allowed tells h same = record { ends = (allowed, ap is_some tells); left = same }
+
+pub stopped_log : {L : Type 0} (log : Output L) (told : Text) (f : Fault) → StopsSearch log.contents log.before log.after told f → LeavesLog log (Some told) (Some f)
+stopped_log log told (fault.Text f) h = absurd h
+stopped_log log told (fault.Case f nurse) h = absurd h
+stopped_log log told (fault.Hard f names) h = absurd h
+stopped_log log told (fault.Nurse name) h = absurd h
+stopped_log log told fault.Memory h = absurd h
+stopped_log log told fault.Output h = absurd h
+stopped_log log told fault.Log h = h
 
 -- one that tells nothing leaves the log as it was
 pub silent_log : {W L : Type 0} (output : Output W) (log : Output L) (p : Report) (source : Text) (b : Bundle) (outcome : Outcome) → p.log ≡ None → Ends output p source b outcome

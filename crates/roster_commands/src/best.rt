@@ -16,9 +16,9 @@ ghost use Rattle.roster_best.specs.Workspaces.{fits_space};
 use crate::fault::Fault;
 use crate::held::hold;
 use crate::reading::Instance;
+use crate::weeks::show_weeks;
 use roster_best::{Workspace, best_row};
 use roster_case::Held;
-use roster_reports::write_weeks;
 use roster_rounds::search_has_room;
 use roster_state::Meter;
 use roster_text::{Piece, Watch, write_pieces};
@@ -58,7 +58,7 @@ pub(crate) fn report_best<'a, Out: Write, Log: Write>(
         &mut meter,
         log,
     )?;
-    Ok(write_weeks(output, held.case(), held.roster())?)
+    show_weeks(held.case(), held.roster(), output)
 }
 
 /// Puts the best row of a nurse from a week on in. What the roster costs is logged before the search begins, and what it costs with

@@ -5,7 +5,6 @@ ghost use Rattle.roster_text.specs.Io.{Writes};
 ghost use Rattle.roster_rules.specs.HardRules.{hard_faults};
 ghost use Rattle.roster_rules.specs.Penalties.{costs_of};
 ghost use Rattle.roster_instance.specs.Rosters.{fits_case};
-ghost use Rattle.roster_case.specs.Shown.{weeks_text};
 ghost use Rattle.roster_commands.specs.Answer.{Ends, IsReportOf, Reports, StopsOutput, cost_report, outcome_of, output_of};
 ghost use Rattle.roster_commands.specs.Lines.{costs_text, sizes_text};
 
@@ -16,9 +15,10 @@ use crate::held::hold;
 use crate::improve::report_improve;
 use crate::polish::report_polish;
 use crate::reading::Instance;
-use roster_case::{Case, Roster};
+use crate::weeks::show_weeks;
+use roster_case::Case;
 use roster_polish::Course;
-use roster_reports::{write_costs, write_sizes, write_weeks};
+use roster_reports::{write_costs, write_sizes};
 use roster_request::Command;
 use roster_text::Watch;
 use std::alloc::Global;
@@ -38,7 +38,7 @@ pub(crate) fn report<'a, Out: Write, Log: Write>(
     ensures { Reports (output_of Out.contents output.old output.new) (output_of Log.contents log.old log.new) (IsReportOf command.now instance.case instance.roster) source.now instance.bundle (outcome_of result) }
 {
     match command {
-        Command::Show => report_show(&instance.case, &instance.roster, output),
+        Command::Show => show_weeks(&instance.case, &instance.roster, output),
         Command::Cost => report_cost(alloc, source, instance, output),
         Command::Sizes => report_sizes(&instance.case, output),
         Command::Best { nurse, from } => {
@@ -71,18 +71,6 @@ pub(crate) fn report<'a, Out: Write, Log: Write>(
             report_polish(alloc, &course, source, instance, output, log)
         }
     }
-}
-
-fn report_show<'a, Out: Write>(
-    case: &Case,
-    roster: &Roster,
-    output: &mut Watch<Out>,
-) -> Result<(), Fault<'a>>
-    requires { fits_case case.now roster.now ≡ true }
-    ensures ok { OnOk result (Writes Out.contents output.old output.new (weeks_text case.now roster.now)) }
-    ensures err { IfErr result (StopsOutput Out.contents output.old output.new (weeks_text case.now roster.now)) }
-{
-    Ok(write_weeks(output, case, roster)?)
 }
 
 fn report_cost<'a, Out: Write>(

@@ -11,8 +11,8 @@ ghost use Rattle.roster_commands.specs.Answer.{Ends, LeavesLog, StopsSearch, imp
 use crate::fault::Fault;
 use crate::held::hold;
 use crate::reading::Instance;
+use crate::weeks::show_weeks;
 use roster_case::Held;
-use roster_reports::write_weeks;
 use roster_rounds::{LogFault, RunSpace, rounds_have_room};
 use roster_state::Meter;
 use roster_text::Watch;
@@ -41,7 +41,7 @@ pub(crate) fn report_improve<'a, Out: Write, Log: Write>(
     };
     rounds_have_room(held.case(), rounds);
     run_rounds(&mut held, rounds, from, &mut space, &mut meter, log)?;
-    Ok(write_weeks(output, held.case(), held.roster())?)
+    show_weeks(held.case(), held.roster(), output)
 }
 
 /// Makes the run. Where its log fails, that is the fault.

@@ -16,6 +16,7 @@ mod improve;
 mod lines;
 mod polish;
 mod reading;
+mod weeks;
 
 pub use answer::run;
 pub use lines::{refuse, refuse_output};

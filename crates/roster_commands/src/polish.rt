@@ -10,9 +10,9 @@ ghost use Rattle.roster_commands.specs.Answer.{IsPolishReport, Kicks, Reports, S
 use crate::fault::Fault;
 use crate::held::hold;
 use crate::reading::Instance;
+use crate::weeks::show_weeks;
 use roster_case::Held;
 use roster_polish::{Course, MOST_SEARCHES, PolishSpace, searches_have_room};
-use roster_reports::write_weeks;
 use roster_rounds::LogFault;
 use roster_state::Meter;
 use roster_text::Watch;
@@ -39,7 +39,7 @@ pub(crate) fn report_polish<'a, Out: Write, Log: Write>(
     let course = within_room(course);
     searches_have_room(held.case(), course.searches);
     make_kicks(&mut held, &course, &mut space, &mut meter, log)?;
-    Ok(write_weeks(output, held.case(), held.roster())?)
+    show_weeks(held.case(), held.roster(), output)
 }
 
 /// A course with as many searches as a new meter surely has room for, where more are asked. The command line allows no more.

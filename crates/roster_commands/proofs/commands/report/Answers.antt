@@ -7,11 +7,11 @@ use Rattle.roster_commands.proofs.commands.report.Goals as goal
 
 pub returns-in-Show : goal.returns-in-Show
 returns-in-Show g c =
-    let output : Output g.row.Out.Denot = record { contents = g.Out.Write.contents; before = c.args.output.now; after = c.report_show.new.output } in
+    let output : Output g.row.Out.Denot = record { contents = g.Out.Write.contents; before = c.args.output.now; after = c.show_weeks.new.output } in
     let log : Output g.row.Log.Denot = record { contents = g.Log.Write.contents; before = c.args.log.now; after = c.args.log.now } in
     let p = plain (weeks_text c.args.instance.case c.args.instance.roster) in
-    let e = plain_ends output (weeks_text c.args.instance.case c.args.instance.roster) c.args.source.now c.args.instance.bundle c.report_show.result c.report_show.ensures.ok c.report_show.ensures.err in
-    record { report = p; is = subst (λ x. IsReportOf x c.args.instance.case c.args.instance.roster p) (sym c.in-Show.is) refl; ends = e; logged = silent_log output log p c.args.source.now c.args.instance.bundle (outcome_of c.report_show.result) refl e refl }
+    let e = plain_ends output (weeks_text c.args.instance.case c.args.instance.roster) c.args.source.now c.args.instance.bundle c.show_weeks.result c.show_weeks.ensures.ok c.show_weeks.ensures.err in
+    record { report = p; is = subst (λ x. IsReportOf x c.args.instance.case c.args.instance.roster p) (sym c.in-Show.is) refl; ends = e; logged = silent_log output log p c.args.source.now c.args.instance.bundle (outcome_of c.show_weeks.result) refl e refl }
 
 pub returns-in-Cost : goal.returns-in-Cost
 returns-in-Cost g c =

@@ -1,14 +1,14 @@
-use Rattle.std.proofs.Common.{◌≡◌, ◌∙◌, [], ap, arith, refl, subst, Err, Ok}
-use Rattle.std.specs.Prelude.{min}
+use Rattle.std.proofs.Common.{◌≡◌, ◌∙◌, [], ap, arith, refl, subst}
+use Rattle.std.specs.Prelude.{IfErr, OnOk, min}
 use Rattle.std.proofs.lemmas.Result.{err_from_is_err_and}
-use Rattle.roster_text.specs.Io.{Stops, Writes}
+use Rattle.roster_text.specs.Io.{Writes}
 use Rattle.roster_case.specs.Held.{HeldRoster}
 use Rattle.roster_case.specs.Shown.{weeks_text}
 use Rattle.roster_rules.specs.HardRules.{hard_faults}
 use Rattle.roster_instance.specs.Meaning.{Meaning}
 use Rattle.roster_polish.specs.Polished.{most_searches}
 use Rattle.roster_polish.specs.declared.run.Course.{Course}
-use Rattle.roster_commands.specs.Answer.{IsUnheld, Kicks, Output, StopsKicks}
+use Rattle.roster_commands.specs.Answer.{IsUnheld, Kicks, Output, StopsKicks, StopsOutput}
 use Rattle.roster_commands.specs.declared.fault.Fault.TheVariants as fault
 use Rattle.roster_commands.proofs.PolishLemmas.{polish_ends, polish_stops, polish_unheld}
 use Rattle.roster_commands.proofs.polish.report_polish.Goals as goal
@@ -39,26 +39,9 @@ returns-in_err-make_kicks g c =
     let p = err_from_is_err_and c.from_residual-in_err-make_kicks.result c.from_residual-in_err-make_kicks.ensures.1 in
     rw (p.1, p.2) (polish_stops c.args.course.now.searches c.args.course.now.from c.args.instance.case c.args.instance.roster output log c.args.source.now c.args.instance.bundle (min c.args.course.now.searches most_searches) (omega arith) f kept stops refl)
 
-pub returns-in_err-write_weeks : goal.returns-in_err-write_weeks
-returns-in_err-write_weeks g c =
-    let output : Output g.row.Out.Denot = record { contents = g.Out.Write.contents; before = c.args.output.now; after = c.write_weeks.new.output } in
-    let log : Output g.row.Log.Denot = record { contents = g.Log.Write.contents; before = c.args.log.now; after = c.make_kicks.new.log } in
-    let of_case : Meaning → HeldRoster = λ m. record { case = m; roster = c.args.instance.roster } in
-    let held = c.in_ok-held.ensures.held ∙ ap of_case c.new-meter.ensures.same in
-    let kept = subst (λ (m : Meaning). hard_faults m c.args.instance.roster ≡ []) c.new-meter.ensures.same c.in_ok-held.ensures.kept in
-    let last = c.make_kicks.new.held.roster in
-    let made = subst (λ (k : Course). Kicks g.Log.Write.contents c.in_ok-held.held.case k.from c.in_ok-held.held.roster k.searches last c.args.log.now c.make_kicks.new.log) c.within_room-course.ensures c.in_ok-make_kicks.ensures.ok in
-    let kicks = subst (λ (h : HeldRoster). Kicks g.Log.Write.contents h.case c.args.course.now.from h.roster (min c.args.course.now.searches most_searches) last c.args.log.now c.make_kicks.new.log) held made in
-    let case_is = c.case-2.ensures ∙ c.make_kicks.ensures.case ∙ ap (λ (h : HeldRoster). h.case) held in
-    let told = c.in_err-write_weeks.ensures.err in
-    let stops : Stops g.Out.Write.contents c.args.output.now c.write_weeks.new.output (weeks_text c.case-2.result.now c.roster.result.now) = record { sent = told.sent; stops = told.stops } in
-    let meant = subst (λ (m : Meaning). Stops g.Out.Write.contents c.args.output.now c.write_weeks.new.output (weeks_text m last)) case_is (subst (λ r. Stops g.Out.Write.contents c.args.output.now c.write_weeks.new.output (weeks_text c.case-2.result.now r)) c.roster.ensures.roster stops) in
-    let p = err_from_is_err_and c.from_residual-in_err-write_weeks.result c.from_residual-in_err-write_weeks.ensures.1 in
-    rw (p.1, p.2) (polish_ends c.args.course.now.searches c.args.course.now.from c.args.instance.case c.args.instance.roster output log c.args.source.now c.args.instance.bundle {X = Unit {0}} (min c.args.course.now.searches most_searches) (omega arith) last (Err fault.Output) kept kicks tt meant)
-
 pub returns : goal.returns
 returns g c =
-    let output : Output g.row.Out.Denot = record { contents = g.Out.Write.contents; before = c.args.output.now; after = c.write_weeks.new.output } in
+    let output : Output g.row.Out.Denot = record { contents = g.Out.Write.contents; before = c.args.output.now; after = c.show_weeks.new.output } in
     let log : Output g.row.Log.Denot = record { contents = g.Log.Write.contents; before = c.args.log.now; after = c.make_kicks.new.log } in
     let of_case : Meaning → HeldRoster = λ m. record { case = m; roster = c.args.instance.roster } in
     let held = c.in_ok-held.ensures.held ∙ ap of_case c.new-meter.ensures.same in
@@ -67,5 +50,7 @@ returns g c =
     let made = subst (λ (k : Course). Kicks g.Log.Write.contents c.in_ok-held.held.case k.from c.in_ok-held.held.roster k.searches last c.args.log.now c.make_kicks.new.log) c.within_room-course.ensures c.in_ok-make_kicks.ensures.ok in
     let kicks = subst (λ (h : HeldRoster). Kicks g.Log.Write.contents h.case c.args.course.now.from h.roster (min c.args.course.now.searches most_searches) last c.args.log.now c.make_kicks.new.log) held made in
     let case_is = c.case-2.ensures ∙ c.make_kicks.ensures.case ∙ ap (λ (h : HeldRoster). h.case) held in
-    let writes = subst (λ (m : Meaning). Writes g.Out.Write.contents c.args.output.now c.write_weeks.new.output (weeks_text m last)) case_is (subst (λ r. Writes g.Out.Write.contents c.args.output.now c.write_weeks.new.output (weeks_text c.case-2.result.now r)) c.roster.ensures.roster c.in_ok-write_weeks.ensures.ok) in
-    polish_ends c.args.course.now.searches c.args.course.now.from c.args.instance.case c.args.instance.roster output log c.args.source.now c.args.instance.bundle {X = Unit {0}} (min c.args.course.now.searches most_searches) (omega arith) last (Ok tt) kept kicks writes tt
+    let shown = c.show_weeks.result in
+    let writes = subst (λ (m : Meaning). OnOk shown (Writes g.Out.Write.contents c.args.output.now c.show_weeks.new.output (weeks_text m last))) case_is (subst (λ r. OnOk shown (Writes g.Out.Write.contents c.args.output.now c.show_weeks.new.output (weeks_text c.case-2.result.now r))) c.roster.ensures.roster c.show_weeks.ensures.ok) in
+    let stops = subst (λ (m : Meaning). IfErr shown (StopsOutput g.Out.Write.contents c.args.output.now c.show_weeks.new.output (weeks_text m last))) case_is (subst (λ r. IfErr shown (StopsOutput g.Out.Write.contents c.args.output.now c.show_weeks.new.output (weeks_text c.case-2.result.now r))) c.roster.ensures.roster c.show_weeks.ensures.err) in
+    polish_ends c.args.course.now.searches c.args.course.now.from c.args.instance.case c.args.instance.roster output log c.args.source.now c.args.instance.bundle (min c.args.course.now.searches most_searches) (omega arith) last shown kept kicks writes stops
