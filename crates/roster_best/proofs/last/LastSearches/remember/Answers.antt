@@ -2,9 +2,10 @@ use Rattle.std.proofs.Common.{◌≡◌, ◌∙◌, ◌+◌, ◌*◌, ◌<◌, [
 use Rattle.std.specs.Prelude.{All}
 use Rattle.std.specs.Vec.{with_item}
 use Rattle.std.proofs.lemmas.List.{length-set}
+use Rattle.std.proofs.lemmas.Nat.{mul-add-lt, mul-le}
 use Rattle.roster_instance.specs.Choices.{shift_of}
-use Rattle.roster_instance.specs.Limits.{most_shifts}
-use Rattle.roster_instance.specs.Meaning.{day_count}
+use Rattle.roster_instance.specs.Limits.{most_days, most_nurses, most_shifts}
+use Rattle.roster_instance.specs.Meaning.{day_count, nurse_count}
 use Rattle.roster_search.specs.Search.{AreOffers, offers_on}
 use Rattle.roster_search.proofs.SearchLaws.{offers_read}
 use Rattle.roster_best.specs.Known.{ArePrices, price_place}
@@ -43,6 +44,17 @@ prices_by_shift-requires c =
     record {
       places = subst (All (λ offer. price_place (shift_of offer.choice) < 1 + most_shifts)) (sym (offers_here c are inside)) (places_fit k c.args.nurse (offers_on c.args.offers.now c.loop-day.day) (limits (goal.at.prices_by_shift-requires c).After-keeps_rules).shifts (are.each c.loop-day.day inside));
     }
+
+pub overflow_mul-nurse : goal.overflow_mul-nurse
+overflow_mul-nurse c =
+    let few = limits (goal.at.overflow_mul-nurse c).After-keeps_rules in
+    omega (arith, mul-le c.args.nurse (length c.args.offers.now) most_nurses most_days (omega (arith, few.nurses, c.requires.nurse)) (omega (arith, few.weeks, c.requires.offers.1.days)))
+
+pub index_mut-requires : goal.index_mut-requires
+index_mut-requires c =
+    let k = c.args.held.now.case in
+    let inside = day_in (goal.at.index_mut-requires c).In-loop-day in
+    omega (arith, place_is (goal.at.index_mut-requires c).In-loop-day, mul-add-lt c.args.nurse (day_count k) c.loop-day.day (nurse_count k) c.requires.nurse inside, c.loop-day.invariant.length, c.requires.known.days)
 
 pub loop-day-preserved : goal.loop-day-preserved
 loop-day-preserved c =
