@@ -1,13 +1,14 @@
 -- The best row that a search finds, and what is told of the search.
-use Rattle.std.proofs.Common.{◌≡◌, ◌∙◌, ◌++◌, [], ℕ, List, Option, ap, sym, unwrap_or}
+use Rattle.std.proofs.Common.{◌≡◌, ◌∙◌, ◌++◌, [], ℕ, List, None, Option, Some, ap, if◌then◌else◌, is_some, sym, unwrap_or}
 use Rattle.roster_text.specs.Io.{Watched, Writes}
 use Rattle.roster_text.proofs.Texts.{Stops-after, Stops-append}
 use Rattle.roster_rules.specs.AllowedRows.{IsBestRow, allowed_rows, penalty_with}
 use Rattle.roster_instance.specs.Meaning.{Meaning}
+use Rattle.roster_instance.specs.Names.{find_name}
 use Rattle.roster_rules.specs.Penalties.{penalty}
 use Rattle.roster_instance.specs.Rosters.{Row, Rows, with_row}
 use Rattle.roster_rules.proofs.FirstLeast.{only}
-use Rattle.roster_commands.specs.Answer.{StopsSearch, with_best}
+use Rattle.roster_commands.specs.Answer.{StopsSearch, number_of, unknown_in, with_best}
 use Rattle.roster_commands.specs.Lines.{Text}
 use Rattle.roster_commands.specs.declared.fault.Fault.{Fault}
 use Rattle.roster_commands.specs.declared.fault.Fault.TheVariants as fault
@@ -19,6 +20,14 @@ module _ (c : Meaning) (from : ℕ) (r : Rows) (n : ℕ) (row : Row) (best : IsB
 
   pub total_put : (total : ℕ) → total ≡ penalty_with c r n row → total ≡ penalty c (with_best c from r n)
   total_put total is = is ∙ ap (penalty c) best_put
+
+-- the nurse of a name that the case has
+module _ (c : Meaning) (name : Text) (n : ℕ) (found : Some n ≡ find_name c.nurse_names name) where
+  pub known : unknown_in c name ≡ None
+  known = sym (ap (λ (o : Option ℕ). if is_some o then None else Some name) found)
+
+  pub numbered : n ≡ number_of c name
+  numbered = ap (λ (o : Option ℕ). unwrap_or o 0) found
 
 -- ---- a log that fails in one of two texts
 
