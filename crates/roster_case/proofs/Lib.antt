@@ -6,5 +6,6 @@ pub use Rattle.roster_laws.proofs.Keeps
 pub use Rattle.roster_laws.proofs.Lacking
 pub mod DayTableLemmas
 mod RecountLemmas
+mod PushLemmas
 mod AllowedLemmas
 mod HeldLemmas
