@@ -12,7 +12,7 @@ use Rattle.roster_best.specs.Known.{IsKnown, fits_last}
 use Rattle.roster_best.specs.Workspaces.{fits_space}
 use Rattle.roster_best.proofs.KnownLaws.{forgotten}
 use Rattle.roster_rounds.specs.RunLogs.{BreaksAmong, RoundMade}
-use Rattle.roster_rounds.proofs.Counts.{round_counted, round_room, round_within, room_stays}
+use Rattle.roster_rounds.proofs.Counts.{counted_within, fits_still, round_counted, round_room, round_within, room_stays}
 use Rattle.roster_rounds.proofs.OneRound.{settled_line, start_line, stopped_line}
 use Rattle.roster_rounds.proofs.RunSteps.{Going-round, Going-settled, Going-start, Going-stopped, round_breaks, settled_breaks, start_breaks, stopped_breaks}
 use Rattle.roster_rounds.proofs.rounds.improve.Given as given
@@ -141,10 +141,85 @@ make_round-requires-clause-room g c =
     let l = c.loop-rounds_before in
     round_room c.args.held.now.case l.held.case l.invariant.case_is l.rounds_before c.args.meter.now l.meter l.invariant.counted c.args.rounds 18446744073709551615 c.loop-rounds_before-test.true c.requires.room
 
+pub make_round-requires-clause-known : goal.make_round-requires-clause-known
+make_round-requires-clause-known g c = subst (λ (m : Meaning). IsKnown m c.loop-rounds_before.space.last) (sym c.loop-rounds_before.invariant.case_is) c.loop-rounds_before.invariant.known
+
+pub returns-in_err-made-clause-case : goal.returns-in_err-made-clause-case
+returns-in_err-made-clause-case g c = c.make_round.ensures.case ∙ c.loop-rounds_before.invariant.case_is
+
+pub returns-in_err-made-clause-frozen : goal.returns-in_err-made-clause-frozen
+returns-in_err-made-clause-frozen g c = stayed g (goal.at.returns-in_err-made-clause-frozen g c).After-make_round
+
+pub returns-in_err-made-clause-counted : goal.returns-in_err-made-clause-counted
+returns-in_err-made-clause-counted g c =
+    let l = c.loop-rounds_before in
+    round_within c.args.held.now.case l.held.case l.invariant.case_is l.rounds_before c.args.meter.now l.meter l.invariant.counted c.args.rounds c.make_round.new.meter c.loop-rounds_before-test.true c.make_round.ensures.counted
+
+pub returns-in_err-made-clause-same_room : goal.returns-in_err-made-clause-same_room
+returns-in_err-made-clause-same_room g c = room_stays _ _ _ c.loop-rounds_before.invariant.same_room c.make_round.ensures.same_room
+
+pub returns-in_err-made-clause-fits : goal.returns-in_err-made-clause-fits
+returns-in_err-made-clause-fits g c = fits_still c.args.held.now.case c.loop-rounds_before.held.case c.loop-rounds_before.invariant.case_is c.make_round.new.space c.make_round.ensures.fits c.make_round.ensures.known
+
+pub returns-in_err-log_word-clause-case : goal.returns-in_err-log_word-clause-case
+returns-in_err-log_word-clause-case g c = c.make_round.ensures.case ∙ c.loop-rounds_before.invariant.case_is
+
+pub returns-in_err-log_word-clause-frozen : goal.returns-in_err-log_word-clause-frozen
+returns-in_err-log_word-clause-frozen g c = stayed g (goal.at.returns-in_err-log_word-clause-frozen g c).After-make_round
+
+pub returns-in_err-log_word-clause-counted : goal.returns-in_err-log_word-clause-counted
+returns-in_err-log_word-clause-counted g c =
+    let l = c.loop-rounds_before in
+    round_within c.args.held.now.case l.held.case l.invariant.case_is l.rounds_before c.args.meter.now l.meter l.invariant.counted c.args.rounds c.make_round.new.meter c.loop-rounds_before-test.true c.make_round.ensures.counted
+
+pub returns-in_err-log_word-clause-same_room : goal.returns-in_err-log_word-clause-same_room
+returns-in_err-log_word-clause-same_room g c = room_stays _ _ _ c.loop-rounds_before.invariant.same_room c.make_round.ensures.same_room
+
+pub returns-in_err-log_word-clause-fits : goal.returns-in_err-log_word-clause-fits
+returns-in_err-log_word-clause-fits g c = fits_still c.args.held.now.case c.loop-rounds_before.held.case c.loop-rounds_before.invariant.case_is c.make_round.new.space c.make_round.ensures.fits c.make_round.ensures.known
+
+pub returns-then-made-eq0-clause-case : goal.returns-then-made-eq0-clause-case
+returns-then-made-eq0-clause-case g c = c.make_round.ensures.case ∙ c.loop-rounds_before.invariant.case_is
+
+pub returns-then-made-eq0-clause-frozen : goal.returns-then-made-eq0-clause-frozen
+returns-then-made-eq0-clause-frozen g c = stayed g (goal.at.returns-then-made-eq0-clause-frozen g c).After-make_round
+
 pub returns-then-made-eq0-clause-counted : goal.returns-then-made-eq0-clause-counted
 returns-then-made-eq0-clause-counted g c =
     let l = c.loop-rounds_before in
     round_within c.args.held.now.case l.held.case l.invariant.case_is l.rounds_before c.args.meter.now l.meter l.invariant.counted c.args.rounds c.make_round.new.meter c.loop-rounds_before-test.true c.make_round.ensures.counted
 
-pub make_round-requires-clause-known : goal.make_round-requires-clause-known
-make_round-requires-clause-known g c = subst (λ (m : Meaning). IsKnown m c.loop-rounds_before.space.last) (sym c.loop-rounds_before.invariant.case_is) c.loop-rounds_before.invariant.known
+pub returns-then-made-eq0-clause-same_room : goal.returns-then-made-eq0-clause-same_room
+returns-then-made-eq0-clause-same_room g c = room_stays _ _ _ c.loop-rounds_before.invariant.same_room c.make_round.ensures.same_room
+
+pub returns-then-made-eq0-clause-fits : goal.returns-then-made-eq0-clause-fits
+returns-then-made-eq0-clause-fits g c = fits_still c.args.held.now.case c.loop-rounds_before.held.case c.loop-rounds_before.invariant.case_is c.make_round.new.space c.make_round.ensures.fits c.make_round.ensures.known
+
+pub returns-in_err-log_word-2-clause-frozen : goal.returns-in_err-log_word-2-clause-frozen
+returns-in_err-log_word-2-clause-frozen g c = c.loop-rounds_before.invariant.frozen
+
+pub returns-in_err-log_word-2-clause-counted : goal.returns-in_err-log_word-2-clause-counted
+returns-in_err-log_word-2-clause-counted g c =
+    let l = c.loop-rounds_before in
+    counted_within c.args.held.now.case l.rounds_before c.args.rounds c.args.meter.now l.meter (omega (arith, l.auto.rounds_before-end)) l.invariant.counted
+
+pub returns-in_err-log_word-2-clause-fits : goal.returns-in_err-log_word-2-clause-fits
+returns-in_err-log_word-2-clause-fits g c =
+    let l = c.loop-rounds_before in
+    fits_still c.args.held.now.case c.args.held.now.case refl l.space l.invariant.fits l.invariant.known
+
+pub returns-clause-frozen : goal.returns-clause-frozen
+returns-clause-frozen g c = c.loop-rounds_before.invariant.frozen
+
+pub returns-clause-counted : goal.returns-clause-counted
+returns-clause-counted g c =
+    let l = c.loop-rounds_before in
+    counted_within c.args.held.now.case l.rounds_before c.args.rounds c.args.meter.now l.meter (omega (arith, l.auto.rounds_before-end)) l.invariant.counted
+
+pub returns-clause-fits : goal.returns-clause-fits
+returns-clause-fits g c =
+    let l = c.loop-rounds_before in
+    fits_still c.args.held.now.case c.args.held.now.case refl l.space l.invariant.fits l.invariant.known
+
+pub returns-in_err-sent-clause-frozen : goal.returns-in_err-sent-clause-frozen
+returns-in_err-sent-clause-frozen g c = stays_self c.args.held.now.case c.args.from c.args.held.now.roster
