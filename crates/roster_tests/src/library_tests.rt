@@ -37,7 +37,7 @@ fn better_weeks_from_bytes(rt: HostRuntime) -> Result<(), Fail> {
         changes: 1,
         total: 0,
     };
-    assert!(rt; ended == Ok(wanted));
+    assert!(rt; matches!(ended, Ok(outcome) if outcome == wanted));
     let weeks = "SOLUTION\n0 mini\n\nASSIGNMENTS = 7\n\
         Ann Mon Early Nurse\nAnn Wed Early Nurse\nAnn Thu Early Nurse\nAnn Fri Early Nurse\n\
         Bob Tue Early Nurse\nBob Sat Early Nurse\nBob Sun Early Nurse\n";
