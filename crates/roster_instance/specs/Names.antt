@@ -40,7 +40,7 @@ nurse_names source b = names_of source (map (λ (n : Nurse). n.name) b.scenario.
 abbrev pub find_name : List (List ℕ) → List ℕ → Option ℕ
 find_name names text = position (bytes_eq text) names
 
--- a table of keys, each with its text, has the number of each name, and nothing else
+-- a table by keys that stand for texts: it has the number of each name, and none for any other text
 abbrev pub AreNumbers : {K : Type 0} → List (List ℕ) → (K → List ℕ) → List (K × ℕ) → Type 0
 AreNumbers names text entries = (name : List ℕ) → lookup (λ k. bytes_eq name (text k)) entries ≡ find_name names name
 

@@ -1,5 +1,5 @@
 -- What steps of best rows from a week on keep: the frozen days of each nurse, and the roster where all days are frozen.
-use Rattle.std.proofs.Common.{◌≡◌, ◌∙◌, ◌<◌, ◌≤◌, ◌⊎◌, ◌/◌, ◌&&◌, ◌||◌, ◌==◌, ℕ, Bool, true, false, not, cond, inl, inr, ap, arith, refl, sym, [], ◌∷◌, length, nat_lt, Contains, Option, Some, None}
+use Rattle.std.proofs.Common.{◌≡◌, ◌∙◌, ◌<◌, ◌≤◌, ◌⊎◌, ◌/◌, ◌||◌, ◌==◌, ℕ, Bool, true, false, not, cond, inl, inr, ap, arith, refl, sym, [], ◌∷◌, length, nat_lt, Contains, Option, Some, None}
 use Rattle.std.specs.List.{list_all}
 use Rattle.std.proofs.lemmas.Bool.{and_parts, cases_eq, cases_lt, eqb-true, lt-ltb}
 use Rattle.std.proofs.lemmas.List.{ext_get_or, set-get_or, set_past}

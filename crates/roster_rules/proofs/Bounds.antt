@@ -2,10 +2,10 @@
 -- for the largest case, by its limits and the weights.
 use Rattle.std.proofs.Common.{◌≡◌, sym, arith, ℕ, Bool, ◌+◌, ◌-◌, ◌*◌, ◌<◌, ◌≤◌, true, false, ◌||◌, length, max, if◌then◌else◌}
 use Rattle.roster_instance.specs.Counting.{sum_below}
-use Rattle.roster_instance.specs.Days.{Days, shift_on, works, is_off, days_worked, saturday, worked_weekends, weekends_begun, weekends_ended, split_weekends, one_alone}
+use Rattle.roster_instance.specs.Days.{Days, shift_on, works, days_worked, saturday, worked_weekends, weekends_begun, weekends_ended, split_weekends, one_alone}
 use Rattle.roster_instance.specs.Limits.{most_days, most_nurses, most_shifts, most_skills, most_small, most_weeks}
 use Rattle.roster_instance.specs.Meaning.{Meaning, week_count, day_count, shift_count, skill_count, nurse_count, run_of_shift, past_of, contract_of, optimum}
-use Rattle.roster_rules.specs.Penalties.{staffing_cost, staffing_cost_of_day, free_before, worked_before, working_run_cost, shift_run_cost, free_run_cost, breaks_off_request, meets_wishes, off_request_cost, request_cost, wish_cost, wish_cost_on, split_cost, totals_cost, weekends_cost, over_nurses, costs_of, total_cost}
+use Rattle.roster_rules.specs.Penalties.{staffing_cost, staffing_cost_of_day, working_run_cost, shift_run_cost, free_run_cost, breaks_off_request, meets_wishes, off_request_cost, request_cost, wish_cost, wish_cost_on, split_cost, totals_cost, weekends_cost, over_nurses, costs_of, total_cost}
 use Rattle.roster_rules.specs.Room.{most_staffing, penalty_room}
 use Rattle.roster_rules.specs.Weights.{staffing_weight, working_run_weight, shift_run_weight, free_run_weight, off_request_weight, split_weight, assignment_weight, weekend_weight, wish_weight}
 use Rattle.roster_instance.specs.Rosters.{Rows, days_of_nurse, cover, fits_case}

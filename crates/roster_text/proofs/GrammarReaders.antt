@@ -20,7 +20,7 @@ use Rattle.roster_bundle.specs.declared.token.Token.{Token}
 use Rattle.roster_bundle.specs.Token.{Seen, is_mark}
 use Rattle.roster_text.specs.Words.{keyword_text}
 use Rattle.roster_text.specs.Grammar as grammar
-use Rattle.roster_text.specs.Grammar.{Pattern, Fits, Spelled, fixed, name, number, placed, day, named, small, is_number}
+use Rattle.roster_text.specs.Grammar.{Pattern, Fits, fixed, name, number, placed, day, named, small, is_number}
 use Rattle.roster_text.specs.FirstFault.{wants_number}
 use Rattle.roster_text.specs.Reading.{Read, ◌>>=◌, word_at, name_at, number_at, value_at, small_at, day_at, times_at, listed_at, key_at, until_at, pair_at, shift_type_at, succession_at, contract_at, nurse_at, title_at, scenario_at, nurse_history_at, history_at, week_pairs_at, requirement_at, request_at, optional_at, week_data_at, assignment_at, solution_at, bundle_at}
 use Rattle.roster_text.proofs.Readers.{Reader, done_reader, then}

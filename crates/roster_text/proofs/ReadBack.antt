@@ -13,7 +13,7 @@ use Rattle.roster_bundle.specs.declared.bundle.Solution.{Solution}
 use Rattle.roster_bundle.specs.declared.token.Token.{Token}
 use Rattle.roster_bundle.specs.Canonical.{Shown, assignments, canonical, heading}
 use Rattle.roster_text.specs.Grammar as grammar
-use Rattle.roster_text.specs.Grammar.{Pattern, Spelled, is_name, is_number, solution}
+use Rattle.roster_text.specs.Grammar.{Pattern, Spelled, is_number, solution}
 use Rattle.roster_text.specs.ReadBack.{HasWords, IsReadBack, IsWritable, Says, said}
 use Rattle.roster_text.specs.Reading.{solution_at}
 use Rattle.roster_bundle.specs.Token.{Seen, all_seen, is_mark, is_separator, is_word, is_word_byte, text_of, tokens_of}
