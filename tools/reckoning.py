@@ -221,15 +221,33 @@ def place_floor(need, worth):
     return min(30 * max(0, need.greatest - nurses) + worth * nurses for nurses in range(need.least, max(need) + 1))
 
 
+def levelled(case):
+    """The case where each assignment costs alike: as one above the greatest total, and as a day above the most of its shift's run."""
+    contracts = [it._replace(assignments=Limits(0, 0)) for it in case.contracts]
+    return case._replace(contracts=contracts, shifts=[it._replace(limits=Limits(it.limits.least, 0)) for it in case.shifts])
+
+
+def first_pay(case, roster, number):
+    """What a nurse is paid for an assignment in the first round: more where the roster's are too few, nothing where they are too many."""
+    nurse = case.nurses[number]
+    limits, total = case.contracts[nurse.contract].assignments, nurse.history.assignments + sum(map(bool, roster[number]))
+    return 40 if total < limits.least else 0 if total > limits.greatest else 20
+
+
 def nurse_floor(case, roster, number, worths, first_week=0):
-    """The least that a nurse costs less the pay, over all rows with her skills and without a forbidden succession. On the days before
-    a week she does what the roster says."""
-    skills = sorted(case.nurses[number].skills)
-    choices = [None, *((shift, skill) for shift in range(len(case.shifts)) for skill in skills)]
-    pay = lambda day, choice: worths[choice][day] if choice in worths else 0
-    price = lambda day, choice: request_cost(case, number, day, choice) - pay(day, choice)
+    """The least that a nurse costs less what her places pay: over all rows with her skills and without a forbidden succession, where
+    each assignment costs alike and is paid for, and over all totals up to the most, which cost what they do less that. On the days
+    before a week she does what the roster says."""
+    nurse, pay, days = case.nurses[number], first_pay(case, roster, number), len(days_of(case))
+    choices = [None, *((shift, skill) for shift in range(len(case.shifts)) for skill in sorted(nurse.skills))]
+    worth = lambda day, choice: worths[choice][day] if choice in worths else 0
+    price = lambda day, choice: request_cost(case, number, day, choice) - worth(day, choice) - (15 + pay) * bool(choice)
     free = lambda day: choices if day // 7 >= first_week else [roster[number][day]]
-    return cheapest_row(case, number, [[(it, price(day, it)) for it in free(day)] for day in days_of(case)])[0]
+    row = cheapest_row(levelled(case), number, [[(it, price(day, it)) for it in free(day)] for day in days_of(case)])[0]
+    before = nurse.history.assignments
+    totals = range(before + days + 1)
+    least = min(total_costs(case.contracts[nurse.contract], it, 0)["S6"] - 20 * it + pay * (it - before) for it in totals)
+    return row + least
 
 
 def floor(case, roster, worths, first_week=0):

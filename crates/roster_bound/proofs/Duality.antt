@@ -1,5 +1,5 @@
 -- What the places pay is what the nurses earn: so the least costs together are at most the penalty.
-use Rattle.std.proofs.Common.{◌≡◌, ◌∙◌, ◌+◌, ◌-◌, ◌*◌, ◌%◌, ◌||◌, ◌<◌, ◌≤◌, ◌&&◌, ◌==◌, ℕ, zero, suc, Bool, true, false, not, ap, arith, refl, sym, [], length, nat_lt, mul-add, if◌then◌else◌}
+use Rattle.std.proofs.Common.{◌≡◌, ◌∙◌, ◌+◌, ◌-◌, ◌*◌, ◌%◌, ◌||◌, ◌<◌, ◌≤◌, ◌&&◌, ◌==◌, ℕ, zero, suc, Bool, true, false, not, ap, arith, refl, sym, [], length, nat_lt, mul-add, None, Some, if◌then◌else◌}
 use Rattle.std.specs.List.{list_all}
 use Rattle.std.proofs.lemmas.Bool.{and_from, and_parts, eqb-true}
 use Rattle.std.proofs.lemmas.List.{length-map}
@@ -8,6 +8,7 @@ use Rattle.roster_instance.specs.declared.choice.Choice.{Choice}
 use Rattle.roster_instance.specs.declared.choice.Choice.TheVariants.{Off, Work}
 use Rattle.roster_instance.specs.Choices.{all_choices, all_rows, days_of, same_choice, shift_of}
 use Rattle.roster_instance.specs.Counting.{all_below, one_if, sum_below}
+use Rattle.roster_instance.specs.Levels.{levelled}
 use Rattle.roster_rules.specs.HardRules.{keeps_hard, keeps_skills, keeps_successions}
 use Rattle.roster_instance.specs.Meaning.{Meaning, day_count, minimum, nurse_count, optimum, shift_at, shift_count, skill_at, skill_count}
 use Rattle.roster_rules.specs.AllowedRows.{is_frozen, keeps_frozen_day, keeps_frozen_days}
@@ -26,7 +27,8 @@ use Rattle.roster_laws.proofs.Fives.{penalty_is}
 use Rattle.roster_laws.proofs.SameRows.{same_choice_self}
 use Rattle.roster_laws.proofs.Keeps.{keeps_hard-parts}
 use Rattle.roster_laws.proofs.OneRow.{penalty-parts}
-use Rattle.roster_bound.specs.Worths.{AreWorths, IsLowerBound, PlaceWorths, bound_by, can_work, earned, floors_together, most_worth, own_rows, place_floor, places_floor, price_by, rounded_up, row_cost_by, row_floor}
+use Rattle.roster_bound.specs.Worths.{ArePays, AreWorths, IsLowerBound, NursePays, PlaceWorths, bound_by, can_work, earned, floors_together, free_by, most_worth, nurse_floor, own_rows, place_floor, places_floor, price_with, rounded_up, row_cost_by, row_floor}
+use Rattle.roster_bound.proofs.Levels.{level_below}
 use Rattle.roster_bound.proofs.LeastCosts.{least_below, place_least}
 use Rattle.roster_bound.proofs.Sums.{count_by_place, over_places, places_both, places_le, places_none, sum_le, sum_of_one, sum_same_number}
 
@@ -102,12 +104,20 @@ requests_of_row c n row =
     λ i. sum_below (length-map row shift_of i) (λ d. off_request_cost_on c n d (get_or-map shift_of row d Off i)) + sum_below (length-map row shift_of i) (λ d. wish_cost_on c n d (get_or-map shift_of row d Off i)) in
     both ∙ sym (sum_both (length row) off wished)
 
+without_free : (a r : ℕ) → a + r + 0 ≡ a + r
+without_free a r = omega arith
+
+-- where days off have no price
+price_is : (c : Meaning) (w : PlaceWorths) (n d : ℕ) (x : Choice) → price_with c w 0 n d x ≡ (most_worth - earned w d x) + request_cost_on c n d (shift_of x)
+price_is c w n d Off = without_free (most_worth - 0) (request_cost_on c n d None)
+price_is c w n d (Work s k) = without_free (most_worth - w d s.0 k.0) (request_cost_on c n d (Some s))
+
 pub row_cost-earned : (c : Meaning) (w : PlaceWorths) → AreWorths w → (n : ℕ) (row : Row)
-    → row_cost_by c w n row + sum_below (length row) (λ d. earned w d (choice_on row d)) ≡ nurse_cost c n (days_of row) + length row * most_worth
+    → row_cost_by c w 0 n row + sum_below (length row) (λ d. earned w d (choice_on row d)) ≡ nurse_cost c n (days_of row) + length row * most_worth
 row_cost-earned c w are n row =
     omega (
       arith,
-      prices_split (length row) (λ d. price_by c w n d (choice_on row d)) (λ d. earned w d (choice_on row d)) (λ d. request_cost_on c n d (shift_of (choice_on row d))) (λ d. earned_within w are d (choice_on row d)) (λ d. refl),
+      prices_split (length row) (λ d. price_with c w 0 n d (choice_on row d)) (λ d. earned w d (choice_on row d)) (λ d. request_cost_on c n d (shift_of (choice_on row d))) (λ d. earned_within w are d (choice_on row d)) (λ d. price_is c w n d (choice_on row d)),
       requests_of_row c n row,
     )
 
@@ -131,7 +141,7 @@ keeps_given from given n d x same = go (is_frozen from d) refl
     go false e = refl
     go true e = ap (λ y. same_choice y (choice_on (row_of given n) d)) (same e) ∙ same_choice_self (choice_on (row_of given n) d)
 
-module _ (c : Meaning) (from : ℕ) (given : Rows) (w : PlaceWorths) (are : AreWorths w) (r : Rows) (fits : fits_case c r ≡ true) (keeps : keeps_hard c r ≡ true) (stays : FrozenDaysStay c from given r) where
+module _ (c : Meaning) (from : ℕ) (given : Rows) (w : PlaceWorths) (are : AreWorths w) (pay : NursePays) (are_pays : ArePays pay) (r : Rows) (fits : fits_case c r ≡ true) (keeps : keeps_hard c r ≡ true) (stays : FrozenDaysStay c from given r) where
   nurses : length r ≡ nurse_count c
   nurses = eqb-true (length r) (nurse_count c) (and_parts (length r == nurse_count c) (list_all (is_row_of c) r) fits).0
 
@@ -175,17 +185,23 @@ module _ (c : Meaning) (from : ℕ) (given : Rows) (w : PlaceWorths) (are : AreW
         and_from (skills && successions) (keeps_frozen_days c from given n (row_of r n))
         (and_from skills successions (all_elim (nurse_count c) (λ n. keeps_skills c n (row_of r n) (day_count c)) rules.1 n inside) (all_elim (nurse_count c) (λ n. keeps_successions c n (days_of_nurse r n) (day_count c)) two_rules.1 n inside)) frozen_kept
 
-    row_below : row_floor c from given w n + row_earned w (day_count c) (shift_count c) (skill_count c) r n ≤ nurse_cost c n (days_of_nurse r n) + day_count c * most_worth
+    -- the floor of the levelled case is below what the row costs
+    floor_below : nurse_floor c from given w pay n ≤ row_cost_by c w 0 n (row_of r n)
+    floor_below =
+        let free : ℕ = free_by pay n in
+        let least : row_floor (levelled c) from given w free n ≤ row_cost_by (levelled c) w free n (row_of r n) = least_below (row_cost_by (levelled c) w free n) (own_rows (levelled c) from given n) (row_of r n)
+        (member_is_kept (can_work c from given n) (all_rows (all_choices c) (day_count c)) (row_of r n) (row_is_member c (row_of r n) (row_fits c r n fits inside)) worked) in
+        omega (arith, least, level_below c w n (pay n) (are_pays n) (row_of r n) (row-length c r n fits inside))
+
+    row_below : nurse_floor c from given w pay n + row_earned w (day_count c) (shift_count c) (skill_count c) r n ≤ nurse_cost c n (days_of_nurse r n) + day_count c * most_worth
     row_below =
         let days : length (row_of r n) ≡ day_count c = row-length c r n fits inside in
-        let least : row_floor c from given w n ≤ row_cost_by c w n (row_of r n) = least_below (row_cost_by c w n) (own_rows c from given n) (row_of r n)
-        (member_is_kept (can_work c from given n) (all_rows (all_choices c) (day_count c)) (row_of r n) (row_is_member c (row_of r n) (row_fits c r n fits inside)) worked) in
         let earns : sum_below (length (row_of r n)) (λ d. earned w d (choice_on (row_of r n) d)) ≡ sum_below (day_count c) (λ d. earned w d (choice_on (row_of r n) d)) =
         ap (λ m. sum_below m (λ d. earned w d (choice_on (row_of r n) d))) days in
         let room : length (row_of r n) * most_worth ≡ day_count c * most_worth = ap (λ m. m * most_worth) days in
-        omega (arith, least, row_cost-earned c w are n (row_of r n), earns, room)
+        omega (arith, floor_below, row_cost-earned c w are n (row_of r n), earns, room)
 
-  rows_below : sum_below (nurse_count c) (row_floor c from given w) + sum_below (nurse_count c) (row_earned w (day_count c) (shift_count c) (skill_count c) r)
+  rows_below : sum_below (nurse_count c) (nurse_floor c from given w pay) + sum_below (nurse_count c) (row_earned w (day_count c) (shift_count c) (skill_count c) r)
       ≤ sum_below (nurse_count c) (λ n. nurse_cost c n (days_of_nurse r n)) + nurse_count c * (day_count c * most_worth)
   rows_below =
       let N = nurse_count c in
@@ -193,23 +209,23 @@ module _ (c : Meaning) (from : ℕ) (given : Rows) (w : PlaceWorths) (are : AreW
       let room : ℕ = day_count c * most_worth in
       omega (
         arith,
-        sum_both N (row_floor c from given w) earns,
-        sum_le N (λ n. row_floor c from given w n + earns n) (λ n. nurse_cost c n (days_of_nurse r n) + room) row_below,
+        sum_both N (nurse_floor c from given w pay) earns,
+        sum_le N (λ n. nurse_floor c from given w pay n + earns n) (λ n. nurse_cost c n (days_of_nurse r n) + room) row_below,
         sum_both N (λ n. nurse_cost c n (days_of_nurse r n)) (λ n. room),
         sum_same_number N room,
       )
 
-  together_below : floors_together c from given w ≤ penalty c r
+  together_below : floors_together c from given w pay ≤ penalty c r
   together_below =
       let earns = row_earned w (day_count c) (shift_count c) (skill_count c) r in
       let paid : over_places (day_count c) (shift_count c) (skill_count c) (λ d s k. w d s k * cover r d s k) ≤ sum_below (nurse_count c) earns =
       omega (arith, paid_is_earned w (day_count c) (shift_count c) (skill_count c) r, ap (λ m. sum_below m earns) nurses) in
-      put_together (places_floor c w) (sum_below (nurse_count c) (row_floor c from given w)) (sum_below (nurse_count c) earns) (sum_below (nurse_count c) (λ n. nurse_cost c n (days_of_nurse r n))) (nurse_count c * (day_count c * most_worth)) (staffing_cost c r) (penalty c r)
+      put_together (places_floor c w) (sum_below (nurse_count c) (nurse_floor c from given w pay)) (sum_below (nurse_count c) earns) (sum_below (nurse_count c) (λ n. nurse_cost c n (days_of_nurse r n))) (nurse_count c * (day_count c * most_worth)) (staffing_cost c r) (penalty c r)
       (omega (arith, places_below, paid)) rows_below (penalty-parts c r)
 
-  below : bound_by c from given w ≤ penalty c r
+  below : bound_by c from given w pay ≤ penalty c r
   unfolding bound_by
-  below = rounded_below (floors_together c from given w) (penalty c r) together_below (penalty_is c r)
+  below = rounded_below (floors_together c from given w pay) (penalty c r) together_below (penalty_is c r)
 
-pub no_roster_below : (c : Meaning) (from : ℕ) (given : Rows) (w : PlaceWorths) → AreWorths w → IsLowerBound c from given (bound_by c from given w)
-no_roster_below c from given w are r fits keeps stays = below c from given w are r fits keeps stays
+pub no_roster_below : (c : Meaning) (from : ℕ) (given : Rows) (w : PlaceWorths) → AreWorths w → (pay : NursePays) → ArePays pay → IsLowerBound c from given (bound_by c from given w pay)
+no_roster_below c from given w are pay are_pays r fits keeps stays = below c from given w are pay are_pays r fits keeps stays

@@ -5,3 +5,4 @@ pub mod Among
 pub mod RowFloors
 pub mod Counted
 pub mod FloorLogs
+mod Levels

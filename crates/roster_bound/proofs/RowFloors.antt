@@ -8,6 +8,7 @@ use Rattle.std.proofs.lemmas.List.{length-map}
 use Rattle.std.proofs.lemmas.List.Elements.{All-contains_itself, All-filter, All-map, All-weaker}
 use Rattle.arrayvec.specs.ArrayVec.{ArrayVec}
 use Rattle.roster_instance.specs.declared.choice.Choice.{Choice}
+use Rattle.roster_instance.specs.declared.choice.Choice.TheVariants.{Off, Work}
 use Rattle.roster_rules.specs.AllowedRows.{first_least, keeps_frozen_day, keeps_frozen_days}
 use Rattle.roster_instance.specs.Choices.{all_choices, all_rows, days_of, shift_of}
 use Rattle.roster_rules.specs.HardRules.{breaks_succession, is_able, is_able_on, keeps_hard}
@@ -32,7 +33,7 @@ use Rattle.roster_search.proofs.Cheapest.{cost_or, thing_or}
 use Rattle.roster_search.proofs.OfferLaws.{offers_few_of, present_of_case}
 use Rattle.roster_search.proofs.SearchLaws.{best_over_same}
 use Rattle.roster_bound.specs.Days.{AreWorthOffers, can_do, offers_by_worth, shift_offers_by_worth}
-use Rattle.roster_bound.specs.Worths.{PlaceWorths, can_work, floor_row, own_rows, price_by, row_cost_by, row_floor}
+use Rattle.roster_bound.specs.Worths.{PlaceWorths, can_work, floor_row, free_price, most_free, own_rows, price_with, row_cost_by, row_floor}
 use Rattle.roster_bound.proofs.Duality.{worked}
 
 -- a choice is one that the nurse is able to do, may follow, and stays
@@ -55,20 +56,24 @@ wish_within : (b : Bool) → (if b then 0 else wish_weight) ≤ wish_weight
 wish_within true = omega arith
 wish_within false = omega arith
 
-module _ (c : Meaning) (from : ℕ) (given : Rows) (w : PlaceWorths) (n : ℕ) where
+free_within : (free : ℕ) (x : Choice) → free_price free x ≤ free
+free_within free Off = omega arith
+free_within free (Work s k) = omega arith
+
+module _ (c : Meaning) (from : ℕ) (given : Rows) (w : PlaceWorths) (free : ℕ) (cheap : free ≤ most_free) (n : ℕ) where
   abbrev can : ℕ → Choice → Bool
   can = can_do c from given n
 
   -- ---- the offers of a day
 
-  price_within : (d : ℕ) (x : Choice) → price_by c w n d x ≤ most_price
-  price_within d x = omega (arith, asked_within (breaks_off_request c n d (shift_of x)), wish_within (meets_wishes c n d (shift_of x)))
+  price_within : (d : ℕ) (x : Choice) → price_with c w free n d x ≤ most_price
+  price_within d x = omega (arith, asked_within (breaks_off_request c n d (shift_of x)), wish_within (meets_wishes c n d (shift_of x)), free_within free x)
 
-  offers_of_case : (d : ℕ) → All (IsOfferOf c) (offers_by_worth c from given w n d)
+  offers_of_case : (d : ℕ) → All (IsOfferOf c) (offers_by_worth c from given w free n d)
   offers_of_case d =
-      All-map (IsOfferOf c) (offer_at (price_by c w n) d) (filter (can d) (all_choices c))
-      (All-filter (can d) (λ x. IsOfferOf c (offer_at (price_by c w n) d x)) (all_choices c)
-      (All-weaker (Contains (all_choices c)) (λ x. IsOfferOf c (offer_at (price_by c w n) d x)) (λ x member. record { choice = member_is_choice c x member; price = price_within d x }) (all_choices c) (All-contains_itself (all_choices c))))
+      All-map (IsOfferOf c) (offer_at (price_with c w free n) d) (filter (can d) (all_choices c))
+      (All-filter (can d) (λ x. IsOfferOf c (offer_at (price_with c w free n) d x)) (all_choices c)
+      (All-weaker (Contains (all_choices c)) (λ x. IsOfferOf c (offer_at (price_with c w free n) d x)) (λ x member. record { choice = member_is_choice c x member; price = price_within d x }) (all_choices c) (All-contains_itself (all_choices c))))
 
   -- ---- the rows
 
@@ -84,37 +89,37 @@ module _ (c : Meaning) (from : ℕ) (given : Rows) (w : PlaceWorths) (n : ℕ) w
       ∙ sym (ap (offered_row_by c n can row) days)
 
   with_its_cost : Row → ℕ × Row
-  with_its_cost row = (row_cost_by c w n row, row)
+  with_its_cost row = (row_cost_by c w free n row, row)
 
   abbrev pub best : Priced (List Offer)
-  best = best_over c n (shift_offers_by_worth c from given w n)
+  best = best_over c n (shift_offers_by_worth c from given w free n)
 
-  best_is : option_map with_its_cost (floor_row c from given w n) ≡ raised (0 + due c n []) choices_of best
+  best_is : option_map with_its_cost (floor_row c from given w free n) ≡ raised (0 + due c n []) choices_of best
   unfolding with_its_cost
   best_is =
-      found_by_offers c n can (price_by c w n) 0 (row_cost_by c w n) (can_work c from given n) kept (λ row days. omega arith)
-      ∙ ap (raised (0 + due c n []) choices_of) (sym (best_by_shift c n (offers_by_worth c from given w n) (day_count c) 0 (summary_of c n [])))
+      found_by_offers c n can (price_with c w free n) 0 (row_cost_by c w free n) (can_work c from given n) kept (λ row days. omega arith)
+      ∙ ap (raised (0 + due c n []) choices_of) (sym (best_by_shift c n (offers_by_worth c from given w free n) (day_count c) 0 (summary_of c n [])))
 
   some_is : (o : Option Row) (p : Priced (List Offer)) → option_map with_its_cost o ≡ raised (0 + due c n []) choices_of p → IsSome o → IsSome p
   some_is None p e some = elim (true≢false (sym some)) [ ]
   some_is (Some row) None e some = absurd cc
   some_is (Some row) (Some p) e some = refl
 
-  read : (o : Option Row) (k : ℕ) (offers : List Offer) → option_map with_its_cost o ≡ raised (0 + due c n []) choices_of (Some (k, offers)) → (due c n [] + k ≡ option_map_or (row_cost_by c w n) o 0) × (o ≡ Some (choices_of offers))
+  read : (o : Option Row) (k : ℕ) (offers : List Offer) → option_map with_its_cost o ≡ raised (0 + due c n []) choices_of (Some (k, offers)) → (due c n [] + k ≡ option_map_or (row_cost_by c w free n) o 0) × (o ≡ Some (choices_of offers))
   unfolding with_its_cost
   read None k offers e = absurd cc
   read (Some row) k offers e =
-      let cost : row_cost_by c w n row ≡ 0 + due c n [] + k = ap (cost_or 0) e in
+      let cost : row_cost_by c w free n row ≡ 0 + due c n [] + k = ap (cost_or 0) e in
       (omega (arith, cost), ap Some (ap (thing_or []) e))
 
   module _ (fits : fits_case c given ≡ true) (keeps : keeps_hard c given ≡ true) (inside : n < nurse_count c) where
     can_work_given : can_work c from given n (row_of given n) ≡ true
-    can_work_given = worked c from given (λ d s k. 0) (λ d s k. omega arith) given fits keeps (stays_self c from given) n inside
+    can_work_given = worked c from given (λ d s k. 0) (λ d s k. omega arith) (λ m. 0) (λ m. omega arith) given fits keeps (stays_self c from given) n inside
 
     some : IsSome best
     some =
-        some_is (floor_row c from given w n) best best_is
-        (some_least (row_cost_by c w n) (own_rows c from given n) (row_of given n) (member_is_kept (can_work c from given n) (all_rows (all_choices c) (day_count c)) (row_of given n) (row_is_member c (row_of given n) (row_fits c given n fits inside)) can_work_given))
+        some_is (floor_row c from given w free n) best best_is
+        (some_least (row_cost_by c w free n) (own_rows c from given n) (row_of given n) (member_is_kept (can_work c from given n) (all_rows (all_choices c) (day_count c)) (row_of given n) (row_is_member c (row_of given n) (row_fits c given n fits inside)) can_work_given))
 
     -- the given choice of a day
     can_do_given : (d : ℕ) → d < day_count c → can d (choice_on (row_of given n) d) ≡ true
@@ -122,36 +127,36 @@ module _ (c : Meaning) (from : ℕ) (given : Rows) (w : PlaceWorths) (n : ℕ) w
         let all : offered_row_by c n can (row_of given n) (length (row_of given n)) ≡ true = sym (kept (row_of given n) (row-length c given n fits inside)) ∙ can_work_given in
         (and_parts _ _ (all_elim (length (row_of given n)) (λ k. can k (choice_on (row_of given n) k) && not (breaks_succession c n (days_of (row_of given n)) k)) all d (omega (arith, within, row-length c given n fits inside)))).0
 
-    offers_some : (d : ℕ) → d < day_count c → 0 < length (offers_by_worth c from given w n d)
+    offers_some : (d : ℕ) → d < day_count c → 0 < length (offers_by_worth c from given w free n d)
     offers_some d within =
         let member = member_is_kept (can d) (all_choices c) (choice_on (row_of given n) d) (choice_is_member c (choice_on (row_of given n) d) (present_of_case c from given n d fits keeps inside within)) (can_do_given d within) in
-        omega (arith, member.1, length-map (filter (can d) (all_choices c)) (offer_at (price_by c w n) d))
+        omega (arith, member.1, length-map (filter (can d) (all_choices c)) (offer_at (price_with c w free n) d))
 
-    day_offers : (d : ℕ) → d < day_count c → AreDayOffers c n (shift_offers_by_worth c from given w n d)
+    day_offers : (d : ℕ) → d < day_count c → AreDayOffers c n (shift_offers_by_worth c from given w free n d)
     day_offers d within = record {
-      of_case = by_shift_all (IsOfferOf c) (offers_by_worth c from given w n d) (offers_of_case d);
-      some = by_shift_some (offers_by_worth c from given w n d) (offers_some d within);
-      few = omega (arith, by_shift_fewer (offers_by_worth c from given w n d), offers_few_of c n can (price_by c w n) (λ e x is. (and_parts (is_able (nurse_at c n).skills x) (keeps_frozen_day from given n e x) is).0) d);
+      of_case = by_shift_all (IsOfferOf c) (offers_by_worth c from given w free n d) (offers_of_case d);
+      some = by_shift_some (offers_by_worth c from given w free n d) (offers_some d within);
+      few = omega (arith, by_shift_fewer (offers_by_worth c from given w free n d), offers_few_of c n can (price_with c w free n) (λ e x is. (and_parts (is_able (nurse_at c n).skills x) (keeps_frozen_day from given n e x) is).0) d);
     }
 
     -- ---- over a table of these offers
 
-    module _ (table : List (ArrayVec Offer)) (are : AreWorthOffers c from given w n table) where
+    module _ (table : List (ArrayVec Offer)) (are : AreWorthOffers c from given w free n table) where
       pub can_search : AreOffers c n table
       can_search = record { days = omega (arith, are.days); each = λ day within. subst (AreDayOffers c n) (sym (are.each day within)) (day_offers day within) }
 
       same_best : best_over c n (offers_on table) ≡ best
-      same_best = best_over_same c n (offers_on table) (shift_offers_by_worth c from given w n) are.each
+      same_best = best_over_same c n (offers_on table) (shift_offers_by_worth c from given w free n) are.each
 
       pub some_found : IsSome (best_over c n (offers_on table))
       some_found = subst (λ (p : Priced (List Offer)). IsSome p) (sym same_best) some
 
       module _ (cost : ℕ) (row : Row) (found : IsFound (best_over c n (offers_on table)) cost row) where
-        both : (due c n [] + cost ≡ row_floor c from given w n) × (floor_row c from given w n ≡ Some (choices_of found.offers))
-        both = read (floor_row c from given w n) cost found.offers (best_is ∙ ap (raised (0 + due c n []) choices_of) (sym same_best ∙ found.is))
+        both : (due c n [] + cost ≡ row_floor c from given w free n) × (floor_row c from given w free n ≡ Some (choices_of found.offers))
+        both = read (floor_row c from given w free n) cost found.offers (best_is ∙ ap (raised (0 + due c n []) choices_of) (sym same_best ∙ found.is))
 
-        pub floor_is : due c n [] + cost ≡ row_floor c from given w n
+        pub floor_is : due c n [] + cost ≡ row_floor c from given w free n
         floor_is = both.0
 
-        pub floor_row_is : floor_row c from given w n ≡ Some row
+        pub floor_row_is : floor_row c from given w free n ≡ Some row
         floor_row_is = both.1 ∙ ap Some (sym found.row_is)

@@ -9,21 +9,21 @@ use Rattle.roster_rules.specs.HardRules.{is_able}
 use Rattle.roster_search.specs.declared.offer.Offer.{Offer}
 use Rattle.roster_search.specs.Offers.{cheapest_by_shift, offers_by}
 use Rattle.roster_search.specs.Search.{offers_on}
-use Rattle.roster_bound.specs.Worths.{PlaceWorths, price_by}
+use Rattle.roster_bound.specs.Worths.{PlaceWorths, price_with}
 
 -- the nurse has the skill, and on a frozen day it is the given choice
 abbrev pub can_do : Meaning → ℕ → Rows → (n d : ℕ) → Choice → Bool
 can_do c from given n d choice = is_able (nurse_at c n).skills choice && keeps_frozen_day from given n d choice
 
--- all that the nurse can do on a day, with its price
-abbrev pub offers_by_worth : Meaning → ℕ → Rows → PlaceWorths → (n d : ℕ) → List Offer
-offers_by_worth c from given w n d = offers_by c (can_do c from given n) (price_by c w n) d
+-- all that the nurse can do on a day, with its price, by a price for days off
+abbrev pub offers_by_worth : Meaning → ℕ → Rows → PlaceWorths → (free n d : ℕ) → List Offer
+offers_by_worth c from given w free n d = offers_by c (can_do c from given n) (price_with c w free n) d
 
 -- for each shift the cheapest alone
-abbrev pub shift_offers_by_worth : Meaning → ℕ → Rows → PlaceWorths → (n d : ℕ) → List Offer
-shift_offers_by_worth c from given w n d = cheapest_by_shift (offers_by_worth c from given w n d)
+abbrev pub shift_offers_by_worth : Meaning → ℕ → Rows → PlaceWorths → (free n d : ℕ) → List Offer
+shift_offers_by_worth c from given w free n d = cheapest_by_shift (offers_by_worth c from given w free n d)
 
 -- a table of them, a list for each day
-pub record AreWorthOffers (c : Meaning) (from : ℕ) (given : Rows) (w : PlaceWorths) (n : ℕ) (offers : List (ArrayVec Offer)) : Type 0 where
+pub record AreWorthOffers (c : Meaning) (from : ℕ) (given : Rows) (w : PlaceWorths) (free n : ℕ) (offers : List (ArrayVec Offer)) : Type 0 where
   pub days : length offers ≡ day_count c
-  pub each : (day : ℕ) → day < day_count c → offers_on offers day ≡ shift_offers_by_worth c from given w n day
+  pub each : (day : ℕ) → day < day_count c → offers_on offers day ≡ shift_offers_by_worth c from given w free n day

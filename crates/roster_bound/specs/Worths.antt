@@ -7,13 +7,14 @@ use Rattle.roster_instance.specs.declared.choice.Choice.{Choice}
 use Rattle.roster_instance.specs.declared.choice.Choice.TheVariants.{Off, Work}
 use Rattle.roster_instance.specs.Choices.{all_choices, all_rows, days_of, shift_of}
 use Rattle.roster_instance.specs.Counting.{sum_below}
+use Rattle.roster_instance.specs.Levels.{levelled}
 use Rattle.roster_instance.specs.Limits.{most_small}
-use Rattle.roster_instance.specs.Meaning.{Meaning, day_count, minimum, nurse_count, optimum, shift_count, skill_count}
+use Rattle.roster_instance.specs.Meaning.{Meaning, contract_of, day_count, minimum, nurse_count, optimum, past_of, shift_count, skill_count}
 use Rattle.roster_instance.specs.Rosters.{Row, Rows, choice_on, fits_case}
 use Rattle.roster_rules.specs.AllowedRows.{first_least, keeps_frozen_days}
 use Rattle.roster_rules.specs.HardRules.{keeps_hard, keeps_skills, keeps_successions}
-use Rattle.roster_rules.specs.Penalties.{own_cost, penalty, request_cost_on}
-use Rattle.roster_rules.specs.Weights.{staffing_weight}
+use Rattle.roster_rules.specs.Penalties.{extra_cost, missing_cost, own_cost, penalty, request_cost_on}
+use Rattle.roster_rules.specs.Weights.{assignment_weight, shift_run_weight, staffing_weight}
 use Rattle.roster_laws.specs.FrozenDays.{FrozenDaysStay}
 
 -- no roster of the case that keeps the hard rules, and agrees with the given one on each day before week `from`, costs less
@@ -55,15 +56,23 @@ place_floor c w d s k = min (place_cost c w d s k (minimum c d s k)) (place_cost
 abbrev pub places_floor : Meaning → PlaceWorths → ℕ
 places_floor c w = sum_below (day_count c) (λ d. sum_below (shift_count c) (λ s. sum_below (skill_count c) (place_floor c w d s)))
 
--- ---- the least that a nurse costs
+-- ---- the least that a nurse's row costs at prices
 
 -- the price of a choice on a day: what the nurse earns less than the most, and the requests
-abbrev pub price_by : Meaning → PlaceWorths → ℕ → ℕ → Choice → ℕ
+abbrev pub price_by : Meaning → PlaceWorths → (n d : ℕ) → Choice → ℕ
 price_by c w n d choice = (most_worth - earned w d choice) + request_cost_on c n d (shift_of choice)
 
+-- a day off may have a price besides
+abbrev pub free_price : ℕ → Choice → ℕ
+free_price free Off = free
+free_price free (Work s k) = 0
+
+abbrev pub price_with : Meaning → PlaceWorths → (free n d : ℕ) → Choice → ℕ
+price_with c w free n d choice = price_by c w n d choice + free_price free choice
+
 -- what a row costs its nurse at these prices
-abbrev pub row_cost_by : Meaning → PlaceWorths → ℕ → Row → ℕ
-row_cost_by c w n row = own_cost c n (days_of row) + sum_below (length row) (λ d. price_by c w n d (choice_on row d))
+abbrev pub row_cost_by : Meaning → PlaceWorths → (free n : ℕ) → Row → ℕ
+row_cost_by c w free n row = own_cost c n (days_of row) + sum_below (length row) (λ d. price_with c w free n d (choice_on row d))
 
 -- the nurse has the skills for the row, no shift of it is forbidden by the one before, and it agrees with the given one on each frozen day
 abbrev pub can_work : Meaning → ℕ → Rows → ℕ → Row → Bool
@@ -73,21 +82,61 @@ abbrev pub own_rows : Meaning → ℕ → Rows → ℕ → List Row
 own_rows c from given n = filter (can_work c from given n) (all_rows (all_choices c) (day_count c))
 
 -- the first of the cheapest of these, and its cost
-abbrev pub floor_row : Meaning → ℕ → Rows → PlaceWorths → ℕ → Option Row
-floor_row c from given w n = first_least (row_cost_by c w n) (own_rows c from given n)
+abbrev pub floor_row : Meaning → ℕ → Rows → PlaceWorths → (free n : ℕ) → Option Row
+floor_row c from given w free n = first_least (row_cost_by c w free n) (own_rows c from given n)
 
-abbrev pub row_floor : Meaning → ℕ → Rows → PlaceWorths → ℕ → ℕ
-row_floor c from given w n = option_map_or (row_cost_by c w n) (floor_row c from given w n) 0
+abbrev pub row_floor : Meaning → ℕ → Rows → PlaceWorths → (free n : ℕ) → ℕ
+row_floor c from given w free n = option_map_or (row_cost_by c w free n) (floor_row c from given w free n) 0
+
+-- ---- the least that a nurse costs: over the levelled case, in which an assignment costs 35 points whatever the total and the shift's
+-- run are. A day off gets dearer by as much as the extra day of a run costs, and by a pay for assignments: of that and of the totals
+-- the nurse has a least cost of its own, as a place has of its nurses.
+
+-- for each nurse a pay for assignments, in points
+abbrev pub NursePays : Type 0
+NursePays = (nurse : ℕ) → ℕ
+
+abbrev pub most_pay : ℕ
+most_pay = 2 * assignment_weight
+
+abbrev pub ArePays : NursePays → Type 0
+ArePays pay = (n : ℕ) → pay n ≤ most_pay
+
+-- the most assignments that a nurse can have in the end
+abbrev pub most_total : Meaning → ℕ → ℕ
+most_total c n = (past_of c n).assignments + day_count c
+
+-- what so many assignments cost: the total, those that they are fewer than the most, and the pay
+abbrev pub total_cost : Meaning → (n pay : ℕ) → ℕ → ℕ
+total_cost c n pay total = missing_cost c n total + extra_cost c n total + assignment_weight * (most_total c n - total) + pay * total
+
+-- it is least at the least or at the greatest total, or at the most
+abbrev pub total_floor : Meaning → (n pay : ℕ) → ℕ
+total_floor c n pay = min (total_cost c n pay (min (contract_of c n).total.least (most_total c n))) (total_cost c n pay (min (contract_of c n).total.greatest (most_total c n)))
+
+-- what the levelled case and the prices of days off have counted besides
+abbrev pub level_cost : Meaning → (n pay : ℕ) → ℕ
+level_cost c n pay = (assignment_weight + pay) * most_total c n + shift_run_weight * day_count c
+
+-- the price of a day off, 55 points at most
+abbrev pub most_free : ℕ
+most_free = shift_run_weight + most_pay
+
+abbrev pub free_by : NursePays → ℕ → ℕ
+free_by pay n = shift_run_weight + pay n
+
+abbrev pub nurse_floor : Meaning → ℕ → Rows → PlaceWorths → NursePays → ℕ → ℕ
+nurse_floor c from given w pay n = row_floor (levelled c) from given w (free_by pay n) n + total_floor c n (pay n) - level_cost c n (pay n)
 
 -- ---- both together
 
 -- less the most that a nurse earns, which stands in the price of each day
-abbrev pub floors_together : Meaning → ℕ → Rows → PlaceWorths → ℕ
-floors_together c from given w = places_floor c w + sum_below (nurse_count c) (row_floor c from given w) - nurse_count c * (day_count c * most_worth)
+abbrev pub floors_together : Meaning → ℕ → Rows → PlaceWorths → NursePays → ℕ
+floors_together c from given w pay = places_floor c w + sum_below (nurse_count c) (nurse_floor c from given w pay) - nurse_count c * (day_count c * most_worth)
 
 -- the next multiple of 5, which each penalty is
 abbrev pub rounded_up : ℕ → ℕ
 rounded_up n = 5 * ((n + 4) / 5)
 
-unfoldable pub bound_by : Meaning → ℕ → Rows → PlaceWorths → ℕ
-bound_by c from given w = rounded_up (floors_together c from given w)
+unfoldable pub bound_by : Meaning → ℕ → Rows → PlaceWorths → NursePays → ℕ
+bound_by c from given w pay = rounded_up (floors_together c from given w pay)

@@ -1,15 +1,18 @@
 //! A floor under the penalty of every roster of a case that keeps the hard rules.
 //!
 //! Worths, what places and nurses cost at least by them, and the floor that follows are defined in `specs/Worths.antt`, how worths are
-//! held in `specs/Tables.antt`, what a nurse is offered by them in `specs/Days.antt`, and the log of a run in `specs/Floors.antt`.
-//! `no_roster_is_below_the_bound` promises that the floor by any worths is one. `lower_bound` promises to be it, and `raise_floor`
+//! held in `specs/Tables.antt`, what a nurse is offered by them in `specs/Days.antt`, what is kept
+//! of a roster under which a floor is raised in `specs/Levelled.antt`, and the log of a run in `specs/Floors.antt`.
+//! `no_roster_is_below_the_bound` promises that the floor by any worths and pays is one. `lower_bound` promises to be it, and `raise_floor`
 //! that all that it tells is a floor. `improve_worths` gives worths alone.
 #![tactic(auto)]
 
 mod floors;
 mod laws;
+mod levelled;
 mod moves;
 mod offers;
+mod pays;
 mod places;
 mod rounds;
 mod workspace;
@@ -17,7 +20,9 @@ mod worths;
 
 pub use floors::{lower_bound, row_floor};
 pub use laws::{bounds_are_rounded_up, no_roster_is_below_the_bound};
+pub use levelled::Levelled;
 pub use offers::{Terms, choices};
+pub use pays::Pays;
 pub use places::places_floor;
 pub use rounds::{improve_worths, raise_floor};
 pub use workspace::{FloorWorkspace, RowSpace};

@@ -40,10 +40,10 @@ pub(crate) fn learn(case: &Case, worths: &Worths, cover: &[u16], covers: &mut Co
     }
 }
 
-/// A fading sum with so many nurses more.
-fn faded(sum: u32, nurses: u16) -> u32 {
+/// A fading sum with so many nurses, or assignments, more.
+pub(crate) fn faded(sum: u32, more: u16) -> u32 {
     let kept = sum as u64 * 179 / 256;
-    (256 * nurses as u64 + kept).min(MOST_SUM as u64) as u32
+    (256 * more as u64 + kept).min(MOST_SUM as u64) as u32
 }
 
 /// The greatest fading sum.
@@ -76,12 +76,14 @@ pub(crate) fn farthest(covers: &Covers) -> u32
     far
 }
 
-/// Counts a row at its places.
-pub(crate) fn count_row(row: &[Choice], cover: &mut [u16])
+/// Counts a row at its places. The answer is how many days it works.
+pub(crate) fn count_row(row: &[Choice], cover: &mut [u16]) -> u16
     ensures { length cover.new ≡ length cover.old }
 {
+    let mut worked: u16 = 0;
     for day in 0..row.len() {
         if let Choice::Work(shift, skill) = row[day] {
+            worked = worked.saturating_add(1);
             let place = 8 * shift.0 as usize + skill.0 as usize;
             let at = day.saturating_mul(64).saturating_add(place);
             if at < cover.len() {
@@ -89,6 +91,7 @@ pub(crate) fn count_row(row: &[Choice], cover: &mut [u16])
             }
         }
     }
+    worked
 }
 
 /// How far a worth moves at most after so many rounds of all, in 256ths of a point: 18 points by the third power of the share of the

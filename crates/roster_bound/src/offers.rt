@@ -12,7 +12,7 @@ ghost use Rattle.roster_rules.specs.Weights.{off_request_weight, wish_weight};
 ghost use Rattle.roster_bound.specs.Days.{can_do, offers_by_worth};
 ghost use Rattle.roster_search.specs.Offers.{offer_at};
 ghost use Rattle.roster_bound.specs.Tables.{worths_of};
-ghost use Rattle.roster_bound.specs.Worths.{earned, most_worth, price_by};
+ghost use Rattle.roster_bound.specs.Worths.{earned, free_price, most_worth, price_with};
 
 use crate::worths::{MOST_WORTH, Worths};
 use arrayvec::ArrayVec;
@@ -20,28 +20,31 @@ use roster_best::request_cost;
 use roster_rules::{Case, Choice, Roster, Shift, Skill, choice_on, is_able};
 use roster_search::{MOST_CHOICES, Offer};
 
-/// What floors are reckoned by: a case, what its places pay, and a roster of which the days before week `from` stay.
+/// What a nurse's floor is reckoned by: a case, what its places pay, a roster of which the days before week `from` stay, and what a
+/// day off costs besides, in points.
 #[derive(Clone, Copy)]
 pub struct Terms<'a> {
     pub case: &'a Case,
     pub worths: &'a Worths,
     pub given: &'a Roster,
     pub from: u16,
+    pub free: u16,
 }
 
-/// All that a nurse can do on a day, each choice at what the nurse earns less than the most and what the requests cost.
+/// All that a nurse can do on a day, each choice at what the nurse earns less than the most, what the requests cost, and the price of
+/// a day off.
 pub fn choices(terms: &Terms<'_>, nurse: usize, day: u16) -> ArrayVec<Offer, MOST_CHOICES>
     requires nurse { nurse < nurse_count terms.now.case.now }
     requires day { day < day_count terms.now.case.now }
     requires worths { terms.now.worths.now.days ≡ day_count terms.now.case.now }
-    ensures offers { result.items ≡ offers_by_worth terms.now.case.now terms.now.from terms.now.given.now (worths_of terms.now.worths.now) nurse day }
+    ensures offers { result.items ≡ offers_by_worth terms.now.case.now terms.now.from terms.now.given.now (worths_of terms.now.worths.now) terms.now.free nurse day }
 {
     let case = terms.case;
     let shifts = case.shifts();
     let skills = case.skills();
-    let free = request_cost(case, nurse, day, None);
+    let asked = request_cost(case, nurse, day, None);
     let mut offers = ArrayVec::new();
-    push_some(&mut offers, offered(terms, nurse, day, Choice::Off, free));
+    push_some(&mut offers, offered(terms, nurse, day, Choice::Off, asked));
     for shift in 0..shifts {
         let asked = request_cost(case, nurse, day, Some(Shift(shift)));
         for skill in 0..skills {
@@ -70,12 +73,13 @@ fn offered(terms: &Terms<'_>, nurse: usize, day: u16, choice: Choice, asked: u32
     requires choice { is_choice_of terms.now.case.now choice ≡ true }
     requires asked { asked ≡ request_cost_on terms.now.case.now nurse day (shift_of choice) }
     requires within { asked ≤ off_request_weight + wish_weight }
-    ensures { result ≡ (if can_do terms.now.case.now terms.now.from terms.now.given.now nurse day choice then Some (offer_at (price_by terms.now.case.now (worths_of terms.now.worths.now) nurse) day choice) else None) }
+    ensures { result ≡ (if can_do terms.now.case.now terms.now.from terms.now.given.now nurse day choice then Some (offer_at (price_with terms.now.case.now (worths_of terms.now.worths.now) terms.now.free nurse) day choice) else None) }
 {
     let able = is_able(terms.case.skills_of(nurse), choice);
     let kept = keeps_frozen_day(terms, nurse, day, choice);
     let pay = earned(terms, day, choice);
-    offer_if(able && kept, choice, (MOST_WORTH - pay) as u32 + asked)
+    let price = (MOST_WORTH - pay) as u32 + asked + free_price(terms, choice);
+    offer_if(able && kept, choice, price)
 }
 
 fn offer_if(able: bool, choice: Choice, price: u32) -> Option<Offer>
@@ -106,5 +110,16 @@ fn earned(terms: &Terms<'_>, day: u16, choice: Choice) -> u16
     match choice {
         Choice::Off => 0,
         Choice::Work(shift, skill) => terms.worths.at(day, shift, skill),
+    }
+}
+
+/// What a day off costs besides.
+fn free_price(terms: &Terms<'_>, choice: Choice) -> u32
+    ensures price { result ≡ free_price terms.now.free choice }
+    ensures within { result ≤ 65535 }
+{
+    match choice {
+        Choice::Off => terms.free as u32,
+        Choice::Work(..) => 0,
     }
 }

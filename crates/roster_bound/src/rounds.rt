@@ -2,6 +2,7 @@
 
 ghost use Rattle.std.specs.Prelude.{◌≡◌, ◌+◌, ◌*◌, ◌<◌, ◌≤◌, IfErr, IfOk};
 ghost use Rattle.roster_bundle.specs.Limits.{greatest_u64};
+ghost use Rattle.roster_instance.specs.Levels.{levelled};
 ghost use Rattle.roster_instance.specs.Meaning.{nurse_count};
 ghost use Rattle.roster_rules.specs.Penalties.{penalty};
 ghost use Rattle.roster_laws.specs.Greatest.{extensions_in, greatest_extension_count};
@@ -9,7 +10,8 @@ ghost use Rattle.roster_bound.specs.Floors.{FloorLogStops, RaisesFloor};
 ghost use Rattle.roster_bound.specs.Workspaces.{FitsFloor};
 ghost use Rattle.roster_bound.specs.Worths.{IsLowerBound};
 
-use crate::floors::lower_bound;
+use crate::floors::{find_rows, lower_bound};
+use crate::levelled::Levelled;
 use crate::moves::{farthest, learn, most_step};
 use crate::offers::Terms;
 use crate::workspace::FloorWorkspace;
@@ -20,36 +22,37 @@ use roster_text::Watch;
 use std::io::Write;
 
 /// Raises a floor under every roster of a case that keeps the hard rules and agrees with the held one on the days before week `from`:
-/// so many rounds, each by other worths. The log gets the penalty of the held roster, and then each round in which the floor rose, as
+/// so many rounds, each by other worths and pays. The log gets the penalty of the held roster, and then each round in which the floor rose, as
 /// it comes. The answer is the greatest floor, 0 where there was no round. It takes no memory.
 ///
 /// # Errors
 ///
 /// The log failed.
 pub fn raise_floor<W: Write>(
-    held: &Held,
+    held: &Levelled,
     rounds: u16,
     from: u16,
     workspace: &mut FloorWorkspace,
     meter: &mut Meter,
     log: &mut Watch<W>,
 ) -> Result<u64, LogFault>
-    requires fits { FitsFloor held.now.case workspace.old }
-    requires room { meter.old + extensions_in held.now.case rounds ≤ greatest_u64 }
+    requires fits { FitsFloor (levelled held.now.case) workspace.old }
+    requires room { meter.old + extensions_in (levelled held.now.case) rounds ≤ greatest_u64 }
     ensures ok { IfOk result (RaisesFloor W.contents held.now.case from held.now.roster rounds log.old log.new) }
     ensures err { IfErr result (FloorLogStops W.contents held.now.case from held.now.roster rounds log.old log.new) }
     ensures below { IfOk result (IsLowerBound held.now.case from held.now.roster) }
     ensures within { IfOk result (λ bound. bound ≤ penalty held.now.case held.now.roster) }
-    ensures counted { meter.new ≤ meter.old + extensions_in held.now.case rounds }
-    ensures fits { FitsFloor held.now.case workspace.new }
+    ensures counted { meter.new ≤ meter.old + extensions_in (levelled held.now.case) rounds }
+    ensures fits { FitsFloor (levelled held.now.case) workspace.new }
 {
     let case = held.case();
-    workspace.begin(case);
+    workspace.begin_under(held);
     let mut best = 0;
     let mut sent = log_word(log, 0, b"start", held.total())?;
     for rounds_before in 0..rounds {
         let bound = make_round(held, from, workspace, meter);
         move_worths(case, rounds_before, rounds, workspace);
+        move_pays(held, rounds_before, rounds, workspace);
         if bound <= best {
             continue;
         }
@@ -75,7 +78,7 @@ pub fn improve_worths(
     let case = held.case();
     workspace.begin(case);
     for rounds_before in 0..rounds {
-        make_round(held, from, workspace, meter);
+        make_rows(held, from, workspace, meter);
         move_worths(case, rounds_before, rounds, workspace);
     }
 }
@@ -87,12 +90,29 @@ pub(crate) const FIRST: u16 = 30;
 /// What it pays in the second, from which the worths move.
 const SECOND: u16 = 15;
 
-/// The floor by the worths. Their rows are counted.
-fn make_round(held: &Held, from: u16, workspace: &mut FloorWorkspace, meter: &mut Meter) -> u64
-    requires fits { FitsFloor held.now.case workspace.old }
-    requires room { meter.old + nurse_count held.now.case * greatest_extension_count held.now.case ≤ greatest_u64 }
+/// The floor by the worths and the pays. Their rows are counted.
+fn make_round(held: &Levelled, from: u16, workspace: &mut FloorWorkspace, meter: &mut Meter) -> u64
+    requires fits { FitsFloor (levelled held.now.case) workspace.old }
+    requires room { meter.old + nurse_count held.now.case * greatest_extension_count (levelled held.now.case) ≤ greatest_u64 }
     ensures below { IsLowerBound held.now.case from held.now.roster result }
     ensures within { result ≤ penalty held.now.case held.now.roster }
+    ensures counted { meter.new ≤ meter.old + nurse_count held.now.case * greatest_extension_count (levelled held.now.case) }
+    ensures fits { FitsFloor (levelled held.now.case) workspace.new }
+{
+    let terms = Terms {
+        case: held.case(),
+        worths: &workspace.worths,
+        given: held.roster(),
+        from,
+        free: 0,
+    };
+    lower_bound(held, &terms, &workspace.pays, &mut workspace.rows, meter)
+}
+
+/// Each nurse's cheapest row by the worths, over the case as it is. They are counted.
+fn make_rows(held: &Held, from: u16, workspace: &mut FloorWorkspace, meter: &mut Meter)
+    requires fits { FitsFloor held.now.case workspace.old }
+    requires room { meter.old + nurse_count held.now.case * greatest_extension_count held.now.case ≤ greatest_u64 }
     ensures counted { meter.new ≤ meter.old + nurse_count held.now.case * greatest_extension_count held.now.case }
     ensures fits { FitsFloor held.now.case workspace.new }
 {
@@ -101,8 +121,22 @@ fn make_round(held: &Held, from: u16, workspace: &mut FloorWorkspace, meter: &mu
         worths: &workspace.worths,
         given: held.roster(),
         from,
+        free: 0,
     };
-    lower_bound(&terms, &mut workspace.rows, meter)
+    find_rows(&terms, &mut workspace.rows, meter);
+}
+
+/// Moves the pays after a round, so many of all having been made before it: four points at most, where a worth moves by 18.
+fn move_pays(held: &Levelled, made: u16, rounds: u16, workspace: &mut FloorWorkspace)
+    requires made { made < rounds }
+    requires fits { FitsFloor (levelled held.now.case) workspace.old }
+    ensures { FitsFloor (levelled held.now.case) workspace.new }
+{
+    if made == 0 {
+        return;
+    }
+    workspace.pays.learn(held, &workspace.rows.worked);
+    workspace.pays.follow(most_step(made + 1, rounds) / 9 * 2);
 }
 
 /// Moves the worths after a round, so many of all having been made before it.
@@ -115,6 +149,7 @@ fn move_worths(case: &Case, made: u16, rounds: u16, workspace: &mut FloorWorkspa
         rows,
         worths,
         covers,
+        pays: _,
     } = workspace;
     if made == 0 {
         worths.set_all(case, SECOND);

@@ -1,10 +1,13 @@
 //! The memory of a run that raises a floor.
 
 ghost use Rattle.std.specs.Prelude.{◌≡◌, ◌*◌, IfOk, length};
+ghost use Rattle.roster_instance.specs.Levels.{levelled};
 ghost use Rattle.roster_instance.specs.Meaning.{day_count};
 ghost use Rattle.roster_bound.specs.Workspaces.{FitsFloor, FitsRows};
 
+use crate::levelled::Levelled;
 use crate::moves::Covers;
+use crate::pays::Pays;
 use crate::rounds::FIRST;
 use crate::worths::Worths;
 use arrayvec::ArrayVec;
@@ -13,12 +16,13 @@ use roster_case::Case;
 use roster_search::DayOffers;
 use std::alloc::Global;
 
-/// What the searches for the nurses' cheapest rows write into: the workspace of a search, the offers of a nurse, and how many of these
-/// rows are at each place, 64 places for each day.
+/// What the searches for the nurses' cheapest rows write into: the workspace of a search, the offers of a nurse, how many of these
+/// rows are at each place, 64 places for each day, and how many days each nurse's row works.
 pub struct RowSpace {
     pub workspace: Workspace,
     pub(crate) offers: DayOffers,
     pub(crate) cover: Vec<u16>,
+    pub(crate) worked: Vec<u16>,
 }
 
 // By hand, so that who drops it has one call to prove.
@@ -28,16 +32,19 @@ impl Drop for RowSpace {
             workspace: _,
             offers: _,
             cover: _,
+            worked: _,
         } = self;
     }
 }
 
-/// What a run that raises a floor writes into: what its searches do, the worths, and the covers by which they move. Beside a search's
-/// workspace and a nurse's offers that is 64 times 14 bytes for each day: 326 kB at most. One serves one run after another.
+/// What a run that raises a floor writes into: what its searches do, the worths with the covers by which they move, and the nurses'
+/// pays. Beside a search's workspace and a nurse's offers that is 64 times 14 bytes for each day and 14 for each nurse: 332 kB at
+/// most. One serves one run after another.
 pub struct FloorWorkspace {
     pub rows: RowSpace,
     pub worths: Worths,
     pub(crate) covers: Covers,
+    pub(crate) pays: Pays,
 }
 
 // By hand, so that who drops it has one call to prove.
@@ -47,12 +54,13 @@ impl Drop for FloorWorkspace {
             rows: _,
             worths: _,
             covers: _,
+            pays: _,
         } = self;
     }
 }
 
 impl RowSpace {
-    /// Room for the nurses of a case, by at most five growths.
+    /// Room for the nurses of a case, by at most six growths.
     ///
     /// # Errors
     ///
@@ -64,6 +72,7 @@ impl RowSpace {
             workspace: Workspace::for_case(alloc, case)?,
             offers: ArrayVec::new(),
             cover: vec![in alloc; 0; 64 * case.days() as usize]?,
+            worked: vec![in alloc; 0; case.nurses()]?,
         })
     }
 
@@ -79,7 +88,7 @@ impl RowSpace {
 }
 
 impl FloorWorkspace {
-    /// Room for a run over a case, by at most eight growths.
+    /// Room for a run over a case, by at most ten growths.
     ///
     /// # Errors
     ///
@@ -95,6 +104,7 @@ impl FloorWorkspace {
                 wanted: vec![in alloc; 0; places]?,
                 had: vec![in alloc; 0; places]?,
             },
+            pays: Pays::of_nurses(alloc, case.nurses())?,
         })
     }
 
@@ -110,5 +120,14 @@ impl FloorWorkspace {
             self.covers.had[place] = 0;
         }
         self.worths.set_all(case, FIRST);
+    }
+
+    /// The same for a run under a held roster, with the pays of the first round.
+    pub(crate) fn begin_under(&mut self, held: &Levelled)
+        requires { FitsFloor (levelled held.now.case) self.old }
+        ensures { FitsFloor (levelled held.now.case) self.new }
+    {
+        self.begin(held.case());
+        self.pays.begin(held);
     }
 }

@@ -112,6 +112,21 @@ impl Held {
         &self.roster
     }
 
+    /// The case and the roster, as they are held.
+    pub fn into_parts(self) -> (Case, Roster)
+        ensures case { result.0 ≡ self.case }
+        ensures roster { result.1 ≡ self.roster }
+        ensures fits { fits_case self.case self.roster ≡ true }
+        ensures keeps { keeps_hard self.case self.roster ≡ true }
+    {
+        let Held {
+            case,
+            roster,
+            counts: _,
+        } = self;
+        (case, roster)
+    }
+
     /// A law: the roster fits the case and keeps the hard rules.
     pub fn keeps_rules(&self)
         ensures fits { fits_case self.now.case self.now.roster ≡ true }

@@ -1,9 +1,8 @@
 //! The command `bound`: a number that no roster costs less than.
 
-ghost use Rattle.std.specs.Prelude.{◌≡◌, ◌+◌, ◌≤◌, true, IfErr, IfOk};
-ghost use Rattle.roster_bundle.specs.Limits.{greatest_u64};
+ghost use Rattle.std.specs.Prelude.{◌≡◌, true, IfErr, IfOk};
+ghost use Rattle.roster_instance.specs.Levels.{levelled};
 ghost use Rattle.roster_instance.specs.Rosters.{fits_case};
-ghost use Rattle.roster_laws.specs.Greatest.{extensions_in};
 ghost use Rattle.roster_bound.specs.Floors.{RaisesFloor};
 ghost use Rattle.roster_bound.specs.Workspaces.{FitsFloor};
 ghost use Rattle.roster_commands.specs.Answer.{IsBoundReport, Reports, StopsFloors, outcome_of, output_of};
@@ -11,7 +10,8 @@ ghost use Rattle.roster_commands.specs.Answer.{IsBoundReport, Reports, StopsFloo
 use crate::fault::Fault;
 use crate::held::hold;
 use crate::reading::Instance;
-use roster_bound::{FloorWorkspace, raise_floor};
+use roster_best::BestFault;
+use roster_bound::{FloorWorkspace, Levelled, raise_floor};
 use roster_case::Held;
 use roster_reports::write_bound;
 use roster_rounds::{LogFault, rounds_have_room};
@@ -36,29 +36,48 @@ pub(crate) fn report_bound<'a, Out: Write, Log: Write>(
 {
     let mut meter = Meter::new(&mut instance.case);
     let held = hold(alloc, source, instance)?;
-    let Ok(mut workspace) = FloorWorkspace::for_case(alloc, held.case()) else {
+    let Ok(mut floor) = Floor::of(alloc, held) else {
         return Err(Fault::Memory);
     };
-    rounds_have_room(held.case(), rounds);
-    let bound = find_bound(&held, rounds, from, &mut workspace, &mut meter, log)?;
-    Ok(write_bound(output, held.total(), bound)?)
+    let bound = find_bound(&mut floor, rounds, from, &mut meter, log)?;
+    Ok(write_bound(output, floor.held.total(), bound)?)
+}
+
+/// A roster with its case levelled, and what a run that raises a floor under it writes into.
+#[derive(Drop)]
+struct Floor {
+    held: Levelled,
+    workspace: FloorWorkspace,
+}
+
+impl Floor {
+    /// Levels a held roster's case, and makes room.
+    fn of(alloc: Global, held: Held) -> Result<Floor, BestFault>
+        ensures held { IfOk result (λ floor. floor.held ≡ held) }
+        ensures fits { IfOk result (λ floor. FitsFloor (levelled held.case) floor.workspace) }
+    {
+        let held = Levelled::of(alloc, held)?;
+        let workspace = FloorWorkspace::for_case(alloc, held.case())?;
+        Ok(Floor { held, workspace })
+    }
 }
 
 /// Makes the rounds. Where their log fails, that is the fault.
 fn find_bound<'a, Log: Write>(
-    held: &Held,
+    floor: &mut Floor,
     rounds: u16,
     from: u16,
-    workspace: &mut FloorWorkspace,
     meter: &mut Meter,
     log: &mut Watch<Log>,
 ) -> Result<u64, Fault<'a>>
-    requires fits { FitsFloor held.now.case workspace.old }
+    requires fits { FitsFloor (levelled floor.old.held.case) floor.old.workspace }
     requires none { meter.old ≡ 0 }
-    requires room { extensions_in held.now.case rounds ≤ greatest_u64 }
-    ensures ok { IfOk result (RaisesFloor Log.contents held.now.case from held.now.roster rounds log.old log.new) }
-    ensures err { IfErr result (StopsFloors Log.contents held.now.case from held.now.roster rounds log.old log.new) }
+    ensures ok { IfOk result (RaisesFloor Log.contents floor.old.held.case from floor.old.held.roster rounds log.old log.new) }
+    ensures err { IfErr result (StopsFloors Log.contents floor.old.held.case from floor.old.held.roster rounds log.old log.new) }
+    ensures held { floor.new.held ≡ floor.old.held }
 {
+    let Floor { held, workspace } = floor;
+    rounds_have_room(held.case(), rounds);
     match raise_floor(held, rounds, from, workspace, meter, log) {
         Ok(bound) => Ok(bound),
         Err(LogFault::LogFailed { .. }) => Err(Fault::Log),

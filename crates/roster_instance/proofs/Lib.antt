@@ -15,3 +15,4 @@ mod CaseLemmas
 mod FitLemmas
 mod SmallLemmas
 mod PastLemmas
+pub mod Levels

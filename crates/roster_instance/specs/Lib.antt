@@ -15,3 +15,4 @@ pub mod Bundles
 pub mod Refusals
 pub mod Building
 pub mod CaseParts
+pub mod Levels

@@ -1,8 +1,7 @@
 use Rattle.std.proofs.Common.{arith, subst}
 use Rattle.std.proofs.lemmas.Result.{err_from_is_err_and}
 use Rattle.roster_text.specs.Io.{BreaksIn, Sends}
-use Rattle.roster_instance.specs.Meaning.{Meaning}
-use Rattle.roster_bound.specs.Workspaces.{FitsFloor}
+use Rattle.roster_instance.specs.Levels.{levelled}
 use Rattle.roster_bound.proofs.Counted.{round_counted, round_room, round_within, rounds_within}
 use Rattle.roster_bound.proofs.FloorLogs.{Going-raised, Going-same, Going-start, first_text, raised_breaks, start_breaks}
 use Rattle.roster_bound.proofs.rounds.raise_floor.Goals as goal
@@ -25,7 +24,7 @@ loop-rounds_before-init g c =
       below = λ r fits keeps stays. omega arith;
       within = omega arith;
       counted = omega arith;
-      fits = subst (λ (m : Meaning). FitsFloor m c.begin.new.self) c.case-case.ensures c.begin.ensures;
+      fits = c.begin_under.ensures;
     }
 
 pub returns-in_err-sent-2-clause-err : goal.returns-in_err-sent-2-clause-err
@@ -44,8 +43,8 @@ loop-rounds_before-preserved g c =
           c.make_round-bound.ensures.below c.in_ok-sent-2.ensures.ok;
       below = c.make_round-bound.ensures.below;
       within = c.make_round-bound.ensures.within;
-      counted = round_counted k l.rounds_before c.args.meter.now l.meter l.invariant.counted c.make_round-bound.new.meter c.make_round-bound.ensures.counted;
-      fits = subst (λ (m : Meaning). FitsFloor m c.move_worths.new.workspace) c.case-case.ensures c.move_worths.ensures;
+      counted = round_counted (levelled k) l.rounds_before c.args.meter.now l.meter l.invariant.counted c.make_round-bound.new.meter c.make_round-bound.ensures.counted;
+      fits = c.move_pays.ensures;
     }
 
 pub loop-rounds_before-preserved-then-bound-best : goal.loop-rounds_before-preserved-then-bound-best
@@ -56,27 +55,27 @@ loop-rounds_before-preserved-then-bound-best g c =
       going = Going-same g.W.Write.contents k c.args.from c.args.held.now.roster c.args.log.now l.log l.rounds_before l.sent l.best l.invariant.going;
       below = l.invariant.below;
       within = l.invariant.within;
-      counted = round_counted k l.rounds_before c.args.meter.now l.meter l.invariant.counted c.make_round-bound.new.meter c.make_round-bound.ensures.counted;
-      fits = subst (λ (m : Meaning). FitsFloor m c.move_worths.new.workspace) c.case-case.ensures c.move_worths.ensures;
+      counted = round_counted (levelled k) l.rounds_before c.args.meter.now l.meter l.invariant.counted c.make_round-bound.new.meter c.make_round-bound.ensures.counted;
+      fits = c.move_pays.ensures;
     }
 
 pub make_round-bound-requires-clause-room : goal.make_round-bound-requires-clause-room
 make_round-bound-requires-clause-room g c =
     let l = c.loop-rounds_before in
-    round_room c.args.held.now.case l.rounds_before c.args.meter.now l.meter l.invariant.counted c.args.rounds 18446744073709551615 c.loop-rounds_before-test.true c.requires.room
+    round_room (levelled c.args.held.now.case) l.rounds_before c.args.meter.now l.meter l.invariant.counted c.args.rounds 18446744073709551615 c.loop-rounds_before-test.true c.requires.room
 
 pub returns-in_err-sent-clause-fits : goal.returns-in_err-sent-clause-fits
-returns-in_err-sent-clause-fits g c = subst (λ (m : Meaning). FitsFloor m c.begin.new.self) c.case-case.ensures c.begin.ensures
+returns-in_err-sent-clause-fits g c = c.begin_under.ensures
 
 pub returns-in_err-sent-2-clause-counted : goal.returns-in_err-sent-2-clause-counted
 returns-in_err-sent-2-clause-counted g c =
     let l = c.loop-rounds_before in
-    round_within c.args.held.now.case l.rounds_before c.args.meter.now l.meter l.invariant.counted c.args.rounds c.make_round-bound.new.meter c.loop-rounds_before-test.true c.make_round-bound.ensures.counted
+    round_within (levelled c.args.held.now.case) l.rounds_before c.args.meter.now l.meter l.invariant.counted c.args.rounds c.make_round-bound.new.meter c.loop-rounds_before-test.true c.make_round-bound.ensures.counted
 
 pub returns-in_err-sent-2-clause-fits : goal.returns-in_err-sent-2-clause-fits
-returns-in_err-sent-2-clause-fits g c = subst (λ (m : Meaning). FitsFloor m c.move_worths.new.workspace) c.case-case.ensures c.move_worths.ensures
+returns-in_err-sent-2-clause-fits g c = c.move_pays.ensures
 
 pub returns-clause-counted : goal.returns-clause-counted
 returns-clause-counted g c =
     let l = c.loop-rounds_before in
-    rounds_within c.args.held.now.case l.rounds_before c.args.meter.now l.meter l.invariant.counted c.args.rounds (omega (arith, l.auto.rounds_before-end))
+    rounds_within (levelled c.args.held.now.case) l.rounds_before c.args.meter.now l.meter l.invariant.counted c.args.rounds (omega (arith, l.auto.rounds_before-end))

@@ -1,5 +1,6 @@
 -- The rounds so far are made, and the lines so far are sent.
 use Rattle.std.proofs.Common.{◌+◌, ◌≤◌}
+use Rattle.roster_instance.specs.Levels.{levelled}
 use Rattle.roster_rules.specs.Penalties.{penalty}
 use Rattle.roster_laws.specs.Greatest.{extensions_in}
 use Rattle.roster_bound.specs.Workspaces.{FitsFloor}
@@ -12,6 +13,6 @@ invariant-loop-rounds_before g l = record {
   going : Going g.W.Write.contents l.held.case l.from l.held.roster l.fn.log l.log l.rounds_before l.sent l.best;
   below : IsLowerBound l.held.case l.from l.held.roster l.best;
   within : l.best ≤ penalty l.held.case l.held.roster;
-  counted : l.meter ≤ l.fn.meter + extensions_in l.held.case l.rounds_before;
-  fits : FitsFloor l.held.case l.workspace;
+  counted : l.meter ≤ l.fn.meter + extensions_in (levelled l.held.case) l.rounds_before;
+  fits : FitsFloor (levelled l.held.case) l.workspace;
 }

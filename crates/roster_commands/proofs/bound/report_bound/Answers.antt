@@ -30,7 +30,7 @@ returns-in_err-bound g c =
     let output : Output g.row.Out.Denot = record { contents = g.Out.Write.contents; before = c.args.output.now; after = c.args.output.now } in
     let log : Output g.row.Log.Denot = record { contents = g.Log.Write.contents; before = c.args.log.now; after = c.find_bound.new.log } in
     let of_case : Meaning → HeldRoster = λ m. record { case = m; roster = c.args.instance.roster } in
-    let held = c.in_ok-held.ensures.held ∙ ap of_case c.new-meter.ensures.same in
+    let held = c.in-Ok.ensures.held ∙ c.in_ok-held.ensures.held ∙ ap of_case c.new-meter.ensures.same in
     let kept = subst (λ (m : Meaning). hard_faults m c.args.instance.roster ≡ []) c.new-meter.ensures.same c.in_ok-held.ensures.kept in
     let f = c.in_err-bound.field-0.0 in
     let stops = subst (λ (h : HeldRoster). StopsFloors g.Log.Write.contents h.case c.args.from h.roster c.args.rounds c.args.log.now c.find_bound.new.log f) held c.in_err-bound.ensures.err in
@@ -42,11 +42,11 @@ returns-in_err-write_bound g c =
     let output : Output g.row.Out.Denot = record { contents = g.Out.Write.contents; before = c.args.output.now; after = c.write_bound.new.output } in
     let log : Output g.row.Log.Denot = record { contents = g.Log.Write.contents; before = c.args.log.now; after = c.find_bound.new.log } in
     let of_case : Meaning → HeldRoster = λ m. record { case = m; roster = c.args.instance.roster } in
-    let held = c.in_ok-held.ensures.held ∙ ap of_case c.new-meter.ensures.same in
+    let held = c.in-Ok.ensures.held ∙ c.in_ok-held.ensures.held ∙ ap of_case c.new-meter.ensures.same in
     let kept = subst (λ (m : Meaning). hard_faults m c.args.instance.roster ≡ []) c.new-meter.ensures.same c.in_ok-held.ensures.kept in
     let bound = c.in_ok-bound.bound in
     let raised = subst (λ (h : HeldRoster). RaisesFloor g.Log.Write.contents h.case c.args.from h.roster c.args.rounds c.args.log.now c.find_bound.new.log bound) held c.in_ok-bound.ensures.ok in
-    let total_is = c.total.ensures.total ∙ ap (λ (h : HeldRoster). penalty h.case h.roster) held in
+    let total_is = c.total.ensures.total ∙ ap (λ (h : HeldRoster). penalty h.case h.roster) (c.find_bound.ensures.held ∙ held) in
     let told = c.in_err-write_bound.ensures.err in
     let stops : Stops g.Out.Write.contents c.args.output.now c.write_bound.new.output (bound_text c.total.result bound) = record { sent = told.sent; stops = told.stops } in
     let meant = subst (λ n. Stops g.Out.Write.contents c.args.output.now c.write_bound.new.output (bound_text n bound)) total_is stops in
@@ -58,10 +58,10 @@ returns g c =
     let output : Output g.row.Out.Denot = record { contents = g.Out.Write.contents; before = c.args.output.now; after = c.write_bound.new.output } in
     let log : Output g.row.Log.Denot = record { contents = g.Log.Write.contents; before = c.args.log.now; after = c.find_bound.new.log } in
     let of_case : Meaning → HeldRoster = λ m. record { case = m; roster = c.args.instance.roster } in
-    let held = c.in_ok-held.ensures.held ∙ ap of_case c.new-meter.ensures.same in
+    let held = c.in-Ok.ensures.held ∙ c.in_ok-held.ensures.held ∙ ap of_case c.new-meter.ensures.same in
     let kept = subst (λ (m : Meaning). hard_faults m c.args.instance.roster ≡ []) c.new-meter.ensures.same c.in_ok-held.ensures.kept in
     let bound = c.in_ok-bound.bound in
     let raised = subst (λ (h : HeldRoster). RaisesFloor g.Log.Write.contents h.case c.args.from h.roster c.args.rounds c.args.log.now c.find_bound.new.log bound) held c.in_ok-bound.ensures.ok in
-    let total_is = c.total.ensures.total ∙ ap (λ (h : HeldRoster). penalty h.case h.roster) held in
+    let total_is = c.total.ensures.total ∙ ap (λ (h : HeldRoster). penalty h.case h.roster) (c.find_bound.ensures.held ∙ held) in
     let writes = subst (λ n. Writes g.Out.Write.contents c.args.output.now c.write_bound.new.output (bound_text n bound)) total_is c.in_ok-write_bound.ensures.ok in
     bound_ends c.args.rounds c.args.from c.args.instance.case c.args.instance.roster output log c.args.source.now c.args.instance.bundle {X = Unit {0}} bound (Ok tt) kept raised writes tt

@@ -1,0 +1,10 @@
+use Rattle.std.proofs.Common.{◌+◌, ◌*◌, ◌≤◌}
+use Rattle.roster_laws.specs.Greatest.{greatest_extension_count}
+use Rattle.roster_bound.specs.Workspaces.{FitsRows}
+use Rattle.roster_bound.proofs.floors.find_rows.Given as goal
+
+abbrev pub invariant-loop-nurse : goal.invariant-loop-nurse
+invariant-loop-nurse l = record {
+  rows : FitsRows l.terms.case.now l.rows;
+  counted : l.meter ≤ l.fn.meter + l.nurse * greatest_extension_count l.terms.case.now;
+}
