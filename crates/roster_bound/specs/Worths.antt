@@ -107,12 +107,12 @@ abbrev pub most_total : Meaning → ℕ → ℕ
 most_total c n = (past_of c n).assignments + day_count c
 
 -- what so many assignments cost: the total, those that they are fewer than the most, and the pay
-abbrev pub total_cost : Meaning → (n pay : ℕ) → ℕ → ℕ
-total_cost c n pay total = missing_cost c n total + extra_cost c n total + assignment_weight * (most_total c n - total) + pay * total
+abbrev pub total_with_pay : Meaning → (n pay : ℕ) → ℕ → ℕ
+total_with_pay c n pay total = missing_cost c n total + extra_cost c n total + assignment_weight * (most_total c n - total) + pay * total
 
 -- it is least at the least or at the greatest total, or at the most
 abbrev pub total_floor : Meaning → (n pay : ℕ) → ℕ
-total_floor c n pay = min (total_cost c n pay (min (contract_of c n).total.least (most_total c n))) (total_cost c n pay (min (contract_of c n).total.greatest (most_total c n)))
+total_floor c n pay = min (total_with_pay c n pay (min (contract_of c n).total.least (most_total c n))) (total_with_pay c n pay (min (contract_of c n).total.greatest (most_total c n)))
 
 -- what the levelled case and the prices of days off have counted besides
 abbrev pub level_cost : Meaning → (n pay : ℕ) → ℕ

@@ -121,13 +121,13 @@ fn total_floor(held: &Levelled, nurse: usize, pay: u16) -> u32
 {
     let asked = held.asked(nurse);
     let most = most_total(held, nurse);
-    let at_least = total_cost(asked, most, pay, most.min(asked.least as u32));
-    let at_greatest = total_cost(asked, most, pay, most.min(asked.greatest as u32));
+    let at_least = total_with_pay(asked, most, pay, most.min(asked.least as u32));
+    let at_greatest = total_with_pay(asked, most, pay, most.min(asked.greatest as u32));
     at_least.min(at_greatest)
 }
 
 /// What so many assignments cost: the total, those that they are fewer than the most, and the pay.
-fn total_cost(asked: Limits, most: u32, pay: u16, total: u32) -> u32
+fn total_with_pay(asked: Limits, most: u32, pay: u16, total: u32) -> u32
     requires asked { AreSmall asked }
     requires most { most ≤ most_small + most_days }
     requires total { total ≤ most_small }

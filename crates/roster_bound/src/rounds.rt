@@ -22,8 +22,8 @@ use roster_text::Watch;
 use std::io::Write;
 
 /// Raises a floor under every roster of a case that keeps the hard rules and agrees with the held one on the days before week `from`:
-/// so many rounds, each by other worths and pays. The log gets the penalty of the held roster, and then each round in which the floor rose, as
-/// it comes. The answer is the greatest floor, 0 where there was no round. It takes no memory.
+/// so many rounds, each by other worths and pays. The log gets the penalty of the held roster, and then each round in which the floor
+/// rose, as it comes. The answer is the greatest floor, 0 where there was no round. It takes no memory.
 ///
 /// # Errors
 ///
@@ -62,7 +62,8 @@ pub fn raise_floor<W: Write>(
     Ok(best)
 }
 
-/// Improves the worths of a workspace by so many rounds, as `raise_floor` does, but tells no floor. It takes no memory.
+/// Improves the worths of a workspace by so many rounds, as `raise_floor` does, but over the case as it is, and tells no floor. It takes
+/// no memory.
 pub fn improve_worths(
     held: &Held,
     rounds: u16,
