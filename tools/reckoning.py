@@ -236,7 +236,7 @@ def first_pay(case, roster, number):
 
 def nurse_floor(case, roster, number, worths, first_week=0):
     """The least that a nurse costs less what her places pay: over all rows with her skills and without a forbidden succession, where
-    each assignment costs alike and is paid for, and over all totals up to the most, which cost what they do less that. On the days
+    each assignment costs alike and is paid for, and over all totals that she can get, which cost what they do less that. On the days
     before a week she does what the roster says."""
     nurse, pay, days = case.nurses[number], first_pay(case, roster, number), len(days_of(case))
     choices = [None, *((shift, skill) for shift in range(len(case.shifts)) for skill in sorted(nurse.skills))]
@@ -245,7 +245,7 @@ def nurse_floor(case, roster, number, worths, first_week=0):
     free = lambda day: choices if day // 7 >= first_week else [roster[number][day]]
     row = cheapest_row(levelled(case), number, [[(it, price(day, it)) for it in free(day)] for day in days_of(case)])[0]
     before = nurse.history.assignments
-    totals = range(before + days + 1)
+    totals = range(before, before + days + 1)
     least = min(total_costs(case.contracts[nurse.contract], it, 0)["S6"] - 20 * it + pay * (it - before) for it in totals)
     return row + least
 

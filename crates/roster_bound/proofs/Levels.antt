@@ -1,6 +1,6 @@
 -- What a row costs in the levelled case, and the least that totals and their pay cost together.
 use Rattle.std.proofs.Common.{◌≡◌, ◌∙◌, ◌+◌, ◌-◌, ◌*◌, ◌<◌, ◌≤◌, ◌⊎◌, ℕ, zero, suc, Bool, true, false, inl, inr, ap, arith, refl, sym, length, mul-add, Option, Some, None}
-use Rattle.std.specs.Prelude.{is_some, min}
+use Rattle.std.specs.Prelude.{is_some, max, min}
 use Rattle.std.proofs.Math.ListN.{get_or-map}
 use Rattle.std.proofs.Math.Nat.{add-mul, mul-le-mul_right, mul_comm, suc-mul}
 use Rattle.std.proofs.lemmas.Bool.{cases_lt, lt-ltb}
@@ -122,7 +122,7 @@ module _ (c : Meaning) (w : PlaceWorths) (free n : ℕ) (row : Row) where
 -- ---- totals and their pay: between the least and the greatest total each assignment more adds the pay and takes off one weight, below
 -- both it takes off two, and above both none
 
-module _ (lo hi most pay : ℕ) (within : pay ≤ most_pay) where
+module _ (lo hi before most pay : ℕ) (within : pay ≤ most_pay) where
   abbrev costs : ℕ → ℕ
   costs t = assignment_weight * (lo - t) + assignment_weight * (t - hi) + assignment_weight * (most - t) + pay * t
 
@@ -132,20 +132,20 @@ module _ (lo hi most pay : ℕ) (within : pay ≤ most_pay) where
       let grown : y ≡ x + (y - x) = omega (arith, h) in
       omega (arith, ap (λ k. pay * k) grown, mul-add pay x (y - x))
 
-  module _ (t : ℕ) (below : t ≤ most) (a b : ℕ) (a_is : a ≡ min lo most) (b_is : b ≡ min hi most) where
+  module _ (t : ℕ) (above : before ≤ t) (below : t ≤ most) (a b : ℕ) (a_is : a ≡ max before (min lo most)) (b_is : b ≡ max before (min hi most)) where
     above_both : a ≤ t → b ≤ t → min (costs a) (costs b) ≤ costs t
     above_both ha hb = go (cases_lt a b)
       where
         go : (a < b) ⊎ (b ≤ a) → min (costs a) (costs b) ≤ costs t
-        go (inl h) = omega (arith, below, a_is, b_is, h, hb, line b t hb)
-        go (inr h) = omega (arith, below, a_is, b_is, h, ha, line a t ha)
+        go (inl h) = omega (arith, above, below, a_is, b_is, h, hb, line b t hb)
+        go (inr h) = omega (arith, above, below, a_is, b_is, h, ha, line a t ha)
 
     below_both : t < a → t < b → min (costs a) (costs b) ≤ costs t
     below_both ha hb = go (cases_lt a b)
       where
         go : (a < b) ⊎ (b ≤ a) → min (costs a) (costs b) ≤ costs t
-        go (inl h) = omega (arith, below, a_is, b_is, h, ha, line t a (omega (arith, ha)), mul-le-mul_right (a - t) within)
-        go (inr h) = omega (arith, below, a_is, b_is, h, hb, line t b (omega (arith, hb)), mul-le-mul_right (b - t) within)
+        go (inl h) = omega (arith, above, below, a_is, b_is, h, ha, line t a (omega (arith, ha)), mul-le-mul_right (a - t) within)
+        go (inr h) = omega (arith, above, below, a_is, b_is, h, hb, line t b (omega (arith, hb)), mul-le-mul_right (b - t) within)
 
     -- between them: down where the pay is dear, else up
     between : (x y : ℕ) → x ≤ t → t < y → (pay < assignment_weight) ⊎ (assignment_weight ≤ pay) → (costs x ≤ costs t → min (costs a) (costs b) ≤ costs t) → (costs y ≤ costs t → min (costs a) (costs b) ≤ costs t)
@@ -166,8 +166,8 @@ module _ (lo hi most pay : ℕ) (within : pay ≤ most_pay) where
         go : (t < a) ⊎ (a ≤ t) → (t < b) ⊎ (b ≤ t) → min (costs a) (costs b) ≤ costs t
         go (inr ha) (inr hb) = above_both ha hb
         go (inl ha) (inl hb) = below_both ha hb
-        go (inr ha) (inl hb) = between a b ha hb (cases_lt pay assignment_weight) by_a by_b (λ e h. omega (arith, below, a_is, b_is, ha, hb, e, h)) (λ e h. omega (arith, below, a_is, b_is, ha, hb, e, h))
-        go (inl ha) (inr hb) = between b a hb ha (cases_lt pay assignment_weight) by_b by_a (λ e h. omega (arith, below, a_is, b_is, ha, hb, e, h)) (λ e h. omega (arith, below, a_is, b_is, ha, hb, e, h))
+        go (inr ha) (inl hb) = between a b ha hb (cases_lt pay assignment_weight) by_a by_b (λ e h. omega (arith, above, below, a_is, b_is, ha, hb, e, h)) (λ e h. omega (arith, above, below, a_is, b_is, ha, hb, e, h))
+        go (inl ha) (inr hb) = between b a hb ha (cases_lt pay assignment_weight) by_b by_a (λ e h. omega (arith, above, below, a_is, b_is, ha, hb, e, h)) (λ e h. omega (arith, above, below, a_is, b_is, ha, hb, e, h))
 
 -- ---- both
 
@@ -187,7 +187,7 @@ module _ (c : Meaning) (w : PlaceWorths) (n pay : ℕ) (within : pay ≤ most_pa
   totals : total_floor c n pay ≤ totals_cost c n (days_of row) + assignment_weight * (most_total c n - total_of c n (days_of row)) + pay * total_of c n (days_of row)
   totals =
       let asks = (contract_of c n).total in
-      omega (arith, least_of_totals asks.least asks.greatest (most_total c n) pay within (total_of c n (days_of row)) (omega (arith, few)) _ _ refl refl)
+      omega (arith, least_of_totals asks.least asks.greatest (past_of c n).assignments (most_total c n) pay within (total_of c n (days_of row)) (omega arith) (omega (arith, few)) _ _ refl refl)
 
   off_days : days_off c w (shift_run_weight + pay) n row + (shift_run_weight + pay) * worked_days ≡ day_count c * (shift_run_weight + pay)
   off_days =

@@ -114,7 +114,7 @@ module _ (c : Meaning) (from : ℕ) (given : Rows) (w : PlaceWorths) (free : ℕ
 
   module _ (fits : fits_case c given ≡ true) (keeps : keeps_hard c given ≡ true) (inside : n < nurse_count c) where
     can_work_given : can_work c from given n (row_of given n) ≡ true
-    can_work_given = worked c from given (λ d s k. 0) (λ d s k. omega arith) (λ m. 0) (λ m. omega arith) given fits keeps (stays_self c from given) n inside
+    can_work_given = worked c from given (λ d s k. 0) (λ d s k. omega arith) given fits keeps (stays_self c from given) n inside
 
     some : IsSome best
     some =

@@ -110,9 +110,13 @@ most_total c n = (past_of c n).assignments + day_count c
 abbrev pub total_with_pay : Meaning → (n pay : ℕ) → ℕ → ℕ
 total_with_pay c n pay total = missing_cost c n total + extra_cost c n total + assignment_weight * (most_total c n - total) + pay * total
 
--- it is least at the least or at the greatest total, or at the most
+-- a total as near to another one as a nurse can get: not below the history's, and not above the most
+abbrev pub nearest_total : Meaning → ℕ → ℕ → ℕ
+nearest_total c n total = max (past_of c n).assignments (min total (most_total c n))
+
+-- it is least there at the least total, or at the greatest
 abbrev pub total_floor : Meaning → (n pay : ℕ) → ℕ
-total_floor c n pay = min (total_with_pay c n pay (min (contract_of c n).total.least (most_total c n))) (total_with_pay c n pay (min (contract_of c n).total.greatest (most_total c n)))
+total_floor c n pay = min (total_with_pay c n pay (nearest_total c n (contract_of c n).total.least)) (total_with_pay c n pay (nearest_total c n (contract_of c n).total.greatest))
 
 -- what the levelled case and the prices of days off have counted besides
 abbrev pub level_cost : Meaning → (n pay : ℕ) → ℕ
@@ -130,13 +134,19 @@ nurse_floor c from given w pay n = row_floor (levelled c) from given w (free_by 
 
 -- ---- both together
 
--- less the most that a nurse earns, which stands in the price of each day
-abbrev pub floors_together : Meaning → ℕ → Rows → PlaceWorths → NursePays → ℕ
-floors_together c from given w pay = places_floor c w + sum_below (nurse_count c) (nurse_floor c from given w pay) - nurse_count c * (day_count c * most_worth)
+-- what the places and, by a floor for each, the nurses cost at least, less the most that a nurse earns, which stands in the price of
+-- each day
+abbrev pub floors_together : Meaning → PlaceWorths → (ℕ → ℕ) → ℕ
+floors_together c w floor = places_floor c w + sum_below (nurse_count c) floor - nurse_count c * (day_count c * most_worth)
 
 -- the next multiple of 5, which each penalty is
 abbrev pub rounded_up : ℕ → ℕ
 rounded_up n = 5 * ((n + 4) / 5)
 
-unfoldable pub bound_by : Meaning → ℕ → Rows → PlaceWorths → NursePays → ℕ
-bound_by c from given w pay = rounded_up (floors_together c from given w pay)
+-- over the case as it is
+unfoldable pub bound_by : Meaning → ℕ → Rows → PlaceWorths → ℕ
+bound_by c from given w = rounded_up (floors_together c w (row_floor c from given w 0))
+
+-- over the levelled case
+unfoldable pub levelled_bound : Meaning → ℕ → Rows → PlaceWorths → NursePays → ℕ
+levelled_bound c from given w pay = rounded_up (floors_together c w (nurse_floor c from given w pay))

@@ -15,7 +15,7 @@ ghost use Rattle.roster_bound.specs.Days.{AreWorthOffers, shift_offers_by_worth}
 ghost use Rattle.roster_bound.specs.Levelled.{pays_of};
 ghost use Rattle.roster_bound.specs.Tables.{worths_of};
 ghost use Rattle.roster_bound.specs.Workspaces.{FitsRows};
-ghost use Rattle.roster_bound.specs.Worths.{IsLowerBound, bound_by, floor_row, level_cost, most_free, most_pay, most_total, most_worth, row_floor, total_floor};
+ghost use Rattle.roster_bound.specs.Worths.{IsLowerBound, floor_row, level_cost, levelled_bound, most_free, most_pay, most_total, most_worth, row_floor, total_floor};
 
 use crate::levelled::Levelled;
 use crate::moves::count_row;
@@ -23,7 +23,7 @@ use crate::offers::{Terms, choices};
 use crate::pays::Pays;
 use crate::places::places_floor;
 use crate::workspace::RowSpace;
-use crate::worths::MOST_WORTH;
+use crate::worths::{MOST_WORTH, Worths};
 use arrayvec::ArrayVec;
 use roster_rules::weights::{ASSIGNMENT, SHIFT_RUN};
 use roster_rules::{Case, Limits};
@@ -31,34 +31,40 @@ use roster_search::{DayOffers, MOST_OFFERS, Offer, RowSearch, cheapest_by_shift}
 use roster_state::{Meter, start};
 
 /// A floor by worths and pays: no roster costs less that fits the case, keeps the hard rules and agrees with the held one on the days
-/// before the week of the terms, which are of the levelled case and the held roster. That is such a one, so that each nurse has a row.
+/// before week `from`. The held one is such a roster, so that each nurse has a row.
 pub fn lower_bound(
     held: &Levelled,
-    terms: &Terms<'_>,
+    from: u16,
+    worths: &Worths,
     pays: &Pays,
     rows: &mut RowSpace,
     meter: &mut Meter,
 ) -> u64
-    requires case { terms.now.case.now ≡ levelled held.now.case }
-    requires given { terms.now.given.now ≡ held.now.roster }
-    requires worths { terms.now.worths.now.days ≡ day_count held.now.case }
+    requires worths { worths.now.days ≡ day_count held.now.case }
     requires rows { FitsRows (levelled held.now.case) rows.old }
     requires room { meter.old + nurse_count held.now.case * greatest_extension_count (levelled held.now.case) ≤ greatest_u64 }
-    ensures below { IsLowerBound held.now.case terms.now.from held.now.roster result }
+    ensures below { IsLowerBound held.now.case from held.now.roster result }
     ensures within { result ≤ penalty held.now.case held.now.roster }
-    ensures bound { result ≡ bound_by held.now.case terms.now.from held.now.roster (worths_of terms.now.worths.now) (pays_of pays.now.each.items) }
+    ensures bound { result ≡ levelled_bound held.now.case from held.now.roster (worths_of worths.now) (pays_of pays.now.each.items) }
     ensures rows { FitsRows (levelled held.now.case) rows.new }
     ensures counted { meter.new ≤ meter.old + nurse_count held.now.case * greatest_extension_count (levelled held.now.case) }
 {
-    held.roster();
-    terms.case.keeps_limits();
-    terms.worths.keep_most();
+    let case = held.case();
+    let terms = Terms {
+        case,
+        worths,
+        given: held.roster(),
+        from,
+        free: 0,
+    };
+    case.keeps_limits();
+    worths.keep_most();
     rows.forget();
-    let mut floors = places_floor(terms.case, terms.worths);
-    for nurse in 0..terms.case.nurses() {
-        floors += nurse_floor(held, terms, nurse, pays.at(nurse), rows, meter);
+    let mut floors = places_floor(case, worths);
+    for nurse in 0..case.nurses() {
+        floors += nurse_floor(held, &terms, nurse, pays.at(nurse), rows, meter);
     }
-    let together = floors.saturating_sub(most_earned(terms.case));
+    let together = floors.saturating_sub(most_earned(case));
     5 * ((together + 4) / 5)
 }
 
@@ -112,7 +118,8 @@ fn most_total(held: &Levelled, nurse: usize) -> u32
     case.past(nurse).assignments as u32 + case.days() as u32
 }
 
-/// The least that the total of a nurse's assignments costs with their pay: at the least or at the greatest total, or at the most.
+/// The least that the total of a nurse's assignments costs with their pay: at the least total or at the greatest, or as near to it as
+/// the nurse can get.
 fn total_floor(held: &Levelled, nurse: usize, pay: u16) -> u32
     requires nurse { nurse < nurse_count held.now.case }
     requires pay { pay ≤ most_pay }
@@ -121,8 +128,14 @@ fn total_floor(held: &Levelled, nurse: usize, pay: u16) -> u32
 {
     let asked = held.asked(nurse);
     let most = most_total(held, nurse);
-    let at_least = total_with_pay(asked, most, pay, most.min(asked.least as u32));
-    let at_greatest = total_with_pay(asked, most, pay, most.min(asked.greatest as u32));
+    let before = held.case().past(nurse).assignments as u32;
+    let at_least = total_with_pay(asked, most, pay, before.max(most.min(asked.least as u32)));
+    let at_greatest = total_with_pay(
+        asked,
+        most,
+        pay,
+        before.max(most.min(asked.greatest as u32)),
+    );
     at_least.min(at_greatest)
 }
 

@@ -4,12 +4,14 @@ ghost use Rattle.std.specs.Prelude.{◌≡◌, ◌%◌, ◌≤◌, ℕ};
 ghost use Rattle.roster_instance.specs.Meaning.{Meaning};
 ghost use Rattle.roster_instance.specs.Rosters.{Rows};
 ghost use Rattle.roster_rules.specs.Penalties.{penalty};
-ghost use Rattle.roster_bound.specs.Worths.{ArePays, AreWorths, IsLowerBound, NursePays, PlaceWorths, bound_by, rounded_up};
+ghost use Rattle.roster_bound.specs.Worths.{ArePays, AreWorths, IsLowerBound, NursePays, PlaceWorths, bound_by, levelled_bound, rounded_up};
 
-/// Whatever the places and the nurses' assignments pay, what places and nurses cost at least, rounded up to a multiple of 5, is a lower
-/// bound on the penalty of each roster that fits the case, keeps the hard rules and agrees with the given one on the frozen days.
+/// Whatever the places pay, what places and nurses cost at least, rounded up to a multiple of 5, is a lower bound on the penalty of
+/// each roster that fits the case, keeps the hard rules and agrees with the given one on the frozen days. So is what they cost at least
+/// where the case is levelled, whatever the nurses' assignments pay.
 pub fn no_roster_is_below_the_bound()
-    ensures { (c : Meaning) (from : ℕ) (given : Rows) (w : PlaceWorths) → AreWorths w → (pay : NursePays) → ArePays pay → IsLowerBound c from given (bound_by c from given w pay) }
+    ensures rows { (c : Meaning) (from : ℕ) (given : Rows) (w : PlaceWorths) → AreWorths w → IsLowerBound c from given (bound_by c from given w) }
+    ensures levelled { (c : Meaning) (from : ℕ) (given : Rows) (w : PlaceWorths) → AreWorths w → (pay : NursePays) → ArePays pay → IsLowerBound c from given (levelled_bound c from given w pay) }
 {}
 
 /// A bound may be rounded up to the next multiple of 5: each penalty is one.

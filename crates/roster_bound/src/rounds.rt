@@ -100,14 +100,13 @@ fn make_round(held: &Levelled, from: u16, workspace: &mut FloorWorkspace, meter:
     ensures counted { meter.new ≤ meter.old + nurse_count held.now.case * greatest_extension_count (levelled held.now.case) }
     ensures fits { FitsFloor (levelled held.now.case) workspace.new }
 {
-    let terms = Terms {
-        case: held.case(),
-        worths: &workspace.worths,
-        given: held.roster(),
-        from,
-        free: 0,
-    };
-    lower_bound(held, &terms, &workspace.pays, &mut workspace.rows, meter)
+    let FloorWorkspace {
+        rows,
+        worths,
+        pays,
+        ..
+    } = workspace;
+    lower_bound(held, from, worths, pays, rows, meter)
 }
 
 /// Each nurse's cheapest row by the worths, over the case as it is. They are counted.

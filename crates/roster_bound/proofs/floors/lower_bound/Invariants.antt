@@ -10,8 +10,8 @@ use Rattle.roster_bound.proofs.floors.lower_bound.Given as goal
 
 abbrev pub invariant-loop-nurse : goal.invariant-loop-nurse
 invariant-loop-nurse l = record {
-  so_far : l.floors ≡ places_floor l.terms.case.now (worths_of l.terms.worths.now) + sum_below l.nurse (nurse_floor l.held.case l.terms.from l.held.roster (worths_of l.terms.worths.now) (pays_of l.pays.each.items));
-  within : l.floors ≤ places_floor l.terms.case.now (worths_of l.terms.worths.now) + l.nurse * 8600000000;
+  so_far : l.floors ≡ places_floor (levelled l.held.case) (worths_of l.worths) + sum_below l.nurse (nurse_floor l.held.case l.from l.held.roster (worths_of l.worths) (pays_of l.pays.each.items));
+  within : l.floors ≤ places_floor (levelled l.held.case) (worths_of l.worths) + l.nurse * 8600000000;
   rows : FitsRows (levelled l.held.case) l.rows;
   counted : l.meter ≤ l.fn.meter + l.nurse * greatest_extension_count (levelled l.held.case);
 }
