@@ -83,13 +83,14 @@ pub fn search_row(
         areas,
         room,
     } = tables;
-    stand_days(search, &ranges, &mut areas.days);
+    let areas = areas.as_mut_slice();
+    stand_days(search, &ranges, areas);
     let days = Days {
         case,
         nurse,
         ranges,
         offers,
-        areas: &areas.days,
+        areas,
     };
     label_days(&days, labels, later, pointers, room, meter);
     read_row(&days, pointers, row);
