@@ -23,19 +23,16 @@ using Label = std::uint32_t;
 constexpr Label no_row = 1u << 30;
 constexpr int most_places = 1000, spare = 64;
 
-// How many runs of working days or days off have areas of their own: the last of them is that of all longer runs too.
-constexpr int run_areas = 8;
-
 // What is done otherwise than in the program.
 struct Way {
     // What an offer costs and where it leads is reckoned once for a last shift and a run, not for each part of each run of the shift, and
     // all offers of a place are compared at once.
     bool steps_once = false;
-    // Besides, the offers that leave the last shift are compared once for all its runs.
-    bool leaving_once = false;
+    // There is an area for each last shift and each run of working days or days off, not for each last shift alone.
+    bool run_areas = false;
 };
 constexpr Way all_ways[] = {{}, {true, false}, {true, true}};
-const char* const ways = "as-it-is steps-once leaving-once";
+const char* const ways = "as-it-is steps-once run-areas";
 
 struct Span {
     int least = 1 << 16, greatest = -1;
@@ -68,7 +65,7 @@ class Tables {
     const Way way;
     int lasts, runs, shift_runs, weekends, assignments;
     std::vector<std::vector<Offer>> offers;
-    std::vector<std::vector<Area>> areas;  // by day; by last shift and run
+    std::vector<std::vector<Area>> areas;  // by day; by last shift, or by that and the run
     std::vector<Label> labels, later;
     std::vector<std::uint8_t> pointers;
     Label label_room[most_places + spare];
@@ -79,30 +76,30 @@ class Tables {
         return (((std::size_t(last) * runs + run) * shift_runs + shift_run) * weekends + worked) * assignments + assigned;
     }
     std::size_t states() const { return code(lasts, 0, 0, 0, 0); }
+    int areas_of_last() const { return way.run_areas ? runs : 1; }
 
     // ---- where states stand
 
     void stand() {
-        for (auto& day : areas) day.assign(lasts * run_areas, Area());
+        for (auto& day : areas) day.assign(lasts * areas_of_last(), Area());
         const State first = start_of(it, nurse);
         auto only = [](int number) { return Span{number, number}; };
         area_of(0, first.last, first.run) = {only(first.run), only(first.shift_run), only(first.weekends), only(first.assignments)};
         for (int day = 0; day < it.days(); day++)
             for (int last = 0; last < lasts; last++)
-                for (int place = 0; place < run_areas; place++) {
-                    const Area& here = areas[day][last * run_areas + place];
+                for (int place = 0; place < areas_of_last(); place++) {
+                    const Area& here = areas[day][last * areas_of_last() + place];
                     if (here.run.is_empty()) continue;
                     for (const Offer& offer : offers[day])
                         if (!it.forbidden[last][offer.choice]) widen(day, last, here, offer.choice);
                 }
     }
-    Area& area_of(int day, int last, int run) { return areas[day][last * run_areas + std::min(run, run_areas - 1)]; }
+    Area& area_of(int day, int last, int run) { return areas[day][last * areas_of_last() + (way.run_areas ? run : 0)]; }
 
     void widen(int day, int last, const Area& here, int choice) {
         const bool works = choice != 0;
         const int run_cap = (works ? rules.working : rules.free).cap();
         const Span run = ((last != 0) == works ? here.run : Span{0, 0}).raised(1, run_cap);
-        // (each run has an area of its own, but for the longest)
         Area& there = area_of(day + 1, choice, run.least);
         there.run.join(run);
         there.shift_run.join(works ? (last == choice ? here.shift_run : Span{0, 0}).raised(1, it.runs[choice].cap()) : Span{0, 0});
@@ -120,8 +117,8 @@ class Tables {
     template <class Each>
     void each_run(int day, Each each) {
         for (int last = 0; last < lasts; last++)
-            for (int place = 0; place < run_areas; place++) {
-                const Area& area = areas[day][last * run_areas + place];
+            for (int place = 0; place < areas_of_last(); place++) {
+                const Area& area = areas[day][last * areas_of_last() + place];
                 for (int run = area.run.least; run <= area.run.greatest; run++) each(last, run, area);
             }
     }
@@ -291,7 +288,6 @@ class Tables {
     // All rows of the groups of a last shift and a run, one group for each run of the shift.
     void label_groups(int day, int last, int run, const Area& area, int worked, int rows) {
         reckon_steps(day, last, run, worked);
-        if (way.leaving_once) return label_leaving(day, last, run, area, worked, rows);
         const int from = area.assignments.least, end = area.assignments.greatest + 1, count = (rows - 1) * assignments + end - from;
         for (int shift_run = area.shift_run.least; shift_run <= area.shift_run.greatest; shift_run++) {
             if (!can_be(last, run, shift_run)) continue;
@@ -309,72 +305,6 @@ class Tables {
             set_least(&labels[block], number_room, sources, count);
             label_high(from, end, rows, &labels[block], number_room);
             std::memcpy(&pointers[day * states() + block], number_room, count);
-        }
-    }
-
-    // ---- otherwise still: what leaves the last shift once for all its runs
-
-    Label leave_room[most_places + spare];
-    std::uint8_t leave_numbers[most_places + spare];
-
-    // Of equally cheap offers any may give its number.
-    static void combine(Label* label, std::uint8_t* number, const Label* leave, const std::uint8_t* leave_number, Label left, const Label* stay, Label more, std::uint8_t by, int count) {
-        if (count < 8) {
-            for (int i = 0; i < count; i++) {
-                const Label one = leave[i] + left, other = stay[i] + more;
-                number[i] = other < one ? by : leave_number[i];
-                label[i] = std::min(one, other);
-            }
-            return;
-        }
-        const __m128i lefts = _mm_set1_epi32(int(left)), mores = _mm_set1_epi32(int(more)), bys = _mm_set1_epi8(char(by));
-        for (int i = 0; i < count; i += 8) {
-            i = std::min(i, count - 8);
-            __m128i same[2];
-            for (int k = 0; k < 2; k++) {
-                const __m128i one = _mm_add_epi32(_mm_loadu_si128(reinterpret_cast<const __m128i*>(leave + i + 4 * k)), lefts);
-                const __m128i least = _mm_min_epu32(one, _mm_add_epi32(_mm_loadu_si128(reinterpret_cast<const __m128i*>(stay + i + 4 * k)), mores));
-                same[k] = _mm_cmpeq_epi32(one, least);
-                _mm_storeu_si128(reinterpret_cast<__m128i*>(label + i + 4 * k), least);
-            }
-            const __m128i packed = _mm_packs_epi16(_mm_packs_epi32(same[0], same[1]), _mm_setzero_si128());
-            _mm_storel_epi64(reinterpret_cast<__m128i*>(number + i), _mm_blendv_epi8(bys, _mm_loadl_epi64(reinterpret_cast<const __m128i*>(leave_number + i)), packed));
-        }
-    }
-
-    void label_leaving(int day, int last, int run, const Area& area, int worked, int rows) {
-        const int from = area.assignments.least, end = area.assignments.greatest + 1, count = (rows - 1) * assignments + end - from;
-        sources.clear();
-        for (const Step& step : steps.leaving) sources.push_back(source_of(step, from, 0));
-        bool is_set = false;
-        for (int shift_run = area.shift_run.least; shift_run <= area.shift_run.greatest; shift_run++) {
-            if (!can_be(last, run, shift_run)) continue;
-            if (!is_set) {
-                set_least(leave_room, leave_numbers, sources, count);
-                label_high(from, end, rows, leave_room, leave_numbers);
-                is_set = true;
-            }
-            const Label left = last != 0 ? shift_points * missing(it.runs[last], shift_run) : 0;
-            const std::size_t block = code(last, run, shift_run, worked, from);
-            places += offers[day].size() * rows * (end - from);
-            Label* label = &labels[block];
-            if (steps.stays) {
-                Step step = steps.staying;
-                step.cost += shift_points * extra(it.runs[last], shift_run);
-                step.after += std::min(shift_run + 1, it.runs[last].cap()) * std::size_t(weekends) * assignments;
-                const Source stay = source_of(step, from, 0);
-                combine(label, number_room, leave_room, leave_numbers, left, stay.first, stay.more, stay.number, count);
-                for (int place = std::max(from, rules.total.greatest); place < end; place++)
-                    for (int row = 0; row < rows; row++) {
-                        const int at = row * assignments + place - from;
-                        const Label one = leave_room[at] + left, other = stay.first[at - (place == rules.total.cap())] + stay.more + assignment_points;
-                        label[at] = std::min(one, other), number_room[at] = other < one ? stay.number : leave_numbers[at];
-                    }
-                std::memcpy(&pointers[day * states() + block], number_room, count);
-            } else {
-                for (int i = 0; i < count; i++) label[i] = leave_room[i] + left;
-                std::memcpy(&pointers[day * states() + block], leave_numbers, count);
-            }
         }
     }
 

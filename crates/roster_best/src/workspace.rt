@@ -91,7 +91,7 @@ impl From<AllocError> for BestFault {
 }
 
 impl Workspace {
-    /// A workspace for the nurses of a case, by at most five growths. Its row is empty.
+    /// A workspace for the nurses of a case, by at most four growths. Its row is empty.
     ///
     /// # Errors
     ///

@@ -5,8 +5,8 @@ use Rattle.roster_instance.specs.Meaning.{Meaning}
 use Rattle.roster_rules.specs.Prefix.{Summary}
 use Rattle.roster_state.specs.declared.area.Area.{Area}
 use Rattle.roster_state.specs.declared.area.Span.{Span}
-use Rattle.roster_state.specs.Areas.{area_of}
-use Rattle.roster_state.specs.Codes.{sizes_of}
+use Rattle.roster_state.specs.Areas.{area_at}
+use Rattle.roster_state.specs.Codes.{shift_digit, sizes_of}
 use Rattle.roster_state.specs.Standing.{can_be}
 use Rattle.roster_search.specs.Counts.{numbers_in, states_with, sum_over}
 
@@ -14,7 +14,7 @@ use Rattle.roster_search.specs.Counts.{numbers_in, states_with, sum_over}
 
 module _ (c : Meaning) (n : ℕ) (areas : List Area) (group : Summary) where
   abbrev pub of_area : ℕ
-  of_area = numbers_in (area_of areas group).weekends (sizes_of c n).weekends * numbers_in (area_of areas group).assignments (sizes_of c n).assignments
+  of_area = numbers_in (area_at areas (shift_digit group.last)).weekends (sizes_of c n).weekends * numbers_in (area_at areas (shift_digit group.last)).assignments (sizes_of c n).assignments
 
   pub none_with : can_be c n group ≡ false → states_with c n areas group ≡ 0
   none_with is = ap (λ (b : Bool). if b then of_area else 0) is
@@ -37,13 +37,8 @@ sum_more least x f low =
     let here : least + (x - least) ≡ x = omega (arith, low) in
     ap (λ k. sum_below k (λ i. f (least + i))) next ∙ ap (λ y. sum_below (x - least) (λ i. f (least + i)) + f y) here
 
-sum_ended : (span : Span) (size x : ℕ) (f : ℕ → ℕ) → x ≡ min (span.greatest + 1) size → sum_below (x - span.least) (λ i. f (span.least + i)) ≡ sum_over span size f
+pub sum_ended : (span : Span) (size x : ℕ) (f : ℕ → ℕ) → x ≡ min (span.greatest + 1) size → sum_below (x - span.least) (λ i. f (span.least + i)) ≡ sum_over span size f
 sum_ended span size x f is = ap (λ k. sum_below (k - span.least) (λ i. f (span.least + i))) is
-
--- the same, where there may be none
-pub sum_closed : (some : Bool) (span : Span) (size x : ℕ) (f : ℕ → ℕ) → x ≡ (if some then min (span.greatest + 1) size else 0) → sum_below (x - span.least) (λ i. f (span.least + i)) ≡ (if some then sum_over span size f else 0)
-sum_closed true span size x f is = sum_ended span size x f is
-sum_closed false span size x f is = let none : x - span.least ≡ 0 = omega (arith, is) in ap (λ k. sum_below k (λ i. f (span.least + i))) none
 
 -- so many times the offers
 pub exactly_on : (states more next offers initial counted : ℕ) → counted ≡ initial + states * offers → more ≡ 0 → next ≡ states + more → counted ≡ initial + next * offers

@@ -7,7 +7,7 @@ use Rattle.roster_instance.specs.Meaning.{Meaning}
 use Rattle.roster_rules.specs.Prefix.{Summary}
 use Rattle.roster_state.specs.declared.area.Area.{Area}
 use Rattle.roster_state.specs.declared.area.Span.{Span}
-use Rattle.roster_state.specs.Areas.{InArea, InSpan, area_at, area_place, nowhere}
+use Rattle.roster_state.specs.Areas.{InArea, InSpan, area_at, nowhere}
 use Rattle.roster_state.specs.Codes.{Sizes, code_of, fits_sizes, product, shift_digit, sizes_of}
 use Rattle.roster_state.proofs.AreaLaw.{last_of_digit}
 use Rattle.roster_state.proofs.CodeLemmas.{Fits, all-fit, fits-all, shift_digit-shift_numbered}
@@ -44,9 +44,9 @@ pub record FewRuns (z : Sizes) : Type 0 where
   pub run : z.run ≤ 1000
   pub shift_run : z.shift_run ≤ 1000
 
--- the area at a place, where it is read from the list
-pub area_is : (areas : List Area) (place : ℕ) (d : Area) → place < length areas → slice_index_or areas place d ≡ area_at areas place
-area_is areas place d inside = get_or_default areas place d nowhere inside
+-- the area of a last shift's number, where it is read from the list
+pub area_is : (here areas : List Area) (last : ℕ) (d : Area) → here ≡ areas → last < length areas → slice_index_or areas last d ≡ area_at here last
+area_is here areas last d same inside = get_or_default areas last d nowhere inside ∙ ap (λ (x : List Area). area_at x last) (sym same)
 
 pub few_of : (z y : Sizes) (runs shift_runs : ℕ) → z ≡ y → runs ≡ z.run → runs ≤ 1000 → shift_runs ≡ z.shift_run → shift_runs ≤ 1000 → FewRuns y
 few_of z y runs shift_runs same run_is run shift_run_is shift_run = subst FewRuns same (record { run = omega (arith, run_is, run); shift_run = omega (arith, shift_run_is, shift_run) })
@@ -58,38 +58,44 @@ module _ (c : Meaning) (n : ℕ) (areas : List Area) (few : FewRuns (sizes_of c 
   abbrev pub fit : Fits z s
   fit = fits-all z s stands.fits
 
-  pub after_last_run : (last to : ℕ) → z.run ≤ to → key_of s < group_key (last + 1) 0 0 → key_of s < group_key last to 0
-  after_last_run last to all below = go (cases_lt (shift_digit s.last) last)
-    where
-      go : (shift_digit s.last < last) ⊎ (last ≤ shift_digit s.last) → key_of s < group_key last to 0
-      go (inl low) = omega (arith, low, fit.run, fit.shift_run, few.run, few.shift_run)
-      go (inr high) = let here : shift_digit s.last ≡ last = omega (arith, high, below) in omega (arith, here, fit.run, all, fit.shift_run, few.shift_run)
+  module _ (last : ℕ) (area : Area) (is : area ≡ area_at areas last) where
+    inside : shift_digit s.last ≡ last → InArea area s
+    inside here = subst (λ (x : Area). InArea x s) (ap (area_at areas) here ∙ sym is) stands.inside
 
-  module _ (last run : ℕ) (few_runs : run < 1000) (area : Area) (is : area ≡ area_at areas (area_place last run)) where
-    inside : shift_digit s.last ≡ last → s.run ≡ run → InArea area s
-    inside here run_is = subst (λ (x : Area). InArea x s) ((λ i. area_at areas (area_place (here i) (run_is i))) ∙ sym is) stands.inside
+    pub before_first_run : (from : ℕ) → from ≤ 1000 → ((x : ℕ) → InSpan area.run x → x < z.run → from ≤ x) → key_of s < group_key last from 0 → key_of s < group_key last 0 0
+    before_first_run from most each below = go (cases_lt (shift_digit s.last) last) (cases_lt last (shift_digit s.last))
+      where
+        go : (shift_digit s.last < last) ⊎ (last ≤ shift_digit s.last) → (last < shift_digit s.last) ⊎ (shift_digit s.last ≤ last) → key_of s < group_key last 0 0
+        go (inl low) q = omega (arith, low, fit.run, fit.shift_run, few.run, few.shift_run)
+        go (inr from_last) (inl high) = absurd (omega (arith, high, below, most))
+        go (inr from_last) (inr to_last) = let here : shift_digit s.last ≡ last = omega (arith, from_last, to_last) in absurd (omega (arith, here, below, each s.run (inside here).run fit.run))
 
-    pub before_first_shift_run : (from : ℕ) → from ≤ 1000 → (InSpan area.run run → (x : ℕ) → InSpan area.shift_run x → x < z.shift_run → from ≤ x) → key_of s < group_key last run from → key_of s < group_key last run 0
-    before_first_shift_run from most each below = go (cases_lt (key_of s) (group_key last run 0))
+    pub after_last_run : (to : ℕ) → ((x : ℕ) → InSpan area.run x → x < z.run → x < to) → key_of s < group_key (last + 1) 0 0 → key_of s < group_key last to 0
+    after_last_run to each below = go (cases_lt (shift_digit s.last) last)
+      where
+        go : (shift_digit s.last < last) ⊎ (last ≤ shift_digit s.last) → key_of s < group_key last to 0
+        go (inl low) = omega (arith, low, fit.run, fit.shift_run, few.run, few.shift_run)
+        go (inr high) = let here : shift_digit s.last ≡ last = omega (arith, high, below) in omega (arith, here, each s.run (inside here).run fit.run, fit.shift_run, few.shift_run)
+
+    pub before_first_shift_run : (run from : ℕ) → run < 1000 → from ≤ 1000 → ((x : ℕ) → InSpan area.shift_run x → x < z.shift_run → from ≤ x) → key_of s < group_key last run from → key_of s < group_key last run 0
+    before_first_shift_run run from few_runs most each below = go (cases_lt (key_of s) (group_key last run 0))
       where
         go : (key_of s < group_key last run 0) ⊎ (group_key last run 0 ≤ key_of s) → key_of s < group_key last run 0
         go (inl low) = low
         go (inr high) =
             let here : shift_digit s.last ≡ last = omega (arith, high, below, few_runs, most, fit.run, fit.shift_run, few.run, few.shift_run) in
             let run_is : s.run ≡ run = omega (arith, here, high, below, most, fit.shift_run, few.shift_run) in
-            let there = inside here run_is in
-            absurd (omega (arith, here, run_is, below, each (span_same there.run run_is) s.shift_run there.shift_run fit.shift_run))
+            absurd (omega (arith, here, run_is, below, each s.shift_run (inside here).shift_run fit.shift_run))
 
-    pub after_last_shift_run : (to : ℕ) → (InSpan area.run run → (x : ℕ) → InSpan area.shift_run x → x < z.shift_run → x < to) → key_of s < group_key last (run + 1) 0 → key_of s < group_key last run to
-    after_last_shift_run to each below = go (cases_lt (key_of s) (group_key last run 0))
+    pub after_last_shift_run : (run to : ℕ) → run < 1000 → ((x : ℕ) → InSpan area.shift_run x → x < z.shift_run → x < to) → key_of s < group_key last (run + 1) 0 → key_of s < group_key last run to
+    after_last_shift_run run to few_runs each below = go (cases_lt (key_of s) (group_key last run 0))
       where
         go : (key_of s < group_key last run 0) ⊎ (group_key last run 0 ≤ key_of s) → key_of s < group_key last run to
         go (inl low) = omega (arith, low)
         go (inr high) =
             let here : shift_digit s.last ≡ last = omega (arith, high, below, few_runs, fit.run, fit.shift_run, few.run, few.shift_run) in
             let run_is : s.run ≡ run = omega (arith, here, high, below, fit.shift_run, few.shift_run) in
-            let there = inside here run_is in
-            omega (arith, here, run_is, each (span_same there.run run_is) s.shift_run there.shift_run fit.shift_run)
+            omega (arith, here, run_is, each s.shift_run (inside here).shift_run fit.shift_run)
 
   -- after the last group
   pub before_all : (last : ℕ) → z.last ≤ last → key_of s < group_key last 0 0

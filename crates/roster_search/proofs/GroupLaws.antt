@@ -1,12 +1,13 @@
 -- The states of a group, those that differ in their worked weekends and assignments alone: their numbers, and their cells by one number of
 -- weekends more.
-use Rattle.std.proofs.Common.{◌≡◌, ◌∙◌, ◌+◌, ◌*◌, ◌<◌, ◌≤◌, ◌⊎◌, ℕ, true, inl, inr, ap, arith, subst, sym, List, slice_index_or}
+use Rattle.std.proofs.Common.{◌≡◌, ◌∙◌, ◌+◌, ◌*◌, ◌<◌, ◌≤◌, ◌⊎◌, ℕ, true, inl, inr, ap, arith, subst, sym, List, slice_index_or, Option}
 use Rattle.std.proofs.lemmas.Bool.{cases_lt}
 use Rattle.std.proofs.lemmas.Nat.{mul-le}
+use Rattle.roster_instance.specs.declared.choice.Shift.{Shift}
 use Rattle.roster_instance.specs.Meaning.{Meaning, past_of}
 use Rattle.roster_rules.specs.Prefix.{Summary}
 use Rattle.roster_state.specs.declared.area.Area.{Area}
-use Rattle.roster_state.specs.Areas.{InArea, InSpan, area_at, area_of, area_place}
+use Rattle.roster_state.specs.Areas.{InArea, InSpan, area_at}
 use Rattle.roster_state.specs.Codes.{Sizes, code_of, fits_sizes, shift_digit, sizes_of}
 use Rattle.roster_state.specs.Standing.{can_be, can_be_with, excess}
 use Rattle.roster_state.specs.Step.{with_assignments, with_weekends}
@@ -57,14 +58,14 @@ module _ (c : Meaning) (n : ℕ) (areas : List Area) (group s : Summary) (like :
     weekends = sym is i;
   }
 
-  pub like_area : (area : Area) → area ≡ area_of areas group → InArea area s
-  like_area area is = subst (λ (x : Area). InArea x s) ((λ i. area_at areas (area_place (shift_digit (like.last i)) (like.run i))) ∙ sym is) like.stands.inside
+  pub like_area : (area : Area) → area ≡ area_at areas (shift_digit group.last) → InArea area s
+  like_area area is = subst (λ (x : Area). InArea x s) (ap (λ (l : Option Shift). area_at areas (shift_digit l)) like.last ∙ sym is) like.stands.inside
 
   pub like_fits : Fits (sizes_of c n) s
   like_fits = fits-all (sizes_of c n) s like.stands.fits
 
   -- it is in the spans of the area
-  module _ (area : Area) (is : area ≡ area_of areas group) (from end : ℕ) where
+  module _ (area : Area) (is : area ≡ area_at areas (shift_digit group.last)) (from end : ℕ) where
     pub like_place : ((x : ℕ) → InSpan area.assignments x → x < (sizes_of c n).assignments → (from ≤ x) × (x < end)) → (from ≤ s.assignments) × (s.assignments < end)
     like_place each = each s.assignments (like_area area is).assignments like_fits.assignments
 
@@ -81,7 +82,7 @@ weekends_fit z group w fits inside =
     all-fit z (with_weekends group w) (record { last = f.last; run = f.run; shift_run = f.shift_run; assignments = f.assignments; weekends = inside })
 
 -- each state of the group in the area stands, if a row may lead to it
-module _ (c : Meaning) (n : ℕ) (areas : List Area) (group : Summary) (area : Area) (is : area ≡ area_of areas group) (fits : fits_sizes (sizes_of c n) group ≡ true) (may_be : can_be c n group ≡ true)
+module _ (c : Meaning) (n : ℕ) (areas : List Area) (group : Summary) (area : Area) (is : area ≡ area_at areas (shift_digit group.last)) (fits : fits_sizes (sizes_of c n) group ≡ true) (may_be : can_be c n group ≡ true)
     (run : InSpan area.run group.run) (shift_run : InSpan area.shift_run group.shift_run) where
   pub place_stands : (w a : ℕ) → w < (sizes_of c n).weekends → a < (sizes_of c n).assignments → InSpan area.weekends w → InSpan area.assignments a → Stands c n areas (with_assignments (with_weekends group w) a)
   place_stands w a w_fits a_fits w_in a_in =

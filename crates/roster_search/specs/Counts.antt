@@ -5,8 +5,8 @@ use Rattle.roster_instance.specs.Meaning.{Meaning}
 use Rattle.roster_rules.specs.Prefix.{Summary}
 use Rattle.roster_state.specs.declared.area.Area.{Area}
 use Rattle.roster_state.specs.declared.area.Span.{Span}
-use Rattle.roster_state.specs.Areas.{area_at, area_of, area_place, has}
-use Rattle.roster_state.specs.Codes.{shift_numbered, sizes_of}
+use Rattle.roster_state.specs.Areas.{area_at}
+use Rattle.roster_state.specs.Codes.{shift_digit, shift_numbered, sizes_of}
 use Rattle.roster_state.specs.Standing.{can_be}
 
 -- how many numbers of a span are below a size
@@ -26,19 +26,16 @@ group_of last run shift_run = record { last = shift_numbered last; run = run; sh
 abbrev pub states_with : Meaning → ℕ → List Area → Summary → ℕ
 states_with c n areas group =
     if can_be c n group
-    then numbers_in (area_of areas group).weekends (sizes_of c n).weekends * numbers_in (area_of areas group).assignments (sizes_of c n).assignments
+    then numbers_in (area_at areas (shift_digit group.last)).weekends (sizes_of c n).weekends * numbers_in (area_at areas (shift_digit group.last)).assignments (sizes_of c n).assignments
     else 0
 
 -- how many with a last shift's number and a run of working days or days off stand
 abbrev pub states_of_run : Meaning → ℕ → List Area → (last run : ℕ) → ℕ
-states_of_run c n areas last run =
-    if has (area_at areas (area_place last run)).run run
-    then sum_over (area_at areas (area_place last run)).shift_run (sizes_of c n).shift_run (λ shift_run. states_with c n areas (group_of last run shift_run))
-    else 0
+states_of_run c n areas last run = sum_over (area_at areas last).shift_run (sizes_of c n).shift_run (λ shift_run. states_with c n areas (group_of last run shift_run))
 
 -- how many with a last shift's number stand
 abbrev pub states_of_last : Meaning → ℕ → List Area → ℕ → ℕ
-states_of_last c n areas last = sum_below (sizes_of c n).run (states_of_run c n areas last)
+states_of_last c n areas last = sum_over (area_at areas last).run (sizes_of c n).run (states_of_run c n areas last)
 
 -- how many stand on a day
 abbrev pub states_on : Meaning → ℕ → List Area → ℕ

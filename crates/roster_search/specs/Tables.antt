@@ -10,8 +10,8 @@ use Rattle.roster_instance.specs.Rosters.{is_choice_of}
 use Rattle.roster_rules.specs.Weights.{off_request_weight, staffing_weight, wish_weight}
 use Rattle.roster_state.specs.declared.area.Area.{Area}
 use Rattle.roster_state.specs.declared.stretch.Stretch.{Stretch}
-use Rattle.roster_state.specs.Areas.{InArea, area_of}
-use Rattle.roster_state.specs.Codes.{Sizes, code_of, fits_sizes, product, sizes_of}
+use Rattle.roster_state.specs.Areas.{InArea, area_at}
+use Rattle.roster_state.specs.Codes.{Sizes, code_of, fits_sizes, product, shift_digit, sizes_of}
 use Rattle.roster_state.specs.Standing.{can_be}
 use Rattle.roster_state.specs.Stretches.{stretch_state}
 use Rattle.roster_state.specs.Step.{end_cost_of, step_of, with_assignments, with_weekends}
@@ -65,12 +65,12 @@ best_at_end c n s = Some (end_cost_of c n s, [])
 
 -- ---- the tables
 
--- the states for which a day's tables are right: those whose numbers are in range, and in the area of their last shift and run, without those
+-- the states for which a day's tables are right: those whose numbers are in range, and in the area of their last shift, without those
 -- that no row leads to
 pub record Stands (c : Meaning) (n : ℕ) (areas : List Area) (s : Summary) : Type 0 where
   pub fits : fits_sizes (sizes_of c n) s ≡ true
   pub can_be : can_be c n s ≡ true
-  pub inside : InArea (area_of areas s) s
+  pub inside : InArea (area_at areas (shift_digit s.last)) s
 
 -- from a state that stands on the day an offer leads, if it is allowed, to one that stands after it
 abbrev pub LeadsOn : Meaning → SearchDay → (areas after : List Area) → Offer → Type 0

@@ -7,8 +7,8 @@ ghost use Rattle.roster_rules.specs.DayLaw.{weekends_more};
 ghost use Rattle.roster_instance.specs.Meaning.{contract_of, nurse_count};
 ghost use Rattle.roster_rules.specs.Prefix.{Summary};
 ghost use Rattle.roster_state.specs.declared.area.Area.{Area};
-ghost use Rattle.roster_state.specs.Areas.{InSpan, area_at, area_of, area_place};
-ghost use Rattle.roster_state.specs.Codes.{code_of, fits_sizes, product, sizes_of};
+ghost use Rattle.roster_state.specs.Areas.{InSpan, area_at};
+ghost use Rattle.roster_state.specs.Codes.{code_of, fits_sizes, product, shift_digit, sizes_of};
 ghost use Rattle.roster_state.specs.Step.{with_assignments};
 ghost use Rattle.roster_state.specs.Stretches.{IsAlike};
 ghost use Rattle.roster_lanes.specs.Lanes.{SameOutside};
@@ -20,9 +20,7 @@ use crate::day::OpenDay;
 use crate::pointers::Pointers;
 use roster_lanes::{lower_all, set_all};
 use roster_rules::Case;
-use roster_state::{
-    AREAS, Area, Block, Meter, Ranges, Stretch, area_place, end_cost, extend_stretch,
-};
+use roster_state::{AREAS, Area, Block, Meter, Ranges, Stretch, end_cost, extend_stretch};
 
 /// The label of a state from which no row goes on. Each row costs less.
 pub const NO_ROW: u32 = 1_073_741_824;
@@ -45,9 +43,10 @@ pub fn label_end(
 {
     let (runs, shift_runs) = (ranges.run(), ranges.shift_run());
     for last in 0..ranges.last() {
-        for run in 0..runs {
-            let area = area_of(areas, last, run);
-            let (first_shift_run, end_shift_run) = area.shift_runs(run, shift_runs);
+        let area = areas[last as usize];
+        let (first_run, end_run) = area.run.below(runs);
+        for run in first_run..end_run {
+            let (first_shift_run, end_shift_run) = area.shift_run.below(shift_runs);
             for shift_run in first_shift_run..end_shift_run {
                 let group = Block::of_runs(last, run as u16, shift_run as u16);
                 label_group_end(case, nurse, ranges, group, &area, labels);
@@ -70,7 +69,7 @@ fn label_group_end(
     requires ranges { ranges.now ≡ sizes_of case.now nurse }
     requires fits { fits_sizes ranges.now group ≡ true }
     requires first { (group.weekends ≡ 0) × (group.assignments ≡ 0) }
-    requires area { area.now ≡ area_of here group }
+    requires area { area.now ≡ area_at here (shift_digit group.last) }
     requires places { product ranges.now ≤ length labels.old }
     ensures labels { LabelsOf (StandsLike case.now nurse here group) case.now nurse (best_at_end case.now nurse) labels.new }
     ensures others { SameOutside (code_of ranges.now group) (code_of ranges.now group + ranges.now.weekends * ranges.now.assignments) labels.old labels.new }
@@ -124,9 +123,10 @@ pub fn label_day(
     let ranges = day.at.ranges;
     let (runs, shift_runs) = (ranges.run(), ranges.shift_run());
     for last in 0..ranges.last() {
-        for run in 0..runs {
-            let area = area_of(day.areas, last, run);
-            let (first_shift_run, end_shift_run) = area.shift_runs(run, shift_runs);
+        let area = area_of(day.areas, last);
+        let (first_run, end_run) = area.run.below(runs);
+        for run in first_run..end_run {
+            let (first_shift_run, end_shift_run) = area.shift_run.below(shift_runs);
             for shift_run in first_shift_run..end_shift_run {
                 let group = Block::of_runs(last, run as u16, shift_run as u16);
                 label_group(day, group, labels, pointers, room, meter);
@@ -155,13 +155,13 @@ impl StretchRoom {
     }
 }
 
-/// The area of a last shift's number, 0 where there is none, and of a run.
+/// The area of a last shift's number, 0 where there is none.
 #[inline(always)]
-fn area_of(areas: &[Area; AREAS], last: u32, run: u32) -> Area
+fn area_of(areas: &[Area; AREAS], last: u32) -> Area
     requires { last < 1 + most_shifts }
-    ensures { result ≡ area_at areas.now (area_place last run) }
+    ensures { result ≡ area_at areas.now last }
 {
-    areas[area_place(last, run)]
+    areas[last as usize]
 }
 
 /// The labels and the pointers of the states that stand on a day, of those that differ in their weekends and assignments alone.
@@ -178,7 +178,7 @@ fn label_group(
     requires here { rest.here ≡ day.now.areas.now }
     requires fits { fits_sizes day.now.at.ranges group ≡ true }
     requires first { (group.weekends ≡ 0) × (group.assignments ≡ 0) }
-    requires runs { (InSpan (area_of rest.here group).run group.run) × (InSpan (area_of rest.here group).shift_run group.shift_run) }
+    requires runs { (InSpan (area_at rest.here (shift_digit group.last)).run group.run) × (InSpan (area_at rest.here (shift_digit group.last)).shift_run group.shift_run) }
     requires labels_room { product day.now.at.ranges ≤ length labels.old }
     requires pointers_room { day.now.first + product day.now.at.ranges ≤ length pointers.old }
     requires room { meter.old + day.now.at.ranges.weekends * (length day.now.offers.now * day.now.at.ranges.assignments) ≤ greatest_u64 }
@@ -197,7 +197,7 @@ fn label_group(
         return;
     }
     let side = at.ranges.assignments();
-    let area = area_of(day.areas, group.last_number(), group.run());
+    let area = area_of(day.areas, group.last_number());
     let (from, end) = area.assignments.below(side);
     let (first, last) = area.weekends.below(at.ranges.weekends());
     if end <= from {

@@ -83,14 +83,13 @@ pub fn search_row(
         areas,
         room,
     } = tables;
-    let areas = areas.as_mut_slice();
-    stand_days(search, &ranges, areas);
+    stand_days(search, &ranges, &mut areas.days);
     let days = Days {
         case,
         nurse,
         ranges,
         offers,
-        areas,
+        areas: &areas.days,
     };
     label_days(&days, labels, later, pointers, room, meter);
     read_row(&days, pointers, row);

@@ -5,8 +5,24 @@ ghost use Rattle.roster_search.specs.Tables.{IsDayOf, IsOfferOf, LeadsOn};
 
 use crate::day::SearchDay;
 use crate::offer::Offer;
+use crate::search::MOST_DAYS;
 use roster_rules::Case;
 use roster_state::{AREAS, Area, NOWHERE, widen};
+
+/// The areas of each day and of the one after the last.
+#[derive(Drop)]
+pub(crate) struct DayAreas {
+    pub(crate) days: [[Area; AREAS]; MOST_DAYS + 1],
+}
+
+impl DayAreas {
+    /// No state stands on any day.
+    pub(crate) fn new() -> DayAreas {
+        DayAreas {
+            days: [[NOWHERE; AREAS]; MOST_DAYS + 1],
+        }
+    }
+}
 
 /// The areas after a day: where its offers lead from those before it.
 pub fn areas_after(

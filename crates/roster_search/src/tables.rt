@@ -5,8 +5,7 @@ ghost use Rattle.roster_bundle.specs.Limits.{greatest_u64};
 
 use crate::labels::StretchRoom;
 use crate::pointers::Pointers;
-use crate::search::MOST_DAYS;
-use roster_state::{AREAS, Area, NOWHERE};
+use crate::stand::DayAreas;
 use std::alloc::{AllocError, Global};
 use std::marker::Model;
 
@@ -17,7 +16,7 @@ pub struct Tables {
     pub(crate) labels: Vec<u32>,
     pub(crate) later: Vec<u32>,
     pub(crate) pointers: Pointers,
-    pub(crate) areas: Vec<[Area; AREAS]>,
+    pub(crate) areas: DayAreas,
     pub(crate) room: StretchRoom,
 }
 
@@ -36,18 +35,17 @@ impl Drop for Tables {
 
 impl Model for Tables {
     ghost use Rattle.std.specs.Prelude.{◌≡◌, ◌+◌, length};
-    ghost use Rattle.roster_instance.specs.Limits.{most_days};
     ghost use Rattle.roster_search.specs.Search.{TableRoom};
 
     ghost Value = { TableRoom };
 
     ghost view = { λ t. record { labels = length t.labels.items + length t.later.items; pointers = length t.pointers } };
 
-    ghost invariant = { λ t. (length t.labels.items ≡ length t.later.items) × (length t.areas.items ≡ most_days + 1) };
+    ghost invariant = { λ t. length t.labels.items ≡ length t.later.items };
 }
 
 impl Tables {
-    /// Tables for so many states on so many days, by four growths.
+    /// Tables for so many states on so many days, by three growths.
     ///
     /// # Errors
     ///
@@ -61,7 +59,7 @@ impl Tables {
             labels: vec![in alloc; 0; states]?,
             later: vec![in alloc; 0; states]?,
             pointers: Pointers::new(alloc, states * days)?,
-            areas: vec![in alloc; [NOWHERE; AREAS]; MOST_DAYS + 1]?,
+            areas: DayAreas::new(),
             room: StretchRoom::new(),
         })
     }

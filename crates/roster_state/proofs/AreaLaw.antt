@@ -1,5 +1,5 @@
 -- A list of areas in which one is set, and the areas after a day with one last shift more.
-use Rattle.std.proofs.Common.{◌≡◌, ◌∙◌, ◌<◌, ◌≤◌, ◌⊎◌, ◌≢◌, ℕ, inl, inr, ap, arith, get_or-set_other, subst, sym, List, length, slice_index_or, slice_set, Option, Some, None, IfSome}
+use Rattle.std.proofs.Common.{◌≡◌, ◌∙◌, ◌<◌, ◌≤◌, ◌⊎◌, ◌≢◌, ℕ, inl, inr, ap, arith, get_or-set_other, subst, sym, List, [], ◌∷◌, length, slice_index_or, slice_set, Option, Some, None, IfSome}
 use Rattle.std.proofs.lemmas.Bool.{cases_lt}
 use Rattle.std.proofs.lemmas.Grind.{get_or-set_at}
 use Rattle.std.proofs.lemmas.List.{get_or_default}
@@ -32,6 +32,13 @@ last_of_digit last digit is = sym (shift_numbered-shift_digit last) ∙ ap shift
 
 pub area_shown : (areas : List Area) (digit : ℕ) (d : Area) (s : Summary) → digit < length areas → InArea (area_at areas digit) s → InArea (slice_index_or areas digit d) s
 area_shown areas digit d s inside = subst (λ (x : Area). InArea x s) (get_or_default areas digit nowhere d inside)
+
+-- a list in which no other area is
+abbrev nowhere_else : List Area
+nowhere_else = nowhere ∷ nowhere ∷ nowhere ∷ nowhere ∷ nowhere ∷ nowhere ∷ nowhere ∷ nowhere ∷ nowhere ∷ []
+
+pub area_alone : (to digit : ℕ) (area : Area) (s : Summary) → digit ≡ to → to < 9 → InArea area s → InArea (area_at (slice_set nowhere_else to area) digit) s
+area_alone to digit area s is inside = area_set nowhere_else to digit area s is inside
 
 pub digit_few : (shift : Option Shift) (shifts : ℕ) → IfSome shift (λ s. s.0 < shifts) → shifts ≤ 8 → shift_digit shift < 9
 digit_few None shifts known few = omega arith

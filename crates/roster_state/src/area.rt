@@ -1,9 +1,9 @@
-//! Which states may stand between two days: for each last shift and run an area, a span of each number.
+//! Which states may stand between two days: for each last shift an area, a span of each other number.
 
 ghost use Rattle.std.specs.Prelude.{◌≡◌, ℕ, ◌+◌, ◌<◌, ◌≤◌, false, true, IfSome, List, length, min, if◌then◌else◌};
 ghost use Rattle.roster_instance.specs.Meaning.{day_count, forbids, nurse_count, shift_count};
 ghost use Rattle.roster_rules.specs.Prefix.{Summary};
-ghost use Rattle.roster_state.specs.Areas.{InArea, InSpan, area_at, area_of, area_place, has};
+ghost use Rattle.roster_state.specs.Areas.{InArea, InSpan, area_at};
 ghost use Rattle.roster_state.specs.Codes.{shift_digit};
 ghost use Rattle.roster_state.specs.Step.{next_of, run_with, shift_run_with};
 
@@ -47,14 +47,6 @@ impl Span {
     {
         let end = min(self.greatest as u32 + 1, size);
         (min(self.least as u32, end), end)
-    }
-
-    /// Whether a number is in the span.
-    #[inline(always)]
-    fn has(self, number: u32) -> bool
-        ensures { result ≡ has self number }
-    {
-        self.least as u32 <= number && number <= self.greatest as u32
     }
 
     /// Each number so much more, up to a cap.
@@ -104,11 +96,8 @@ pub const NOWHERE: Area = Area {
     assignments: NO_NUMBER,
 };
 
-/// How many areas each last shift has: for each shorter run one, and the last for all others.
-const RUN_AREAS: usize = 8;
-
-/// How many areas there are: so many for each last shift, and for none.
-pub const AREAS: usize = 72;
+/// How many areas there are: one for each last shift, and one for none.
+pub const AREAS: usize = 9;
 
 impl Area {
     /// One state.
@@ -130,22 +119,6 @@ impl Area {
         self.run.least > self.run.greatest
     }
 
-    /// From where to where the runs of the last shift below a size are for a run of working days or days off: nowhere where that run
-    /// isn't in the area.
-    #[inline(always)]
-    pub fn shift_runs(&self, run: u32, size: u32) -> (u32, u32)
-        ensures order { (result.0 ≤ result.1) × (result.1 ≤ size) }
-        ensures each { InSpan self.now.run run → (x : ℕ) → InSpan self.now.shift_run x → x < size → (result.0 ≤ x) × (x < result.1) }
-        ensures only { (x : ℕ) → result.0 ≤ x → x < result.1 → (InSpan self.now.run run) × (InSpan self.now.shift_run x) }
-        ensures end { result.1 ≡ (if has self.now.run run then min (self.now.shift_run.greatest + 1) size else 0) }
-        ensures first { result.0 ≡ min self.now.shift_run.least result.1 }
-    {
-        if !self.run.has(run) {
-            return (0, 0);
-        }
-        self.shift_run.below(size)
-    }
-
     /// An area with the states of both.
     fn joined(&self, other: &Area) -> Area
         ensures one { (s : Summary) → InArea self.now s → InArea result s }
@@ -160,23 +133,13 @@ impl Area {
     }
 }
 
-/// The place of an area, by the number of the last shift and the run.
-#[inline(always)]
-pub fn area_place(digit: u32, run: u32) -> usize
-    requires { digit < 9 }
-    ensures place { result ≡ area_place digit run }
-    ensures within { result < AREAS }
-{
-    digit as usize * RUN_AREAS + (run as usize).min(RUN_AREAS - 1)
-}
-
 /// The areas where one state stands.
-pub fn areas_of(state: &State) -> [Area; AREAS]
+pub fn areas_of(state: &State) -> [Area; 9]
     requires { shift_digit state.now.last < 9 }
-    ensures { InArea (area_of result state.now) state.now }
+    ensures { InArea (area_at result (shift_digit state.now.last)) state.now }
 {
     let mut areas = [NOWHERE; AREAS];
-    areas[area_place(shift_digit(state.last), state.run as u32)] = Area::of(state);
+    areas[shift_digit(state.last) as usize] = Area::of(state);
     areas
 }
 
@@ -186,59 +149,43 @@ pub fn widen(
     case: &Case,
     nurse: usize,
     day: u16,
-    areas: &[Area; AREAS],
+    areas: &[Area; 9],
     shift: Option<Shift>,
-    after: &mut [Area; AREAS],
+    after: &mut [Area; 9],
 )
     requires nurse { nurse < nurse_count case.now }
     requires day { day < day_count case.now }
     requires shift { IfSome shift (λ s. s.0 < shift_count case.now) }
-    ensures leads { (s : Summary) → shift_digit s.last < shift_count case.now + 1 → InArea (area_of areas.now s) s → forbids case.now.successions s.last shift ≡ false → InArea (area_at after.new (area_place (shift_digit shift) (next_of case.now nurse day s shift).run)) (next_of case.now nurse day s shift) }
-    ensures keeps { (place : ℕ) (s : Summary) → InArea (area_at after.old place) s → InArea (area_at after.new place) s }
+    ensures leads { (s : Summary) → shift_digit s.last < shift_count case.now + 1 → InArea (area_at areas.now (shift_digit s.last)) s → forbids case.now.successions s.last shift ≡ false → InArea (area_at after.new (shift_digit shift)) (next_of case.now nurse day s shift) }
+    ensures keeps { (digit : ℕ) (s : Summary) → InArea (area_at after.old digit) s → InArea (area_at after.new digit) s }
 {
     case.keeps_limits();
-    'lasts: for digit in 0..case.shifts() as u32 + 1 {
-        let last = shift_numbered(digit);
-        'runs: for run in 0..RUN_AREAS as u32 {
-            let from = areas[area_place(digit, run)];
-            widen_by(case, nurse, day, &from, last, shift, after);
-        }
+    let to = shift_digit(shift) as usize;
+    let mut area = after[to];
+    for digit in 0..case.shifts() as usize + 1 {
+        let last = shift_numbered(digit as u32);
+        area = area_with(case, nurse, day, &area, &areas[digit], last, shift);
     }
+    after[to] = area;
 }
 
-/// Widens the areas after a day by the states to which those of an area, with this last shift, lead by a shift or a day off.
-#[inline(always)]
-fn widen_by(
+/// An area with the states to which those of another one, with this last shift, lead by a shift or a day off.
+fn area_with(
     case: &Case,
     nurse: usize,
     day: u16,
+    area: &Area,
     from: &Area,
     last: Option<Shift>,
     shift: Option<Shift>,
-    after: &mut [Area; AREAS],
-)
-    requires shift { shift_digit shift < 9 }
-    ensures leads { (s : Summary) → s.last ≡ last → InArea from.now s → forbids case.now.successions last shift ≡ false → InArea (area_at after.new (area_place (shift_digit shift) (next_of case.now nurse day s shift).run)) (next_of case.now nurse day s shift) }
-    ensures keeps { (place : ℕ) (s : Summary) → InArea (area_at after.old place) s → InArea (area_at after.new place) s }
+) -> Area
+    ensures keeps { (s : Summary) → InArea area.now s → InArea result s }
+    ensures leads { (s : Summary) → s.last ≡ last → InArea from.now s → forbids case.now.successions last shift ≡ false → InArea result (next_of case.now nurse day s shift) }
 {
     if from.is_empty() || case.forbids_next(last, shift) {
-        return;
+        return *area;
     }
-    let area = area_after(case, nurse, day, from, last, shift);
-    join(after, shift_digit(shift), &area);
-}
-
-/// Widens the areas of a last shift by an area: each by those of its states whose place that is.
-fn join(areas: &mut [Area; AREAS], digit: u32, area: &Area)
-    requires { digit < 9 }
-    ensures joined { (s : Summary) → InArea area.now s → InArea (area_at areas.new (area_place digit s.run)) s }
-    ensures keeps { (place : ℕ) (s : Summary) → InArea (area_at areas.old place) s → InArea (area_at areas.new place) s }
-{
-    let first = area_place(digit, area.run.least as u32);
-    let last = area_place(digit, area.run.greatest as u32);
-    'places: for place in first..last + 1 {
-        areas[place] = areas[place].joined(area);
-    }
+    area.joined(&area_after(case, nurse, day, from, last, shift))
 }
 
 /// Where the states of an area with this last shift lead by a shift or a day off.

@@ -100,14 +100,6 @@ impl Block {
         shift_digit(self.state.last)
     }
 
-    /// The run of working days or days off.
-    #[inline(always)]
-    pub fn run(&self) -> u32
-        ensures { result ≡ self.now.run }
-    {
-        self.state.run as u32
-    }
-
     /// The block with so many worked weekends.
     #[inline(always)]
     pub fn with_weekends(self, weekends: u16) -> Block

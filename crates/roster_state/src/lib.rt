@@ -10,7 +10,7 @@ mod state;
 mod step;
 mod stretch;
 
-pub use area::{AREAS, Area, NOWHERE, Span, area_place, areas_of, widen};
+pub use area::{AREAS, Area, NOWHERE, Span, areas_of, widen};
 pub use block::{Block, BlockStep, extend_block};
 pub use meter::Meter;
 pub use ranges::Ranges;

@@ -1,7 +1,6 @@
-use Rattle.std.proofs.Common.{◌∙◌, ap, arith}
-use Rattle.roster_state.specs.Areas.{area_at}
+use Rattle.std.proofs.Common.{arith, refl}
 use Rattle.roster_search.proofs.DayLaws.{area_is}
 use Rattle.roster_search.proofs.labels.area_of.Goals as goal
 
 pub returns : goal.returns
-returns c = area_is c.args.areas.now c.area_place.result _ (omega (arith, c.area_place.ensures.within, c.told-areas)) ∙ ap (area_at c.args.areas.now) c.area_place.ensures.place
+returns c = area_is c.args.areas.now c.args.areas.now c.args.last _ refl (omega (arith, c.requires, c.told-areas))

@@ -1,6 +1,6 @@
 use Rattle.std.proofs.Common.{◌≡◌, ◌+◌, ◌-◌, ◌*◌, ◌≤◌, length}
 use Rattle.roster_instance.specs.Counting.{sum_below}
-use Rattle.roster_state.specs.Areas.{area_at, area_place}
+use Rattle.roster_state.specs.Areas.{area_at}
 use Rattle.roster_search.specs.Counts.{group_of, states_of_last, states_of_run, states_with}
 use Rattle.roster_search.proofs.DayLaws.{DayDone, group_key, group_number}
 use Rattle.roster_search.proofs.labels.label_day.Given as goal
@@ -23,7 +23,7 @@ invariant-loop-run g l = record {
   labels_length : length l.labels ≡ length l.fn.labels;
   pointers_length : length l.pointers ≡ length l.fn.pointers;
   counted : l.meter ≤ l.fn.meter + group_number l.day.at.ranges l.last l.run 0 * (l.day.at.ranges.weekends * (length l.day.offers.now * l.day.at.ranges.assignments));
-  exactly : l.meter ≡ l.fn.meter + (sum_below l.last (states_of_last l.day.case.now l.day.at.nurse g.rest.here) + sum_below l.run (states_of_run l.day.case.now l.day.at.nurse g.rest.here l.last)) * length l.day.offers.now;
+  exactly : l.meter ≡ l.fn.meter + (sum_below l.last (states_of_last l.day.case.now l.day.at.nurse g.rest.here) + sum_below (l.run - (area_at g.rest.here l.last).run.least) (λ i. states_of_run l.day.case.now l.day.at.nurse g.rest.here l.last ((area_at g.rest.here l.last).run.least + i))) * length l.day.offers.now;
 }
 
 abbrev pub invariant-loop-shift_run : goal.invariant-loop-shift_run
@@ -32,5 +32,5 @@ invariant-loop-shift_run g l = record {
   labels_length : length l.labels ≡ length l.fn.labels;
   pointers_length : length l.pointers ≡ length l.fn.pointers;
   counted : l.meter ≤ l.fn.meter + group_number l.day.at.ranges l.last l.run l.shift_run * (l.day.at.ranges.weekends * (length l.day.offers.now * l.day.at.ranges.assignments));
-  exactly : l.meter ≡ l.fn.meter + (sum_below l.last (states_of_last l.day.case.now l.day.at.nurse g.rest.here) + sum_below l.run (states_of_run l.day.case.now l.day.at.nurse g.rest.here l.last) + sum_below (l.shift_run - (area_at g.rest.here (area_place l.last l.run)).shift_run.least) (λ i. states_with l.day.case.now l.day.at.nurse g.rest.here (group_of l.last l.run ((area_at g.rest.here (area_place l.last l.run)).shift_run.least + i)))) * length l.day.offers.now;
+  exactly : l.meter ≡ l.fn.meter + (sum_below l.last (states_of_last l.day.case.now l.day.at.nurse g.rest.here) + sum_below (l.run - (area_at g.rest.here l.last).run.least) (λ i. states_of_run l.day.case.now l.day.at.nurse g.rest.here l.last ((area_at g.rest.here l.last).run.least + i)) + sum_below (l.shift_run - (area_at g.rest.here l.last).shift_run.least) (λ i. states_with l.day.case.now l.day.at.nurse g.rest.here (group_of l.last l.run ((area_at g.rest.here l.last).shift_run.least + i)))) * length l.day.offers.now;
 }

@@ -4,8 +4,8 @@ use Rattle.roster_rules.specs.DayLaw.{weekends_more}
 use Rattle.roster_instance.specs.Meaning.{contract_of}
 use Rattle.roster_rules.specs.Prefix.{Summary}
 use Rattle.roster_state.specs.declared.area.Area.{Area}
-use Rattle.roster_state.specs.Areas.{InSpan, area_at, area_of, area_place}
-use Rattle.roster_state.specs.Codes.{Sizes, code_of, fits_sizes, product, sizes_of}
+use Rattle.roster_state.specs.Areas.{InSpan, area_at}
+use Rattle.roster_state.specs.Codes.{Sizes, code_of, fits_sizes, product, shift_digit, sizes_of}
 use Rattle.roster_state.specs.Standing.{can_be}
 use Rattle.roster_state.specs.Step.{with_weekends}
 use Rattle.roster_state.specs.Stretches.{stretch_state}
@@ -24,25 +24,25 @@ use Rattle.roster_search.proofs.labels.label_group.Goals.{After-below-first, Aft
 
 -- its area, and the greatest number of assignments
 record AreaHere (g : _) (c : After-below-from g) : Type 0 where
-  is : c.area_of-area.result ≡ area_of g.rest.here c.args.group
+  is : c.area_of-area.result ≡ area_at g.rest.here (shift_digit c.args.group.last)
   size : c.assignments-side.result ≡ (sizes_of c.args.day.now.case.now c.args.day.now.at.nurse).assignments
 
 area_here : (g : _) (c : After-below-from g) → AreaHere g c
 area_here g c = record {
-  is = c.area_of-area.ensures ∙ ap (λ (x : List Area). area_at x (area_place c.last_number.result c.run.result)) (sym c.requires.1.0) ∙ (λ i. area_at g.rest.here (area_place (c.last_number.ensures.number i) (c.run.ensures i)));
+  is = c.area_of-area.ensures ∙ ap (λ (x : List Area). area_at x c.last_number.result) (sym c.requires.1.0) ∙ ap (area_at g.rest.here) c.last_number.ensures.number;
   size = c.assignments-side.ensures.assignments ∙ ap (λ (y : Sizes). y.assignments) c.requires.0.day.ranges;
 }
 
 -- its rows and their places are within the ranges
 record RowsHere (g : _) (c : After-below-first g) : Type 0 where
   high : c.weekends.result ≡ (sizes_of c.args.day.now.case.now c.args.day.now.at.nurse).weekends
-  first_is : c.below-first.result.0 ≡ min (area_of g.rest.here c.args.group).weekends.least c.below-first.result.1
+  first_is : c.below-first.result.0 ≡ min (area_at g.rest.here (shift_digit c.args.group.last)).weekends.least c.below-first.result.1
   places : c.below-from.result.1 ≤ c.args.day.now.at.ranges.assignments
   up_to : c.below-first.result.1 ≤ c.args.day.now.at.ranges.weekends
 
 rows_here : (g : _) (c : After-below-first g) → RowsHere g c
 rows_here g c =
-    let is = c.area_of-area.ensures ∙ ap (λ (x : List Area). area_at x (area_place c.last_number.result c.run.result)) (sym c.requires.1.0) ∙ (λ i. area_at g.rest.here (area_place (c.last_number.ensures.number i) (c.run.ensures i))) in
+    let is = c.area_of-area.ensures ∙ ap (λ (x : List Area). area_at x c.last_number.result) (sym c.requires.1.0) ∙ ap (area_at g.rest.here) c.last_number.ensures.number in
     record {
       high = c.weekends.ensures.weekends ∙ ap (λ (y : Sizes). y.weekends) c.requires.0.day.ranges;
       first_is = c.below-first.ensures.first ∙ ap (λ (x : Area). min x.weekends.least c.below-first.result.1) is;
@@ -115,11 +115,11 @@ returns-then-end-from-clause-exactly g c =
     let from = c.below-from.result.0 in
     let end = c.below-from.result.1 in
     let here = area_here g (goal.at.returns-then-end-from-clause-exactly g c).After-below-from in
-    let places_are : end - from ≡ numbers_in (area_of g.rest.here group).assignments (sizes_of k n).assignments =
+    let places_are : end - from ≡ numbers_in (area_at g.rest.here (shift_digit group.last)).assignments (sizes_of k n).assignments =
     numbers_are c.area_of-area.result.assignments c.assignments-side.result from end c.below-from.ensures.end c.below-from.ensures.first ∙ (λ i. numbers_in (here.is i).assignments (here.size i)) in
-    let zero : numbers_in (area_of g.rest.here group).assignments (sizes_of k n).assignments ≡ 0 = omega (arith, places_are, c.if-end-from.true) in
+    let zero : numbers_in (area_at g.rest.here (shift_digit group.last)).assignments (sizes_of k n).assignments ≡ 0 = omega (arith, places_are, c.if-end-from.true) in
     let none : states_with k n g.rest.here group ≡ 0 =
-    some_with k n g.rest.here group (sym c.can_be.ensures ∙ c.if-not-can_be.false) ∙ ap (λ j. numbers_in (area_of g.rest.here group).weekends (sizes_of k n).weekends * j) zero ∙ omega arith in
+    some_with k n g.rest.here group (sym c.can_be.ensures ∙ c.if-not-can_be.false) ∙ ap (λ j. numbers_in (area_at g.rest.here (shift_digit group.last)).weekends (sizes_of k n).weekends * j) zero ∙ omega arith in
     let same : c.args.meter.now ≡ c.args.meter.now + 0 * length day.offers.now = omega arith in
     same ∙ ap (λ j. c.args.meter.now + j * length day.offers.now) (sym none)
 
@@ -139,7 +139,7 @@ label_rows-requires g c =
     let here = area_here g (goal.at.label_rows-requires g c).After-below-from in
     let over = rows_here g (goal.at.label_rows-requires g c).After-below-first in
     let last = c.below-first.result.1 in
-    let least = (area_of g.rest.here group).weekends.least in
+    let least = (area_at g.rest.here (shift_digit group.last)).weekends.least in
     let long = length day.offers.now in
     let old = c.loop-weekends.invariant in
     let w = c.loop-weekends.weekends in
@@ -186,7 +186,7 @@ loop-weekends-init g c =
     let end = c.below-from.result.1 in
     let over = rows_here g (goal.at.loop-weekends-init g c).After-below-first in
     let first = c.below-first.result.0 in
-    let least = (area_of g.rest.here group).weekends.least in
+    let least = (area_at g.rest.here (shift_digit group.last)).weekends.least in
     let long = length day.offers.now in
     let none : first - least ≡ 0 = omega (arith, over.first_is) in
     record {
@@ -212,7 +212,7 @@ loop-weekends-preserved g c =
     let end = c.below-from.result.1 in
     let over = rows_here g (goal.at.loop-weekends-preserved g c).After-below-first in
     let last = c.below-first.result.1 in
-    let least = (area_of g.rest.here group).weekends.least in
+    let least = (area_at g.rest.here (shift_digit group.last)).weekends.least in
     let long = length day.offers.now in
     let old = c.loop-weekends.invariant in
     let w = c.loop-weekends.weekends in
@@ -265,7 +265,7 @@ returns-clause-labels g c s like =
     let over = rows_here g (goal.at.returns-clause-labels g c).After-below-first in
     let first = c.below-first.result.0 in
     let last = c.below-first.result.1 in
-    let least = (area_of g.rest.here group).weekends.least in
+    let least = (area_at g.rest.here (shift_digit group.last)).weekends.least in
     let old = c.loop-weekends.invariant in
     let w = c.loop-weekends.weekends in
     let at_end : w ≡ last = omega (arith, old.inside, c.loop-weekends-test.false) in
@@ -294,7 +294,7 @@ returns-clause-pointers g c s like =
     let over = rows_here g (goal.at.returns-clause-pointers g c).After-below-first in
     let first = c.below-first.result.0 in
     let last = c.below-first.result.1 in
-    let least = (area_of g.rest.here group).weekends.least in
+    let least = (area_at g.rest.here (shift_digit group.last)).weekends.least in
     let old = c.loop-weekends.invariant in
     let w = c.loop-weekends.weekends in
     let at_end : w ≡ last = omega (arith, old.inside, c.loop-weekends-test.false) in
@@ -331,7 +331,7 @@ returns-clause-some g c offered s like =
     let over = rows_here g (goal.at.returns-clause-some g c).After-below-first in
     let first = c.below-first.result.0 in
     let last = c.below-first.result.1 in
-    let least = (area_of g.rest.here group).weekends.least in
+    let least = (area_at g.rest.here (shift_digit group.last)).weekends.least in
     let long = length day.offers.now in
     let old = c.loop-weekends.invariant in
     let w = c.loop-weekends.weekends in
@@ -352,12 +352,12 @@ returns-clause-exactly g c =
     let here = area_here g (goal.at.returns-clause-exactly g c).After-below-from in
     let over = rows_here g (goal.at.returns-clause-exactly g c).After-below-first in
     let last = c.below-first.result.1 in
-    let least = (area_of g.rest.here group).weekends.least in
+    let least = (area_at g.rest.here (shift_digit group.last)).weekends.least in
     let long = length day.offers.now in
     let old = c.loop-weekends.invariant in
     let w = c.loop-weekends.weekends in
     let at_end : w ≡ last = omega (arith, old.inside, c.loop-weekends-test.false) in
-    let area = area_of g.rest.here group in
+    let area = area_at g.rest.here (shift_digit group.last) in
     let places_are : end - from ≡ numbers_in area.assignments (sizes_of k n).assignments =
     numbers_are c.area_of-area.result.assignments c.assignments-side.result from end c.below-from.ensures.end c.below-from.ensures.first ∙ (λ i. numbers_in (here.is i).assignments (here.size i)) in
     let last_is : last ≡ min (area.weekends.greatest + 1) (sizes_of k n).weekends = c.below-first.ensures.end ∙ (λ i. min ((here.is i).weekends.greatest + 1) (over.high i)) in
@@ -375,7 +375,7 @@ returns-clause-counted g c =
     let end = c.below-from.result.1 in
     let over = rows_here g (goal.at.returns-clause-counted g c).After-below-first in
     let last = c.below-first.result.1 in
-    let least = (area_of g.rest.here group).weekends.least in
+    let least = (area_at g.rest.here (shift_digit group.last)).weekends.least in
     let long = length day.offers.now in
     let old = c.loop-weekends.invariant in
     let w = c.loop-weekends.weekends in

@@ -1,7 +1,5 @@
-use Rattle.std.proofs.Common.{◌≡◌, ◌∙◌, ◌*◌, ◌<◌, ◌≤◌, IfSome, List, Some, ap, arith, length, refl, slice_index_or, subst, sym, take, ◌+◌, ◌++◌, ℕ, true}
-use Rattle.std.proofs.lemmas.List.{get_or_read_under, length-append, length-take-le}
-use Rattle.std.specs.Vec.{vec_len}
-use Rattle.roster_instance.specs.Limits.{most_days}
+use Rattle.std.proofs.Common.{◌≡◌, ◌∙◌, ◌*◌, ◌<◌, ◌≤◌, IfSome, List, Some, ap, arith, length, refl, slice_index_or, subst, sym, ◌+◌, true}
+use Rattle.std.proofs.lemmas.List.{get_or_read_under}
 use Rattle.roster_instance.specs.Meaning.{day_count}
 use Rattle.roster_state.specs.Codes.{code_of, product, sizes_of, Sizes, fits_sizes}
 use Rattle.roster_search.specs.declared.offer.Offer.{Offer}
@@ -25,14 +23,14 @@ label_days-requires-clause-stand c day within =
 
 pub label_days-requires-clause-labels_room : goal.label_days-requires-clause-labels_room
 label_days-requires-clause-labels_room c =
-    omega (arith, ap (λ (t : TableRoom). t.labels) c.tables.view_is, c.tables.invariant.0, c.requires.tables.labels, c.of-ranges.ensures.states)
+    omega (arith, ap (λ (t : TableRoom). t.labels) c.tables.view_is, c.tables.invariant, c.requires.tables.labels, c.of-ranges.ensures.states)
 
 pub label_days-requires-clause-pointers_room : goal.label_days-requires-clause-pointers_room
 label_days-requires-clause-pointers_room c =
     omega (arith, ap (λ (t : TableRoom). t.pointers) c.tables.view_is, c.requires.tables.pointers, ap (λ m. day_count c.args.search.now.case.now * m) c.of-ranges.ensures.states)
 
 pub label_days-requires-clause-same_room : goal.label_days-requires-clause-same_room
-label_days-requires-clause-same_room c = sym c.tables.invariant.0
+label_days-requires-clause-same_room c = sym c.tables.invariant
 
 pub label_days-requires-clause-lead : goal.label_days-requires-clause-lead
 label_days-requires-clause-lead c = c.stand_days.ensures.lead
@@ -60,7 +58,7 @@ code-requires c = subst (λ (z : Sizes). fits_sizes z c.start-first.result.0 ≡
 
 pub index-requires : goal.index-requires
 index-requires c =
-    omega (arith, c.code.ensures.within, ap (λ (t : TableRoom). t.labels) c.tables.view_is, c.tables.invariant.0, c.requires.tables.labels, c.of-ranges.ensures.states, c.label_days.ensures.lengths.1)
+    omega (arith, c.code.ensures.within, ap (λ (t : TableRoom). t.labels) c.tables.view_is, c.tables.invariant, c.requires.tables.labels, c.of-ranges.ensures.states, c.label_days.ensures.lengths.1)
 
 -- ---- the first label
 
@@ -73,7 +71,7 @@ label_is c best =
     let stands = subst (Stands k n (areas_on c.stand_days.new.areas 0)) (sym c.start-first.ensures.state) c.stand_days.ensures.start in
     let here : code ≡ code_of (sizes_of k n) s = c.code.ensures.code ∙ ap (λ y. code_of y s) c.of-ranges.ensures.sizes in
     let told = ap (λ j. slice_index_or c.label_days.new.later.items j 0) here ∙ c.label_days.ensures.labels s stands in
-    let all : product c.of-ranges.result ≤ length c.label_days.new.later.items = omega (arith, ap (λ (t : TableRoom). t.labels) c.tables.view_is, c.tables.invariant.0, c.requires.tables.labels, c.of-ranges.ensures.states, c.label_days.ensures.lengths.1) in
+    let all : product c.of-ranges.result ≤ length c.label_days.new.later.items = omega (arith, ap (λ (t : TableRoom). t.labels) c.tables.view_is, c.tables.invariant, c.requires.tables.labels, c.of-ranges.ensures.states, c.label_days.ensures.lengths.1) in
     let read = get_or_read_under c.label_days.new.later.items code (length c.label_days.new.later.items) c.index.result.now 0 c.index.ensures (omega (arith, all, c.code.ensures.within)) refl in
     first_label k n (offers_on c.args.search.now.offers.now) s c.index.result.now best.row.0 best.row.1 c.start-first.ensures.state (read ∙ told) best.is best.low
 
@@ -108,16 +106,8 @@ returns-clause-length c = c.read_row.ensures.length
 
 -- ---- the tables after it
 
--- as many are written back into a list as it has
-written_back : {A : Type 0} (count : ℕ) (new rest : List A) → length new ≡ count → length (take count (new ++ rest)) ≡ count
-written_back count new rest is = length-take-le count (new ++ rest) (omega (arith, is, length-append new rest))
-
 pub invariant_of-tables : goal.invariant_of-tables
-invariant_of-tables c =
-    let same : length c.stand_days.new.areas ≡ length c.as_mut_slice-areas.result.now = c.stand_days.auto.areas in
-    let count : length c.stand_days.new.areas ≡ vec_len c.tables.inside.areas = same ∙ c.as_mut_slice-areas.ensures.len in
-    let all : length c.as_mut_slice-areas.result.now ≡ most_days + 1 = ap length c.as_mut_slice-areas.ensures.value ∙ c.tables.invariant.1 in
-    (c.label_days.ensures.lengths.0 ∙ c.tables.invariant.0 ∙ sym c.label_days.ensures.lengths.1, written_back _ c.stand_days.new.areas _ count ∙ sym count ∙ same ∙ all)
+invariant_of-tables c = c.label_days.ensures.lengths.0 ∙ c.tables.invariant ∙ sym c.label_days.ensures.lengths.1
 
 pub returns-clause-tables : goal.returns-clause-tables
 returns-clause-tables c =

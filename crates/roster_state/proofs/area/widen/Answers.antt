@@ -1,58 +1,49 @@
-use Rattle.std.proofs.Common.{◌≡◌, ◌∙◌, arith, false, inl, inr, min, subst, sym}
+use Rattle.std.proofs.Common.{◌≡◌, ◌∙◌, ◌<◌, arith, false, inl, inr, length, subst, sym}
 use Rattle.std.proofs.lemmas.Bool.{cases_lt}
 use Rattle.roster_instance.specs.Meaning.{forbids}
-use Rattle.roster_state.specs.Areas.{InArea, area_at, area_place}
+use Rattle.roster_state.specs.Areas.{InArea, area_at}
 use Rattle.roster_state.specs.Codes.{shift_digit}
-use Rattle.roster_state.proofs.AreaLaw.{area_shown, digit_few, last_of_digit}
+use Rattle.roster_state.specs.Step.{next_of}
+use Rattle.roster_state.proofs.AreaLaw.{area_kept, area_set, area_shown, digit_few, last_of_digit}
 use Rattle.roster_state.proofs.area.widen.Goals as goal
 
-pub lasts-init : goal.lasts-init
-lasts-init c = record {
-  leads = λ s below there allowed. absurd (omega (arith, below));
-  keeps = λ place s there. there;
-}
-
-pub runs-init : goal.runs-init
-runs-init c =
-    let old = c.lasts.invariant in
+pub loop-digit-init : goal.loop-digit-init
+loop-digit-init c =
+    let long : length c.args.after.now ≡ 9 = omega (arith, c.told-after) in
+    let few : c.shift_digit-to.result < 9 = omega (arith, c.shift_digit-to.ensures.number, digit_few c.args.shift _ c.requires.shift c.keeps_limits.ensures.shifts) in
     record {
-      leads = old.leads;
-      here = λ s is below there allowed. absurd (omega (arith, below));
-      keeps = old.keeps;
+      leads = λ s below there allowed. absurd (omega (arith, below));
+      keeps = λ s there. area_shown c.args.after.now c.shift_digit-to.result _ s (omega (arith, long, few)) (subst (λ d. InArea (area_at c.args.after.now d) s) (sym c.shift_digit-to.ensures.number) there);
     }
 
-pub widen_by-requires : goal.widen_by-requires
-widen_by-requires c = record { shift = digit_few c.args.shift _ c.requires.shift c.keeps_limits.ensures.shifts }
-
-pub runs-preserved : goal.runs-preserved
-runs-preserved c =
-    let old = c.runs.invariant in
-    let e = c.widen_by.ensures in
-    let digit = c.lasts.digit in
-    let run = c.runs.run in
+pub loop-digit-preserved : goal.loop-digit-preserved
+loop-digit-preserved c =
+    let digit = c.loop-digit.digit in
+    let old = c.loop-digit.invariant in
+    let long : length c.args.areas.now ≡ 9 = omega (arith, c.told-areas) in
+    let few : digit < 9 = omega (arith, c.loop-digit-test.true, c.shifts.ensures, c.keeps_limits.ensures.shifts) in
     record {
-      leads = λ s below there allowed. e.keeps _ _ (old.leads s below there allowed);
-      here = λ s is below there allowed. elim (cases_lt (min s.run 7) run) [
-        | inl before ↦ e.keeps _ _ (old.here s is before there allowed)
+      leads = λ s below there allowed. elim (cases_lt (shift_digit s.last) digit) [
+        | inl before ↦ c.area_with-area.ensures.keeps _ (old.leads s before there allowed)
         | inr from ↦
+            let is : shift_digit s.last ≡ digit = omega (arith, from, below) in
             let last = last_of_digit s.last digit is ∙ sym c.shift_numbered-last.ensures in
-            let place : area_place (shift_digit s.last) s.run ≡ c.area_place.result = omega (arith, is, from, below, c.area_place.ensures.place) in
-            e.leads s last (area_shown c.args.areas.now c.area_place.result _ s (omega (arith, c.area_place.ensures.within, c.told-areas)) (subst (λ p. InArea (area_at c.args.areas.now p) s) place there))
+            c.area_with-area.ensures.leads s last (area_shown c.args.areas.now digit _ s (omega (arith, long, few)) (subst (λ d. InArea (area_at c.args.areas.now d) s) is there))
             (subst (λ l. forbids c.args.case.now.successions l c.args.shift ≡ false) last allowed)
       ];
-      keeps = λ place s there. e.keeps place s (old.keeps place s there);
-    }
-
-pub lasts-preserved : goal.lasts-preserved
-lasts-preserved c =
-    let old = c.runs.invariant in
-    record {
-      leads = λ s below there allowed. elim (cases_lt (shift_digit s.last) c.lasts.digit) [
-        | inl before ↦ old.leads s before there allowed
-        | inr from ↦ old.here s (omega (arith, from, below)) (omega (arith, c.runs-test.false)) there allowed
-      ];
-      keeps = old.keeps;
+      keeps = λ s there. c.area_with-area.ensures.keeps s (old.keeps s there);
     }
 
 pub returns-clause-leads : goal.returns-clause-leads
-returns-clause-leads c s below there allowed = c.lasts.invariant.leads s (omega (arith, below, c.lasts-test.false, c.shifts.ensures.count)) there allowed
+returns-clause-leads c s below there allowed =
+    let long : length c.args.after.now ≡ 9 = omega (arith, c.told-after) in
+    let few : c.shift_digit-to.result < 9 = omega (arith, c.shift_digit-to.ensures.number, digit_few c.args.shift _ c.requires.shift c.keeps_limits.ensures.shifts) in
+    area_set c.args.after.now c.shift_digit-to.result (shift_digit c.args.shift) c.loop-digit.area (next_of c.args.case.now c.args.nurse c.args.day s c.args.shift) (sym c.shift_digit-to.ensures.number) (omega (arith, long, few))
+    (c.loop-digit.invariant.leads s (omega (arith, below, c.loop-digit-test.false, c.shifts.ensures.count)) there allowed)
+
+pub returns-clause-keeps : goal.returns-clause-keeps
+returns-clause-keeps c digit s there =
+    let long : length c.args.after.now ≡ 9 = omega (arith, c.told-after) in
+    let few : c.shift_digit-to.result < 9 = omega (arith, c.shift_digit-to.ensures.number, digit_few c.args.shift _ c.requires.shift c.keeps_limits.ensures.shifts) in
+    area_kept c.args.after.now c.shift_digit-to.result digit c.loop-digit.area s (omega (arith, long, few))
+    (λ here. c.loop-digit.invariant.keeps s (subst (λ d. InArea (area_at c.args.after.now d) s) c.shift_digit-to.ensures.number here)) there
