@@ -30,9 +30,11 @@ struct Way {
     bool steps_once = false;
     // There is an area for each last shift and each run of working days or days off, not for each last shift alone.
     bool run_areas = false;
+    // Besides, the offers that leave the last shift are compared once for all its runs.
+    bool leaving_once = false;
 };
-constexpr Way all_ways[] = {{}, {true, false}, {true, true}};
-const char* const ways = "as-it-is steps-once run-areas";
+constexpr Way all_ways[] = {{}, {true}, {true, true}, {true, true, true}};
+const char* const ways = "as-it-is steps-once run-areas leaving-once";
 
 struct Span {
     int least = 1 << 16, greatest = -1;
@@ -288,6 +290,7 @@ class Tables {
     // All rows of the groups of a last shift and a run, one group for each run of the shift.
     void label_groups(int day, int last, int run, const Area& area, int worked, int rows) {
         reckon_steps(day, last, run, worked);
+        if (way.leaving_once) return label_leaving(day, last, run, area, worked, rows);
         const int from = area.assignments.least, end = area.assignments.greatest + 1, count = (rows - 1) * assignments + end - from;
         for (int shift_run = area.shift_run.least; shift_run <= area.shift_run.greatest; shift_run++) {
             if (!can_be(last, run, shift_run)) continue;
@@ -305,6 +308,72 @@ class Tables {
             set_least(&labels[block], number_room, sources, count);
             label_high(from, end, rows, &labels[block], number_room);
             std::memcpy(&pointers[day * states() + block], number_room, count);
+        }
+    }
+
+    // ---- otherwise still: what leaves the last shift once for all its runs
+
+    Label leave_room[most_places + spare];
+    std::uint8_t leave_numbers[most_places + spare];
+
+    // Of equally cheap offers any may give its number.
+    static void combine(Label* label, std::uint8_t* number, const Label* leave, const std::uint8_t* leave_number, Label left, const Label* stay, Label more, std::uint8_t by, int count) {
+        if (count < 8) {
+            for (int i = 0; i < count; i++) {
+                const Label one = leave[i] + left, other = stay[i] + more;
+                number[i] = other < one ? by : leave_number[i];
+                label[i] = std::min(one, other);
+            }
+            return;
+        }
+        const __m128i lefts = _mm_set1_epi32(int(left)), mores = _mm_set1_epi32(int(more)), bys = _mm_set1_epi8(char(by));
+        for (int i = 0; i < count; i += 8) {
+            i = std::min(i, count - 8);
+            __m128i same[2];
+            for (int k = 0; k < 2; k++) {
+                const __m128i one = _mm_add_epi32(_mm_loadu_si128(reinterpret_cast<const __m128i*>(leave + i + 4 * k)), lefts);
+                const __m128i least = _mm_min_epu32(one, _mm_add_epi32(_mm_loadu_si128(reinterpret_cast<const __m128i*>(stay + i + 4 * k)), mores));
+                same[k] = _mm_cmpeq_epi32(one, least);
+                _mm_storeu_si128(reinterpret_cast<__m128i*>(label + i + 4 * k), least);
+            }
+            const __m128i packed = _mm_packs_epi16(_mm_packs_epi32(same[0], same[1]), _mm_setzero_si128());
+            _mm_storel_epi64(reinterpret_cast<__m128i*>(number + i), _mm_blendv_epi8(bys, _mm_loadl_epi64(reinterpret_cast<const __m128i*>(leave_number + i)), packed));
+        }
+    }
+
+    void label_leaving(int day, int last, int run, const Area& area, int worked, int rows) {
+        const int from = area.assignments.least, end = area.assignments.greatest + 1, count = (rows - 1) * assignments + end - from;
+        sources.clear();
+        for (const Step& step : steps.leaving) sources.push_back(source_of(step, from, 0));
+        bool is_set = false;
+        for (int shift_run = area.shift_run.least; shift_run <= area.shift_run.greatest; shift_run++) {
+            if (!can_be(last, run, shift_run)) continue;
+            if (!is_set) {
+                set_least(leave_room, leave_numbers, sources, count);
+                label_high(from, end, rows, leave_room, leave_numbers);
+                is_set = true;
+            }
+            const Label left = last != 0 ? shift_points * missing(it.runs[last], shift_run) : 0;
+            const std::size_t block = code(last, run, shift_run, worked, from);
+            places += offers[day].size() * rows * (end - from);
+            Label* label = &labels[block];
+            if (steps.stays) {
+                Step step = steps.staying;
+                step.cost += shift_points * extra(it.runs[last], shift_run);
+                step.after += std::min(shift_run + 1, it.runs[last].cap()) * std::size_t(weekends) * assignments;
+                const Source stay = source_of(step, from, 0);
+                combine(label, number_room, leave_room, leave_numbers, left, stay.first, stay.more, stay.number, count);
+                for (int place = std::max(from, rules.total.greatest); place < end; place++)
+                    for (int row = 0; row < rows; row++) {
+                        const int at = row * assignments + place - from;
+                        const Label one = leave_room[at] + left, other = stay.first[at - (place == rules.total.cap())] + stay.more + assignment_points;
+                        label[at] = std::min(one, other), number_room[at] = other < one ? stay.number : leave_numbers[at];
+                    }
+                std::memcpy(&pointers[day * states() + block], number_room, count);
+            } else {
+                for (int i = 0; i < count; i++) label[i] = leave_room[i] + left;
+                std::memcpy(&pointers[day * states() + block], leave_numbers, count);
+            }
         }
     }
 
