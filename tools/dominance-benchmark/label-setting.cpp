@@ -361,7 +361,79 @@ int by_lists(const Search& search, Lists& lists) {
     return lists[search.target].front().label.cost;
 }
 
-const char* const ways = "boost-apart boost-offers boost-joined lists-offers";
+// One list for each day, in the order of the rows that the labels begin, so that the first of the least rows is found: a later label
+// leaves out an earlier one only where every row from it on costs less. Labels are compared where their runs are equal, so that only
+// assignments and weekends can cost more later. Those of equal runs are linked, the last one first.
+struct Ordered {
+    Label label;
+    int next;
+    bool is_left_out;
+};
+
+class OrderedLists {
+    std::vector<Ordered> here, there;
+    std::vector<std::vector<std::pair<int, int>>> before;  // by day and label: the label that it came from, and the choice
+    std::vector<int> first;                                // by last shift and both runs
+    std::vector<std::size_t> used;
+
+    // By how much one label may cost more in the end than another, at most.
+    static int most_above(const Label& one, const Label& other) {
+        int above = one.cost - other.cost;
+        for (int which = 2; which < 4; which++)
+            above += std::max(one.fewest[which] - other.fewest[which], one.most[which] - other.most[which]);
+        return above;
+    }
+
+    // Puts a label at the end of the list, if none of those that are linked costs at most as much.
+    bool put(const Label& more, int& linked) {
+        for (int place = linked, last = -1; place >= 0; place = there[place].next) {
+            Ordered& other = there[place];
+            if (most_above(other.label, more) <= 0) return false;
+            if (most_above(more, other.label) < 0) {
+                other.is_left_out = true;
+                (last < 0 ? linked : there[last].next) = other.next;
+            } else {
+                last = place;
+            }
+        }
+        there.push_back({more, linked, false});
+        linked = static_cast<int>(there.size()) - 1;
+        return true;
+    }
+
+  public:
+    int search(const Search& search) {
+        const int days = search.it.days(), runs = std::max(search.rules.working.cap(), search.rules.free.cap()) + 1;
+        int shift_runs = 1;
+        for (const Pair& limits : search.it.runs) shift_runs = std::max(shift_runs, limits.cap() + 1);
+        first.assign(std::size_t(search.it.shifts + 1) * runs * shift_runs, -1);
+        before.resize(days);
+        here.assign(1, {search.first(), -1, false});
+        for (int day = 0; day < days; day++) {
+            there.clear(), before[day].clear();
+            for (std::size_t from = 0; from < here.size(); from++) {
+                if (here[from].is_left_out) continue;
+                for (const Arc& arc : search.arcs[here[from].label.vertex]) {
+                    Label more = here[from].label;
+                    search.extend(more, arc);
+                    made++;
+                    const std::size_t group = (std::size_t(arc.choice) * runs + more.run) * shift_runs + more.shift_run;
+                    if (first[group] < 0) used.push_back(group);
+                    if (put(more, first[group])) before[day].push_back({static_cast<int>(from), arc.choice});
+                }
+            }
+            for (std::size_t group : used) first[group] = -1;
+            used.clear();
+            std::swap(here, there);
+        }
+        int least = INT32_MAX;
+        for (const Ordered& it : here)
+            if (!it.is_left_out) least = std::min(least, it.label.cost + end_cost(search.rules, it.label.assignments));
+        return least;
+    }
+};
+
+const char* const ways = "boost-apart boost-offers boost-joined lists-offers lists-alike";
 
 template <class Way>
 void measure(int times, int& cost, Way way) {
@@ -394,6 +466,7 @@ int main(int count, char** words) {
     long all = 0;
     for (std::size_t n = 0; n < it.nurses.size(); n++) costs.push_back(row_cost(it, n)), all += costs.back();
     Lists lists;
+    OrderedLists ordered;
     for (std::size_t n = 0; n < it.nurses.size(); n++) {
         const Later& costs_later = later[it.nurses[n].contract];
         const Search apart(it, n, costs_later, false), search(it, n, costs_later, true);
@@ -404,6 +477,7 @@ int main(int count, char** words) {
         measure(times, cost, [&] { return by_boost<false>(search, graph); });
         measure(times, cost, [&] { return by_boost<true>(search, graph); });
         measure(times, cost, [&] { return by_lists(search, lists); });
+        measure(times, cost, [&] { return ordered.search(search); });
         std::cout << std::endl;
     }
 }

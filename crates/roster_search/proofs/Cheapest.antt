@@ -16,7 +16,7 @@ thing_or x (Some p) = p.1
 
 -- ---- of two, and of three
 
-cheaper_none : {X : Type 0} (p : Priced X) → cheaper p None ≡ p
+pub cheaper_none : {X : Type 0} (p : Priced X) → cheaper p None ≡ p
 cheaper_none None = refl
 cheaper_none (Some p) = refl
 
@@ -40,7 +40,7 @@ grouped (Some p) (Some q) (Some o) = go (cases_lt q.0 p.0) (cases_lt o.0 q.0)
 
 -- ---- of a list
 
-cheapest_both : {Y X : Type 0} (f : Y → Priced X) (ys zs : List Y) → cheapest f (ys ++ zs) ≡ cheaper (cheapest f ys) (cheapest f zs)
+pub cheapest_both : {Y X : Type 0} (f : Y → Priced X) (ys zs : List Y) → cheapest f (ys ++ zs) ≡ cheaper (cheapest f ys) (cheapest f zs)
 cheapest_both f [] zs = refl
 cheapest_both f (y ∷ ys) zs = ap (cheaper (f y)) (cheapest_both f ys zs) ∙ sym (grouped (f y) (cheapest f ys) (cheapest f zs))
 

@@ -20,10 +20,10 @@ use Rattle.roster_search.proofs.Cheapest.{cost_or, keeps_first, takes_second}
 -- ---- the cheapest is one of all, and none costs less
 
 -- there is one, and with so much more it costs so much at most
-abbrev AtMost : {X : Type 0} → (more k : ℕ) → Priced X → Type 0
+abbrev pub AtMost : {X : Type 0} → (more k : ℕ) → Priced X → Type 0
 AtMost more k p = IsSomeAnd p (λ best. best.0 + more ≤ k)
 
-one_of_both : {X : Type 0} (p q : Priced X) (r : ℕ × X) → cheaper p q ≡ Some r → (p ≡ Some r) ⊎ (q ≡ Some r)
+pub one_of_both : {X : Type 0} (p q : Priced X) (r : ℕ × X) → cheaper p q ≡ Some r → (p ≡ Some r) ⊎ (q ≡ Some r)
 one_of_both None q r is = inr is
 one_of_both (Some p) None r is = inl is
 one_of_both (Some p) (Some q) r is = elim (cases_lt q.0 p.0) [
@@ -31,7 +31,7 @@ one_of_both (Some p) (Some q) r is = elim (cases_lt q.0 p.0) [
   | inr h ↦ inl (sym (keeps_first p q h) ∙ is)
 ]
 
-chosen : {Y X : Type 0} (f : Y → Priced X) (P : Y → Type 0) (ys : List Y) → All P ys → (r : ℕ × X) → cheapest f ys ≡ Some r → (y : Y) × P y × (f y ≡ Some r)
+pub chosen : {Y X : Type 0} (f : Y → Priced X) (P : Y → Type 0) (ys : List Y) → All P ys → (r : ℕ × X) → cheapest f ys ≡ Some r → (y : Y) × P y × (f y ≡ Some r)
 chosen f P [] all r is = absurd cc
 chosen f P (y ∷ ys) all r is = elim (one_of_both (f y) (cheapest f ys) r is) [
   | inl here ↦ (y, All-head P y ys all, here)
@@ -39,7 +39,7 @@ chosen f P (y ∷ ys) all r is = elim (one_of_both (f y) (cheapest f ys) r is) [
 ]
 
 module _ {X : Type 0} (more k : ℕ) where
-  low_first : (p q : Priced X) → AtMost more k p → AtMost more k (cheaper p q)
+  pub low_first : (p q : Priced X) → AtMost more k p → AtMost more k (cheaper p q)
   low_first None q low = absurd low
   low_first (Some p) None low = low
   low_first (Some p) (Some q) low = elim (cases_lt q.0 p.0) [
@@ -47,7 +47,7 @@ module _ {X : Type 0} (more k : ℕ) where
     | inr h ↦ subst (AtMost more k) (sym (keeps_first p q h)) low
   ]
 
-  low_second : (p q : Priced X) → AtMost more k q → AtMost more k (cheaper p q)
+  pub low_second : (p q : Priced X) → AtMost more k q → AtMost more k (cheaper p q)
   low_second None q low = low
   low_second (Some p) None low = absurd low
   low_second (Some p) (Some q) low = elim (cases_lt q.0 p.0) [

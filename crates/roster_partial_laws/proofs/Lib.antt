@@ -1,0 +1,4 @@
+pub mod Counts
+pub mod Alike
+pub mod LeftOut
+pub mod ToCome

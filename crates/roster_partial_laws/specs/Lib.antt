@@ -1,0 +1,2 @@
+pub mod PartialRows
+pub mod Later
