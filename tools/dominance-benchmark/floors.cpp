@@ -114,7 +114,7 @@ class Search {
 
     // The floor with what the totals still cost at least, less what it takes for them.
     int at_least(const Floors& at, int day, const State& s) const {
-        const int left = days - day, more = std::min(std::max(rules.total.greatest - s.assignments, 0), left);
+        const int left = days - day, more = std::min(rules.total.cap() - s.assignments, left);
         return floor_of(at, day, s) + assignment_points * std::max(0, rules.total.least - s.assignments - more) - at.day_rate * more -
                at.weekend_rate * std::min(std::max(rules.weekends - s.weekends, 0), (left + 6) / 7);
     }
