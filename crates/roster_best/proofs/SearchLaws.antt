@@ -1,5 +1,5 @@
 -- The offers of a search for a best row, its count, and the greatest number of states.
-use Rattle.std.proofs.Common.{◌≡◌, ◌∙◌, ◌+◌, ◌<◌, ◌≤◌, ℕ, true, IsSome, List, [], ◌∷◌, ap, arith, map, max, subst, sym}
+use Rattle.std.proofs.Common.{◌≡◌, ◌⊎◌, ◌∙◌, ◌+◌, ◌<◌, ◌≤◌, ℕ, true, IsSome, List, [], ◌∷◌, ap, arith, inl, inr, map, max, subst, sym}
 use Rattle.std.specs.List.{range_with_len}
 use Rattle.std.proofs.lemmas.List.{map-append}
 use Rattle.arrayvec.specs.ArrayVec.{ArrayVec}
@@ -22,6 +22,7 @@ use Rattle.roster_search.proofs.Best.{best_some}
 use Rattle.roster_search.proofs.ByShift.{best_by_shift, by_shift_all, by_shift_fewer, by_shift_some}
 use Rattle.roster_search.proofs.OfferLaws.{offers_few, offers_of_case, offers_some}
 use Rattle.roster_search.proofs.SearchLaws.{best_over_same, counts_same}
+use Rattle.roster_partial.specs.Counts.{CountsSearch}
 use Rattle.roster_best.specs.Workspaces.{AreShiftOffers, CountsStanding}
 
 -- ---- the table of offers
@@ -45,8 +46,16 @@ module _ (c : Meaning) (from : ℕ) (r : Rows) (n : ℕ) (offers : List (ArrayVe
   pub some_found : fits_case c r ≡ true → keeps_hard c r ≡ true → n < nurse_count c → IsSome (best_over c n (offers_on offers))
   some_found fits keeps inside = subst (λ (p : Priced (List Offer)). IsSome p) (sym best_is) (best_some c from r fits keeps n inside)
 
-  pub counted_is : (before after : ℕ) → CountsStates c n (offers_on offers) before after → CountsStanding c from r n before after
-  counted_is before after counts = counts_same c n (offers_on offers) (shift_offers c from r n) are.each before after counts
+  -- what is counted over the table is counted over the nurse's offers
+  pub counted_is : (before after : ℕ) → CountsSearch c n (offers_on offers) before after → CountsStanding c from r n before after
+  counted_is before after counts = record { partial = counts.partial; few = counts.few; rest = go counts.rest }
+    where
+      from_there : ℕ
+      from_there = before + counts.partial
+
+      go : (after ≡ from_there) ⊎ CountsStates c n (offers_on offers) from_there after → (after ≡ from_there) ⊎ CountsStates c n (shift_offers c from r n) from_there after
+      go (inl none) = inl none
+      go (inr states) = inr (counts_same c n (offers_on offers) (shift_offers c from r n) are.each from_there after states)
 
 -- ---- the greatest number of states, one nurse more
 

@@ -6,7 +6,8 @@ use Rattle.roster_instance.specs.Rosters.{Row, Rows}
 use Rattle.roster_laws.specs.Greatest.{greatest_state_count}
 use Rattle.roster_search.specs.declared.offer.Offer.{Offer}
 use Rattle.roster_search.specs.Offers.{shift_offers}
-use Rattle.roster_search.specs.Search.{CountsStates, offers_on}
+use Rattle.roster_search.specs.Search.{offers_on}
+use Rattle.roster_partial.specs.Counts.{CountsSearch}
 
 -- how many labels its two tables have together, how many pointers and choices it has room for, and the row of the last search,
 -- which is empty before the first
@@ -38,6 +39,7 @@ pub record AreShiftOffers (c : Meaning) (from : ℕ) (r : Rows) (n : ℕ) (offer
 abbrev pub AreOffersOf : Meaning → Rows → ℕ → List (ArrayVec Offer) → Type 0
 AreOffersOf c r n offers = (from : ℕ) × AreShiftOffers c from r n offers
 
--- so many were counted: exactly the states that stand over the nurse's offers
+-- so many were counted: at most so many partial rows, and then, where they found nothing, exactly the states that stand over the
+-- nurse's offers
 abbrev pub CountsStanding : Meaning → ℕ → Rows → ℕ → ℕ → ℕ → Type 0
-CountsStanding c from r n before after = CountsStates c n (shift_offers c from r n) before after
+CountsStanding c from r n before after = CountsSearch c n (shift_offers c from r n) before after

@@ -8,7 +8,8 @@ ghost use Rattle.roster_rules.specs.Improver.{step};
 ghost use Rattle.roster_rules.specs.Prefix.{due};
 ghost use Rattle.roster_laws.specs.Greatest.{extension_count};
 ghost use Rattle.roster_laws.specs.OneRow.{rest_of};
-ghost use Rattle.roster_search.specs.Search.{CountsStates, IsFound, best_over, offers_on};
+ghost use Rattle.roster_search.specs.Search.{IsFound, best_over, offers_on};
+ghost use Rattle.roster_partial.specs.Counts.{CountsSearch};
 ghost use Rattle.roster_best.specs.Known.{IsKnown};
 ghost use Rattle.roster_best.specs.Workspaces.{AreOffersOf, AreShiftOffers, CountsStanding, SameRoom, fits_space};
 
@@ -29,8 +30,8 @@ pub struct Best {
 
 /// Searches a nurse's best row from a week on: among all rows with which the roster keeps the hard rules, the other rows and the
 /// nurse's days before that week as they are, the first of those with the least penalty. Every `from` is allowed. `Workspace::row`
-/// shows the row afterwards. It takes no memory. The meter counts each state that is taken over a choice: one for each day at least,
-/// and at most one for each state, day and choice of the nurse.
+/// shows the row afterwards. It takes no memory. The meter counts each partial row or state that is taken over a choice: one for each
+/// day at least, and at most one for each state, day and choice of the nurse.
 ///
 /// A caller who doesn't know that it may be called looks at `nurse < case.nurses()`, at `workspace.fits(case)`, and whether
 /// `meter.room()` is at least `most_steps(case, nurse)`.
@@ -119,7 +120,7 @@ fn search_offers(
     ensures total { result.1.total ≡ rest_of held.now.case held.now.roster nurse + due held.now.case nurse [] + result.0 }
     ensures each_day { meter.old + day_count held.now.case ≤ meter.new }
     ensures counted { meter.new ≤ meter.old + extension_count held.now.case nurse }
-    ensures standing { CountsStates held.now.case nurse (offers_on offers.now) meter.old meter.new }
+    ensures standing { CountsSearch held.now.case nurse (offers_on offers.now) meter.old meter.new }
     ensures same_room { SameRoom space.old space.new }
     ensures fits { fits_space held.now.case space.new ≡ true }
 {

@@ -5,20 +5,22 @@ ghost use Rattle.roster_bundle.specs.Limits.{greatest_u64};
 ghost use Rattle.roster_instance.specs.Limits.{most_days, most_shifts, most_skills, most_states};
 ghost use Rattle.roster_instance.specs.Meaning.{day_count, nurse_count};
 ghost use Rattle.roster_laws.specs.Greatest.{extension_count, greatest_state_count};
-ghost use Rattle.roster_search.specs.Search.{AreOffers, CountsStates, IsFound, best_over, offers_on};
+ghost use Rattle.roster_search.specs.Search.{AreOffers, IsFound, best_over, offers_on};
 ghost use Rattle.roster_search.specs.Tables.{no_row};
+ghost use Rattle.roster_partial.specs.Counts.{CountsSearch};
 ghost use Rattle.roster_best.specs.Workspaces.{SameRoom, fits_space};
 
 use arrayvec::ArrayVec;
 use roster_case::{Case, Choice};
-use roster_search::{DayOffers, RowSearch, Tables, search_row};
+use roster_partial::{PartialRoom, search_row};
+use roster_search::{DayOffers, RowSearch, Tables};
 use roster_state::Meter;
 use std::alloc::{AllocError, Global};
 use std::marker::Model;
 use thiserror::Error;
 
-/// What a search for a best row writes into: the offers of a nurse, the tables of the search, and one row. One workspace serves all
-/// nurses of a case, one after another.
+/// What a search for a best row writes into: the offers of a nurse, room for partial rows, the tables of the search, and one row. One
+/// workspace serves all nurses of a case, one after another.
 pub struct Workspace {
     /// For each day those of the last nurse whose best row was searched.
     pub(crate) offers: DayOffers,
@@ -27,6 +29,7 @@ pub struct Workspace {
 
 /// What a search over offers writes into, wherever these come from.
 pub(crate) struct SearchSpace {
+    pub(crate) partial: PartialRoom,
     pub(crate) tables: Tables,
     pub(crate) choices: Vec<Choice>,
     /// How many of the choices are those of the last best row: none before the first.
@@ -46,6 +49,7 @@ impl Drop for Workspace {
 impl Drop for SearchSpace {
     fn drop(self) {
         let SearchSpace {
+            partial: _,
             tables: _,
             choices: _,
             filled: _,
@@ -91,7 +95,7 @@ impl From<AllocError> for BestFault {
 }
 
 impl Workspace {
-    /// A workspace for the nurses of a case, by at most four growths. Its row is empty.
+    /// A workspace for the nurses of a case, by at most six growths. Its row is empty.
     ///
     /// # Errors
     ///
@@ -107,6 +111,7 @@ impl Workspace {
         Ok(Workspace {
             offers: ArrayVec::new(),
             space: SearchSpace {
+                partial: PartialRoom::new(alloc)?,
                 tables: Tables::new(alloc, states, days)?,
                 choices: vec![in alloc; Choice::Off; days]?,
                 filled: 0,
@@ -155,7 +160,7 @@ impl Workspace {
         // What it takes.
         ensures each_day { meter.old + day_count search.now.case.now ≤ meter.new }
         ensures counted { meter.new ≤ meter.old + extension_count search.now.case.now search.now.nurse }
-        ensures standing { CountsStates search.now.case.now search.now.nurse (offers_on search.now.offers.now) meter.old meter.new }
+        ensures standing { CountsSearch search.now.case.now search.now.nurse (offers_on search.now.offers.now) meter.old meter.new }
         ensures same_room { SameRoom self.old self.new }
         ensures fits { fits_space search.now.case.now self.new ≡ true }
     {
@@ -186,11 +191,17 @@ impl SearchSpace {
         // What it takes.
         ensures each_day { meter.old + day_count search.now.case.now ≤ meter.new }
         ensures counted { meter.new ≤ meter.old + extension_count search.now.case.now search.now.nurse }
-        ensures standing { CountsStates search.now.case.now search.now.nurse (offers_on search.now.offers.now) meter.old meter.new }
+        ensures standing { CountsSearch search.now.case.now search.now.nurse (offers_on search.now.offers.now) meter.old meter.new }
         ensures same_room { SameRoom self.old self.new }
         ensures fits { fits_space search.now.case.now self.new ≡ true }
     {
-        let cost = search_row(search, &mut self.tables, &mut self.choices, meter);
+        let cost = search_row(
+            search,
+            &mut self.partial,
+            &mut self.tables,
+            &mut self.choices,
+            meter,
+        );
         self.filled = search.case.days() as usize;
         cost
     }
@@ -208,7 +219,8 @@ pub fn greatest_states(case: &Case) -> u32
     greatest
 }
 
-/// How many states a search for a nurse's best row takes over a choice, at most: each state on each day by each choice of the nurse.
+/// How many partial rows and states a search for a nurse's best row takes over a choice, at most: as many as each state on each day by
+/// each choice of the nurse.
 #[tactic(auto, unfolding(roster_laws::specs::Greatest::extension_count))]
 pub fn most_steps(case: &Case, nurse: usize) -> u64
     requires { nurse < nurse_count case.now }

@@ -24,7 +24,7 @@ impl Drop for RunSpace {
 }
 
 impl RunSpace {
-    /// Room for the runs over a case, by at most six growths.
+    /// Room for the runs over a case, by at most eight growths.
     ///
     /// # Errors
     ///

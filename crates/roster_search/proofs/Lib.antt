@@ -19,3 +19,4 @@ pub mod CountLaws
 pub mod SearchLaws
 pub mod LowRows
 pub mod RiseLaws
+pub mod SpareLaws

@@ -1,9 +1,9 @@
 //! The search over a table of offers.
 
-ghost use Rattle.std.specs.Prelude.{◌≡◌, ◌+◌, ◌*◌, ◌<◌, ◌≤◌, ℕ, [], All, IfSome, IsSome, List, Some, length, take};
+ghost use Rattle.std.specs.Prelude.{◌≡◌, ◌+◌, ◌-◌, ◌*◌, ◌<◌, ◌≤◌, ℕ, [], All, IfSome, IsSome, List, Some, length, take};
 ghost use Rattle.roster_bundle.specs.Limits.{greatest_u64};
 ghost use Rattle.roster_instance.specs.Meaning.{day_count, nurse_count};
-ghost use Rattle.roster_instance.specs.Sizes.{choice_count};
+ghost use Rattle.roster_instance.specs.Sizes.{choice_count, state_count};
 ghost use Rattle.roster_laws.specs.Greatest.{extension_count};
 ghost use Rattle.roster_instance.specs.Counting.{sum_below};
 ghost use Rattle.roster_rules.specs.Prefix.{summary_of};
@@ -43,8 +43,8 @@ pub struct RowSearch<'a> {
 
 /// Searches the best row over a table of offers, wherever these come from. `row` then begins with its choices, one for each day, and the
 /// answer is its cost: its prices, and what the nurse's own rules cost along it beside what the start owes. It takes no memory. The
-/// meter counts each state that is taken over a choice: one for each day at least, and at most one for each state, day and choice of
-/// the nurse.
+/// meter counts each state that is taken over a choice: one for each day at least, at most one for each choice of the nurse on the
+/// first day, and at most one for each state and choice on each later day.
 pub fn search_row(
     search: &RowSearch<'_>,
     tables: &mut Tables,
@@ -66,6 +66,7 @@ pub fn search_row(
     // What it takes.
     ensures each_day { meter.old + day_count search.now.case.now ≤ meter.new }
     ensures counted { meter.new ≤ meter.old + extension_count search.now.case.now search.now.nurse }
+    ensures spare { meter.new + (state_count search.now.case.now search.now.nurse - 1) * choice_count search.now.case.now search.now.nurse ≤ meter.old + extension_count search.now.case.now search.now.nurse }
     ensures standing { CountsStates search.now.case.now search.now.nurse (offers_on search.now.offers.now) meter.old meter.new }
     ensures tables { tables.new ≡ tables.old }
 {
@@ -75,6 +76,7 @@ pub fn search_row(
         offers,
     } = *search;
     case.keeps_limits();
+    case.weeks();
     let ranges = Ranges::of(case, nurse);
     let Tables {
         labels,
@@ -107,13 +109,14 @@ struct Days<'a> {
     areas: &'a [[Area; AREAS]],
 }
 
-/// Sets the areas of each day, from the first day to the one after the last.
+/// Sets the areas of each day, from the first day to the one after the last. On the first day no state but the start stands.
 fn stand_days(search: &RowSearch<'_>, ranges: &Ranges, areas: &mut [[Area; AREAS]])
     requires nurse { search.now.nurse < nurse_count search.now.case.now }
     requires ranges { ranges.now ≡ sizes_of search.now.case.now search.now.nurse }
     requires offers { AreOffers search.now.case.now search.now.nurse search.now.offers.now }
     requires long { day_count search.now.case.now < length areas.old }
     ensures start { Stands search.now.case.now search.now.nurse (areas_on areas.new 0) (summary_of search.now.case.now search.now.nurse []) }
+    ensures first { states_on search.now.case.now search.now.nurse (areas_on areas.new 0) ≤ 1 }
     ensures lead { AreasLead search.now.case.now search.now.nurse (offers_on search.now.offers.now) areas.new }
 {
     let (case, nurse) = (search.case, search.nurse);

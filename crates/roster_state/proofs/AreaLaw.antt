@@ -2,7 +2,7 @@
 use Rattle.std.proofs.Common.{◌≡◌, ◌∙◌, ◌<◌, ◌≤◌, ◌⊎◌, ◌≢◌, ℕ, inl, inr, ap, arith, get_or-set_other, subst, sym, List, [], ◌∷◌, length, slice_index_or, slice_set, Option, Some, None, IfSome}
 use Rattle.std.proofs.lemmas.Bool.{cases_lt}
 use Rattle.std.proofs.lemmas.Grind.{get_or-set_at}
-use Rattle.std.proofs.lemmas.List.{get_or_default}
+use Rattle.std.proofs.lemmas.List.{get_or-replicate, get_or_default, get_or_past}
 use Rattle.roster_instance.specs.declared.choice.Shift.{Shift}
 use Rattle.roster_rules.specs.Prefix.{Summary}
 use Rattle.roster_state.specs.declared.area.Area.{Area}
@@ -37,8 +37,17 @@ area_shown areas digit d s inside = subst (λ (x : Area). InArea x s) (get_or_de
 abbrev nowhere_else : List Area
 nowhere_else = nowhere ∷ nowhere ∷ nowhere ∷ nowhere ∷ nowhere ∷ nowhere ∷ nowhere ∷ nowhere ∷ nowhere ∷ []
 
-pub area_alone : (to digit : ℕ) (area : Area) (s : Summary) → digit ≡ to → to < 9 → InArea area s → InArea (area_at (slice_set nowhere_else to area) digit) s
-area_alone to digit area s is inside = area_set nowhere_else to digit area s is inside
+pub area_alone : (to digit : ℕ) (area : Area) → digit ≡ to → to < 9 → area_at (slice_set nowhere_else to area) digit ≡ area
+area_alone to digit area is inside = get_or-set_at nowhere_else to digit area nowhere is inside
+
+nowhere_at : (digit : ℕ) → area_at nowhere_else digit ≡ nowhere
+nowhere_at digit = elim (cases_lt digit 9) [
+  | inl below ↦ get_or-replicate 9 digit nowhere nowhere below
+  | inr past ↦ get_or_past nowhere_else digit nowhere past
+]
+
+pub no_other_area : (to digit : ℕ) (area : Area) → digit ≢ to → area_at (slice_set nowhere_else to area) digit ≡ nowhere
+no_other_area to digit area ne = get_or-set_other nowhere_else to digit area nowhere ne ∙ nowhere_at digit
 
 pub digit_few : (shift : Option Shift) (shifts : ℕ) → IfSome shift (λ s. s.0 < shifts) → shifts ≤ 8 → shift_digit shift < 9
 digit_few None shifts known few = omega arith

@@ -21,6 +21,14 @@ no_number = record { least = 65535; greatest = 0 }
 abbrev pub nowhere : Area
 nowhere = record { run = no_number; shift_run = no_number; weekends = no_number; assignments = no_number }
 
+-- one number alone
+abbrev pub one_number : ℕ → Span
+one_number x = record { least = x; greatest = x }
+
+-- the numbers of one state, but for its last shift
+abbrev pub one_state : Summary → Area
+one_state s = record { run = one_number s.run; shift_run = one_number s.shift_run; weekends = one_number s.weekends; assignments = one_number s.assignments }
+
 -- of a list of areas, one for each last shift, that of a shift's number
 abbrev pub area_at : List Area → ℕ → Area
 area_at areas digit = slice_index_or areas digit nowhere

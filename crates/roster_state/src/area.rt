@@ -1,9 +1,9 @@
 //! Which states may stand between two days: for each last shift an area, a span of each other number.
 
-ghost use Rattle.std.specs.Prelude.{◌≡◌, ℕ, ◌+◌, ◌<◌, ◌≤◌, false, true, IfSome, List, length, min, if◌then◌else◌};
+ghost use Rattle.std.specs.Prelude.{◌≡◌, ◌≢◌, ℕ, ◌+◌, ◌<◌, ◌≤◌, false, true, IfSome, List, length, min, if◌then◌else◌};
 ghost use Rattle.roster_instance.specs.Meaning.{day_count, forbids, nurse_count, shift_count};
 ghost use Rattle.roster_rules.specs.Prefix.{Summary};
-ghost use Rattle.roster_state.specs.Areas.{InArea, InSpan, area_at};
+ghost use Rattle.roster_state.specs.Areas.{InArea, InSpan, area_at, nowhere, one_number, one_state};
 ghost use Rattle.roster_state.specs.Codes.{shift_digit};
 ghost use Rattle.roster_state.specs.Step.{next_of, run_with, shift_run_with};
 
@@ -28,7 +28,8 @@ const NO_NUMBER: Span = Span {
 impl Span {
     /// One number.
     pub fn of(number: u16) -> Span
-        ensures { InSpan result number }
+        ensures inside { InSpan result number }
+        ensures alone { result ≡ one_number number }
     {
         Span {
             least: number,
@@ -102,7 +103,8 @@ pub const AREAS: usize = 9;
 impl Area {
     /// One state.
     fn of(state: &State) -> Area
-        ensures { InArea result state.now }
+        ensures inside { InArea result state.now }
+        ensures alone { result ≡ one_state state.now }
     {
         Area {
             run: Span::of(state.run),
@@ -133,10 +135,12 @@ impl Area {
     }
 }
 
-/// The areas where one state stands.
+/// The areas where one state stands, and no other.
 pub fn areas_of(state: &State) -> [Area; 9]
     requires { shift_digit state.now.last < 9 }
-    ensures { InArea (area_at result (shift_digit state.now.last)) state.now }
+    ensures inside { InArea (area_at result (shift_digit state.now.last)) state.now }
+    ensures alone { area_at result (shift_digit state.now.last) ≡ one_state state.now }
+    ensures others { (digit : ℕ) → digit ≢ shift_digit state.now.last → area_at result digit ≡ nowhere }
 {
     let mut areas = [NOWHERE; AREAS];
     areas[shift_digit(state.last) as usize] = Area::of(state);

@@ -11,7 +11,7 @@ use std::marker::Model;
 
 /// What the costs of the days to come depend on: the last shift or none, the days in a row of work or off, the days in a
 /// row with that shift, the assignments and the worked weekends, each up to its cap.
-#[derive(Clone, Copy)]
+#[derive(Clone, Copy, Default)]
 pub struct State {
     pub(crate) last: Option<Shift>,
     pub(crate) run: u16,
@@ -31,6 +31,46 @@ impl Model for State {
 }
 
 impl State {
+    /// The last shift as a number, 0 where there is none.
+    #[inline(always)]
+    pub fn last_number(&self) -> u32
+        ensures number { result ≡ shift_digit self.now.last }
+    {
+        shift_digit(self.last)
+    }
+
+    /// The days in a row of work or off.
+    #[inline(always)]
+    pub fn run(&self) -> u16
+        ensures { result ≡ self.now.run }
+    {
+        self.run
+    }
+
+    /// The days in a row with the last shift.
+    #[inline(always)]
+    pub fn shift_run(&self) -> u16
+        ensures { result ≡ self.now.shift_run }
+    {
+        self.shift_run
+    }
+
+    /// The assignments.
+    #[inline(always)]
+    pub fn assignments(&self) -> u16
+        ensures { result ≡ self.now.assignments }
+    {
+        self.assignments
+    }
+
+    /// The worked weekends.
+    #[inline(always)]
+    pub fn weekends(&self) -> u16
+        ensures { result ≡ self.now.weekends }
+    {
+        self.weekends
+    }
+
     /// Whether each number is one of its values.
     pub fn fits(&self, ranges: &Ranges) -> bool
         ensures { result ≡ fits_sizes ranges.now self.now }

@@ -42,6 +42,7 @@ pub fn start(case: &Case, nurse: usize) -> (State, u32)
 
 /// The state with one day more, on which the nurse works this shift or is off, and what the day costs. None exactly where the
 /// last shift forbids the next. Either way the meter counts one.
+#[inline(always)]
 pub fn extend(
     case: &Case,
     nurse: usize,

@@ -2,7 +2,8 @@ use Rattle.std.proofs.Common.{◌≡◌, ◌∙◌, ◌+◌, ◌<◌, [], ap, ar
 use Rattle.roster_instance.specs.Meaning.{Meaning}
 use Rattle.roster_rules.specs.Prefix.{due}
 use Rattle.roster_rules.specs.Room.{penalty_room}
-use Rattle.roster_search.specs.Search.{AreOffers, CountsStates, IsFound, best_over, offers_on}
+use Rattle.roster_search.specs.Search.{AreOffers, IsFound, best_over, offers_on}
+use Rattle.roster_partial.specs.Counts.{CountsSearch}
 use Rattle.std.proofs.Common.{IsSome}
 use Rattle.roster_best.proofs.BestLaws.{KeepsLimits, found_is, sum_within}
 use Rattle.roster_best.proofs.SearchLaws.{can_search, some_found}
@@ -32,7 +33,7 @@ pub returns-clause-found : goal.returns-clause-found
 returns-clause-found c = found (goal.at.returns-clause-found c).After-rest
 
 pub returns-clause-standing : goal.returns-clause-standing
-returns-clause-standing c = subst (λ (m : Meaning). CountsStates m c.args.nurse (offers_on c.args.offers.now) c.args.meter.now c.search-cost.new.meter) c.case-2.ensures c.search-cost.ensures.standing
+returns-clause-standing c = subst (λ (m : Meaning). CountsSearch m c.args.nurse (offers_on c.args.offers.now) c.args.meter.now c.search-cost.new.meter) c.case-2.ensures c.search-cost.ensures.standing
 
 -- ---- the penalty
 

@@ -9,6 +9,7 @@ use Rattle.roster_search.specs.Tables.{Stands, no_row}
 use Rattle.roster_search.proofs.LowRows.{low_over}
 use Rattle.roster_search.proofs.ReadLaws.{LowRow}
 use Rattle.roster_search.proofs.SearchLaws.{first_label, goes_on}
+use Rattle.roster_search.proofs.SpareLaws.{spare_over}
 use Rattle.roster_search.proofs.search.search_row.Goals as goal
 use Rattle.roster_search.proofs.search.search_row.Goals.{After-index, After-of-ranges}
 
@@ -96,6 +97,12 @@ returns-clause-each_day c = c.label_days.ensures.each_day
 
 pub returns-clause-counted : goal.returns-clause-counted
 returns-clause-counted c = c.label_days.ensures.counted
+
+pub returns-clause-spare : goal.returns-clause-spare
+returns-clause-spare c =
+    let k = c.args.search.now.case.now in
+    let n = c.args.search.now.nurse in
+    spare_over k n (offers_on c.args.search.now.offers.now) c.stand_days.new.areas (λ day within. (c.requires.offers.each day within).few) (omega (arith, c.weeks.ensures.count, c.weeks.ensures.some)) c.stand_days.ensures.first _ _ c.label_days.ensures.exactly
 
 pub returns-clause-standing : goal.returns-clause-standing
 returns-clause-standing c =

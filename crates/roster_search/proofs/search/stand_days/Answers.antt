@@ -1,19 +1,38 @@
-use Rattle.std.proofs.Common.{◌≡◌, ◌∙◌, ◌+◌, ◌<◌, arith, length, refl, subst, sym, []}
+use Rattle.std.proofs.Common.{◌≡◌, ◌∙◌, ◌+◌, ◌<◌, ◌≤◌, List, [], arith, length, refl, slice_set, subst, sym}
 use Rattle.std.proofs.Math.Path.{transport}
+use Rattle.std.proofs.lemmas.Grind.{get_or-set_at}
 use Rattle.std.proofs.lemmas.List.{length-set}
 use Rattle.std.specs.List.{All}
 use Rattle.roster_instance.specs.Meaning.{day_count}
 use Rattle.roster_rules.specs.Prefix.{summary_of}
-use Rattle.roster_state.specs.Codes.{sizes_of}
+use Rattle.roster_state.specs.declared.area.Area.{Area}
+use Rattle.roster_state.specs.Codes.{shift_digit, sizes_of}
 use Rattle.roster_state.proofs.CodeLemmas.{fits-all}
-use Rattle.roster_search.specs.Search.{offers_on}
+use Rattle.roster_search.specs.Counts.{states_on}
+use Rattle.roster_search.specs.Search.{areas_on, offers_on}
 use Rattle.roster_search.specs.Tables.{IsOfferOf, LeadsOn, Stands}
 use Rattle.roster_search.proofs.SearchLaws.{areas_read, day_kept, lead_more, offers_read}
+use Rattle.roster_search.proofs.SpareLaws.{one_stands}
 use Rattle.roster_search.proofs.search.stand_days.Goals as goal
 use Rattle.roster_search.proofs.search.stand_days.Goals.{After-as_slice-day_offers}
 
 pub areas_of-requires : goal.areas_of-requires
 areas_of-requires c = omega (arith, (fits-all _ c.start-state.result.0 c.start-state.ensures.fits).last, c.keeps_limits.ensures.shifts)
+
+pub loop-day-init : goal.loop-day-init
+loop-day-init c =
+    let k = c.args.search.now.case.now in
+    let n = c.args.search.now.nurse in
+    let state = c.start-state.result.0 in
+    let told = c.areas_of.ensures in
+    let here : areas_on (slice_set c.args.areas.now 0 c.areas_of.result) 0 ≡ c.areas_of.result = get_or-set_at c.args.areas.now 0 0 c.areas_of.result [] refl (omega (arith, c.requires.long)) in
+    let stands : Stands k n c.areas_of.result state = record { fits = c.start-state.ensures.fits; can_be = c.start-state.ensures.can_be; inside = told.inside } in
+    record {
+      start = transport (λ i. Stands k n (sym here i) (c.start-state.ensures.state i)) stands;
+      first = subst (λ (x : List Area). states_on k n x ≤ 1) (sym here) (one_stands k n c.areas_of.result (shift_digit state.last) state told.alone told.others);
+      lead = λ day below. absurd (omega (arith, below));
+      length = length-set c.args.areas.now 0 c.areas_of.result;
+    }
 
 -- a day's offers, as they are read from the table
 offers_here : (c : After-as_slice-day_offers) → c.as_slice-day_offers.result.now ≡ offers_on c.args.search.now.offers.now c.loop-day.day
@@ -39,6 +58,7 @@ loop-day-preserved c =
     let here = transport (λ i. All (LeadsOn k (record { nurse = n; day = day; ranges = sizes i }) (read i) c.areas_after.result) (offers i)) c.areas_after.ensures in
     record {
       start = subst (λ (x : _). Stands k n x (summary_of k n [])) (sym (day_kept k n table c.loop-day.areas day inside c.areas_after.result 0 (omega arith))) old.start;
+      first = subst (λ (x : List Area). states_on k n x ≤ 1) (sym (day_kept k n table c.loop-day.areas day inside c.areas_after.result 0 (omega arith))) old.first;
       lead = lead_more k n table c.loop-day.areas day inside c.areas_after.result here old.lead;
       length = length-set c.loop-day.areas (day + 1) c.areas_after.result ∙ old.length;
     }

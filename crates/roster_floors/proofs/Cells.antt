@@ -1,0 +1,75 @@
+-- What is known of each cell below a place, and of one cell more.
+use borrow.Rule.Slice.PartMut.{put_mid}
+use Rattle.std.proofs.lemmas.Bool.{cases_lt}
+use Rattle.std.proofs.lemmas.Nat.{mul-add-lt, mul-le}
+use Rattle.std.proofs.lemmas.List.Edits.{get_or-between, length-between}
+use Rattle.std.specs.List.{between}
+use Rattle.roster_search.proofs.PartLaws.{part_before, part_inside, part_length}
+use Rattle.std.proofs.Common.{⊎_elim, ◌∙◌, ◌≤◌, ◌*◌, ◌-◌, ◌≡◌, ◌≢◌, ◌+◌, ◌<◌, ℕ, List, arith, below_more, get_or, get_or-set_other, get_or-set_same, length, min, nat_cmp, set, subst, sym}
+use Rattle.std.proofs.lemmas.List.{get_or_past}
+use Rattle.std.proofs.lemmas.Grind.{common_steps}
+use Rattle.std.specs.Ordering.{ord_min}
+
+module _ (P : (place cell : ℕ) → Type 0) (cells : List ℕ) (place cell : ℕ) (inside : place < length cells) where
+  pub each_more : ((k : ℕ) → k < place → P k (get_or cells k 0)) → P place cell → (k : ℕ) → k < place + 1 → P k (get_or (set cells place cell) k 0)
+  each_more below here =
+      below_more (λ k. P k (get_or (set cells place cell) k 0)) place
+      (λ k l. let other : k ≢ place = omega arith in subst (P k) (sym (get_or-set_other cells place k cell 0 other)) (below k l))
+      (subst (P place) (sym (get_or-set_same cells place cell 0 inside)) here)
+
+-- the lesser of two numbers
+pub lesser : (x y : ℕ) → ord_min nat_cmp x y ≡ min x y
+lesser x y = grind (arith, common_steps)
+
+-- a part of a list is written anew, of as many cells
+module _ (cells part : List ℕ) (first width : ℕ) (long : length part ≡ width) (inside : first + width ≤ length cells) where
+  pub put_length : length (put_mid first width cells part) ≡ length cells
+  put_length = subst (λ w. length (put_mid first w cells part) ≡ length cells) long (part_length first cells part (omega (arith, long, inside)))
+
+  pub put_before : (k : ℕ) → k < first → get_or (put_mid first width cells part) k 0 ≡ get_or cells k 0
+  put_before k below = subst (λ w. get_or (put_mid first w cells part) k 0 ≡ get_or cells k 0) long (part_before first cells part (omega (arith, long, inside)) k below)
+
+  pub put_inside : (k : ℕ) → k < width → get_or (put_mid first width cells part) (first + k) 0 ≡ get_or part k 0
+  put_inside k below = subst (λ w. get_or (put_mid first w cells part) (first + k) 0 ≡ get_or part k 0) long (part_inside first cells part (omega (arith, long, inside)) k (omega (arith, long, below)))
+
+-- rows of so many cells, and one row more
+module _ (cells part : List ℕ) (row size first width : ℕ) (at : first ≡ row * size) (is : width ≡ size) (long : length part ≡ size) (inside : row * size + size ≤ length cells) where
+  fits : first + width ≤ length cells
+  fits = omega (arith, inside, at, is)
+
+  as_long : length part ≡ width
+  as_long = long ∙ sym is
+
+  pub rows_more : (P : (row place cell : ℕ) → Type 0) → ((r q : ℕ) → r < row → q < size → P r q (get_or cells (r * size + q) 0)) → ((q : ℕ) → q < size → P row q (get_or part q 0))
+      → (r q : ℕ) → r < row + 1 → q < size → P r q (get_or (put_mid first width cells part) (r * size + q) 0)
+  rows_more P below here r q l m =
+      below_more (λ r. (q : ℕ) → q < size → P r q (get_or (put_mid first width cells part) (r * size + q) 0)) row
+      (λ r l q m. subst (P r q) (sym (put_before cells part first width as_long fits (r * size + q) (omega (arith, at, mul-add-lt r size q row l m)))) (below r q l m))
+      (λ q m. subst (λ f. P row q (get_or (put_mid first width cells part) (f + q) 0)) at (subst (P row q) (sym (put_inside cells part first width as_long fits q (omega (arith, m, is)))) (here q m))) r l q m
+
+  pub low_more : (most : ℕ) → ((k : ℕ) → k < row * size → get_or cells k 0 ≤ most) → ((k : ℕ) → get_or part k 0 ≤ most) → (k : ℕ) → k < (row + 1) * size → get_or (put_mid first width cells part) k 0 ≤ most
+  low_more most below here k l =
+      ⊎_elim
+      (λ m. subst (λ x. x ≤ most) (sym (put_before cells part first width as_long fits k m)) (below k (omega (arith, m, at))))
+      (λ m. let there : first + (k - first) ≡ k = omega (arith, m) in
+      subst (λ j. get_or (put_mid first width cells part) j 0 ≤ most) there
+      (subst (λ x. x ≤ most) (sym (put_inside cells part first width as_long fits (k - first) (omega (arith, l, m, at, is)))) (here (k - first))))
+      (cases_lt k first)
+
+  pub rows_length : length (put_mid first width cells part) ≡ length cells
+  rows_length = put_length cells part first width as_long fits
+
+-- past the end there is nothing
+pub all_low : (most : ℕ) (cells : List ℕ) (count : ℕ) → length cells ≡ count → ((k : ℕ) → k < count → get_or cells k 0 ≤ most) → (k : ℕ) → get_or cells k 0 ≤ most
+all_low most cells count is low k = ⊎_elim (λ l. low k l) (λ m. let past : length cells ≤ k = omega (arith, is, m) in omega (arith, get_or_past cells k 0 past)) (cases_lt k count)
+
+-- a part of a list of low cells
+pub part_low : (most : ℕ) (cells : List ℕ) (first end : ℕ) → end ≤ length cells → ((k : ℕ) → get_or cells k 0 ≤ most) → (k : ℕ) → get_or (between first end cells) k 0 ≤ most
+part_low most cells first end inside low k =
+    ⊎_elim
+    (λ l. subst (λ x. x ≤ most) (sym (get_or-between cells first end k 0 l)) (low (first + k)))
+    (λ m. let past : length (between first end cells) ≤ k = omega (arith, length-between cells first end inside, m) in omega (arith, get_or_past (between first end cells) k 0 past))
+    (cases_lt (first + k) end)
+
+pub row_inside : (row rows size : ℕ) → row < rows → row * size + size ≤ rows * size
+row_inside row rows size l = let all : (row + 1) * size ≤ rows * size = mul-le (row + 1) size rows size (omega (arith, l)) (omega arith) in omega (arith, all)

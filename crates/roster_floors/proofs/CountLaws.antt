@@ -1,0 +1,93 @@
+-- What assignments and worked weekends cost from a day on: by one day of those to come, and at least, whatever comes.
+use Rattle.std.proofs.Common.{◌∙◌, mul-le-mul, mul_assoc, mul_comm, subst, ◌≡◌, ◌+◌, ◌-◌, ◌*◌, ◌<◌, ◌≤◌, ◌⊎◌, ℕ, Bool, true, false, inl, inr, ap, arith, min, mul-add, mul-le-mul_left, mul-le-mul_right, nat_le, refl, if◌then◌else◌}
+use Rattle.std.proofs.lemmas.Nat.{mul-add-lt}
+use Rattle.std.proofs.lemmas.Bool.{cases_lt, le-leb, lt-leb}
+use Rattle.roster_instance.specs.declared.rules.Limits.{Limits}
+use Rattle.roster_instance.specs.Counting.{one_if}
+use Rattle.roster_instance.specs.Sizes.{cap}
+use Rattle.roster_rules.specs.Weights.{assignment_weight, weekend_weight}
+use Rattle.roster_rules.specs.Prefix.{Summary}
+use Rattle.roster_state.specs.Codes.{Sizes, fits_sizes, shift_digit}
+use Rattle.roster_state.proofs.CodeLemmas.{fits-all}
+use Rattle.roster_floors.specs.Floors.{floor_place}
+use Rattle.roster_floors.specs.Floors.{floor_count}
+use Rattle.roster_floors.specs.Later.{total_later, weekends_later}
+
+-- ---- one day of those that are to come
+
+pub total_step : (l : Limits) (a more : ℕ) (works : Bool) → a ≤ cap l → total_later l a (one_if works + more) ≡ (if nat_le l.greatest a then assignment_weight * one_if works else 0) + total_later l (min (a + one_if works) (cap l)) more
+total_step l a more works few = go (cases_lt a l.greatest) works
+  where
+    go : (a < l.greatest) ⊎ (l.greatest ≤ a) → (works : Bool) → total_later l a (one_if works + more) ≡ (if nat_le l.greatest a then assignment_weight * one_if works else 0) + total_later l (min (a + one_if works) (cap l)) more
+    go (inl below) true = rw (lt-leb l.greatest a below) (omega (arith, few, below))
+    go (inl below) false = rw (lt-leb l.greatest a below) (omega (arith, few, below))
+    go (inr above) true = rw (le-leb l.greatest a above) (omega (arith, few, above))
+    go (inr above) false = rw (le-leb l.greatest a above) (omega (arith, few, above))
+
+pub weekends_step : (g w more x : ℕ) → x ≤ 1 → w ≤ g → weekends_later g w (x + more) ≡ (if nat_le g w then weekend_weight * x else 0) + weekends_later g (min (w + x) g) more
+weekends_step g w more x one few = go (cases_lt w g)
+  where
+    go : (w < g) ⊎ (g ≤ w) → weekends_later g w (x + more) ≡ (if nat_le g w then weekend_weight * x else 0) + weekends_later g (min (w + x) g) more
+    go (inl below) = rw (lt-leb g w below) (omega (arith, one, few, below))
+    go (inr above) = rw (le-leb g w above) (omega (arith, one, few, above))
+
+-- ---- at least, whatever comes
+
+-- a rate for some of which so many are free costs no more than the rate for those, and the weight for each other one
+at_rate : (rate weight free k : ℕ) → rate ≤ weight → rate * k ≤ rate * free + weight * (k - free)
+at_rate rate weight free k small = go (cases_lt k free)
+  where
+    go : (k < free) ⊎ (free ≤ k) → rate * k ≤ rate * free + weight * (k - free)
+    go (inl fewer) =
+        let each : rate * k ≤ rate * free = mul-le-mul_left rate (omega (arith, fewer)) in
+        omega (arith, each)
+    go (inr more) =
+        let all : k ≡ free + (k - free) = omega (arith, more) in
+        let each : rate * (k - free) ≤ weight * (k - free) = mul-le-mul_right (k - free) small in
+        omega (arith, each, ap (λ i. rate * i) all, mul-add rate free (k - free))
+
+-- so many more assignments are free: as many as can come up to the cap
+abbrev pub free_days : Limits → (count left : ℕ) → ℕ
+free_days l a left = min (cap l - a) left
+
+pub total_at_least : (l : Limits) (rate a k left : ℕ) → rate ≤ assignment_weight → k ≤ left → assignment_weight * (l.least - (a + free_days l a left)) + rate * k ≤ total_later l a k + rate * free_days l a left
+total_at_least l rate a k left small few = go (free_days l a left) (rate * k) (rate * free_days l a left) refl (at_rate rate assignment_weight (free_days l a left) k small)
+  where
+    go : (free paid spared : ℕ) → free ≡ min (cap l - a) left → paid ≤ spared + assignment_weight * (k - free) → assignment_weight * (l.least - (a + free)) + paid ≤ total_later l a k + spared
+    go free paid spared is low = omega (arith, few, is, low)
+
+pub weekends_at_least : (g rate w k left : ℕ) → rate ≤ weekend_weight → k ≤ left → rate * k ≤ weekends_later g w k + rate * min (g - w) left
+weekends_at_least g rate w k left small few = go (min (g - w) left) (rate * k) (rate * min (g - w) left) refl (at_rate rate weekend_weight (min (g - w) left) k small)
+  where
+    go : (free paid spared : ℕ) → free ≡ min (g - w) left → paid ≤ spared + weekend_weight * (k - free) → paid ≤ weekends_later g w k + spared
+    go free paid spared is low = omega (arith, few, is, low)
+
+-- ---- the place of a floor
+
+-- a digit more makes a number below the size of both
+digit_below : (q b d a : ℕ) → q < a → d < b → q * b + d < a * b
+digit_below q b d a front digit = subst (λ n. q * b + d < n) (mul_comm b a) (mul-add-lt q b d a front digit)
+
+module _ (z : Sizes) (s : Summary) (fit : fits_sizes z s ≡ true) (d : ℕ) where
+  place_below : floor_place z d s < (d + 1) * z.last * z.run * z.shift_run
+  place_below =
+      let fits = fits-all z s fit in
+      digit_below _ z.shift_run s.shift_run _ (digit_below _ z.run s.run _ (digit_below d z.last (shift_digit s.last) (d + 1) (omega arith) fits.last) fits.run) fits.shift_run
+
+  pub place_inside : (size : ℕ) → (d + 1) * floor_count z ≤ size → floor_place z d s < size
+  place_inside size inside =
+      let all : (d + 1) * z.last * z.run * z.shift_run ≡ (d + 1) * floor_count z = mul_assoc ((d + 1) * z.last) z.run z.shift_run ∙ mul_assoc (d + 1) z.last (z.run * z.shift_run) in
+      omega (arith, place_below, all, inside)
+
+  pub place_small : d < 65536 → z.last ≤ 9 → z.run ≤ 1000 → z.shift_run ≤ 1000 → floor_place z d s < 589824000000
+  place_small day last run shift_run =
+      let days : d + 1 ≤ 65536 = omega (arith, day) in
+      let first : (d + 1) * z.last ≤ 65536 * 9 = mul-le-mul days last in
+      let second : (d + 1) * z.last * z.run ≤ 65536 * 9 * 1000 = mul-le-mul first run in
+      let all : (d + 1) * z.last * z.run * z.shift_run ≤ 65536 * 9 * 1000 * 1000 = mul-le-mul second shift_run in
+      omega (arith, place_below, all)
+
+-- ---- what is taken at the rates
+
+pub taken_small : (rate most k left : ℕ) → rate ≤ most → k ≤ left → rate * k ≤ most * left
+taken_small rate most k left small few = mul-le-mul small few

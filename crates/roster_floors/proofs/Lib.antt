@@ -1,0 +1,12 @@
+pub mod AfterOff
+pub mod AfterShift
+pub mod Cells
+pub mod CountLaws
+pub mod DayLaws
+pub mod FloorLaw
+pub mod LeastLaw
+pub mod LineLaws
+pub mod MoreToCome
+pub mod Places
+pub mod ToCome
+pub mod WayLaws

@@ -1,0 +1,70 @@
+-- How many days and weekends can be worked at most in the days that are left.
+use Rattle.std.proofs.lemmas.Bool.{cases_eq, eq-eqb, ne_eqb}
+use Rattle.std.proofs.Common.{get_or, ◌≡◌, ◌+◌, ◌*◌, ◌/◌, ◌%◌, ◌≤◌, ◌==◌, ◌⊎◌, ◌&&◌, ℕ, suc, zero, Bool, true, false, not, inl, inr, arith, List, Option, Some, if◌then◌else◌, is_some}
+use Rattle.roster_instance.specs.declared.choice.Shift.{Shift}
+use Rattle.roster_instance.specs.Choices.{shift_of}
+use Rattle.roster_instance.specs.Counting.{one_if}
+use Rattle.roster_instance.specs.Meaning.{Meaning, day_count, week_count}
+use Rattle.roster_state.proofs.SumLaw.{one_at_most}
+use Rattle.roster_rules.specs.Prefix.{Summary}
+use Rattle.roster_search.specs.Offers.{best_of_offers}
+use Rattle.roster_search.specs.declared.offer.Offer.{Offer}
+use Rattle.roster_floors.specs.Later.{AreToCome, ToCome, days_to_work, weekends_to_work}
+use Rattle.roster_floors.proofs.ToCome.{day_before_has, nothing_more}
+
+-- in m days up to the end of a week begin or go on so many weekends: on a Sunday this one counts where the Saturday wasn't worked
+abbrev weekends_left : ℕ → Option Shift → ℕ
+weekends_left m last = if m % 7 == 1 then m / 7 + one_if (not (is_some last)) else (m + 6) / 7
+
+-- at most each day, and each weekend
+abbrev can_come : ℕ → Option Shift → ToCome
+can_come m last = record { days = record { least = 0; greatest = m }; weekends = record { least = 0; greatest = weekends_left m last } }
+
+-- the same where only what the tests answer is looked at
+abbrev begins : (sat sun before now : Bool) → ℕ
+begins sat sun before now = if sat then one_if now else if sun then one_if (not before && now) else 0
+
+abbrev left_where : (sun : Bool) → ℕ → Bool → ℕ
+left_where sun m before = if sun then m / 7 + one_if (not before) else (m + 6) / 7
+
+on_saturday : (m : ℕ) (before now : Bool) → m % 7 ≡ 1 → begins true false before now + left_where true m now ≤ left_where false (suc m) before
+on_saturday m before true at = omega (arith, at)
+on_saturday m before false at = omega (arith, at)
+
+on_sunday : (m : ℕ) (before now : Bool) → m % 7 ≡ 0 → begins false true before now + left_where false m now ≤ left_where true (suc m) before
+on_sunday m true now at = omega (arith, at)
+on_sunday m false true at = omega (arith, at)
+on_sunday m false false at = omega (arith, at)
+
+weekend_step : (m d weeks : ℕ) (before now : Bool) → suc m + d ≡ 7 * weeks → begins (d % 7 == 5) (d % 7 == 6) before now + left_where (m % 7 == 1) m now ≤ left_where (suc m % 7 == 1) (suc m) before
+weekend_step m d weeks before now days = go (cases_eq (d % 7) 5) (cases_eq (d % 7) 6)
+  where
+    go : (d % 7 ≡ 5) ⊎ (d % 7 ≡ 5 → ⊥) → (d % 7 ≡ 6) ⊎ (d % 7 ≡ 6 → ⊥) → begins (d % 7 == 5) (d % 7 == 6) before now + left_where (m % 7 == 1) m now ≤ left_where (suc m % 7 == 1) (suc m) before
+    go (inl sat) sun = rw (eq-eqb (d % 7) 5 sat, eq-eqb (m % 7) 1 (omega (arith, sat, days)), ne_eqb (suc m % 7) 1 (λ e. omega (arith, sat, days, e))) (on_saturday m before now (omega (arith, sat, days)))
+    go (inr not_sat) (inl sun) = rw (ne_eqb (d % 7) 5 not_sat, eq-eqb (d % 7) 6 sun, ne_eqb (m % 7) 1 (λ e. omega (arith, sun, days, e)), eq-eqb (suc m % 7) 1 (omega (arith, sun, days))) (on_sunday m before now (omega (arith, sun, days)))
+    go (inr not_sat) (inr not_sun) = rw (ne_eqb (d % 7) 5 not_sat, ne_eqb (d % 7) 6 not_sun, ne_eqb (m % 7) 1 (λ e. not_sat (omega (arith, days, e))), ne_eqb (suc m % 7) 1 (λ e. not_sun (omega (arith, days, e)))) (omega arith)
+
+module _ (c : Meaning) (n : ℕ) (offers : ℕ → List Offer) where
+  are_to_come : (m d : ℕ) → m + d ≡ day_count c → AreToCome c n offers m d (can_come m)
+  are_to_come zero d days = λ s cost row is.
+      let none = nothing_more c n offers d s cost row is in
+      (none.0, record { low = omega arith; high = omega (arith, none.1.high) })
+  are_to_come (suc m) d days =
+      day_before_has c n offers m d (can_come m) (can_come (suc m)) (are_to_come m (suc d) (omega (arith, days))) (λ last place x inside allowed. record {
+        days = record { low = omega arith; high = omega (arith, one_at_most (is_some (shift_of (get_or (offers d) place x).choice))) };
+        weekends = record { low = omega arith; high = omega (arith, weekend_step m d (week_count c) (is_some last) (is_some (shift_of (get_or (offers d) place x).choice)) days) };
+      })
+
+  left_at_most : (m : ℕ) (last : Option Shift) → weekends_left m last ≤ (m + 6) / 7
+  left_at_most m last = go (cases_eq (m % 7) 1) (is_some last)
+    where
+      go : (m % 7 ≡ 1) ⊎ (m % 7 ≡ 1 → ⊥) → (before : Bool) → left_where (m % 7 == 1) m before ≤ (m + 6) / 7
+      go (inl at) true = rw (eq-eqb (m % 7) 1 at) (omega (arith, at))
+      go (inl at) false = rw (eq-eqb (m % 7) 1 at) (omega (arith, at))
+      go (inr apart) before = rw (ne_eqb (m % 7) 1 apart) (omega arith)
+
+  -- no more than the days and the weekends that are left
+  pub few_to_come : (m d : ℕ) (s : Summary) → m + d ≡ day_count c → (cost : ℕ) (row : List Offer) → best_of_offers c n offers m d s ≡ Some (cost, row) → (days_to_work row ≤ m) × (weekends_to_work d s.last row ≤ (m + 6) / 7)
+  few_to_come m d s days cost row is =
+      let come = are_to_come m d days s cost row is in
+      (come.0.high, omega (arith, come.1.high, left_at_most m s.last))

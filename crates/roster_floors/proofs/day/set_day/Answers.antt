@@ -1,0 +1,48 @@
+use Rattle.std.proofs.Common.{◌≡◌, ◌∙◌, ◌+◌, ◌-◌, ◌*◌, ◌<◌, ◌≤◌, ℕ, ap, arith, get_or, length, refl, subst, sym}
+use Rattle.std.proofs.lemmas.List.Edits.{length-between}
+use Rattle.std.proofs.lemmas.Nat.{mul-add-lt}
+use Rattle.roster_state.specs.Codes.{shift_digit, sizes_of}
+use Rattle.roster_state.proofs.CodeLemmas.{fits-all}
+use Rattle.roster_floors.specs.Lines.{IsUnderAll, UnderCell, UnderPlace, cell_place, most_floor}
+use Rattle.roster_floors.proofs.Cells.{low_more, row_inside, rows_length, rows_more}
+use Rattle.roster_floors.proofs.day.set_day.Goals as goal
+
+pub loop-digit-preserved : goal.loop-digit-preserved
+loop-digit-preserved c =
+    let k = c.args.day.now.case.now in
+    let day = c.args.day.now in
+    let next = c.args.next.now in
+    let z = sizes_of k day.nurse in
+    let size = z.run * z.shift_run in
+    let digit = c.loop-digit.digit in
+    let here = c.loop-digit.here in
+    let part = c.set_after.new.here in
+    let area = day.runs * day.shift_runs in
+    let first = digit * area in
+    let width = first + area - first in
+    let area_is : area ≡ size = ap (λ r. r * day.shift_runs) c.requires.day.runs ∙ ap (λ q. z.run * q) c.requires.day.shift_runs in
+    let at : first ≡ digit * size = ap (λ a. digit * a) area_is in
+    let is : width ≡ size = omega (arith, area_is) in
+    let known = row_inside digit z.last size (omega (arith, c.requires.day.lasts, c.loop-digit-test.true)) in
+    let inside : digit * size + size ≤ length here = omega (arith, known, c.loop-digit.invariant.long, c.requires.room) in
+    let long : length part ≡ size = c.set_after.ensures.length ∙ length-between here first (first + area) (omega (arith, inside, at, is)) ∙ is in
+    record {
+      under = rows_more here part digit size first width at is long inside (λ d p x. UnderPlace k day next d p x) c.loop-digit.invariant.under
+          (λ p below r q l m e. subst (λ (i : ℕ). UnderCell k day next digit r q (get_or part i 0)) (sym e) (c.set_after.ensures.under r q l m));
+      low = low_more here part digit size first width at is long inside most_floor c.loop-digit.invariant.low c.set_after.ensures.low;
+      long = rows_length here part digit size first width at is long inside ∙ c.loop-digit.invariant.long;
+    }
+
+pub returns-clause-under : goal.returns-clause-under
+returns-clause-under c s fit =
+    let k = c.args.day.now.case.now in
+    let day = c.args.day.now in
+    let z = sizes_of k day.nurse in
+    let f = fits-all z s fit in
+    let digit = shift_digit s.last in
+    let place = s.run * z.shift_run + s.shift_run in
+    let at : digit * (z.run * z.shift_run) + place ≡ cell_place z s = omega arith in
+    let below : place < z.run * z.shift_run = omega (arith, mul-add-lt s.run z.shift_run s.shift_run z.run f.run f.shift_run) in
+    let is = c.requires.day.lasts in
+    subst (λ (i : ℕ). IsUnderAll k day c.args.next.now s (get_or c.loop-digit.here i 0)) at
+    (c.loop-digit.invariant.under digit place (omega (arith, f.last, is, c.loop-digit-test.false)) below s.run s.shift_run f.run f.shift_run refl s (record { last = refl; run = refl; shift_run = refl }))

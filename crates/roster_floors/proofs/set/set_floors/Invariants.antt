@@ -1,0 +1,15 @@
+use Rattle.std.proofs.Common.{◌≡◌, ◌+◌, ◌*◌, ◌<◌, ◌≤◌, ℕ, length, slice_index_or}
+use Rattle.roster_instance.specs.Meaning.{day_count}
+use Rattle.roster_search.specs.Search.{offers_on}
+use Rattle.roster_state.specs.Codes.{sizes_of}
+use Rattle.roster_floors.specs.Floors.{floor_count}
+use Rattle.roster_floors.specs.Lines.{IsSetOn, most_floor}
+use Rattle.roster_floors.proofs.set.set_floors.Given as goal
+
+abbrev pub invariant-loop-day : goal.invariant-loop-day
+invariant-loop-day l = record {
+  set : (d : ℕ) → l.day ≤ d → d < day_count l.search.case.now → IsSetOn l.search.case.now l.search.nurse l.rates (offers_on l.search.offers.now) l.floors d;
+  end : (k : ℕ) → k < floor_count (sizes_of l.search.case.now l.search.nurse) → slice_index_or l.floors (day_count l.search.case.now * floor_count (sizes_of l.search.case.now l.search.nurse) + k) 0 ≡ 0;
+  low : (k : ℕ) → k < floor_count (sizes_of l.search.case.now l.search.nurse) → slice_index_or l.floors (l.day * floor_count (sizes_of l.search.case.now l.search.nurse) + k) 0 ≤ most_floor;
+  long : length l.floors ≡ length l.fn.floors;
+}

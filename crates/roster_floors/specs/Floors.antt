@@ -1,0 +1,52 @@
+-- Floors: numbers under what the rest of a row costs, by the day, the last shift and the runs alone (our own).
+use Rattle.std.specs.Prelude.{◌≡◌, ℕ, suc, ◌+◌, ◌*◌, ◌<◌, ◌≤◌, All, List, true, false, Option, is_some, slice_index_or}
+use Rattle.roster_instance.specs.declared.choice.Shift.{Shift}
+use Rattle.roster_instance.specs.Choices.{shift_of}
+use Rattle.roster_instance.specs.Counting.{one_if}
+use Rattle.roster_instance.specs.Meaning.{Meaning, day_count, forbids}
+use Rattle.roster_rules.specs.DayLaw.{weekends_more}
+use Rattle.roster_rules.specs.Prefix.{Summary}
+use Rattle.roster_rules.specs.Weights.{assignment_weight, weekend_weight}
+use Rattle.roster_state.specs.Codes.{Sizes, fits_sizes, shift_digit, sizes_of}
+use Rattle.roster_state.specs.Step.{free_more, next_of, shifts_more, split_more, working_more}
+use Rattle.roster_search.specs.declared.offer.Offer.{Offer}
+use Rattle.roster_floors.specs.declared.rates.Rates.{Rates}
+
+-- no more than what one assignment or weekend too many costs
+pub record AreSmall (rates : Rates) : Type 0 where
+  pub day : rates.day ≤ assignment_weight
+  pub weekend : rates.weekend ≤ weekend_weight
+
+-- how many floors a day has
+abbrev pub floor_count : Sizes → ℕ
+floor_count z = z.last * (z.run * z.shift_run)
+
+-- the place of a state's floor on a day
+abbrev pub floor_place : Sizes → ℕ → Summary → ℕ
+floor_place z day s = ((day * z.last + shift_digit s.last) * z.run + s.run) * z.shift_run + s.shift_run
+
+abbrev pub floor_at : Sizes → List ℕ → ℕ → Summary → ℕ
+floor_at z floors day s = slice_index_or floors (floor_place z day s) 0
+
+-- what a day costs, but for assignments and worked weekends
+abbrev pub cost_beside : Meaning → ℕ → ℕ → Summary → Option Shift → ℕ
+cost_beside c n d s shift = working_more c n s shift + free_more c n s shift + shifts_more c s shift + split_more c n d s shift
+
+-- the rates of a day
+abbrev pub rate_of : Rates → ℕ → Option Shift → Option Shift → ℕ
+rate_of rates d last shift = rates.day * one_if (is_some shift) + rates.weekend * weekends_more d (is_some last) (is_some shift)
+
+-- a day with an offer, at the rates in place of what assignments and weekends cost
+abbrev pub rated : Meaning → ℕ → Rates → ℕ → Summary → Offer → ℕ
+rated c n rates d s x = x.price + cost_beside c n d s (shift_of x.choice) + rate_of rates d s.last (shift_of x.choice)
+
+-- from each state a day's floor is no more than an offer that may follow and the floor after it
+abbrev pub LieUnder : Meaning → ℕ → Rates → (ℕ → List Offer) → List ℕ → ℕ → Type 0
+LieUnder c n rates offers floors d =
+    (s : Summary) → fits_sizes (sizes_of c n) s ≡ true
+    → All (λ x. forbids c.successions s.last (shift_of x.choice) ≡ false → floor_at (sizes_of c n) floors d s ≤ rated c n rates d s x + floor_at (sizes_of c n) floors (suc d) (next_of c n d s (shift_of x.choice))) (offers d)
+
+-- floors of all days; after the last day nothing
+pub record AreFloors (c : Meaning) (n : ℕ) (rates : Rates) (offers : ℕ → List Offer) (floors : List ℕ) : Type 0 where
+  pub under : (d : ℕ) → d < day_count c → LieUnder c n rates offers floors d
+  pub end : (s : Summary) → fits_sizes (sizes_of c n) s ≡ true → floor_at (sizes_of c n) floors (day_count c) s ≡ 0

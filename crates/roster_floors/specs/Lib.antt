@@ -1,0 +1,4 @@
+pub mod Floors
+pub mod Later
+pub mod Least
+pub mod Lines

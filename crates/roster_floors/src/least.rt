@@ -1,0 +1,82 @@
+//! What the rest of a row costs at least, by floors and by what is counted over all days.
+
+ghost use Rattle.std.specs.Prelude.{◌≡◌, ◌+◌, ◌-◌, ◌*◌, ◌<◌, ◌≤◌, ℕ, List, Some, length, true};
+ghost use Rattle.roster_instance.specs.Meaning.{day_count, nurse_count};
+ghost use Rattle.roster_search.specs.Offers.{best_of_offers};
+ghost use Rattle.roster_search.specs.Search.{AreOffers, offers_on};
+ghost use Rattle.roster_search.specs.declared.offer.Offer.{Offer};
+ghost use Rattle.roster_state.specs.Codes.{fits_sizes, sizes_of};
+ghost use Rattle.roster_floors.specs.Floors.{AreFloors, AreSmall, floor_place, floor_count};
+ghost use Rattle.roster_floors.specs.Least.{AreReady};
+
+use crate::rates::Rates;
+use roster_rules::weights::ASSIGNMENT;
+use roster_search::RowSearch;
+use roster_state::{Ranges, State};
+
+/// The floors of a search, at their rates, with what is looked up once: how many days there are, the ranges, and the least total.
+#[derive(Clone, Copy)]
+pub struct Floors<'a> {
+    pub search: RowSearch<'a>,
+    pub rates: Rates,
+    pub cells: &'a [u32],
+    pub days: u16,
+    pub ranges: Ranges,
+    pub least: u16,
+}
+
+impl<'a> Floors<'a> {
+    /// Those that `set_floors` has set in cells.
+    pub fn of(search: &RowSearch<'a>, rates: Rates, cells: &'a [u32]) -> Floors<'a>
+        requires nurse { search.now.nurse < nurse_count search.now.case.now }
+        requires offers { AreOffers search.now.case.now search.now.nurse search.now.offers.now }
+        requires small { AreSmall rates }
+        requires inside { (day_count search.now.case.now + 1) * floor_count (sizes_of search.now.case.now search.now.nurse) ≤ length cells.now }
+        requires floors { AreFloors search.now.case.now search.now.nurse rates (offers_on search.now.offers.now) cells.now }
+        ensures search { result.search ≡ search.now }
+        ensures ready { AreReady result }
+    {
+        Floors {
+            search: *search,
+            rates,
+            cells,
+            days: search.case.days(),
+            ranges: Ranges::of(search.case, search.nurse),
+            least: search.case.contract_rules(search.nurse).total.least,
+        }
+    }
+}
+
+/// What the rest of a row costs at least from a state before a day on, in penalty points: the floor, with what assignments and worked
+/// weekends still cost, whatever comes, less what the floor takes for them.
+#[inline(always)]
+pub fn at_least(floors: &Floors<'_>, day: u16, state: &State) -> u32
+    requires ready { AreReady floors.now }
+    requires day { day ≤ day_count floors.now.search.case.now }
+    requires fits { fits_sizes (sizes_of floors.now.search.case.now floors.now.search.nurse) state.now ≡ true }
+    ensures least { (cost : ℕ) (row : List Offer) → best_of_offers floors.now.search.case.now floors.now.search.nurse (offers_on floors.now.search.offers.now) (day_count floors.now.search.case.now - day) day state.now ≡ Some (cost, row) → result ≤ cost }
+{
+    let floor = floors.cells[place(floors, day, state)];
+    let left = (floors.days - day) as u32;
+    let assignments = state.assignments() as u32;
+    let days = left.min(floors.ranges.assignments() - 1 - assignments);
+    let weeks = (left + 6) / 7;
+    let weekends = weeks.min(floors.ranges.weekends() - 1 - state.weekends() as u32);
+    let missing = (floors.least as u32).saturating_sub(assignments + days);
+    floor
+        .saturating_add(ASSIGNMENT * missing)
+        .saturating_sub(floors.rates.day * days + floors.rates.weekend * weekends)
+}
+
+/// The place of a state's floor.
+#[inline(always)]
+fn place(floors: &Floors<'_>, day: u16, state: &State) -> usize
+    requires fits { fits_sizes floors.now.ranges state.now ≡ true }
+    requires inside { (day + 1) * floor_count floors.now.ranges ≤ length floors.now.cells.now }
+    ensures place { result ≡ floor_place floors.now.ranges day state.now }
+    ensures inside { result < length floors.now.cells.now }
+{
+    let last = day as usize * floors.ranges.last() as usize + state.last_number() as usize;
+    let run = last * floors.ranges.run() as usize + state.run() as usize;
+    run * floors.ranges.shift_run() as usize + state.shift_run() as usize
+}

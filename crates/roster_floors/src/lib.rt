@@ -1,0 +1,21 @@
+//! Floors under what the rest of a row costs.
+//!
+//! What floors are is defined in `specs/Floors.antt`. `set_floors` sets those of all days, from the last day to the first: each day's
+//! by `set_day`, each last shift's with all runs by `set_after_shift` or `set_after_off`, and a line of those, one for each run of that
+//! shift, by `set_line`.
+#![tactic(auto)]
+
+mod day;
+mod laws;
+mod least;
+mod line;
+mod off;
+mod rates;
+mod set;
+mod shift;
+mod ways;
+
+pub use laws::floors_lie_under_the_rest;
+pub use least::{Floors, at_least};
+pub use rates::Rates;
+pub use set::set_floors;

@@ -1,0 +1,73 @@
+//! A line of floors: those of one last shift and one run.
+
+ghost use Rattle.std.specs.Prelude.{◌≡◌, ◌+◌, ◌*◌, ◌<◌, ◌≤◌, ℕ, false, length, min, true, slice_index_or};
+ghost use Rattle.roster_instance.specs.RunLaw.{day_violations};
+ghost use Rattle.roster_instance.specs.Sizes.{cap};
+ghost use Rattle.roster_rules.specs.Weights.{shift_run_weight};
+ghost use Rattle.roster_floors.specs.Lines.{AreLow, most_floor, most_leave};
+
+use roster_rules::Limits;
+use roster_rules::weights::SHIFT_RUN;
+use std::cmp::min;
+
+/// What a line takes: the limits of the last shift's run, what it costs at least to leave the shift, and what to stay; and how many
+/// of its cells are reckoned.
+#[derive(Clone, Copy)]
+pub(crate) struct LineCosts {
+    pub(crate) run: Limits,
+    pub(crate) leave: u32,
+    pub(crate) stay: u32,
+    pub(crate) count: usize,
+}
+
+/// Sets a line, where `after` is the line to which staying leads.
+pub(crate) fn set_line(costs: LineCosts, after: &[u32], here: &mut [u32])
+    requires room { cap costs.run < length after.now }
+    requires capped { cap costs.run < length here.old }
+    requires long { length here.old ≤ 1000 }
+    requires leave { costs.leave ≤ most_leave }
+    requires stay { costs.stay ≤ most_floor }
+    requires low { AreLow after.now }
+    ensures leaves { (q : ℕ) → q < length here.new → slice_index_or here.new q 0 ≤ costs.leave + shift_run_weight * day_violations costs.run q false }
+    ensures stays { (q : ℕ) → q < length here.new → slice_index_or here.new q 0 ≤ costs.stay + shift_run_weight * day_violations costs.run q true + slice_index_or after.now (min (q + 1) (cap costs.run)) 0 }
+    ensures low { AreLow here.new }
+    ensures length { length here.new ≡ length here.old }
+{
+    let LineCosts {
+        run,
+        leave,
+        stay,
+        count,
+    } = costs;
+    let cap = run.cap() as usize;
+    let open = min(cap, count);
+    // A shift that was worked last has a run of a day at least, so no row comes to the first cell: 0 lies under everything.
+    here[0] = 0;
+    'open: for place in 1..open {
+        let missing = SHIFT_RUN * (run.least as u32).saturating_sub(place as u32);
+        here[place] = min(leave + missing, stay + after[place + 1]);
+    }
+
+    // From its cap on a run misses nothing, and each further day is an extra one. No row comes to the cells that aren't reckoned.
+    let floor = if count <= cap {
+        0
+    } else {
+        min(leave, stay + SHIFT_RUN + after[cap])
+    };
+    'full: for place in open..here.len() {
+        here[place] = floor;
+    }
+}
+
+/// Sets a line to one number.
+#[inline(always)]
+pub(crate) fn set_all(floor: u32, here: &mut [u32])
+    requires floor { floor ≤ most_floor }
+    ensures all { (q : ℕ) → q < length here.new → slice_index_or here.new q 0 ≡ floor }
+    ensures low { AreLow here.new }
+    ensures length { length here.new ≡ length here.old }
+{
+    for place in 0..here.len() {
+        here[place] = floor;
+    }
+}

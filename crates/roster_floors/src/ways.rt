@@ -1,0 +1,215 @@
+//! The ways on from a last shift.
+
+ghost use Rattle.std.specs.Prelude.{◌≡◌, ◌≢◌, ◌+◌, ◌*◌, ◌<◌, ◌≤◌, ℕ, length, slice_index_or};
+ghost use Rattle.roster_instance.specs.Choices.{shift_of};
+ghost use Rattle.roster_instance.specs.Meaning.{shift_count};
+ghost use Rattle.roster_rules.specs.DayLaw.{splits_more, weekends_more};
+ghost use Rattle.roster_search.specs.Tables.{IsOfferOf, most_price};
+ghost use Rattle.roster_state.specs.Codes.{sizes_of};
+ghost use Rattle.roster_floors.specs.Lines.{AreLow, AreOnward, IsFloorDay, IsOnward, IsOpenWay, IsWayOf, IsWayOn, apart_of, most_leave, offer_at, way_at};
+
+use crate::day::FloorDay;
+use roster_rules::Shift;
+use roster_rules::weights::{SHIFT_RUN, SPLIT};
+use roster_search::{MOST_OFFERS, Offer};
+use std::cmp::min;
+
+/// What a day costs at most whatever comes after it, 2^30.
+pub(crate) const MOST_LEAVE: u32 = 1_073_741_824;
+
+/// What another shift costs that begins, whatever the run, and the place of its first floor.
+#[derive(Clone, Copy)]
+pub(crate) struct Way {
+    pub(crate) price: u32,
+    pub(crate) place: u32,
+}
+
+/// What an offer costs after a worked day, whatever the last shift: its price with what doesn't depend on the runs, and the way on
+/// where it is a shift that begins.
+#[derive(Clone, Copy)]
+pub(crate) struct Onward {
+    pub(crate) apart: u32,
+    pub(crate) way: Way,
+}
+
+/// The ways on from a last shift: the least that a day off costs, the least that the same shift costs, and as many ways as there are
+/// offers of other shifts that may follow.
+#[derive(Clone, Copy)]
+pub(crate) struct Ways {
+    pub(crate) off: u32,
+    pub(crate) stay: u32,
+    pub(crate) count: usize,
+    pub(crate) others: [Way; MOST_OFFERS],
+}
+
+/// One that is never the least.
+const NO_WAY: Way = Way {
+    price: MOST_LEAVE,
+    place: 0,
+};
+
+/// What the offers of a day cost after a worked day: reckoned once for all last shifts.
+pub(crate) fn onwards(day: &FloorDay<'_>) -> [Onward; MOST_OFFERS]
+    requires day { IsFloorDay day.now.case.now day.now }
+    ensures onwards { AreOnward day.now.case.now day.now result }
+{
+    let nothing = Onward {
+        apart: MOST_LEAVE,
+        way: NO_WAY,
+    };
+    let mut all = [nothing; MOST_OFFERS];
+    for place in 0..day.offers.len() {
+        all[place] = of_offer(day, day.offers[place]);
+    }
+    all
+}
+
+/// What an offer costs after a worked day.
+#[inline(always)]
+fn of_offer(day: &FloorDay<'_>, offer: Offer) -> Onward
+    requires day { IsFloorDay day.now.case.now day.now }
+    requires offer { IsOfferOf day.now.case.now offer }
+    ensures onward { IsOnward day.now.case.now day.now.nurse day.now.rates day.now.day result offer (shift_of offer.choice) }
+    ensures open { IsOpenWay (sizes_of day.now.case.now day.now.nurse) result.way }
+{
+    Onward {
+        apart: apart(day, true, offer),
+        way: match offer.choice.shift() {
+            None => NO_WAY,
+            Some(shift) => way_to(day, true, offer, shift),
+        },
+    }
+}
+
+/// The ways on from a last shift on a day.
+#[inline(always)]
+pub(crate) fn ways_after(day: &FloorDay<'_>, onwards: &[Onward; MOST_OFFERS], last: Shift) -> Ways
+    requires day { IsFloorDay day.now.case.now day.now }
+    requires onwards { AreOnward day.now.case.now day.now onwards.now }
+    ensures ways { (k : ℕ) → k < length day.now.offers.now → IsWayOn day.now.case.now day.now.nurse day.now.rates day.now.day last result.off result.stay result.others result.count (offer_at day.now.offers.now k) (shift_of (offer_at day.now.offers.now k).choice) }
+    ensures open { (k : ℕ) → IsOpenWay (sizes_of day.now.case.now day.now.nurse) (way_at result.others k) }
+    ensures within { (result.off ≤ most_leave) × (result.stay ≤ most_leave) }
+    ensures length { length result.others ≡ 9 }
+    ensures few { result.count ≤ 9 }
+{
+    let mut ways = Ways {
+        off: MOST_LEAVE,
+        stay: MOST_LEAVE,
+        count: 0,
+        others: [NO_WAY; MOST_OFFERS],
+    };
+    for place in 0..day.offers.len() {
+        add_way(&mut ways, day, onwards, last, place);
+    }
+    ways
+}
+
+/// Adds what stands for an offer.
+#[inline(always)]
+fn add_way(
+    ways: &mut Ways,
+    day: &FloorDay<'_>,
+    onwards: &[Onward; MOST_OFFERS],
+    last: Shift,
+    place: usize,
+)
+    requires day { IsFloorDay day.now.case.now day.now }
+    requires onwards { AreOnward day.now.case.now day.now onwards.now }
+    requires place { place < length day.now.offers.now }
+    requires room { length ways.old.others ≡ 9 }
+    requires few { ways.old.count ≤ place }
+    requires open { (k : ℕ) → IsOpenWay (sizes_of day.now.case.now day.now.nurse) (way_at ways.old.others k) }
+    ensures way { IsWayOn day.now.case.now day.now.nurse day.now.rates day.now.day last ways.new.off ways.new.stay ways.new.others ways.new.count (offer_at day.now.offers.now place) (shift_of (offer_at day.now.offers.now place).choice) }
+    ensures others { (k : ℕ) → k < ways.old.count → way_at ways.new.others k ≡ way_at ways.old.others k }
+    ensures more { (ways.old.count ≤ ways.new.count) × (ways.new.count ≤ place + 1) }
+    ensures lower { (ways.new.off ≤ ways.old.off) × (ways.new.stay ≤ ways.old.stay) }
+    ensures open { (k : ℕ) → IsOpenWay (sizes_of day.now.case.now day.now.nurse) (way_at ways.new.others k) }
+    ensures length { length ways.new.others ≡ 9 }
+{
+    let onward = onwards[place];
+    match day.offers[place].choice.shift() {
+        None => ways.off = min(ways.off, onward.apart),
+        Some(shift) if day.case.forbids(last, shift) => {}
+        Some(shift) if last.0 == shift.0 => ways.stay = min(ways.stay, onward.apart),
+        Some(_) => {
+            ways.others[ways.count] = onward.way;
+            ways.count += 1;
+        }
+    }
+}
+
+/// The way on with a shift that begins, after a worked day or a day off.
+#[inline(always)]
+pub(crate) fn way_to(day: &FloorDay<'_>, before: bool, offer: Offer, shift: Shift) -> Way
+    requires day { IsFloorDay day.now.case.now day.now }
+    requires offer { IsOfferOf day.now.case.now offer }
+    requires shift { shift.0 < shift_count day.now.case.now }
+    ensures way { IsWayOf day.now.case.now day.now.nurse day.now.rates day.now.day before offer shift result }
+    ensures open { IsOpenWay (sizes_of day.now.case.now day.now.nurse) result }
+{
+    let run = day.case.run_of_shift(shift);
+    let place = (shift.0 as usize + 1) * day.runs * day.shift_runs + min(1, run.cap() as usize);
+    Way {
+        price: apart(day, before, offer) + SHIFT_RUN * run.day_violations(0, true),
+        place: place as u32,
+    }
+}
+
+/// An offer's price with what doesn't depend on the runs, after a worked day or a day off.
+#[inline(always)]
+pub(crate) fn apart(day: &FloorDay<'_>, before: bool, offer: Offer) -> u32
+    requires day { IsFloorDay day.now.case.now day.now }
+    requires offer { IsOfferOf day.now.case.now offer }
+    ensures cost { result ≡ apart_of day.now.case.now day.now.nurse day.now.rates day.now.day before offer }
+    ensures within { result ≤ most_price + 80 }
+{
+    let now = offer.choice.shift().is_some();
+    let split = if day.rules.whole_weekends {
+        SPLIT * splits_more(day.day, before, now)
+    } else {
+        0
+    };
+    let rates = day.rates.day * now as u32
+        + day.rates.weekend * weekends_more(day.day, before, now);
+    offer.price + split + rates
+}
+
+/// The least that it costs to go on by one of the ways, where `more` is the place of the next run after the first one.
+#[inline(always)]
+pub(crate) fn least_way(ways: &Ways, more: usize, next: &[u32]) -> u32
+    requires count { ways.now.count ≤ length ways.now.others }
+    requires price { (k : ℕ) → (way_at ways.now.others k).price ≤ most_leave }
+    requires place { (k : ℕ) → (way_at ways.now.others k).place + more < length next.now }
+    requires low { AreLow next.now }
+    ensures least { (k : ℕ) → k < ways.now.count → result ≤ (way_at ways.now.others k).price + slice_index_or next.now ((way_at ways.now.others k).place + more) 0 }
+    ensures within { result ≤ most_leave }
+{
+    let mut least = MOST_LEAVE;
+    for place in 0..ways.count {
+        let way = ways.others[place];
+        least = min(least, way.price + next[way.place as usize + more]);
+    }
+    least
+}
+
+// ---- weekends
+
+/// A worked Saturday is a worked weekend more, and a worked Sunday where the Saturday is free.
+fn weekends_more(day: u16, before: bool, now: bool) -> u32
+    ensures more { result ≡ weekends_more day before now }
+    ensures within { result ≤ 1 }
+{
+    match day % 7 {
+        5 => now as u32,
+        6 => (!before && now) as u32,
+        _ => 0,
+    }
+}
+
+/// A Sunday ends a weekend, of which one day may be worked alone.
+fn splits_more(day: u16, before: bool, now: bool) -> u32
+    ensures more { result ≡ splits_more day before now }
+    ensures within { result ≤ 1 }
+{
+    (day % 7 == 6 && before != now) as u32
+}

@@ -1,0 +1,5 @@
+mod AddLaws
+mod DaysLaws
+mod RowLaws
+mod SearchLaws
+mod StepLaws

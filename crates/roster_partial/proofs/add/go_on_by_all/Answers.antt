@@ -1,0 +1,72 @@
+use Rattle.std.proofs.Common.{◌≡◌, ◌∙◌, ◌<◌, ap, arith, drop, length, refl, subst, suc, sym, take}
+use Rattle.std.specs.List.{All}
+use Rattle.std.proofs.lemmas.List.{take_all}
+use Rattle.roster_search.specs.Cheapest.{cheaper, cheapest}
+use Rattle.roster_search.specs.Search.{offers_on}
+use Rattle.roster_search.proofs.Cheapest.{cheaper_none}
+use Rattle.roster_search.proofs.SearchLaws.{offers_read}
+use Rattle.roster_partial.specs.declared.rows.Entry.{Entry}
+use Rattle.roster_partial.specs.Rows.{IsEntryOf, best_by, best_of, entry_numbered, offer_numbered}
+use Rattle.roster_partial.specs.Searches.{days_on}
+use Rattle.roster_partial.proofs.AddLaws.{by_offers, gathered, read_entry}
+use Rattle.roster_partial.proofs.RowLaws.{dear_is_none}
+use Rattle.roster_partial.proofs.add.go_on_by_all.Goals as goal
+use Rattle.roster_partial.proofs.add.go_on_by_all.Goals.{After-len-count}
+
+-- the count is that of the day's offers
+count_is : (c : After-len-count) → c.len-count.result ≡ length (offers_on c.args.limited.now.floors.search.offers.now c.args.at.day)
+count_is c =
+    let search = c.args.limited.now.floors.search in
+    c.len-count.ensures.value ∙ ap length (offers_read search.case.now search.nurse search.offers.now c.requires.search.floors.offers c.args.at.day c.requires.day _ c.index-limited-at.result refl)
+
+pub returns-then-deref-before-clause-best : goal.returns-then-deref-before-clause-best
+returns-then-deref-before-clause-best c = λ _.
+    let limited = c.args.limited.now in
+    let rows = c.args.rows.now.items in
+    let old = take c.args.at.end rows in
+    let e = entry_numbered old c.args.before in
+    let is = read_entry rows c.deref.result.now c.args.at.end c.args.before c.index-deref-before.result c.deref.ensures.0 c.requires.before c.requires.end in
+    let best = cheapest (best_of (days_on limited (suc c.args.at.day) old)) (drop c.args.at.end rows) in
+    sym (ap (cheaper best) (dear_is_none (days_on limited c.args.at.day old) e (omega (arith, c.if-deref-before.true, ap (λ (x : Entry). x.cost) is))) ∙ cheaper_none best)
+
+pub go_on-requires-clause-entries : goal.go_on-requires-clause-entries
+go_on-requires-clause-entries c =
+    subst (λ earlier. All (IsEntryOf (days_on c.args.limited.now (suc c.args.at.day) earlier)) (drop c.args.at.end c.offers.rows.items)) (sym c.offers.invariant.front) c.offers.invariant.entries
+
+pub returns-then-not-go_on-clause-entries : goal.returns-then-not-go_on-clause-entries
+returns-then-not-go_on-clause-entries c =
+    subst (λ earlier. All (IsEntryOf (days_on c.args.limited.now (suc c.args.at.day) earlier)) (drop c.args.at.end c.go_on.new.rows.items)) c.offers.invariant.front c.go_on.ensures.entries
+
+pub offers-preserved : goal.offers-preserved
+offers-preserved c =
+    let limited = c.args.limited.now in
+    let at = c.args.at in
+    let old = take at.end c.args.rows.now.items in
+    let offers = offers_on limited.floors.search.offers.now at.day in
+    let inside : c.offers.offer < length offers = omega (arith, c.offers-test.true, count_is (goal.at.offers-preserved c).After-len-count) in
+    let then = drop at.end c.offers.rows.items in
+    let now = drop at.end c.go_on.new.rows.items in
+    let next =
+    subst (λ earlier. cheapest (best_of (days_on limited (suc at.day) earlier)) now ≡ cheaper (cheapest (best_of (days_on limited (suc at.day) earlier)) then) (best_by (days_on limited (suc at.day) earlier) at.day (entry_numbered earlier c.args.before) (offer_numbered offers c.offers.offer)))
+    c.offers.invariant.front (c.go_on.ensures.best c.if-not-go_on.false) in
+    let days = days_on limited (suc at.day) old in
+    record {
+      front = c.go_on.ensures.front ∙ c.offers.invariant.front;
+      long = c.go_on.ensures.length;
+      entries = subst (λ earlier. All (IsEntryOf (days_on limited (suc at.day) earlier)) now) c.offers.invariant.front c.go_on.ensures.entries;
+      best = gathered (best_by days at.day (entry_numbered old c.args.before)) offers c.offers.offer _ _ _ _ inside c.offers.invariant.best next;
+      meter = omega (arith, c.go_on.ensures.counted, c.offers.invariant.meter);
+      each = omega (arith, c.go_on.ensures.counted, c.go_on.ensures.few, c.offers.invariant.each);
+    }
+
+pub returns-clause-best : goal.returns-clause-best
+returns-clause-best c = λ _.
+    let limited = c.args.limited.now in
+    let at = c.args.at in
+    let old = take at.end c.args.rows.now.items in
+    let e = entry_numbered old c.args.before in
+    let offers = offers_on limited.floors.search.offers.now at.day in
+    let days = days_on limited (suc at.day) old in
+    let all : cheapest (best_by days at.day e) (take c.offers.offer offers) ≡ cheapest (best_by days at.day e) offers =
+    ap (cheapest (best_by days at.day e)) (take_all c.offers.offer offers (omega (arith, c.offers-test.false, count_is (goal.at.returns-clause-best c).After-len-count))) in
+    c.offers.invariant.best ∙ ap (cheaper (cheapest (best_of days) (drop at.end c.args.rows.now.items))) (all ∙ by_offers limited at.day old e c.requires.day)

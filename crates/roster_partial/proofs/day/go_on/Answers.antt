@@ -1,0 +1,67 @@
+use Rattle.std.proofs.Common.{◌≡◌, ◌∙◌, ◌+◌, ◌-◌, ap, arith, drop, Some, refl, slice_index_or, suc, sym, subst, take, ℕ}
+use Rattle.roster_instance.specs.declared.choice.Choice.TheVariants.{Off}
+use Rattle.roster_instance.specs.Meaning.{day_count}
+use Rattle.roster_state.specs.Step.{step_of}
+use Rattle.roster_search.specs.Search.{offers_on}
+use Rattle.roster_search.specs.Offers.{best_of_offers, dearer, offer_step}
+use Rattle.roster_search.specs.Cheapest.{cheaper, cheapest}
+use Rattle.roster_search.specs.declared.offer.Offer.{Offer}
+use Rattle.roster_search.proofs.Cheapest.{cheaper_none}
+use Rattle.roster_partial.specs.declared.rows.Entry.{Entry}
+use Rattle.roster_partial.specs.Rows.{Days, best_by, best_of, entry_numbered, offer_numbered}
+use Rattle.roster_partial.specs.Searches.{days_on}
+use Rattle.roster_partial.proofs.StepLaws.{by_dear, by_entry, by_forbidden, read_day, taken_entry}
+use Rattle.roster_partial.proofs.day.go_on.Goals as goal
+
+pub returns-in_default-clause-best : goal.returns-in_default-clause-best
+returns-in_default-clause-best c = λ _.
+    let search = c.args.limited.now.floors.search in
+    let day = c.args.at.day in
+    let earlier = take c.args.at.end c.args.rows.now.items in
+    let days : Days = days_on c.args.limited.now (suc day) earlier in
+    let e = c.index-deref-link.result in
+    let from : entry_numbered earlier c.args.link.before ≡ e = taken_entry c.args.rows.now.items c.args.at.end c.args.link.before e c.requires.before c.requires.end (c.index-deref-link.is ∙ ap (λ xs. slice_index_or xs c.args.link.before e) c.deref.ensures.0) in
+    let read : c.as_slice-day_offers.result.now ≡ offers_on search.offers.now day = c.as_slice-day_offers.ensures.value ∙ sym (read_day search.offers.now day c.index-offers-at.result (omega (arith, c.requires.day, c.requires.search.floors.offers.days)) c.index-offers-at.is) in
+    let x : Offer = slice_index_or c.as_slice-day_offers.result.now c.args.link.offer (record { choice = Off; price = 0 }) in
+    let same : x ≡ offer_numbered (offers_on search.offers.now day) c.args.link.offer = ap (λ xs. slice_index_or xs c.args.link.offer (record { choice = Off; price = 0 })) read in
+    let step : offer_step search.case.now search.nurse day e.state x ≡ dearer x.price c.extend.result = ap (dearer x.price) (ap (step_of search.case.now search.nurse day e.state) (sym c.shift-shift.ensures) ∙ sym c.extend.ensures.step) in
+    let kept = cheapest (best_of days) (drop c.args.at.end c.args.rows.now.items) in
+    let wanted : best_by days day e x ≡ best_by days day (entry_numbered earlier c.args.link.before) (offer_numbered (offers_on search.offers.now day) c.args.link.offer) = (λ i. best_by days day (sym from i) (same i)) in
+    let none = by_forbidden days day e x (step ∙ ap (dearer x.price) c.in_default.is) in
+    sym (ap (cheaper kept) (sym wanted ∙ none) ∙ cheaper_none kept)
+
+pub returns-then-is_dear-clause-best : goal.returns-then-is_dear-clause-best
+returns-then-is_dear-clause-best c = λ _.
+    let search = c.args.limited.now.floors.search in
+    let day = c.args.at.day in
+    let earlier = take c.args.at.end c.args.rows.now.items in
+    let days : Days = days_on c.args.limited.now (suc day) earlier in
+    let e = c.index-deref-link.result in
+    let from : entry_numbered earlier c.args.link.before ≡ e = taken_entry c.args.rows.now.items c.args.at.end c.args.link.before e c.requires.before c.requires.end (c.index-deref-link.is ∙ ap (λ xs. slice_index_or xs c.args.link.before e) c.deref.ensures.0) in
+    let read : c.as_slice-day_offers.result.now ≡ offers_on search.offers.now day = c.as_slice-day_offers.ensures.value ∙ sym (read_day search.offers.now day c.index-offers-at.result (omega (arith, c.requires.day, c.requires.search.floors.offers.days)) c.index-offers-at.is) in
+    let x : Offer = slice_index_or c.as_slice-day_offers.result.now c.args.link.offer (record { choice = Off; price = 0 }) in
+    let same : x ≡ offer_numbered (offers_on search.offers.now day) c.args.link.offer = ap (λ xs. slice_index_or xs c.args.link.offer (record { choice = Off; price = 0 })) read in
+    let step : offer_step search.case.now search.nurse day e.state x ≡ dearer x.price c.extend.result = ap (dearer x.price) (ap (step_of search.case.now search.nurse day e.state) (sym c.shift-shift.ensures) ∙ sym c.extend.ensures.step) in
+    let kept = cheapest (best_of days) (drop c.args.at.end c.args.rows.now.items) in
+    let wanted : best_by days day e x ≡ best_by days day (entry_numbered earlier c.args.link.before) (offer_numbered (offers_on search.offers.now day) c.args.link.offer) = (λ i. best_by days day (sym from i) (same i)) in
+    let next : suc day ≡ day + 1 = omega arith in
+    let none = by_dear days day e x c.in-Some.step.0 (x.price + c.in-Some.step.1) (step ∙ ap (dearer x.price) c.in-Some.is) (λ rest row is. omega (arith, c.if-is_dear.ensures.dear refl rest row (subst (λ (n : ℕ). best_of_offers search.case.now search.nurse (offers_on search.offers.now) (day_count search.case.now - n) n c.in-Some.step.0 ≡ Some (rest, row)) next is))) in
+    sym (ap (cheaper kept) (sym wanted ∙ none) ∙ cheaper_none kept)
+
+pub returns-clause-best : goal.returns-clause-best
+returns-clause-best c = λ is.
+    let search = c.args.limited.now.floors.search in
+    let day = c.args.at.day in
+    let earlier = take c.args.at.end c.args.rows.now.items in
+    let days : Days = days_on c.args.limited.now (suc day) earlier in
+    let e = c.index-deref-link.result in
+    let from : entry_numbered earlier c.args.link.before ≡ e = taken_entry c.args.rows.now.items c.args.at.end c.args.link.before e c.requires.before c.requires.end (c.index-deref-link.is ∙ ap (λ xs. slice_index_or xs c.args.link.before e) c.deref.ensures.0) in
+    let read : c.as_slice-day_offers.result.now ≡ offers_on search.offers.now day = c.as_slice-day_offers.ensures.value ∙ sym (read_day search.offers.now day c.index-offers-at.result (omega (arith, c.requires.day, c.requires.search.floors.offers.days)) c.index-offers-at.is) in
+    let x : Offer = slice_index_or c.as_slice-day_offers.result.now c.args.link.offer (record { choice = Off; price = 0 }) in
+    let same : x ≡ offer_numbered (offers_on search.offers.now day) c.args.link.offer = ap (λ xs. slice_index_or xs c.args.link.offer (record { choice = Off; price = 0 })) read in
+    let step : offer_step search.case.now search.nurse day e.state x ≡ dearer x.price c.extend.result = ap (dearer x.price) (ap (step_of search.case.now search.nurse day e.state) (sym c.shift-shift.ensures) ∙ sym c.extend.ensures.step) in
+    let kept = cheapest (best_of days) (drop c.args.at.end c.args.rows.now.items) in
+    let wanted : best_by days day e x ≡ best_by days day (entry_numbered earlier c.args.link.before) (offer_numbered (offers_on search.offers.now day) c.args.link.offer) = (λ i. best_by days day (sym from i) (same i)) in
+    let more : (m : Entry) → m.state ≡ c.in-Some.step.0 → m.cost ≡ e.cost + x.price + c.in-Some.step.1 → m.before ≡ c.args.link.before → m.offer ≡ c.args.link.offer → best_of days m ≡ best_by days day e x
+    = λ m state cost before offer. by_entry days day e x c.in-Some.step.0 (x.price + c.in-Some.step.1) (step ∙ ap (dearer x.price) c.in-Some.is) m refl state (omega (arith, cost)) (ap (entry_numbered earlier) before ∙ from) (ap (offer_numbered (offers_on search.offers.now day)) offer ∙ sym same) in
+    c.put.ensures.best is (best_by days day e x) more ∙ ap (cheaper kept) wanted

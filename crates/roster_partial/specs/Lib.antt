@@ -1,0 +1,4 @@
+pub mod Counts
+pub mod Rates
+pub mod Rows
+pub mod Searches

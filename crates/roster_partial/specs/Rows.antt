@@ -1,0 +1,82 @@
+-- Partial rows in a list, in the order of rows, those of one day after those of the day before (our own).
+use Rattle.std.specs.Prelude.{◌≡◌, ℕ, zero, suc, ◌<◌, ◌≤◌, List, [], ◌∷◌, ◌++◌, length, nat_lt, slice_index_or, if◌then◌else◌, true, Some, None}
+use Rattle.roster_instance.specs.declared.choice.Choice.TheVariants.{Off}
+use Rattle.roster_instance.specs.Meaning.{Meaning}
+use Rattle.roster_rules.specs.Prefix.{Summary}
+use Rattle.roster_state.specs.Codes.{code_of, fits_sizes, sizes_of}
+use Rattle.roster_search.specs.declared.offer.Offer.{Offer}
+use Rattle.roster_search.specs.ByStates.{best_after}
+use Rattle.roster_search.specs.Cheapest.{Priced, raised}
+use Rattle.roster_search.specs.Offers.{best_of_offers, offer_step}
+use Rattle.roster_partial.specs.declared.rows.Entry.{Entry}
+
+-- how many partial rows a list holds at most
+abbrev pub most_rows : ℕ
+most_rows = 16384
+
+-- ---- what an entry stands for
+
+-- an offer by its place among those of its day
+abbrev pub offer_numbered : List Offer → ℕ → Offer
+offer_numbered offers place = slice_index_or offers place (record { choice = Off; price = 0 })
+
+-- the entry at a place of a list
+abbrev pub entry_numbered : List Entry → ℕ → Entry
+entry_numbered rows place = slice_index_or rows place (record { state = record { last = None; run = 0; shift_run = 0; assignments = 0; weekends = 0 }; code = 0; cost = 0; before = 0; offer = 0 })
+
+-- the offers by which an entry of day d was reached, read backward by the places that it and those before it name
+abbrev pub offers_to : (ℕ → List Offer) → List Entry → ℕ → Entry → List Offer
+offers_to offers rows zero e = []
+offers_to offers rows (suc d) e = offers_to offers rows d (entry_numbered rows e.before) ++ offer_numbered (offers d) e.offer ∷ []
+
+-- each place that is named on the way is that of an entry or an offer
+abbrev pub IsLinked : (ℕ → List Offer) → List Entry → ℕ → Entry → Type 0
+IsLinked offers rows zero e = 0 ≤ 0
+IsLinked offers rows (suc d) e = (e.before < length rows) × (e.offer < length (offers d)) × IsLinked offers rows d (entry_numbered rows e.before)
+
+-- ---- what a list is made for
+
+-- the rows of a nurse that cost so much at most; a day, and how many are left from it on; the entries of the days before
+pub record Days : Type 0 where
+  pub case : Meaning
+  pub nurse : ℕ
+  pub offers : ℕ → List Offer
+  pub limit : ℕ
+  pub left : ℕ
+  pub day : ℕ
+  pub earlier : List Entry
+
+-- none where it costs more than a limit
+abbrev pub within : {X : Type 0} → ℕ → Priced X → Priced X
+within limit None = None
+within limit (Some p) = if nat_lt limit p.0 then None else Some p
+
+-- the first days of a row: the offers, the state to which they lead, and the cost of the days
+pub record PartialRow : Type 0 where
+  pub offers : List Offer
+  pub state : Summary
+  pub cost : ℕ
+
+-- the best of the rows that begin so, with its cost, where m days are left, from day d on
+abbrev pub best_with : Meaning → ℕ → (ℕ → List Offer) → (m d : ℕ) → PartialRow → Priced (List Offer)
+best_with c n offers m d row = raised row.cost (λ rest. row.offers ++ rest) (best_of_offers c n offers m d row.state)
+
+-- the partial row of an entry
+abbrev pub row_of : Days → Entry → PartialRow
+row_of days e = record { offers = offers_to days.offers days.earlier days.day e; state = e.state; cost = e.cost }
+
+-- the best row that begins so, if it is within the limit
+unfoldable pub best_of : Days → Entry → Priced (List Offer)
+best_of days e = within days.limit (best_with days.case days.nurse days.offers days.left days.day (row_of days e))
+
+-- the state fits and has this code, and what the entry names is there
+pub record IsEntryOf (days : Days) (e : Entry) : Type 0 where
+  pub fits : fits_sizes (sizes_of days.case days.nurse) e.state ≡ true
+  pub code : e.code ≡ code_of (sizes_of days.case days.nurse) e.state
+  pub linked : IsLinked days.offers days.earlier days.day e
+
+-- ---- one day
+
+-- the best row that begins as an entry of day d, one of these, and goes on by an offer, if it is within the limit
+unfoldable pub best_by : Days → ℕ → Entry → Offer → Priced (List Offer)
+best_by days d e x = within days.limit (raised e.cost (λ rest. offers_to days.offers days.earlier d e ++ rest) (best_after x (offer_step days.case days.nurse d e.state x) (best_of_offers days.case days.nurse days.offers days.left (suc d))))

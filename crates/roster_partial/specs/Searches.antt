@@ -1,0 +1,26 @@
+-- What a search by partial rows goes over (our own).
+use Rattle.std.specs.Prelude.{ℕ, ◌-◌, ◌<◌, List}
+use Rattle.roster_instance.specs.Meaning.{day_count}
+use Rattle.roster_search.specs.Search.{offers_on}
+use Rattle.roster_search.specs.Tables.{no_row}
+use Rattle.roster_floors.specs.Least.{AreReady}
+use Rattle.roster_partial.specs.declared.day.LimitedSearch.{LimitedSearch}
+use Rattle.roster_partial.specs.declared.rows.Entry.{Entry}
+use Rattle.roster_partial.specs.Rows.{Days}
+
+-- the floors are those of the search, and the limit is below the cost of no row
+pub record IsSearch (limited : LimitedSearch) : Type 0 where
+  pub floors : AreReady limited.floors
+  pub limit : limited.limit < no_row
+
+-- the entries of a day of this search, where these are those of the days before
+abbrev pub days_on : LimitedSearch → ℕ → List Entry → Days
+days_on limited day earlier = record {
+  case = limited.floors.search.case.now;
+  nurse = limited.floors.search.nurse;
+  offers = offers_on limited.floors.search.offers.now;
+  limit = limited.limit;
+  left = day_count limited.floors.search.case.now - day;
+  day = day;
+  earlier = earlier;
+}

@@ -1,0 +1,83 @@
+//! A day more for all partial rows.
+
+ghost use Rattle.std.specs.Prelude.{◌≡◌, ◌+◌, ◌-◌, ◌*◌, ◌<◌, ◌≤◌, suc, All, drop, length, take, true};
+ghost use Rattle.roster_bundle.specs.Limits.{greatest_u64};
+ghost use Rattle.roster_instance.specs.Meaning.{day_count};
+ghost use Rattle.roster_search.specs.Cheapest.{cheaper, cheapest};
+ghost use Rattle.roster_search.specs.Search.{offers_on};
+ghost use Rattle.roster_partial.specs.Rows.{IsEntryOf, best_of, entry_numbered};
+ghost use Rattle.roster_partial.specs.Searches.{IsSearch, days_on};
+
+use crate::day::{LimitedSearch, Link, RowsDay, go_on};
+use crate::rows::{Entry, MOST_ROWS, Seen};
+use arrayvec::ArrayVec;
+use roster_state::Meter;
+
+/// Goes on with each partial row of a day, which stand from a place on, by each of the day's offers. The answer is whether there was
+/// room.
+pub fn add_day(
+    limited: &LimitedSearch<'_>,
+    day: u16,
+    first: usize,
+    rows: &mut ArrayVec<Entry, MOST_ROWS>,
+    seen: &mut Seen,
+    meter: &mut Meter,
+) -> bool
+    requires search { IsSearch limited.now }
+    requires day { day < day_count limited.now.floors.search.case.now }
+    requires first { first ≤ length rows.old.items }
+    requires entries { All (IsEntryOf (days_on limited.now day (take first rows.old.items))) (drop first rows.old.items) }
+    requires room { meter.old + (length rows.old.items - first) * length (offers_on limited.now.floors.search.offers.now day) ≤ greatest_u64 }
+    ensures front { take (length rows.old.items) rows.new.items ≡ rows.old.items }
+    ensures length { length rows.old.items ≤ length rows.new.items }
+    ensures entries { All (IsEntryOf (days_on limited.now (suc day) rows.old.items)) (drop (length rows.old.items) rows.new.items) }
+    ensures best { result ≡ true → cheapest (best_of (days_on limited.now (suc day) rows.old.items)) (drop (length rows.old.items) rows.new.items) ≡ cheapest (best_of (days_on limited.now day (take first rows.old.items))) (drop first rows.old.items) }
+    ensures counted { meter.new ≤ meter.old + (length rows.old.items - first) * length (offers_on limited.now.floors.search.offers.now day) }
+    ensures each { length rows.new.items + meter.old ≤ length rows.old.items + meter.new }
+{
+    let at = RowsDay {
+        day,
+        end: rows.len(),
+    };
+    'befores: for before in first..at.end {
+        if !go_on_by_all(limited, at, before, rows, seen, meter) {
+            return false;
+        }
+    }
+    true
+}
+
+/// Goes on with a partial row by each offer of its day. The answer is whether there was room.
+fn go_on_by_all(
+    limited: &LimitedSearch<'_>,
+    at: RowsDay,
+    before: usize,
+    rows: &mut ArrayVec<Entry, MOST_ROWS>,
+    seen: &mut Seen,
+    meter: &mut Meter,
+) -> bool
+    requires search { IsSearch limited.now }
+    requires day { at.day < day_count limited.now.floors.search.case.now }
+    requires end { at.end ≤ length rows.old.items }
+    requires before { before < at.end }
+    requires from { IsEntryOf (days_on limited.now at.day (take at.end rows.old.items)) (entry_numbered (take at.end rows.old.items) before) }
+    requires entries { All (IsEntryOf (days_on limited.now (suc at.day) (take at.end rows.old.items))) (drop at.end rows.old.items) }
+    requires room { meter.old + length (offers_on limited.now.floors.search.offers.now at.day) ≤ greatest_u64 }
+    ensures front { take at.end rows.new.items ≡ take at.end rows.old.items }
+    ensures length { at.end ≤ length rows.new.items }
+    ensures entries { All (IsEntryOf (days_on limited.now (suc at.day) (take at.end rows.old.items))) (drop at.end rows.new.items) }
+    ensures best { result ≡ true → cheapest (best_of (days_on limited.now (suc at.day) (take at.end rows.old.items))) (drop at.end rows.new.items) ≡ cheaper (cheapest (best_of (days_on limited.now (suc at.day) (take at.end rows.old.items))) (drop at.end rows.old.items)) (best_of (days_on limited.now at.day (take at.end rows.old.items)) (entry_numbered (take at.end rows.old.items) before)) }
+    ensures counted { meter.new ≤ meter.old + length (offers_on limited.now.floors.search.offers.now at.day) }
+    ensures each { length rows.new.items + meter.old ≤ length rows.old.items + meter.new }
+{
+    if rows[before].cost > limited.limit {
+        return true;
+    }
+    let count = limited.floors.search.offers[at.day as usize].len();
+    'offers: for offer in 0..count {
+        if !go_on(limited, at, Link { before, offer }, rows, seen, meter) {
+            return false;
+        }
+    }
+    true
+}

@@ -1,0 +1,147 @@
+//! A day of the search by partial rows.
+
+ghost use Rattle.std.specs.Prelude.{◌≡◌, ◌+◌, ◌-◌, ◌*◌, ◌<◌, ◌≤◌, ℕ, suc, [], ◌∷◌, ◌++◌, All, List, Some, drop, length, take, true, false};
+ghost use Rattle.roster_bundle.specs.Limits.{greatest_u64};
+ghost use Rattle.roster_instance.specs.Meaning.{day_count, nurse_count};
+ghost use Rattle.roster_search.specs.Cheapest.{Priced, cheaper, cheapest};
+ghost use Rattle.roster_search.specs.declared.offer.Offer.{Offer};
+ghost use Rattle.roster_search.specs.Offers.{best_of_offers};
+ghost use Rattle.roster_search.specs.Search.{AreOffers, offers_on};
+ghost use Rattle.roster_search.specs.Tables.{no_row};
+ghost use Rattle.roster_state.specs.Codes.{fits_sizes, sizes_of};
+ghost use Rattle.roster_floors.specs.Floors.{AreFloors, AreSmall};
+ghost use Rattle.roster_partial.specs.Rows.{Days, IsEntryOf, best_by, best_of, IsLinked, entry_numbered, most_rows, offer_numbered};
+ghost use Rattle.roster_partial.specs.Searches.{IsSearch, days_on};
+
+use crate::rows::{Entry, MOST_ROWS, SEEN, Seen, leave_out};
+use arrayvec::ArrayVec;
+use roster_floors::{Floors, at_least};
+use roster_search::RowSearch;
+use roster_state::{Meter, State, extend};
+
+/// What partial rows are searched for: a nurse's rows of at most so many penalty points, with floors under what the rest of a row costs.
+#[derive(Clone, Copy)]
+pub struct LimitedSearch<'a> {
+    pub floors: Floors<'a>,
+    /// Penalty points.
+    pub limit: u32,
+    /// How many partial rows may be held at once.
+    pub most: usize,
+}
+
+/// A day by which partial rows are gone on with: its number, and the place in the list at which those of the day after it begin.
+#[derive(Clone, Copy)]
+pub struct RowsDay {
+    pub day: u16,
+    pub end: usize,
+}
+
+/// Whether each row that begins so costs more than the limit.
+#[inline(always)]
+fn is_dear(limited: &LimitedSearch<'_>, day: u16, state: &State, cost: u32) -> bool
+    requires search { IsSearch limited.now }
+    requires day { day ≤ day_count limited.now.floors.search.case.now }
+    requires fits { fits_sizes (sizes_of limited.now.floors.search.case.now limited.now.floors.search.nurse) state.now ≡ true }
+    ensures dear { result ≡ true → (rest : ℕ) (row : List Offer) → best_of_offers limited.now.floors.search.case.now limited.now.floors.search.nurse (offers_on limited.now.floors.search.offers.now) (day_count limited.now.floors.search.case.now - day) day state.now ≡ Some (rest, row) → limited.now.limit < cost + rest }
+    ensures low { result ≡ false → cost ≤ limited.now.limit }
+{
+    let least = at_least(&limited.floors, day, state);
+    cost as u64 + least as u64 > limited.limit as u64
+}
+
+/// How a partial row goes on: the place in the list of the one of the day before, and the place of the offer among those of its day.
+#[derive(Clone, Copy)]
+pub struct Link {
+    pub before: usize,
+    pub offer: usize,
+}
+
+/// Puts a partial row with a state and a cost at the end of those of its day, if it isn't left out. The answer is whether there was room.
+fn put(
+    limited: &LimitedSearch<'_>,
+    at: RowsDay,
+    link: Link,
+    reached: (State, u32),
+    rows: &mut ArrayVec<Entry, MOST_ROWS>,
+    seen: &mut Seen,
+) -> bool
+    ghost days: { Days }
+    requires ranges { limited.now.floors.ranges ≡ sizes_of days.case days.nurse }
+    requires end { at.end ≤ length rows.old.items }
+    requires low { days.limit < no_row }
+    requires fits { fits_sizes (sizes_of days.case days.nurse) reached.0 ≡ true }
+    requires before { link.before < most_rows }
+    requires offer { link.offer < 256 }
+    requires linked { (e : Entry) → e.before ≡ link.before → e.offer ≡ link.offer → IsLinked days.offers days.earlier days.day e }
+    requires entries { All (IsEntryOf days) (drop at.end rows.old.items) }
+    ensures front { take at.end rows.new.items ≡ take at.end rows.old.items }
+    ensures length { at.end ≤ length rows.new.items }
+    ensures few { length rows.new.items ≤ length rows.old.items + 1 }
+    ensures entries { All (IsEntryOf days) (drop at.end rows.new.items) }
+    ensures best { result ≡ true → (p : Priced (List Offer)) → ((e : Entry) → e.state ≡ reached.0 → e.cost ≡ reached.1 → e.before ≡ link.before → e.offer ≡ link.offer → best_of days e ≡ p) → cheapest (best_of days) (drop at.end rows.new.items) ≡ cheaper (cheapest (best_of days) (drop at.end rows.old.items)) p }
+{
+    let more = Entry {
+        state: reached.0,
+        code: reached.0.code(&limited.floors.ranges),
+        cost: reached.1,
+        before: link.before as u32,
+        offer: link.offer as u8,
+    };
+    let slot = more.code as usize % SEEN;
+    let place = seen[slot] as usize;
+    if leave_out(&mut rows.as_mut_slice()[at.end..], place, &more) {
+        return true;
+    }
+    if rows.is_full() || rows.len() >= limited.most {
+        return false;
+    }
+    seen[slot] = (rows.len() - at.end) as u16;
+    rows.push(more);
+    true
+}
+
+/// Goes on with a partial row by an offer of its day: the row with the offer is put at the end of the list, if it is allowed, isn't surely
+/// dearer than the limit, and isn't left out. The answer is whether there was room.
+pub fn go_on(
+    limited: &LimitedSearch<'_>,
+    at: RowsDay,
+    link: Link,
+    rows: &mut ArrayVec<Entry, MOST_ROWS>,
+    seen: &mut Seen,
+    meter: &mut Meter,
+) -> bool
+    requires search { IsSearch limited.now }
+    requires day { at.day < day_count limited.now.floors.search.case.now }
+    requires end { at.end ≤ length rows.old.items }
+    requires before { link.before < at.end }
+    requires offer { link.offer < length (offers_on limited.now.floors.search.offers.now at.day) }
+    requires from { IsEntryOf (days_on limited.now at.day (take at.end rows.old.items)) (entry_numbered (take at.end rows.old.items) link.before) }
+    requires low { (entry_numbered (take at.end rows.old.items) link.before).cost < no_row }
+    requires entries { All (IsEntryOf (days_on limited.now (suc at.day) (take at.end rows.old.items))) (drop at.end rows.old.items) }
+    requires room { meter.old < greatest_u64 }
+    ensures front { take at.end rows.new.items ≡ take at.end rows.old.items }
+    ensures length { at.end ≤ length rows.new.items }
+    ensures few { length rows.new.items ≤ length rows.old.items + 1 }
+    ensures entries { All (IsEntryOf (days_on limited.now (suc at.day) (take at.end rows.old.items))) (drop at.end rows.new.items) }
+    ensures best { result ≡ true → cheapest (best_of (days_on limited.now (suc at.day) (take at.end rows.old.items))) (drop at.end rows.new.items) ≡ cheaper (cheapest (best_of (days_on limited.now (suc at.day) (take at.end rows.old.items))) (drop at.end rows.old.items)) (best_by (days_on limited.now (suc at.day) (take at.end rows.old.items)) at.day (entry_numbered (take at.end rows.old.items) link.before) (offer_numbered (offers_on limited.now.floors.search.offers.now at.day) link.offer)) }
+    ensures counted { meter.new ≡ meter.old + 1 }
+{
+    let RowSearch {
+        case,
+        nurse,
+        offers,
+    } = limited.floors.search;
+    case.keeps_limits();
+    let from = rows[link.before];
+    let day_offers = offers[at.day as usize].as_slice();
+    let offer = day_offers[link.offer];
+    let shift = offer.choice.shift();
+    let Some(step) = extend(case, nurse, at.day, from.state, shift, meter) else {
+        return true;
+    };
+    let cost = from.cost + offer.price + step.1;
+    if is_dear(limited, at.day + 1, &step.0, cost) {
+        return true;
+    }
+    put(limited, at, link, (step.0, cost), rows, seen)
+}

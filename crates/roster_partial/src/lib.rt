@@ -1,0 +1,16 @@
+//! The search for a nurse's best row over partial rows: the first days of rows, each with its state and its cost.
+//!
+//! What a list of them stands for is defined in `specs/Rows.antt`: the best row that begins as one of them, if it costs no more than a
+//! limit. `put` and `leave_out` keep that, `add_day` keeps it from one day to the next, and `row_within` reads the row in the end.
+//! `set_best_floors` sets the floors by which partial rows are left out. `search_row` tries one limit after another, and then the tables
+//! of `roster_search`.
+#![tactic(auto)]
+
+mod add;
+mod day;
+mod days;
+mod rates;
+mod rows;
+mod search;
+
+pub use search::{PartialRoom, search_row};

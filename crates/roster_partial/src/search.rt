@@ -1,0 +1,201 @@
+//! The search over a table of offers, by partial rows first.
+
+ghost use Rattle.std.specs.Prelude.{◌≡◌, ◌+◌, ◌-◌, ◌*◌, ◌<◌, ◌≤◌, ℕ, IfSome, IsSome, length, take};
+ghost use Rattle.roster_bundle.specs.Limits.{greatest_u64};
+ghost use Rattle.roster_instance.specs.Meaning.{day_count, nurse_count};
+ghost use Rattle.roster_instance.specs.Sizes.{choice_count, state_count};
+ghost use Rattle.roster_laws.specs.Greatest.{extension_count};
+ghost use Rattle.roster_search.specs.Search.{AreOffers, HasTables, IsFound, best_over, offers_on};
+ghost use Rattle.roster_search.specs.Tables.{no_row};
+ghost use Rattle.roster_state.specs.Codes.{sizes_of};
+ghost use Rattle.roster_floors.specs.Floors.{AreFloors, AreSmall, floor_count};
+ghost use Rattle.roster_partial.specs.Counts.{CountsSearch};
+ghost use Rattle.roster_partial.specs.declared.days.Within.TheVariants.{Found};
+
+use crate::day::LimitedSearch;
+use crate::days::{Within, row_within};
+use crate::rates::set_best_floors;
+use crate::rows::{Entry, MOST_ROWS, SEEN, Seen};
+use arrayvec::ArrayVec;
+use roster_floors::{Floors, Rates};
+use roster_rules::Choice;
+use roster_search::{NO_ROW, RowSearch, Tables};
+use roster_state::Meter;
+use std::alloc::{AllocError, Global};
+
+/// How many floors there is room for: those of all days at one pair of rates.
+const MOST_FLOORS: usize = 65_536;
+
+/// How many limits are tried at most, each higher than the one before.
+const MOST_LIMITS: usize = 24;
+
+/// Where partial rows and floors are kept while a row is searched. Both are long, so they don't stand on the stack.
+pub struct PartialRoom {
+    floors: Vec<u32>,
+    rows: Box<ArrayVec<Entry, MOST_ROWS>>,
+    seen: Seen,
+}
+
+// By hand, so that who drops the room has one call to prove.
+impl Drop for PartialRoom {
+    fn drop(self) {
+        let PartialRoom {
+            floors: _,
+            rows: _,
+            seen: _,
+        } = self;
+    }
+}
+
+impl PartialRoom {
+    /// Room for the partial rows of any nurse of any case, by two growths.
+    ///
+    /// # Errors
+    ///
+    /// A growth was refused.
+    pub fn new(alloc: Global) -> Result<PartialRoom, AllocError> {
+        Ok(PartialRoom {
+            floors: vec![in alloc; 0; MOST_FLOORS]?,
+            rows: Box::new(alloc, ArrayVec::new())?,
+            seen: [0; SEEN],
+        })
+    }
+}
+
+/// Searches the best row over a table of offers, wherever these come from. `row` then begins with its choices, one for each day, and the
+/// answer is its cost: its prices, and what the nurse's own rules cost along it beside what the start owes. It takes no memory. The
+/// meter counts each partial row or state that is taken over a choice: one for each day at least, and at most one for each state, day
+/// and choice of the nurse.
+pub fn search_row(
+    search: &RowSearch<'_>,
+    room: &mut PartialRoom,
+    tables: &mut Tables,
+    row: &mut [Choice],
+    meter: &mut Meter,
+) -> u32
+    requires nurse { search.now.nurse < nurse_count search.now.case.now }
+    requires offers { AreOffers search.now.case.now search.now.nurse search.now.offers.now }
+    requires some { IsSome (best_over search.now.case.now search.now.nurse (offers_on search.now.offers.now)) }
+    requires tables { HasTables search.now.case.now search.now.nurse tables.old }
+    requires row_room { day_count search.now.case.now ≤ length row.old }
+    requires room { meter.old + extension_count search.now.case.now search.now.nurse ≤ greatest_u64 }
+
+    // The row, and its cost.
+    ensures best { IsFound (best_over search.now.case.now search.now.nurse (offers_on search.now.offers.now)) result (take (day_count search.now.case.now) row.new) }
+    ensures below { result < no_row }
+    ensures length { length row.new ≡ length row.old }
+
+    // What it takes.
+    ensures each_day { meter.old + day_count search.now.case.now ≤ meter.new }
+    ensures counted { meter.new ≤ meter.old + extension_count search.now.case.now search.now.nurse }
+    ensures standing { CountsSearch search.now.case.now search.now.nurse (offers_on search.now.offers.now) meter.old meter.new }
+    ensures tables { tables.new ≡ tables.old }
+{
+    let (case, nurse) = (search.case, search.nurse);
+    case.weeks();
+    let states = case.states(nurse) as u64;
+    let choices = case.choice_count(nurse) as u64;
+    let all = states * case.days() as u64 * choices;
+    // The tables take so much less than each state on each day by each choice: on the first day no state but one stands.
+    let spare = (states - 1) * choices;
+    if meter.room() >= spare + all {
+        let most = meter.count() + spare;
+        if let Some(cost) = search_partial(search, room, most, row, meter) {
+            return cost;
+        }
+    }
+    roster_search::search_row(search, tables, row, meter)
+}
+
+/// Searches the best row by partial rows, within higher and higher limits: from the least cost that a row can have up to what one is
+/// known to cost. None where there isn't room, or where no limit that was tried was high enough.
+fn search_partial(
+    search: &RowSearch<'_>,
+    room: &mut PartialRoom,
+    most: u64,
+    row: &mut [Choice],
+    meter: &mut Meter,
+) -> Option<u32>
+    requires nurse { search.now.nurse < nurse_count search.now.case.now }
+    requires offers { AreOffers search.now.case.now search.now.nurse search.now.offers.now }
+    requires row_room { day_count search.now.case.now ≤ length row.old }
+    requires room { meter.old ≤ most }
+    ensures best { IfSome result (λ cost. IsFound (best_over search.now.case.now search.now.nurse (offers_on search.now.offers.now)) cost (take (day_count search.now.case.now) row.new)) }
+    ensures below { IfSome result (λ cost. cost < no_row) }
+    ensures each_day { IfSome result (λ cost. meter.old + day_count search.now.case.now ≤ meter.new) }
+    ensures counted { (meter.old ≤ meter.new) × (meter.new ≤ most) }
+    ensures length { length row.new ≡ length row.old }
+{
+    let PartialRoom { floors, rows, seen } = room;
+    let aim = set_best_floors(search, most, floors, meter)?;
+    let mut limit = aim.low;
+    let mut more = 10;
+    'limits: for _ in 0..MOST_LIMITS {
+        let attempt = Attempt {
+            floors,
+            rates: aim.rates,
+            limit: limit.min(aim.high).min(NO_ROW - 1),
+            most,
+        };
+        match search_within(search, &attempt, rows, seen, row, meter) {
+            Within::Found(cost) => return Some(cost),
+            Within::Full => return None,
+            Within::Dearer => {}
+        }
+        limit = limit.saturating_add(more);
+        more = more.saturating_add(more / 2 + 5);
+    }
+    None
+}
+
+/// A limit that is tried: the floors, with the rates at which they were set, the limit in penalty points, and what the meter may count
+/// to.
+#[derive(Clone, Copy)]
+struct Attempt<'a> {
+    floors: &'a [u32],
+    rates: Rates,
+    limit: u32,
+    most: u64,
+}
+
+/// Searches the best row by the partial rows within a limit, no more at once than the nurse has states.
+fn search_within(
+    search: &RowSearch<'_>,
+    attempt: &Attempt<'_>,
+    rows: &mut ArrayVec<Entry, MOST_ROWS>,
+    seen: &mut Seen,
+    row: &mut [Choice],
+    meter: &mut Meter,
+) -> Within
+    requires nurse { search.now.nurse < nurse_count search.now.case.now }
+    requires offers { AreOffers search.now.case.now search.now.nurse search.now.offers.now }
+    requires small { AreSmall attempt.now.rates }
+    requires inside { (day_count search.now.case.now + 1) * floor_count (sizes_of search.now.case.now search.now.nurse) ≤ length attempt.now.floors.now }
+    requires floors { AreFloors search.now.case.now search.now.nurse attempt.now.rates (offers_on search.now.offers.now) attempt.now.floors.now }
+    requires limit { attempt.now.limit < no_row }
+    requires row_room { day_count search.now.case.now ≤ length row.old }
+    requires room { meter.old ≤ attempt.now.most }
+    ensures best { (cost : ℕ) → result ≡ Found cost → IsFound (best_over search.now.case.now search.now.nurse (offers_on search.now.offers.now)) cost (take (day_count search.now.case.now) row.new) }
+    ensures below { (cost : ℕ) → result ≡ Found cost → cost < no_row }
+    ensures each_day { (cost : ℕ) → result ≡ Found cost → meter.old + day_count search.now.case.now ≤ meter.new }
+    ensures counted { (meter.old ≤ meter.new) × (meter.new ≤ attempt.now.most) }
+    ensures length { length row.new ≡ length row.old }
+{
+    let RowSearch {
+        case,
+        nurse,
+        offers,
+    } = *search;
+    let here = RowSearch {
+        case,
+        nurse,
+        offers,
+    };
+    let states = case.states(nurse) as usize;
+    let limited = LimitedSearch {
+        floors: Floors::of(&here, attempt.rates, attempt.floors),
+        limit: attempt.limit,
+        most: states.min(MOST_ROWS),
+    };
+    row_within(&limited, attempt.most, rows, seen, row, meter)
+}

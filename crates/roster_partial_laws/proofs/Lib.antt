@@ -1,4 +1,0 @@
-pub mod Counts
-pub mod Alike
-pub mod LeftOut
-pub mod ToCome

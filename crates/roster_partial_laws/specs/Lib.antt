@@ -1,2 +1,0 @@
-pub mod PartialRows
-pub mod Later
