@@ -1,0 +1,65 @@
+//! Runs of the program `roster` over bundles in memory.
+
+use crate::digest::Digest;
+use crate::plan::{Plan, Work};
+use roster_cli::{Command, Request, run};
+use roster_text::Watch;
+use std::alloc::{AllocError, Global};
+
+/// What runs wrote: a digest of all outputs, logs and statuses, how many bundles there were, how many bytes of output, and
+/// the last status.
+#[derive(Clone, Copy, Debug)]
+pub struct Told {
+    pub digest: Digest,
+    pub bundles: u32,
+    pub bytes: usize,
+    pub status: u8,
+}
+
+/// Makes the bundles of a plan, and answers each.
+pub fn run_plan(alloc: Global, plan: &Plan) -> Result<Told, AllocError> {
+    let request = Request {
+        command: command_of(plan),
+        files: Vec::new(alloc),
+    };
+    let mut told = Told {
+        digest: Digest::new(),
+        bundles: plan.work.bundles(),
+        bytes: 0,
+        status: 0,
+    };
+    for number in 0..told.bundles {
+        let bundle = plan.size.bundle(alloc, number)?;
+        told.answer(alloc, &request, &bundle);
+    }
+    Ok(told)
+}
+
+fn command_of(plan: &Plan) -> Command {
+    match plan.work {
+        Work::Show { .. } => Command::Show,
+        Work::Cost { .. } => Command::Cost,
+        Work::Improve { rounds } => Command::Improve { rounds, from: 0 },
+        Work::Bound { rounds } => Command::Bound { rounds, from: 0 },
+        Work::Polish { searches } => Command::Polish {
+            searches,
+            seed: plan.size.seed,
+            from: 0,
+        },
+    }
+}
+
+impl Told {
+    /// Answers a bundle, and takes down what was written.
+    fn answer(&mut self, alloc: Global, request: &Request, bundle: &[u8]) {
+        let mut input = Watch::new(bundle);
+        let mut output = Watch::new(Vec::new(alloc));
+        let mut log = Watch::new(Vec::new(alloc));
+        self.status = run(alloc, request, &mut input, &mut output, &mut log);
+        let output = output.into_inner();
+        self.digest.add(&output);
+        self.digest.add(&log.into_inner());
+        self.digest.add(&[self.status]);
+        self.bytes = self.bytes.saturating_add(output.len());
+    }
+}
