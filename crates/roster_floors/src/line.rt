@@ -45,7 +45,8 @@ pub(crate) fn set_line(costs: LineCosts, after: &[u32], here: &mut [u32])
     here[0] = 0;
     'open: for place in 1..open {
         let missing = SHIFT_RUN * (run.least as u32).saturating_sub(place as u32);
-        here[place] = min(leave + missing, stay + after[place + 1]);
+        let extra = SHIFT_RUN * run.day_violations(place as u32, true);
+        here[place] = min(leave + missing, stay + extra + after[place + 1]);
     }
 
     // From its cap on a run misses nothing, and each further day is an extra one. No row comes to the cells that aren't reckoned.

@@ -23,11 +23,12 @@ open-preserved c =
     let missing = c.saturating_sub-missing.result in
     let to : place + 1 ≡ min (place + 1) (cap run) = omega (arith, within) in
     let after : slice_index_or c.args.after.now (place + 1) 0 ≡ slice_index_or c.args.after.now (min (place + 1) (cap run)) 0 = ap (λ k. slice_index_or c.args.after.now k 0) to in
-    let is = c.min.ensures ∙ lesser (leave + 15 * missing) (stay + slice_index_or c.args.after.now (place + 1) 0) in
+    let extra = c.day_violations-extra.result in
+    let is = c.min.ensures ∙ lesser (leave + 15 * missing) (stay + 15 * extra + slice_index_or c.args.after.now (place + 1) 0) in
     let missed : missing ≡ day_violations run place false = missed_from run place missing (omega (arith, c.open.auto.place)) c.saturating_sub-missing.ensures in
     record {
       leaves = each_more (λ q x. x ≤ leave + shift_run_weight * day_violations run q false) here place c.min.result inside c.open.invariant.leaves (omega (arith, is, missed));
-      stays = each_more (λ q x. x ≤ stay + shift_run_weight * day_violations run q true + slice_index_or c.args.after.now (min (q + 1) (cap run)) 0) here place c.min.result inside c.open.invariant.stays (omega (arith, is, after));
+      stays = each_more (λ q x. x ≤ stay + shift_run_weight * day_violations run q true + slice_index_or c.args.after.now (min (q + 1) (cap run)) 0) here place c.min.result inside c.open.invariant.stays (omega (arith, is, after, c.day_violations-extra.ensures.violations));
       low = each_more (λ q x. x ≤ most_floor) here place c.min.result inside c.open.invariant.low (omega (arith, is, c.requires.leave, c.saturating_sub-missing.ensures));
     }
 
