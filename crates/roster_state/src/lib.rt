@@ -16,5 +16,5 @@ pub use meter::Meter;
 pub use ranges::Ranges;
 pub use row::row_cost;
 pub use state::State;
-pub use step::{after, end_cost, extend, start};
+pub use step::{NurseDays, after, end_cost, extend, extend_by, start};
 pub use stretch::{Stretch, extend_stretch};

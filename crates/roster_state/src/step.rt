@@ -1,6 +1,6 @@
 //! One day more: what it costs, and the state after it.
 
-ghost use Rattle.std.specs.Prelude.{◌≡◌, ◌↔◌, ◌+◌, ◌*◌, ◌<◌, ◌≤◌, ◌++◌, ◌∷◌, [], true, false, length, IfSome, IsNone, None, Some, if◌then◌else◌, is_some, min, nat_le, not};
+ghost use Rattle.std.specs.Prelude.{◌≡◌, ◌↔◌, ◌+◌, ◌*◌, ◌<◌, ◌≤◌, ◌++◌, ◌∷◌, [], true, false, length, IfSome, IsNone, MatchOption, None, Some, if◌then◌else◌, is_some, min, nat_le, not};
 ghost use Rattle.roster_bundle.specs.Limits.{greatest_u64};
 ghost use Rattle.roster_instance.specs.Days.{Days};
 ghost use Rattle.roster_instance.specs.Meaning.{contract_of, day_count, nurse_count, past_of, run_of_shift, shift_count, forbids};
@@ -72,6 +72,38 @@ pub fn extend(
     step(case, nurse, day, state, shift)
 }
 
+/// What days of a nurse are taken by: the case, the nurse, and the nurse's rules, looked up once for many days.
+#[derive(Clone, Copy)]
+pub struct NurseDays<'a> {
+    pub case: &'a Case,
+    pub nurse: usize,
+    pub rules: ContractRules,
+}
+
+/// What `extend` does, by rules that were looked up before. Where the last shift forbids the next, nothing is taken, so nothing is counted.
+#[inline(always)]
+pub fn extend_by(
+    days: &NurseDays<'_>,
+    day: u16,
+    state: State,
+    shift: Option<Shift>,
+    meter: &mut Meter,
+) -> Option<(State, u32)>
+    requires rules { days.now.rules ≡ contract_of days.now.case.now days.now.nurse }
+    requires shift { IfSome shift (λ s. s.0 < shift_count days.now.case.now) }
+    requires fits { fits_sizes (sizes_of days.now.case.now days.now.nurse) state ≡ true }
+    requires room { meter.old < greatest_u64 }
+    ensures counted { MatchOption result (meter.new ≡ meter.old) (λ _. meter.new ≡ meter.old + 1) }
+    ensures step { result ≡ step_of days.now.case.now days.now.nurse day state shift }
+    ensures next_fits { IfSome result (λ step. fits_sizes (sizes_of days.now.case.now days.now.nurse) step.0 ≡ true) }
+    ensures within { IfSome result (λ step. step.1 ≤ most_of_step) }
+{
+    let NurseDays { case, nurse, rules } = *days;
+    let step = step_of_both(case, nurse, rules, day, state, shift)?;
+    meter.add(1);
+    Some(step)
+}
+
 /// What `extend` answers. It counts nothing.
 #[inline(always)]
 pub(crate) fn step(
@@ -88,6 +120,26 @@ pub(crate) fn step(
     ensures within { IfSome result (λ step. step.1 ≤ most_of_step) }
 {
     let rules = case.contract_rules(nurse);
+    step_of_both(case, nurse, rules, day, state, shift)
+}
+
+/// The same by the nurse's rules.
+#[inline(always)]
+fn step_of_both(
+    case: &Case,
+    nurse: usize,
+    rules: ContractRules,
+    day: u16,
+    state: State,
+    shift: Option<Shift>,
+) -> Option<(State, u32)>
+    requires rules { rules ≡ contract_of case.now nurse }
+    requires shift { IfSome shift (λ s. s.0 < shift_count case.now) }
+    requires fits { fits_sizes (sizes_of case.now nurse) state ≡ true }
+    ensures step { result ≡ step_of case.now nurse day state shift }
+    ensures next_fits { IfSome result (λ step. fits_sizes (sizes_of case.now nurse) step.0 ≡ true) }
+    ensures within { IfSome result (λ step. step.1 ≤ most_of_step) }
+{
     match (state.last, shift) {
         (Some(_), Some(shift)) => step_by(case, nurse, rules, day, state, Some(shift)),
         (Some(_), None) => step_by(case, nurse, rules, day, state, None),
@@ -96,7 +148,7 @@ pub(crate) fn step(
     }
 }
 
-/// The same by the nurse's rules. It is compiled for each case of two shifts or days off apart.
+/// The same. It is compiled for each case of two shifts or days off apart.
 #[inline(always)]
 fn step_by(
     case: &Case,
