@@ -12,7 +12,7 @@ use Rattle.roster_partial.specs.declared.rows.Entry.{Entry}
 
 -- how many partial rows a list holds at most
 abbrev pub most_rows : ℕ
-most_rows = 16384
+most_rows = 65536
 
 -- ---- what an entry stands for
 

@@ -16,8 +16,9 @@ ghost use Rattle.roster_partial.specs.Searches.{IsSearch, days_on};
 use crate::rows::{Entry, MOST_ROWS, SEEN, Seen, leave_out};
 use arrayvec::ArrayVec;
 use roster_floors::{Floors, at_least};
+use roster_rules::ContractRules;
 use roster_search::RowSearch;
-use roster_state::{Meter, State, extend};
+use roster_state::{Meter, NurseDays, State, extend_by};
 
 /// What partial rows are searched for: a nurse's rows of at most so many penalty points, with floors under what the rest of a row costs.
 #[derive(Clone, Copy)]
@@ -27,6 +28,8 @@ pub struct LimitedSearch<'a> {
     pub limit: u32,
     /// How many partial rows may be held at once.
     pub most: usize,
+    /// The nurse's rules.
+    pub rules: ContractRules,
 }
 
 /// A day by which partial rows are gone on with: its number, and the place in the list at which those of the day after it begin.
@@ -57,6 +60,7 @@ pub struct Link {
 }
 
 /// Puts a partial row with a state and a cost at the end of those of its day, if it isn't left out. The answer is whether there was room.
+#[inline(always)]
 fn put(
     limited: &LimitedSearch<'_>,
     at: RowsDay,
@@ -84,7 +88,7 @@ fn put(
         state: reached.0,
         code: reached.0.code(&limited.floors.ranges),
         cost: reached.1,
-        before: link.before as u32,
+        before: link.before as u16,
         offer: link.offer as u8,
     };
     let slot = more.code as usize % SEEN;
@@ -102,6 +106,7 @@ fn put(
 
 /// Goes on with a partial row by an offer of its day: the row with the offer is put at the end of the list, if it is allowed, isn't surely
 /// dearer than the limit, and isn't left out. The answer is whether there was room.
+#[inline(always)]
 pub fn go_on(
     limited: &LimitedSearch<'_>,
     at: RowsDay,
@@ -121,10 +126,10 @@ pub fn go_on(
     requires room { meter.old < greatest_u64 }
     ensures front { take at.end rows.new.items ≡ take at.end rows.old.items }
     ensures length { at.end ≤ length rows.new.items }
-    ensures few { length rows.new.items ≤ length rows.old.items + 1 }
     ensures entries { All (IsEntryOf (days_on limited.now (suc at.day) (take at.end rows.old.items))) (drop at.end rows.new.items) }
     ensures best { result ≡ true → cheapest (best_of (days_on limited.now (suc at.day) (take at.end rows.old.items))) (drop at.end rows.new.items) ≡ cheaper (cheapest (best_of (days_on limited.now (suc at.day) (take at.end rows.old.items))) (drop at.end rows.old.items)) (best_by (days_on limited.now (suc at.day) (take at.end rows.old.items)) at.day (entry_numbered (take at.end rows.old.items) link.before) (offer_numbered (offers_on limited.now.floors.search.offers.now at.day) link.offer)) }
-    ensures counted { meter.new ≡ meter.old + 1 }
+    ensures counted { (meter.old ≤ meter.new) × (meter.new ≤ meter.old + 1) }
+    ensures each { length rows.new.items + meter.old ≤ length rows.old.items + meter.new }
 {
     let RowSearch {
         case,
@@ -136,7 +141,12 @@ pub fn go_on(
     let day_offers = offers[at.day as usize].as_slice();
     let offer = day_offers[link.offer];
     let shift = offer.choice.shift();
-    let Some(step) = extend(case, nurse, at.day, from.state, shift, meter) else {
+    let days = NurseDays {
+        case,
+        nurse,
+        rules: limited.rules,
+    };
+    let Some(step) = extend_by(&days, at.day, from.state, shift, meter) else {
         return true;
     };
     let cost = from.cost + offer.price + step.1;

@@ -9,6 +9,7 @@
 mod add;
 mod day;
 mod days;
+mod guesses;
 mod rates;
 mod rows;
 mod search;

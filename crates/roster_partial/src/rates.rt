@@ -12,15 +12,36 @@ ghost use Rattle.roster_partial.specs.Rates.{IsTried, most_offers};
 use roster_floors::{Floors, Rates, at_least, set_floors};
 use roster_rules::weights::{ASSIGNMENT, WEEKEND};
 use roster_search::{MOST_OFFERS, RowSearch};
-use roster_state::{Meter, State, end_cost, extend, start};
+use roster_state::{Meter, NurseDays, State, end_cost, extend_by, start};
 use std::cmp::min;
 
-/// How many rows are followed at most: one without floors, and one for each pair of rates that is tried.
-const MOST_FOLLOWED: u64 = 4;
+/// How many more pairs of rates are tried at most: fewer where an earlier search tells where to begin.
+const MOST_TRIALS: usize = 11;
+
+const MOST_TRIALS_FROM_SAME: usize = 3;
+
+const MOST_TRIALS_FROM_OTHER: usize = 5;
+
+/// By how many points rates move at first: from the ends of their ranges, and from rates of an earlier search.
+const FIRST_STEP: u32 = 8;
+
+const NEXT_STEP: u32 = 4;
 
 /// Where a row was found that costs no more than so many penalty points above the start's floor, setting floors anew takes longer than
 /// they spare.
-const CLOSE: u32 = 30;
+const CLOSE: u32 = 5;
+
+/// What an earlier search tells of the rates of the next one. Only time depends on it.
+#[derive(Clone, Copy)]
+pub struct Guess {
+    pub rates: Rates,
+    /// How far apart the two numbers of its aim were.
+    pub spread: u32,
+    /// How much more than the least that a row can cost the best row did.
+    pub gap: u32,
+    /// Whether it was a search for the same nurse.
+    pub is_own: bool,
+}
 
 /// The rates at which floors were set, with two numbers between which the best row's cost lies, in penalty points: what each row costs
 /// at least, and what one costs.
@@ -32,11 +53,12 @@ pub struct Aim {
     pub high: u32,
 }
 
-/// Sets the floors of a search at those rates, of at most three pairs, at which the start's floor is highest. Rates are raised where the
+/// Sets the floors of a search at those rates, of some that are tried, at which the start's floor is highest. Rates are raised where the
 /// row that follows the floors has too many assignments or worked weekends, and lowered where it has fewer than it may. None where there
 /// isn't room for the floors or the steps.
 pub fn set_best_floors(
     search: &RowSearch<'_>,
+    guess: Option<Guess>,
     most: u64,
     floors: &mut [u32],
     meter: &mut Meter,
@@ -49,29 +71,96 @@ pub fn set_best_floors(
     ensures inside { IfSome result (λ aim. (day_count search.now.case.now + 1) * floor_count (sizes_of search.now.case.now search.now.nurse) ≤ length floors.new) }
     ensures counted { (meter.old ≤ meter.new) × (meter.new ≤ most) }
 {
-    let steps = MOST_FOLLOWED * MOST_OFFERS as u64 * search.case.days() as u64;
-    if most - meter.count() < steps {
+    if most - meter.count() < 2 * steps_to_follow(search) {
         return None;
     }
     let none = Rates { day: 0, weekend: 0 };
-    let rates = rates_after(search, none, follow(search, None, meter));
-    if !set_floors(search, rates, floors) {
+    let plan = plan_by(search, guess, most, meter);
+    if !set_floors(search, plan.rates, floors) {
         return None;
     }
-    let first = trial(search, rates, floors, meter);
-    let second = try_more(search, first, floors, meter);
-    let third = try_more(search, second, floors, meter);
-    if !are_same(third.rates, third.set) {
-        set_floors(search, third.rates, floors);
+    let first = trial(search, plan.rates, floors, meter);
+    let last = try_rates(search, plan, first, floors, meter);
+    if !are_same(last.rates, last.set) {
+        set_floors(search, last.rates, floors);
     }
     Some(Aim {
-        rates: third.rates,
-        low: third.low,
-        high: third.high,
+        rates: last.rates,
+        low: last.low,
+        high: last.high,
     })
 }
 
+/// How many steps it takes at most to follow a row.
+fn steps_to_follow(search: &RowSearch<'_>) -> u64
+    ensures steps { result ≡ most_offers * day_count search.now.case.now }
+    ensures within { result ≤ 3276 }
+{
+    MOST_OFFERS as u64 * search.case.days() as u64
+}
+
 // ---- rates, one pair after another
+
+/// How rates are tried: which first, and by how many points the next ones differ; how many more at most, how close a row to the floors is
+/// good enough, and what the meter may count to.
+#[derive(Clone, Copy)]
+struct Plan {
+    rates: Rates,
+    step: u32,
+    trials: usize,
+    close: u32,
+    most: u64,
+}
+
+/// How rates are tried after an earlier search; where there was none, the first ones are those by the row of the cheapest steps.
+fn plan_by(search: &RowSearch<'_>, guess: Option<Guess>, most: u64, meter: &mut Meter) -> Plan
+    requires nurse { search.now.nurse < nurse_count search.now.case.now }
+    requires offers { AreOffers search.now.case.now search.now.nurse search.now.offers.now }
+    requires room { meter.old + most_offers * day_count search.now.case.now ≤ greatest_u64 }
+    ensures small { AreSmall result.rates }
+    ensures most { result.most ≡ most }
+    ensures counted { (meter.old ≤ meter.new) × (meter.new ≤ meter.old + most_offers * day_count search.now.case.now) }
+{
+    let none = Rates { day: 0, weekend: 0 };
+    match guess {
+        Some(guess) if guess.is_own => Plan {
+            rates: within_range(guess.rates),
+            step: NEXT_STEP,
+            trials: MOST_TRIALS_FROM_SAME,
+            close: guess.spread.saturating_add(CLOSE),
+            most,
+        },
+        Some(guess) => Plan {
+            rates: within_range(guess.rates),
+            step: NEXT_STEP,
+            trials: MOST_TRIALS_FROM_OTHER,
+            close: CLOSE,
+            most,
+        },
+        None => Plan {
+            rates: rates_after(
+                search,
+                none,
+                ASSIGNMENT + WEEKEND,
+                follow(search, None, meter),
+            ),
+            step: FIRST_STEP,
+            trials: MOST_TRIALS,
+            close: CLOSE,
+            most,
+        },
+    }
+}
+
+/// Rates that are no more than what one too many costs.
+fn within_range(rates: Rates) -> Rates
+    ensures { AreSmall result }
+{
+    Rates {
+        day: min(rates.day, ASSIGNMENT),
+        weekend: min(rates.weekend, WEEKEND),
+    }
+}
 
 /// The best rates that were tried.
 #[derive(Clone, Copy)]
@@ -83,7 +172,7 @@ struct Tried {
     high: u32,
     /// The rates at which floors were set last.
     set: Rates,
-    /// The row that follows the floors that were set last, if there is one.
+    /// The row that follows the floors at the best rates, if there is one.
     followed: Option<Followed>,
 }
 
@@ -126,19 +215,57 @@ fn trial(search: &RowSearch<'_>, rates: Rates, floors: &[u32], meter: &mut Meter
     }
 }
 
-/// Tries rates once more, where others may be better. They are the best ones if the start's floor is higher at them.
-fn try_more(search: &RowSearch<'_>, tried: Tried, floors: &mut [u32], meter: &mut Meter) -> Tried
+/// Tries more rates, one pair after another, as long as others may be better and there is room for the steps. Where they aren't better,
+/// the next ones are half as far from the best ones.
+fn try_rates(
+    search: &RowSearch<'_>,
+    plan: Plan,
+    first: Tried,
+    floors: &mut [u32],
+    meter: &mut Meter,
+) -> Tried
     requires nurse { search.now.nurse < nurse_count search.now.case.now }
     requires offers { AreOffers search.now.case.now search.now.nurse search.now.offers.now }
+    requires tried { IsTried search.now.case.now search.now.nurse (offers_on search.now.offers.now) floors.old first }
+    requires room { meter.old ≤ plan.most }
+    ensures tried { IsTried search.now.case.now search.now.nurse (offers_on search.now.offers.now) floors.new result }
+    ensures counted { (meter.old ≤ meter.new) × (meter.new ≤ plan.most) }
+{
+    let mut tried = first;
+    let mut step = plan.step;
+    'trials: for _ in 0..plan.trials {
+        let rates = rates_after(search, tried.rates, step, tried.followed);
+        let is_done = tried.high.saturating_sub(tried.low) <= plan.close
+            || are_same(rates, tried.rates)
+            || are_same(rates, tried.set);
+        if is_done || plan.most - meter.count() < steps_to_follow(search) {
+            return tried;
+        }
+        let low = tried.low;
+        tried = try_more(search, tried, rates, floors, meter);
+        if tried.low == low {
+            step /= 2;
+        }
+    }
+    tried
+}
+
+/// Tries rates once more. They are the best ones if the start's floor is higher at them.
+fn try_more(
+    search: &RowSearch<'_>,
+    tried: Tried,
+    rates: Rates,
+    floors: &mut [u32],
+    meter: &mut Meter,
+) -> Tried
+    requires nurse { search.now.nurse < nurse_count search.now.case.now }
+    requires offers { AreOffers search.now.case.now search.now.nurse search.now.offers.now }
+    requires small { AreSmall rates }
     requires tried { IsTried search.now.case.now search.now.nurse (offers_on search.now.offers.now) floors.old tried }
     requires room { meter.old + most_offers * day_count search.now.case.now ≤ greatest_u64 }
     ensures tried { IsTried search.now.case.now search.now.nurse (offers_on search.now.offers.now) floors.new result }
     ensures counted { (meter.old ≤ meter.new) × (meter.new ≤ meter.old + most_offers * day_count search.now.case.now) }
 {
-    let rates = rates_after(search, tried.set, tried.followed);
-    if tried.high.saturating_sub(tried.low) <= CLOSE || are_same(rates, tried.set) {
-        return tried;
-    }
     set_floors(search, rates, floors);
     let other = trial(search, rates, floors, meter);
     let high = min(tried.high, other.high);
@@ -148,14 +275,12 @@ fn try_more(search: &RowSearch<'_>, tried: Tried, floors: &mut [u32], meter: &mu
     Tried {
         high,
         set: rates,
-        followed: other.followed,
         ..tried
     }
 }
 
-/// The rates to try after these: what one too many costs where the row that followed has too many, half of that where it was taken and
-/// the row has fewer than it may.
-fn rates_after(search: &RowSearch<'_>, rates: Rates, followed: Option<Followed>) -> Rates
+/// The rates to try after these: so much more where the row that followed has too many, so much less where it has fewer than it may.
+fn rates_after(search: &RowSearch<'_>, rates: Rates, step: u32, followed: Option<Followed>) -> Rates
     requires nurse { search.now.nurse < nurse_count search.now.case.now }
     requires small { AreSmall rates }
     ensures small { AreSmall result }
@@ -164,26 +289,25 @@ fn rates_after(search: &RowSearch<'_>, rates: Rates, followed: Option<Followed>)
         return rates;
     };
     let rules = search.case.contract_rules(search.nurse);
+    let most_days = rules.total.greatest as u32;
+    let most_weekends = rules.weekends as u32;
     Rates {
-        day: rate_after(
-            rates.day,
-            ASSIGNMENT,
-            row.assignments,
-            rules.total.greatest as u32,
-        ),
-        weekend: rate_after(rates.weekend, WEEKEND, row.weekends, rules.weekends as u32),
+        day: rate_after(rates.day, step, ASSIGNMENT, row.assignments, most_days),
+        weekend: rate_after(rates.weekend, step, WEEKEND, row.weekends, most_weekends),
     }
 }
 
-/// The rate to try after another one, of something of which a row has so many and may have so many at most.
-fn rate_after(rate: u32, most: u32, count: u32, greatest: u32) -> u32
-    ensures { (result ≤ rate) ⊎ (result ≤ most) }
+/// The rate to try after another one, at most what one too many costs, of something of which a row has so many and may have so many at
+/// most.
+fn rate_after(rate: u32, step: u32, most: u32, count: u32, greatest: u32) -> u32
+    requires { rate ≤ most }
+    ensures { result ≤ most }
 {
     if count > greatest {
-        return most;
+        return min(rate.saturating_add(step), most);
     }
-    if count < greatest && rate == most {
-        return most / 2;
+    if count < greatest {
+        return rate.saturating_sub(step);
     }
     rate
 }
@@ -283,12 +407,17 @@ fn best_step(
     } = *search;
     case.keeps_limits();
     let offers = offers[day as usize].as_slice();
+    let days = NurseDays {
+        case,
+        nurse,
+        rules: case.contract_rules(nurse),
+    };
     let mut best = None;
     let mut least = u64::MAX;
     for place in 0..offers.len() {
         let offer = offers[place];
         let shift = offer.choice.shift();
-        let Some((next, more)) = extend(case, nurse, day, state, shift, meter) else {
+        let Some((next, more)) = extend_by(&days, day, state, shift, meter) else {
             continue;
         };
         let cost = offer.price.saturating_add(more);

@@ -9,18 +9,18 @@ use roster_search::NO_ROW;
 use roster_state::State;
 
 /// How many partial rows a list holds at most, those of all days together.
-pub const MOST_ROWS: usize = 16_384;
+pub const MOST_ROWS: usize = 65_536;
 
 /// A partial row: the state to which it leads, what its days cost, and how it goes on one of the day before. It is left out where its
 /// cost is that of no row.
 #[derive(Clone, Copy, Default)]
 pub struct Entry {
     pub state: State,
+    /// The place in the list of the one of the day before that it goes on.
+    pub before: u16,
     /// The number of the state.
     pub code: u32,
     pub cost: u32,
-    /// The place in the list of the one of the day before that it goes on.
-    pub before: u32,
     /// The place among that day's offers of the one by which it does.
     pub offer: u8,
 }

@@ -14,17 +14,18 @@ ghost use Rattle.roster_partial.specs.declared.days.Within.TheVariants.{Found};
 
 use crate::day::LimitedSearch;
 use crate::days::{Within, row_within};
-use crate::rates::set_best_floors;
+use crate::guesses::Guesses;
+use crate::rates::{Guess, set_best_floors};
 use crate::rows::{Entry, MOST_ROWS, SEEN, Seen};
 use arrayvec::ArrayVec;
 use roster_floors::{Floors, Rates};
-use roster_rules::Choice;
+use roster_rules::{Case, Choice};
 use roster_search::{NO_ROW, RowSearch, Tables};
-use roster_state::Meter;
+use roster_state::{Meter, Ranges};
 use std::alloc::{AllocError, Global};
 
 /// How many floors there is room for: those of all days at one pair of rates.
-const MOST_FLOORS: usize = 65_536;
+const MOST_FLOORS: usize = 262_144;
 
 /// How many limits are tried at most, each higher than the one before.
 const MOST_LIMITS: usize = 24;
@@ -34,6 +35,7 @@ pub struct PartialRoom {
     floors: Vec<u32>,
     rows: Box<ArrayVec<Entry, MOST_ROWS>>,
     seen: Seen,
+    guesses: Guesses,
 }
 
 // By hand, so that who drops the room has one call to prove.
@@ -43,6 +45,7 @@ impl Drop for PartialRoom {
             floors: _,
             rows: _,
             seen: _,
+            guesses: _,
         } = self;
     }
 }
@@ -54,12 +57,41 @@ impl PartialRoom {
     ///
     /// A growth was refused.
     pub fn new(alloc: Global) -> Result<PartialRoom, AllocError> {
+        PartialRoom::with_floors(alloc, MOST_FLOORS)
+    }
+
+    /// Room for those of any nurse of a case, by two growths: for no more floors than its nurses take.
+    ///
+    /// # Errors
+    ///
+    /// A growth was refused.
+    pub fn for_case(alloc: Global, case: &Case) -> Result<PartialRoom, AllocError> {
+        PartialRoom::with_floors(alloc, greatest_floors(case))
+    }
+
+    fn with_floors(alloc: Global, floors: usize) -> Result<PartialRoom, AllocError> {
         Ok(PartialRoom {
-            floors: vec![in alloc; 0; MOST_FLOORS]?,
+            floors: vec![in alloc; 0; floors]?,
             rows: Box::new(alloc, ArrayVec::new())?,
             seen: [0; SEEN],
+            guesses: Guesses::none(),
         })
     }
+}
+
+/// How many floors the nurse takes who takes the most, of those for whom there may be room.
+fn greatest_floors(case: &Case) -> usize {
+    let mut greatest: usize = 0;
+    for nurse in 0..case.nurses() {
+        let ranges = Ranges::of(case, nurse);
+        let of_a_day = ranges.last() as usize
+            * (ranges.run() as usize * ranges.shift_run() as usize);
+        let floors = of_a_day.saturating_mul(case.days() as usize + 1);
+        if floors <= MOST_FLOORS {
+            greatest = greatest.max(floors);
+        }
+    }
+    greatest
 }
 
 /// Searches the best row over a table of offers, wherever these come from. `row` then begins with its choices, one for each day, and the
@@ -107,8 +139,8 @@ pub fn search_row(
     roster_search::search_row(search, tables, row, meter)
 }
 
-/// Searches the best row by partial rows, within higher and higher limits: from the least cost that a row can have up to what one is
-/// known to cost. None where there isn't room, or where no limit that was tried was high enough.
+/// Searches the best row by partial rows. None where they find it in no limit that is tried, where there isn't room, or where it came to
+/// that in earlier searches for the nurse.
 fn search_partial(
     search: &RowSearch<'_>,
     room: &mut PartialRoom,
@@ -126,9 +158,44 @@ fn search_partial(
     ensures counted { (meter.old ≤ meter.new) × (meter.new ≤ most) }
     ensures length { length row.new ≡ length row.old }
 {
-    let PartialRoom { floors, rows, seen } = room;
-    let aim = set_best_floors(search, most, floors, meter)?;
-    let mut limit = aim.low;
+    if room.guesses.waits(search.nurse) {
+        return None;
+    }
+    let found = search_limits(search, room, most, row, meter);
+    if found.is_none() {
+        room.guesses.miss(search.nurse);
+    }
+    found
+}
+
+/// Searches the best row by partial rows, within higher and higher limits: from the least cost that a row can have up to what one is
+/// known to cost. None where there isn't room, or where no limit that was tried was high enough.
+fn search_limits(
+    search: &RowSearch<'_>,
+    room: &mut PartialRoom,
+    most: u64,
+    row: &mut [Choice],
+    meter: &mut Meter,
+) -> Option<u32>
+    requires nurse { search.now.nurse < nurse_count search.now.case.now }
+    requires offers { AreOffers search.now.case.now search.now.nurse search.now.offers.now }
+    requires row_room { day_count search.now.case.now ≤ length row.old }
+    requires room { meter.old ≤ most }
+    ensures best { IfSome result (λ cost. IsFound (best_over search.now.case.now search.now.nurse (offers_on search.now.offers.now)) cost (take (day_count search.now.case.now) row.new)) }
+    ensures below { IfSome result (λ cost. cost < no_row) }
+    ensures each_day { IfSome result (λ cost. meter.old + day_count search.now.case.now ≤ meter.new) }
+    ensures counted { (meter.old ≤ meter.new) × (meter.new ≤ most) }
+    ensures length { length row.new ≡ length row.old }
+{
+    let PartialRoom {
+        floors,
+        rows,
+        seen,
+        guesses,
+    } = room;
+    let guess = guesses.of(search);
+    let aim = set_best_floors(search, guess, most, floors, meter)?;
+    let mut limit = aim.low.saturating_add(first_gap(guess));
     let mut more = 10;
     'limits: for _ in 0..MOST_LIMITS {
         let attempt = Attempt {
@@ -138,7 +205,10 @@ fn search_partial(
             most,
         };
         match search_within(search, &attempt, rows, seen, row, meter) {
-            Within::Found(cost) => return Some(cost),
+            Within::Found(cost) => {
+                guesses.learn(search, &aim, cost);
+                return Some(cost);
+            }
             Within::Full => return None,
             Within::Dearer => {}
         }
@@ -146,6 +216,18 @@ fn search_partial(
         more = more.saturating_add(more / 2 + 5);
     }
     None
+}
+
+/// By how many points the first limit is above what each row costs at least, beside how far the best row was at the nurse's last search:
+/// less than the true penalties of two rows differ.
+const FIRST_MORE: u32 = 4;
+
+/// By how many points the first limit is above what each row costs at least.
+fn first_gap(guess: Option<Guess>) -> u32 {
+    match guess {
+        Some(guess) if guess.is_own => guess.gap.saturating_add(FIRST_MORE),
+        _ => FIRST_MORE,
+    }
 }
 
 /// A limit that is tried: the floors, with the rates at which they were set, the limit in penalty points, and what the meter may count
@@ -158,7 +240,7 @@ struct Attempt<'a> {
     most: u64,
 }
 
-/// Searches the best row by the partial rows within a limit, no more at once than the nurse has states.
+/// Searches the best row by the partial rows within a limit, no more at once than twice as many as the nurse has states.
 fn search_within(
     search: &RowSearch<'_>,
     attempt: &Attempt<'_>,
@@ -195,7 +277,8 @@ fn search_within(
     let limited = LimitedSearch {
         floors: Floors::of(&here, attempt.rates, attempt.floors),
         limit: attempt.limit,
-        most: states.min(MOST_ROWS),
+        most: (2 * states).min(MOST_ROWS),
+        rules: case.contract_rules(nurse),
     };
     row_within(&limited, attempt.most, rows, seen, row, meter)
 }

@@ -55,8 +55,9 @@ offers-preserved c =
       long = c.go_on.ensures.length;
       entries = subst (λ earlier. All (IsEntryOf (days_on limited (suc at.day) earlier)) now) c.offers.invariant.front c.go_on.ensures.entries;
       best = gathered (best_by days at.day (entry_numbered old c.args.before)) offers c.offers.offer _ _ _ _ inside c.offers.invariant.best next;
-      meter = omega (arith, c.go_on.ensures.counted, c.offers.invariant.meter);
-      each = omega (arith, c.go_on.ensures.counted, c.go_on.ensures.few, c.offers.invariant.each);
+      from = omega (arith, c.go_on.ensures.counted.0, c.offers.invariant.from);
+      meter = omega (arith, c.go_on.ensures.counted.1, c.offers.invariant.meter);
+      each = omega (arith, c.go_on.ensures.each, c.offers.invariant.each);
     }
 
 pub returns-clause-best : goal.returns-clause-best

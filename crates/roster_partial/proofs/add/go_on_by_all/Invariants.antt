@@ -13,6 +13,7 @@ invariant-offers l = record {
   long : l.at.end ≤ length l.rows.items;
   entries : All (IsEntryOf (days_on l.limited (suc l.at.day) (take l.at.end l.fn.rows.items))) (drop l.at.end l.rows.items);
   best : cheapest (best_of (days_on l.limited (suc l.at.day) (take l.at.end l.fn.rows.items))) (drop l.at.end l.rows.items) ≡ cheaper (cheapest (best_of (days_on l.limited (suc l.at.day) (take l.at.end l.fn.rows.items))) (drop l.at.end l.fn.rows.items)) (cheapest (best_by (days_on l.limited (suc l.at.day) (take l.at.end l.fn.rows.items)) l.at.day (entry_numbered (take l.at.end l.fn.rows.items) l.before)) (take l.offer (offers_on l.limited.floors.search.offers.now l.at.day)));
-  meter : l.meter ≡ l.fn.meter + l.offer;
+  from : l.fn.meter ≤ l.meter;
+  meter : l.meter ≤ l.fn.meter + l.offer;
   each : length l.rows.items + l.fn.meter ≤ length l.fn.rows.items + l.meter;
 }

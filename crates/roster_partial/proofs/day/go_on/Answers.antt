@@ -24,7 +24,7 @@ returns-in_default-clause-best c = λ _.
     let read : c.as_slice-day_offers.result.now ≡ offers_on search.offers.now day = c.as_slice-day_offers.ensures.value ∙ sym (read_day search.offers.now day c.index-offers-at.result (omega (arith, c.requires.day, c.requires.search.floors.offers.days)) c.index-offers-at.is) in
     let x : Offer = slice_index_or c.as_slice-day_offers.result.now c.args.link.offer (record { choice = Off; price = 0 }) in
     let same : x ≡ offer_numbered (offers_on search.offers.now day) c.args.link.offer = ap (λ xs. slice_index_or xs c.args.link.offer (record { choice = Off; price = 0 })) read in
-    let step : offer_step search.case.now search.nurse day e.state x ≡ dearer x.price c.extend.result = ap (dearer x.price) (ap (step_of search.case.now search.nurse day e.state) (sym c.shift-shift.ensures) ∙ sym c.extend.ensures.step) in
+    let step : offer_step search.case.now search.nurse day e.state x ≡ dearer x.price c.extend_by.result = ap (dearer x.price) (ap (step_of search.case.now search.nurse day e.state) (sym c.shift-shift.ensures) ∙ sym c.extend_by.ensures.step) in
     let kept = cheapest (best_of days) (drop c.args.at.end c.args.rows.now.items) in
     let wanted : best_by days day e x ≡ best_by days day (entry_numbered earlier c.args.link.before) (offer_numbered (offers_on search.offers.now day) c.args.link.offer) = (λ i. best_by days day (sym from i) (same i)) in
     let none = by_forbidden days day e x (step ∙ ap (dearer x.price) c.in_default.is) in
@@ -41,7 +41,7 @@ returns-then-is_dear-clause-best c = λ _.
     let read : c.as_slice-day_offers.result.now ≡ offers_on search.offers.now day = c.as_slice-day_offers.ensures.value ∙ sym (read_day search.offers.now day c.index-offers-at.result (omega (arith, c.requires.day, c.requires.search.floors.offers.days)) c.index-offers-at.is) in
     let x : Offer = slice_index_or c.as_slice-day_offers.result.now c.args.link.offer (record { choice = Off; price = 0 }) in
     let same : x ≡ offer_numbered (offers_on search.offers.now day) c.args.link.offer = ap (λ xs. slice_index_or xs c.args.link.offer (record { choice = Off; price = 0 })) read in
-    let step : offer_step search.case.now search.nurse day e.state x ≡ dearer x.price c.extend.result = ap (dearer x.price) (ap (step_of search.case.now search.nurse day e.state) (sym c.shift-shift.ensures) ∙ sym c.extend.ensures.step) in
+    let step : offer_step search.case.now search.nurse day e.state x ≡ dearer x.price c.extend_by.result = ap (dearer x.price) (ap (step_of search.case.now search.nurse day e.state) (sym c.shift-shift.ensures) ∙ sym c.extend_by.ensures.step) in
     let kept = cheapest (best_of days) (drop c.args.at.end c.args.rows.now.items) in
     let wanted : best_by days day e x ≡ best_by days day (entry_numbered earlier c.args.link.before) (offer_numbered (offers_on search.offers.now day) c.args.link.offer) = (λ i. best_by days day (sym from i) (same i)) in
     let next : suc day ≡ day + 1 = omega arith in
@@ -59,7 +59,7 @@ returns-clause-best c = λ is.
     let read : c.as_slice-day_offers.result.now ≡ offers_on search.offers.now day = c.as_slice-day_offers.ensures.value ∙ sym (read_day search.offers.now day c.index-offers-at.result (omega (arith, c.requires.day, c.requires.search.floors.offers.days)) c.index-offers-at.is) in
     let x : Offer = slice_index_or c.as_slice-day_offers.result.now c.args.link.offer (record { choice = Off; price = 0 }) in
     let same : x ≡ offer_numbered (offers_on search.offers.now day) c.args.link.offer = ap (λ xs. slice_index_or xs c.args.link.offer (record { choice = Off; price = 0 })) read in
-    let step : offer_step search.case.now search.nurse day e.state x ≡ dearer x.price c.extend.result = ap (dearer x.price) (ap (step_of search.case.now search.nurse day e.state) (sym c.shift-shift.ensures) ∙ sym c.extend.ensures.step) in
+    let step : offer_step search.case.now search.nurse day e.state x ≡ dearer x.price c.extend_by.result = ap (dearer x.price) (ap (step_of search.case.now search.nurse day e.state) (sym c.shift-shift.ensures) ∙ sym c.extend_by.ensures.step) in
     let kept = cheapest (best_of days) (drop c.args.at.end c.args.rows.now.items) in
     let wanted : best_by days day e x ≡ best_by days day (entry_numbered earlier c.args.link.before) (offer_numbered (offers_on search.offers.now day) c.args.link.offer) = (λ i. best_by days day (sym from i) (same i)) in
     let more : (m : Entry) → m.state ≡ c.in-Some.step.0 → m.cost ≡ e.cost + x.price + c.in-Some.step.1 → m.before ≡ c.args.link.before → m.offer ≡ c.args.link.offer → best_of days m ≡ best_by days day e x
