@@ -1,8 +1,9 @@
 -- The offers of a day, choice by choice.
-use Rattle.std.proofs.Common.{◌≡◌, ◌∙◌, ◌+◌, ◌-◌, ◌*◌, ◌<◌, ◌&&◌, ◌==◌, ℕ, Bool, true, false, ap, ap₂, append_assoc, arith, refl, sym, List, [], ◌∷◌, ◌++◌, filter, if◌then◌else◌, map, nat_lt, None, Option, Some}
+use Rattle.std.proofs.Common.{◌≡◌, ◌∙◌, ◌+◌, ◌-◌, ◌*◌, ◌<◌, ◌&&◌, ◌||◌, ◌==◌, ◌⊎◌, inl, inr, ℕ, Bool, true, false, ap, ap₂, append-nil, append_assoc, arith, refl, sym, List, [], ◌∷◌, ◌++◌, filter, if◌then◌else◌, is_some, length, map, not, nat_lt, slice_index_or, slice_set, None, Option, Some}
 use Rattle.std.specs.Option.{option_to_list}
-use Rattle.std.specs.List.{flat_map, range_with_len}
-use Rattle.std.proofs.lemmas.List.{map-append}
+use Rattle.std.specs.List.{flat_map, list_any, range_with_len}
+use Rattle.std.proofs.lemmas.Bool.{and_parts, cases_eq, eqb-true}
+use Rattle.std.proofs.lemmas.List.{get_or-set_other, get_or-set_same, map-append}
 use Rattle.std.proofs.lemmas.List.Elements.{filter-append}
 use Rattle.roster_bundle.proofs.Ranges.{flat_map-range_more, range_with_len_more}
 use Rattle.roster_instance.specs.declared.choice.Choice.{Choice}
@@ -11,16 +12,21 @@ use Rattle.roster_instance.specs.declared.choice.Shift.{Shift}
 use Rattle.roster_instance.specs.declared.choice.Skill.{Skill}
 use Rattle.roster_instance.specs.Choices.{shift_of}
 use Rattle.roster_instance.specs.Counting.{one_if}
-use Rattle.roster_instance.specs.Meaning.{Meaning, minimum, nurse_at, optimum, shift_at, shift_count, skill_at, skill_count}
-use Rattle.roster_instance.specs.Rosters.{Rows}
-use Rattle.roster_rules.specs.HardRules.{is_able}
-use Rattle.roster_rules.specs.Penalties.{request_cost_on}
-use Rattle.roster_rules.specs.Weights.{staffing_weight}
+use Rattle.roster_instance.specs.Days.{is_shift}
+use Rattle.roster_instance.specs.Meaning.{Meaning, day_count, has_wish, has_wish_for_any, minimum, nurse_at, nurse_count, optimum, shift_at, shift_count, skill_at, skill_count}
+use Rattle.roster_instance.specs.Rosters.{Rows, choice_on, cover, fits_case, row_of}
+use Rattle.roster_instance.proofs.RosterFacts.{has_row}
+use Rattle.roster_rules.specs.HardRules.{is_able, keeps_hard}
+use Rattle.roster_rules.specs.Penalties.{meets_wishes, request_cost_on, wish_cost_on}
+use Rattle.roster_rules.specs.Weights.{staffing_weight, wish_weight}
 use Rattle.roster_laws.specs.OneRow.{is_open, others}
-use Rattle.roster_laws.specs.Staffing.{lacking, with_choice}
+use Rattle.roster_laws.specs.Staffing.{lacking, meets, with_choice}
+use Rattle.roster_laws.proofs.Below.{all_true}
+use Rattle.roster_case.proofs.DayTableLemmas.{cover-parts}
 use Rattle.roster_case.proofs.Lacking.{lacking-off, lacking-work, meets-lacking, staffing-lacking}
 use Rattle.roster_search.specs.declared.offer.Offer.{Offer}
 use Rattle.roster_search.specs.Offers.{offer_of}
+use Rattle.roster_search.proofs.OfferLaws.{present_open}
 
 -- the choices of a shift with the first skills, and those of the first shifts
 abbrev pub of_shift : ℕ → ℕ → List Choice
@@ -28,6 +34,15 @@ of_shift s skills = map (λ k. Work (shift_at s) (skill_at k)) (range_with_len 0
 
 abbrev pub of_shifts : Meaning → ℕ → List Choice
 of_shifts c shifts = Off ∷ flat_map (λ s. of_shift s (skill_count c)) (range_with_len 0 shifts)
+
+-- one skill more is looked up
+pub able_more : (skills : List Skill) (able : List Bool) (m : ℕ) (here : Bool) → m < length able → ((k : ℕ) → k < m → slice_index_or able k false ≡ list_any (λ own. own.0 == k) skills) → here ≡ list_any (λ own. own.0 == m) skills
+    → (k : ℕ) → k < m + 1 → slice_index_or (slice_set able m here) k false ≡ list_any (λ own. own.0 == k) skills
+able_more skills able m here inside before is k h = go (cases_eq k m)
+  where
+    go : (k ≡ m) ⊎ (k ≡ m → ⊥) → slice_index_or (slice_set able m here) k false ≡ list_any (λ own. own.0 == k) skills
+    go (inl e) = ap (λ j. slice_index_or (slice_set able m here) j false) e ∙ get_or-set_same able m here false inside ∙ is ∙ ap (λ j. list_any (λ own. own.0 == j) skills) (sym e)
+    go (inr e) = get_or-set_other able m k here false e ∙ before k (omega arith)
 
 module _ (c : Meaning) (r : Rows) (n d : ℕ) where
   -- ---- the list grows choice by choice
@@ -70,22 +85,41 @@ module _ (c : Meaning) (r : Rows) (n d : ℕ) where
 
   -- ---- one choice
 
-  pub offer_is : (choice : Choice) (able : Bool) (least most asked : ℕ)
-      → able ≡ is_able (nurse_at c n).skills choice
+  not_offered : (choice : Choice) (able : Bool) → able ≡ is_able (nurse_at c n).skills choice → able ≡ false → None ≡ offered choice
+  not_offered choice able able_is not_so =
+      ap (λ b. if b && meets c d (with_choice (others r n d) choice) then Some (offer_of c r n d choice) else None) (sym not_so ∙ able_is)
+
+  pub offer_is : (choice : Choice) (least most asked : ℕ)
+      → is_able (nurse_at c n).skills choice ≡ true
       → least ≡ lacking c (minimum c d) (with_choice (others r n d) choice)
       → most ≡ lacking c (optimum c d) (with_choice (others r n d) choice)
       → asked ≡ request_cost_on c n d (shift_of choice)
-      → (if able && (least == 0) then Some (record { choice = choice; price = staffing_weight * most + asked }) else None) ≡ offered choice
-  offer_is choice able least most asked able_is least_is most_is asked_is =
+      → (if least == 0 then Some (record { choice = choice; price = staffing_weight * most + asked }) else None) ≡ offered choice
+  offer_is choice least most asked able least_is most_is asked_is =
       let have : ℕ → ℕ → ℕ = with_choice (others r n d) choice in
+      let able_so : true ≡ is_able (nurse_at c n).skills choice = sym able in
       let met = ap (λ m. m == 0) least_is ∙ sym (meets-lacking c d have) in
       let staffed = ap (λ m. staffing_weight * m) most_is ∙ sym (staffing-lacking c d have) in
-      (λ i. if able_is i && met i then Some (record { choice = choice; price = staffed i + asked_is i }) else None)
+      (λ i. if able_so i && met i then Some (record { choice = choice; price = staffed i + asked_is i }) else None)
+
+  -- a skill that the nurse lacks
+  pub offers_skill_not : (start old : List Offer) (s k : ℕ) (able : Bool) → able ≡ is_able (nurse_at c n).skills (Work (shift_at s) (skill_at k)) → able ≡ false
+      → old ≡ start ++ offers_among (of_shift s k) → old ≡ start ++ offers_among (of_shift s (k + 1))
+  offers_skill_not start old s k able able_is not_so so_far =
+      offers_skill start old old s k None so_far (sym (append-nil old)) (not_offered (Work (shift_at s) (skill_at k)) able able_is not_so)
 
   -- the only offer: one choice that is open
   pub offer_alone : (choice now : Choice) (start items : List Offer) (o : Option Offer) → items ≡ start ++ option_to_list o → start ≡ [] → o ≡ offered choice → choice ≡ now → is_open c r n d now ≡ true → items ≡ offer_of c r n d now ∷ []
   offer_alone choice now start items o pushed none is same is_so =
       pushed ∙ (λ i. none i ++ option_to_list ((is ∙ ap offered same ∙ ap (λ b. if b then Some (offer_of c r n d now) else None) is_so) i))
+
+  -- ---- what the requests cost
+
+  -- without a wish for the day none costs anything
+  pub no_wish : (shift : Option Shift) → has_wish_for_any c n d ≡ false → ((s : ℕ) → s < shift_count c → has_wish c n d s ≡ false) → wish_cost_on c n d shift ≡ 0
+  no_wish shift any named =
+      let met : meets_wishes c n d shift ≡ true = ap₂ (λ a b. (not a || is_some shift) && b) any (all_true (shift_count c) (λ s. not (has_wish c n d s) || is_shift s shift) (λ s h. ap (λ b. not b || is_shift s shift) (named s h))) in
+      ap (λ b. if b then 0 else wish_weight) met
 
   -- ---- what the day lacks with the nurse
 
@@ -98,3 +132,28 @@ module _ (c : Meaning) (r : Rows) (n d : ℕ) where
   lacking_one_less want shift skill shift_in skill_in less without have wanted less_is without_is have_is wanted_is =
       let one : one_if (nat_lt have wanted) ≡ one_if (nat_lt (others r n d shift.0 skill.0) (want shift.0 skill.0)) = λ i. one_if (nat_lt (have_is i) (wanted_is i)) in
       omega (arith, less_is, without_is, one, lacking-work c want (others r n d) shift skill shift_in skill_in)
+
+  -- ---- what the day lacks without the nurse, whose choice this is now
+
+  module _ (within : n < length r) (own : Choice) (own_is : own ≡ choice_on (row_of r n) d) where
+    lacking_all : (want : ℕ → ℕ → ℕ) → lacking c want (with_choice (others r n d) own) ≡ lacking c want (cover r d)
+    lacking_all want = λ i. lacking c want (λ s k. (ap (λ x. with_choice (others r n d) x s k) own_is ∙ sym (cover-parts r n within d s k)) i)
+
+    pub lacking_of_off : (want : ℕ → ℕ → ℕ) (all : ℕ) → own ≡ Off → all ≡ lacking c want (cover r d) → all ≡ lacking c want (others r n d)
+    lacking_of_off want all off is = is ∙ sym (lacking_all want) ∙ ap (λ x. lacking c want (with_choice (others r n d) x)) off ∙ lacking-off c want (others r n d)
+
+    pub lacking_of_work : (want : ℕ → ℕ → ℕ) (all : ℕ) (shift : Shift) (skill : Skill) → own ≡ Work shift skill → shift.0 < shift_count c → skill.0 < skill_count c
+        → (have wanted : ℕ) → have ≡ others r n d shift.0 skill.0 → wanted ≡ want shift.0 skill.0 → all ≡ lacking c want (cover r d)
+        → all + one_if (nat_lt have wanted) ≡ lacking c want (others r n d)
+    lacking_of_work want all shift skill work shift_in skill_in have wanted have_is wanted_is is =
+        let with_all : all ≡ lacking c want (with_choice (others r n d) (Work shift skill)) = is ∙ sym (lacking_all want) ∙ ap (λ x. lacking c want (with_choice (others r n d) x)) work in
+        let one : one_if (nat_lt have wanted) ≡ one_if (nat_lt (others r n d shift.0 skill.0) (want shift.0 skill.0)) = λ i. one_if (nat_lt (have_is i) (wanted_is i)) in
+        omega (arith, with_all, one, lacking-work c want (others r n d) shift skill shift_in skill_in)
+
+  -- a roster that keeps the hard rules misses no minimum
+  pub none_missed : fits_case c r ≡ true → keeps_hard c r ≡ true → n < nurse_count c → d < day_count c → 0 ≡ lacking c (minimum c d) (cover r d)
+  none_missed fits keeps n_in d_in =
+      let own : Choice = choice_on (row_of r n) d in
+      let met = (and_parts (is_able (nurse_at c n).skills own) (meets c d (with_choice (others r n d) own)) (present_open c 0 r n d fits keeps n_in d_in)).1 in
+      let none : lacking c (minimum c d) (with_choice (others r n d) own) ≡ 0 = eqb-true _ 0 (sym (meets-lacking c d (with_choice (others r n d) own)) ∙ met) in
+      sym none ∙ lacking_all (has_row c r n fits n_in) own refl (minimum c d)

@@ -1,13 +1,17 @@
 //! What a nurse may do on a day, with its price.
 
-ghost use Rattle.std.specs.Prelude.{◌≡◌, ◌+◌, ◌-◌, ◌*◌, ◌<◌, ◌≤◌, ◌++◌, ◌&&◌, ◌==◌, if◌then◌else◌, [], ◌∷◌, length, nat_lt, true, Some, None};
+ghost use Rattle.std.specs.Prelude.{◌≡◌, ◌+◌, ◌-◌, ◌*◌, ◌<◌, ◌≤◌, ◌++◌, ◌==◌, if◌then◌else◌, ℕ, [], ◌∷◌, length, nat_lt, slice_index_or, false, true, Option, Some, None};
+ghost use Rattle.std.specs.List.{list_any};
 ghost use Rattle.std.specs.Option.{option_to_list};
 ghost use Rattle.roster_instance.specs.declared.choice.Choice.TheVariants.{Off, Work};
+ghost use Rattle.roster_instance.specs.declared.choice.Shift.{Shift};
+ghost use Rattle.roster_instance.specs.Choices.{shift_of};
 ghost use Rattle.roster_instance.specs.Counting.{one_if};
 ghost use Rattle.roster_instance.specs.Limits.{most_shifts, most_skills, most_small};
-ghost use Rattle.roster_instance.specs.Meaning.{day_count, minimum, nurse_count, optimum, shift_count, skill_count};
+ghost use Rattle.roster_instance.specs.Meaning.{day_count, minimum, nurse_at, nurse_count, optimum, shift_count, skill_count};
 ghost use Rattle.roster_instance.specs.Rosters.{choice_on, is_choice_of, row_of};
 ghost use Rattle.roster_rules.specs.AllowedRows.{is_frozen};
+ghost use Rattle.roster_rules.specs.HardRules.{is_able};
 ghost use Rattle.roster_rules.specs.Penalties.{off_request_cost_on, request_cost_on, wish_cost_on};
 ghost use Rattle.roster_rules.specs.Weights.{off_request_weight, wish_weight};
 ghost use Rattle.roster_laws.specs.OneRow.{is_open, others};
@@ -55,14 +59,18 @@ fn present_choice(held: &Held, nurse: usize, day: u16) -> ArrayVec<Offer, MOST_C
     held.keeps_rules();
     let without = lacking_without(held, nurse, day);
     let choice = held.row(nurse)[day as usize];
-    let lack = lacking_by(held, nurse, day, choice, without);
+    let asked = request_cost(held.case(), nurse, day, choice.shift());
     let mut offers = ArrayVec::new();
-    push_some(&mut offers, offered(held, nurse, day, choice, lack));
+    push_some(
+        &mut offers,
+        offered(held, nurse, day, choice, without, asked),
+    );
     offers
 }
 
-/// All that the nurse may do on the day where it isn't frozen. The others are counted once for the day, not anew for each choice.
-#[tactic(auto, using(crate::proofs::OfferLemmas::offers_begin, crate::proofs::OfferLemmas::offers_skill, crate::proofs::OfferLemmas::offers_shift, crate::proofs::OfferLemmas::lacking_unchanged))]
+/// All that the nurse may do on the day where it isn't frozen. The others and the nurse's skills are looked at once for the day, and
+/// what the requests cost is reckoned once for each shift, not anew for each choice.
+#[tactic(auto, using(crate::proofs::OfferLemmas::offers_begin, crate::proofs::OfferLemmas::offers_skill, crate::proofs::OfferLemmas::offers_shift))]
 fn open_choices(held: &Held, nurse: usize, day: u16) -> ArrayVec<Offer, MOST_CHOICES>
     requires nurse { nurse < nurse_count held.now.case }
     requires day { day < day_count held.now.case }
@@ -73,13 +81,20 @@ fn open_choices(held: &Held, nurse: usize, day: u16) -> ArrayVec<Offer, MOST_CHO
     let shifts = case.shifts();
     let skills = case.skills();
     let without = lacking_without(held, nurse, day);
+    let able = able_by_skill(case, nurse);
+    let wished = has_some_wish(case, nurse, day);
+    let asked = cost_of_requests(case, nurse, day, None, wished);
     let mut offers = ArrayVec::new();
-    push_some(&mut offers, offered(held, nurse, day, Choice::Off, without));
+    let off = offered(held, nurse, day, Choice::Off, without, asked);
+    push_some(&mut offers, off);
     for shift in 0..shifts {
+        let asked = cost_of_requests(case, nurse, day, Some(Shift(shift)), wished);
         for skill in 0..skills {
-            let with_nurse = lacking_with(held, nurse, day, Shift(shift), Skill(skill), without);
-            let choice = Choice::Work(Shift(shift), Skill(skill));
-            push_some(&mut offers, offered(held, nurse, day, choice, with_nurse));
+            if able[skill as usize] {
+                let choice = Choice::Work(Shift(shift), Skill(skill));
+                let offer = offered(held, nurse, day, choice, without, asked);
+                push_some(&mut offers, offer);
+            }
         }
     }
     offers
@@ -95,27 +110,78 @@ fn push_some(offers: &mut ArrayVec<Offer, MOST_CHOICES>, offer: Option<Offer>)
     }
 }
 
-/// The choice with its price, where it is open, by what the day lacks with it.
-fn offered(held: &Held, nurse: usize, day: u16, choice: Choice, lack: Lacking) -> Option<Offer>
-    requires nurse { nurse < nurse_count held.now.case }
-    requires minimum { lack.minimum ≡ lacking held.now.case (minimum held.now.case day) (with_choice (others held.now.roster nurse day) choice) }
-    requires optimum { lack.optimum ≡ lacking held.now.case (optimum held.now.case day) (with_choice (others held.now.roster nurse day) choice) }
-    requires within { lack.optimum ≤ most_shifts * most_skills * most_small }
-    ensures { result ≡ (if is_open held.now.case held.now.roster nurse day choice then Some (offer_of held.now.case held.now.roster nurse day choice) else None) }
+/// For each skill of the case whether the nurse has it.
+fn able_by_skill(case: &Case, nurse: usize) -> [bool; 8]
+    ensures { (k : ℕ) → k < skill_count case.now → slice_index_or result k false ≡ list_any (λ own. own.0 == k) (nurse_at case.now nurse).skills }
 {
-    let case = held.case();
-    let able = is_able(case.skills_of(nurse), choice);
-    let price = STAFFING * lack.optimum + request_cost(case, nurse, day, choice.shift());
-    offer_if(able, lack.minimum, choice, price)
+    case.keeps_limits();
+    let mut able = [false; 8];
+    for skill in 0..case.skills() {
+        able[skill as usize] = is_able(case.skills_of(nurse), Choice::Work(Shift(0), Skill(skill)));
+    }
+    able
 }
 
-fn offer_if(able: bool, lacking: u32, choice: Choice, price: u32) -> Option<Offer>
-    ensures { result ≡ (if able && (lacking == 0) then Some (record { choice = choice; price = price }) else None) }
+/// A choice that the nurse is able to do with its price, where it is open, by what the day lacks without the nurse and what the
+/// requests cost.
+fn offered(
+    held: &Held,
+    nurse: usize,
+    day: u16,
+    choice: Choice,
+    without: Lacking,
+    asked: u32,
+) -> Option<Offer>
+    requires nurse { nurse < nurse_count held.now.case }
+    requires day { day < day_count held.now.case }
+    requires choice { is_choice_of held.now.case choice ≡ true }
+    requires able { is_able (nurse_at held.now.case nurse).skills choice ≡ true }
+    requires minimum { without.minimum ≡ lacking held.now.case (minimum held.now.case day) (others held.now.roster nurse day) }
+    requires optimum { without.optimum ≡ lacking held.now.case (optimum held.now.case day) (others held.now.roster nurse day) }
+    requires within { without.optimum ≤ 1 + most_shifts * most_skills * most_small }
+    requires asked { asked ≡ request_cost_on held.now.case nurse day (shift_of choice) }
+    requires asked_within { asked ≤ off_request_weight + wish_weight }
+    ensures { result ≡ (if is_open held.now.case held.now.roster nurse day choice then Some (offer_of held.now.case held.now.roster nurse day choice) else None) }
 {
-    if able && lacking == 0 {
+    let lack = lacking_by(held, nurse, day, choice, without);
+    offer_if(lack.minimum, choice, STAFFING * lack.optimum + asked)
+}
+
+fn offer_if(lacking: u32, choice: Choice, price: u32) -> Option<Offer>
+    ensures { result ≡ (if lacking == 0 then Some (record { choice = choice; price = price }) else None) }
+{
+    if lacking == 0 {
         return Some(Offer { choice, price });
     }
     None
+}
+
+// ---- what the requests cost
+
+/// What the requests of a day cost, where it is known whether there is some wish to work: mostly there is none.
+fn cost_of_requests(case: &Case, nurse: usize, day: u16, shift: Option<Shift>, wished: bool) -> u32
+    requires nurse { nurse < nurse_count case.now }
+    requires wished { wished ≡ false → wish_cost_on case.now nurse day shift ≡ 0 }
+    ensures cost { result ≡ request_cost_on case.now nurse day shift }
+    ensures within { result ≤ off_request_weight + wish_weight }
+{
+    if wished {
+        return request_cost(case, nurse, day, shift);
+    }
+    off_request_cost(case, nurse, day, shift)
+}
+
+/// Whether the nurse has a wish to work on the day. Without one, no wish costs anything there.
+fn has_some_wish(case: &Case, nurse: usize, day: u16) -> bool
+    requires { nurse < nurse_count case.now }
+    ensures { (shift : Option Shift) → result ≡ false → wish_cost_on case.now nurse day shift ≡ 0 }
+{
+    let wishes = case.wishes(nurse, day);
+    let mut some = wishes.any;
+    for number in 0..case.shifts() {
+        some = some || wishes.names(Shift(number));
+    }
+    some
 }
 
 /// The points for the nurse's requests of a day, by the shift that is worked then, if one is.
@@ -150,30 +216,52 @@ fn wish_cost(case: &Case, nurse: usize, day: u16, shift: Option<Shift>) -> u32
 
 // ---- what a day lacks
 
-/// S1. What a day lacks without the nurse.
-#[tactic(auto, using(roster_rules::proofs::CountLemmas::sum_more))]
+/// S1. What a day lacks without the nurse. What it lacks with all nurses is known: only the nurse's own place is looked at.
 fn lacking_without(held: &Held, nurse: usize, day: u16) -> Lacking
     requires nurse { nurse < nurse_count held.now.case }
     requires day { day < day_count held.now.case }
     ensures minimum { result.minimum ≡ lacking held.now.case (minimum held.now.case day) (others held.now.roster nurse day) }
     ensures optimum { result.optimum ≡ lacking held.now.case (optimum held.now.case day) (others held.now.roster nurse day) }
-    ensures within { result.optimum ≤ most_shifts * most_skills * most_small }
+    ensures within { result.optimum ≤ 1 + most_shifts * most_skills * most_small }
 {
-    let case = held.case();
-    let (shifts, skills) = (case.shifts(), case.skills());
-    let mut lacking = Lacking {
-        minimum: 0,
-        optimum: 0,
-    };
-    for shift in 0..shifts {
-        for skill in 0..skills {
-            let need = case.need(day, Shift(shift), Skill(skill));
-            let others = held.others(nurse, day, Shift(shift), Skill(skill));
-            lacking.minimum += need.least.saturating_sub(others) as u32;
-            lacking.optimum += need.greatest.saturating_sub(others) as u32;
+    held.keeps_rules();
+    let own = held.row(nurse)[day as usize];
+    lacking_without_choice(held, nurse, day, own)
+}
+
+/// The same by the nurse's own choice. The roster keeps the hard rules: so with all nurses no minimum is missed, and without this one
+/// at most that of the nurse's place, by one.
+fn lacking_without_choice(held: &Held, nurse: usize, day: u16, own: Choice) -> Lacking
+    requires nurse { nurse < nurse_count held.now.case }
+    requires day { day < day_count held.now.case }
+    requires choice { is_choice_of held.now.case own ≡ true }
+    requires own { own ≡ choice_on (row_of held.now.roster nurse) day }
+    ensures minimum { result.minimum ≡ lacking held.now.case (minimum held.now.case day) (others held.now.roster nurse day) }
+    ensures optimum { result.optimum ≡ lacking held.now.case (optimum held.now.case day) (others held.now.roster nurse day) }
+    ensures within { result.optimum ≤ 1 + most_shifts * most_skills * most_small }
+{
+    held.keeps_rules();
+    let all = held.lacking(day);
+    match own {
+        Choice::Off => Lacking {
+            minimum: 0,
+            optimum: all,
+        },
+        Choice::Work(shift, skill) => {
+            let need = held.case().need(day, shift, skill);
+            let others = held.others(nurse, day, shift, skill);
+            let minimum = one_where_fewer(others, need.least);
+            let optimum = all + one_where_fewer(others, need.greatest);
+            Lacking { minimum, optimum }
         }
     }
-    lacking
+}
+
+fn one_where_fewer(have: u16, want: u16) -> u32
+    ensures one { result ≡ one_if (nat_lt have want) }
+    ensures within { result ≤ 1 }
+{
+    (have < want) as u32
 }
 
 /// What it lacks with a choice of the nurse.
@@ -223,5 +311,5 @@ fn lacking_with(
 fn with_one_more(lacking: u32, have: u16, want: u16) -> u32
     ensures { result ≡ lacking - one_if (nat_lt have want) }
 {
-    lacking.saturating_sub((have < want) as u32)
+    lacking.saturating_sub(one_where_fewer(have, want))
 }

@@ -111,7 +111,7 @@ impl Workspace {
         Ok(Workspace {
             offers: ArrayVec::new(),
             space: SearchSpace {
-                partial: PartialRoom::new(alloc)?,
+                partial: PartialRoom::for_case(alloc, case)?,
                 tables: Tables::new(alloc, states, days)?,
                 choices: vec![in alloc; Choice::Off; days]?,
                 filled: 0,

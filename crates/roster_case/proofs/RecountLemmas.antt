@@ -1,16 +1,37 @@
--- One day's table more has the other row in it, and what is lacking since.
-use Rattle.std.proofs.Common.{◌≡◌, ◌∙◌, ◌+◌, ◌<◌, ◌⊎◌, ℕ, suc, inl, inr, ap, arith, sym, List, [], length, slice_index_or, slice_set}
+-- One day's counts more have the other row in them, and what is lacking since.
+use Rattle.std.proofs.Common.{◌≡◌, ◌∙◌, ◌+◌, ◌-◌, ◌*◌, ◌<◌, ◌≤◌, ◌⊎◌, ℕ, suc, inl, inr, ap, arith, subst, sym, List, length, slice_index_or, slice_set}
 use Rattle.std.proofs.lemmas.Bool.{cases_eq}
 use Rattle.std.proofs.lemmas.List.{get_or-set_other, get_or-set_same}
 use Rattle.roster_instance.specs.declared.choice.Choice.{Choice}
 use Rattle.roster_instance.specs.Counting.{sum_below}
-use Rattle.roster_instance.specs.Meaning.{Meaning, optimum}
+use Rattle.roster_instance.specs.Limits.{most_shifts, most_skills, most_small}
+use Rattle.roster_instance.specs.Meaning.{Meaning, optimum, shift_count, skill_count}
+use Rattle.roster_instance.specs.Small.{HasSmallNumbers}
 use Rattle.roster_instance.specs.Rosters.{Row, Rows, choice_on, cover, row_of, with_row}
-use Rattle.roster_rules.specs.Covers.{AreCovers, IsTable, number_at}
+use Rattle.roster_rules.specs.Covers.{AreCovers, IsTable}
+use Rattle.roster_rules.proofs.RunBounds.{sum_within}
 use Rattle.roster_laws.specs.OneRow.{others}
 use Rattle.roster_laws.specs.Staffing.{lacking, with_choice}
+use Rattle.roster_case.specs.declared.counts.DayCounts.{DayCounts}
+use Rattle.roster_case.specs.Held.{IsDay, no_day}
 use Rattle.roster_case.proofs.DayTableLemmas.{cover-parts}
 use Rattle.roster_laws.proofs.OneRow.{cover-with_row}
+
+-- how many nurses a day can lack
+pub lacking_within : (c : Meaning) (d : ℕ) (have : ℕ → ℕ → ℕ) → HasSmallNumbers c → shift_count c ≤ most_shifts → skill_count c ≤ most_skills → lacking c (optimum c d) have ≤ most_shifts * most_skills * most_small
+lacking_within c d have small shifts skills = omega (arith, sum_within (shift_count c) (most_skills * most_small) of_shift (λ s h. shift s))
+  where
+    missing_at : ℕ → ℕ → ℕ
+    missing_at s k = optimum c d s k - have s k
+
+    of_shift : ℕ → ℕ
+    of_shift s = sum_below (skill_count c) (missing_at s)
+
+    place : (s k : ℕ) → missing_at s k ≤ most_small
+    place s k = omega (arith, (small.needs d s k).greatest)
+
+    shift : (s : ℕ) → of_shift s ≤ most_skills * most_small
+    shift s = omega (arith, sum_within (skill_count c) most_small (missing_at s) (λ k h. place s k))
 
 module _ (r : Rows) (n : ℕ) (within : n < length r) (row : Row) (day : ℕ) (old new : Choice) (old_is : old ≡ choice_on (row_of r n) day) (new_is : new ≡ choice_on row day) where
   cover-old : (s k : ℕ) → cover r day s k ≡ with_choice (others r n day) old s k
@@ -22,21 +43,6 @@ module _ (r : Rows) (n : ℕ) (within : n < length r) (row : Row) (day : ℕ) (o
   module _ (was : List ℕ) (covered : AreCovers r day was) where
     own_table : IsTable (with_choice (others r n day) old) was
     own_table s k s_in k_in = covered s k s_in k_in ∙ cover-old s k
-
-    -- the table of the day
-    module _ (table : List ℕ) (step : (have : ℕ → ℕ → ℕ) → IsTable (with_choice have old) was → IsTable (with_choice have new) table) where
-      new_table : AreCovers (with_row r n row) day table
-      new_table s k s_in k_in = step (others r n day) own_table s k s_in k_in ∙ sym (cover-new s k)
-
-      pub tables_more : (tables : List (List ℕ)) → day < length tables → ((d : ℕ) → d < day → AreCovers (with_row r n row) d (slice_index_or tables d [])) → (d : ℕ) → d < day + 1 → AreCovers (with_row r n row) d (slice_index_or (slice_set tables day table) d [])
-      tables_more tables inside before d h s k s_in k_in = go (cases_eq d day)
-        where
-          go : (d ≡ day) ⊎ (d ≡ day → ⊥) → number_at (slice_index_or (slice_set tables day table) d []) s k ≡ cover (with_row r n row) d s k
-          go (inl e) =
-              ap (λ own. number_at own s k) (ap (λ j. slice_index_or (slice_set tables day table) j []) e ∙ get_or-set_same tables day table [] inside)
-              ∙ new_table s k s_in k_in
-              ∙ ap (λ j. cover (with_row r n row) j s k) (sym e)
-          go (inr e) = ap (λ own. number_at own s k) (get_or-set_other tables day d table [] e) ∙ before d (omega arith) s k s_in k_in
 
     -- what is lacking on the day
     module _ (c : Meaning) (fewer more : ℕ) (step : (have : ℕ → ℕ → ℕ) → IsTable (with_choice have old) was → lacking c (optimum c day) (with_choice have new) + fewer ≡ lacking c (optimum c day) (with_choice have old) + more) where
@@ -56,3 +62,19 @@ module _ (r : Rows) (n : ℕ) (within : n < length r) (row : Row) (day : ℕ) (o
       lacks_more all_fewer all_more before =
           let one : day + 1 ≡ suc day = omega arith in
           omega (arith, before, lacks_here, ap (λ m. sum_below m lacks_new) one, ap (λ m. sum_below m lacks_old) one)
+
+      -- the counts of the day
+      module _ (counts : DayCounts) (table : (have : ℕ → ℕ → ℕ) → IsTable (with_choice have old) was → IsTable (with_choice have new) counts.covers)
+          (before : ℕ) (before_is : before ≡ lacks_old day) (kept : counts.lacking ≡ before + more - fewer) where
+        new_day : IsDay c (with_row r n row) day counts
+        new_day = record {
+          covers = λ s k s_in k_in. table (others r n day) own_table s k s_in k_in ∙ sym (cover-new s k);
+          lacks = omega (arith, kept, before_is, lacks_here);
+        }
+
+        pub days_more : (days : List DayCounts) → day < length days → ((d : ℕ) → d < day → IsDay c (with_row r n row) d (slice_index_or days d no_day)) → (d : ℕ) → d < day + 1 → IsDay c (with_row r n row) d (slice_index_or (slice_set days day counts) d no_day)
+        days_more days inside so_far d h = go (cases_eq d day)
+          where
+            go : (d ≡ day) ⊎ (d ≡ day → ⊥) → IsDay c (with_row r n row) d (slice_index_or (slice_set days day counts) d no_day)
+            go (inl e) = subst (λ j. IsDay c (with_row r n row) j (slice_index_or (slice_set days day counts) j no_day)) (sym e) (subst (IsDay c (with_row r n row) day) (sym (get_or-set_same days day counts no_day inside)) new_day)
+            go (inr e) = subst (IsDay c (with_row r n row) d) (sym (get_or-set_other days day d counts no_day e)) (so_far d (omega arith))

@@ -1,12 +1,14 @@
 -- A roster that keeps the hard rules, and what is kept of it so that nothing is counted anew.
 use Rattle.std.specs.Prelude.{◌≡◌, ◌<◌, ℕ, true, [], Some, length, slice_index_or}
 use Rattle.roster_instance.specs.Faults.{first_fault}
-use Rattle.roster_instance.specs.Meaning.{Meaning, day_count, nurse_count}
-use Rattle.roster_instance.specs.Rosters.{Rows, days_of_nurse, fits_case}
+use Rattle.roster_instance.specs.Meaning.{Meaning, day_count, nurse_count, optimum}
+use Rattle.roster_instance.specs.Rosters.{Rows, cover, days_of_nurse, fits_case}
 use Rattle.roster_rules.specs.Covers.{AreCovers}
 use Rattle.roster_rules.specs.HardRules.{hard_faults, keeps_hard}
 use Rattle.roster_rules.specs.Penalties.{nurse_cost, staffing_cost}
+use Rattle.roster_laws.specs.Staffing.{lacking}
 use Rattle.roster_case.specs.declared.counts.Counts.{Counts}
+use Rattle.roster_case.specs.declared.counts.DayCounts.{DayCounts}
 use Rattle.roster_case.specs.declared.held.HeldFault.{HeldFault}
 use Rattle.roster_case.specs.declared.held.HeldFault.TheVariants.{Hard, Memory}
 
@@ -15,10 +17,19 @@ pub record HeldRoster : Type 0 where
   pub case : Meaning
   pub roster : Rows
 
--- what is kept: how many nurses each day, shift and skill has, what each nurse costs, and what the staffing costs
+-- the counts of no day
+abbrev pub no_day : DayCounts
+no_day = record { covers = []; lacking = 0 }
+
+-- what is kept of a day: how many nurses each shift and skill has, and how many nurses are lacking to the optimums
+pub record IsDay (c : Meaning) (r : Rows) (d : ℕ) (counts : DayCounts) : Type 0 where
+  pub covers : AreCovers r d counts.covers
+  pub lacks : counts.lacking ≡ lacking c (optimum c d) (cover r d)
+
+-- what is kept: the counts of each day, what each nurse costs, and what the staffing costs
 pub record AreCounts (c : Meaning) (r : Rows) (counts : Counts) : Type 0 where
-  pub days : length counts.covers.items ≡ day_count c
-  pub covers : (d : ℕ) → d < day_count c → AreCovers r d (slice_index_or counts.covers.items d [])
+  pub days : length counts.days.items ≡ day_count c
+  pub counted : (d : ℕ) → d < day_count c → IsDay c r d (slice_index_or counts.days.items d no_day)
   pub nurses : length counts.nurse_costs.items ≡ nurse_count c
   pub costs : (n : ℕ) → n < nurse_count c → slice_index_or counts.nurse_costs.items n 0 ≡ nurse_cost c n (days_of_nurse r n)
   pub staffing : counts.staffing_cost ≡ staffing_cost c r

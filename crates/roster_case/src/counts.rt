@@ -5,10 +5,10 @@ ghost use Rattle.roster_instance.specs.Counting.{sum_below};
 ghost use Rattle.roster_instance.specs.Limits.{most_nurses};
 ghost use Rattle.roster_instance.specs.Meaning.{day_count, nurse_count};
 ghost use Rattle.roster_instance.specs.Rosters.{days_of_nurse, fits_case, is_row_of, with_row};
-ghost use Rattle.roster_rules.specs.Covers.{AreCovers, number_at};
+ghost use Rattle.roster_rules.specs.Covers.{number_at};
 ghost use Rattle.roster_rules.specs.Penalties.{nurse_cost, staffing_cost};
 ghost use Rattle.roster_rules.specs.Room.{most_staffing};
-ghost use Rattle.roster_case.specs.Held.{AreCounts};
+ghost use Rattle.roster_case.specs.Held.{AreCounts, IsDay, no_day};
 
 use crate::recount::recount;
 use roster_costs::{covers, nurse_cost, place, staffing_cost_of_day};
@@ -16,10 +16,19 @@ use roster_rules::weights::STAFFING;
 use roster_rules::{Case, Choice, Roster, Shift, Skill};
 use std::alloc::{AllocError, Global};
 
-/// How many nurses each day, shift and skill has, and what each nurse and the staffing cost, in penalty points.
+/// What is counted of a day.
+#[derive(Clone, Copy)]
+pub(crate) struct DayCounts {
+    /// How many nurses work, with a number at the place of each shift and skill.
+    pub(crate) covers: [u16; 64],
+    /// How many nurses are lacking to the optimums, over all shifts and skills.
+    pub(crate) lacking: u32,
+}
+
+/// How many nurses each day, shift and skill has and how many each day lacks, and what each nurse and the staffing cost, in penalty
+/// points.
 pub(crate) struct Counts {
-    /// A table for each day, with a number at the place of each shift and skill.
-    pub(crate) covers: Vec<[u16; 64]>,
+    pub(crate) days: Vec<DayCounts>,
     /// What each nurse's row costs apart from staffing.
     pub(crate) nurse_costs: Vec<u32>,
     pub(crate) staffing_cost: u64,
@@ -29,7 +38,7 @@ pub(crate) struct Counts {
 impl Drop for Counts {
     fn drop(self) {
         let Counts {
-            covers: _,
+            days: _,
             nurse_costs: _,
             staffing_cost: _,
         } = self;
@@ -42,9 +51,9 @@ impl Counts {
         requires { fits_case case.now roster.now ≡ true }
         ensures { IfOk result (AreCounts case.now roster.now) }
     {
-        let (covers, staffing_cost) = staffing_of(alloc, case, roster)?;
+        let (days, staffing_cost) = staffing_of(alloc, case, roster)?;
         Ok(Counts {
-            covers,
+            days,
             nurse_costs: nurse_costs_of(alloc, case, roster)?,
             staffing_cost,
         })
@@ -52,11 +61,19 @@ impl Counts {
 
     /// How many nurses work a shift with a skill on a day.
     pub(crate) fn cover(&self, day: u16, shift: Shift, skill: Skill) -> u16
-        requires day { day < length self.now.covers.items }
+        requires day { day < length self.now.days.items }
         requires place { shift.0 < 8 × skill.0 < 8 }
-        ensures { result ≡ number_at (slice_index_or self.now.covers.items day []) shift.0 skill.0 }
+        ensures { result ≡ number_at (slice_index_or self.now.days.items day no_day).covers shift.0 skill.0 }
     {
-        self.covers[day as usize][place(shift, skill)]
+        self.days[day as usize].covers[place(shift, skill)]
+    }
+
+    /// How many nurses are lacking to the optimums of a day.
+    pub(crate) fn lacking(&self, day: u16) -> u32
+        requires { day < length self.now.days.items }
+        ensures { result ≡ (slice_index_or self.now.days.items day no_day).lacking }
+    {
+        self.days[day as usize].lacking
     }
 
     /// What the rows of all nurses but one cost.
@@ -98,34 +115,36 @@ impl Counts {
         ensures { AreCounts case.now (with_row roster.now nurse row.now) self.new }
     {
         case.keeps_limits();
-        let change = recount(case, roster, nurse, row, &mut self.covers);
+        let change = recount(case, roster, nurse, row, &mut self.days);
         self.staffing_cost += STAFFING as u64 * change.more;
         self.staffing_cost -= STAFFING as u64 * change.fewer;
         self.nurse_costs[nurse] = nurse_cost(case, nurse, row);
     }
 }
 
-/// The tables of all days, and what the staffing costs by them.
+/// The counts of all days, and what the staffing costs by them.
 #[tactic(auto, using(roster_rules::proofs::CountLemmas::sum_more))]
 fn staffing_of(
     alloc: Global,
     case: &Case,
     roster: &Roster,
-) -> Result<(Vec<[u16; 64]>, u64), AllocError>
+) -> Result<(Vec<DayCounts>, u64), AllocError>
     requires { fits_case case.now roster.now ≡ true }
     ensures days { IfOk result (λ r. length r.0.items ≡ day_count case.now) }
-    ensures covers { IfOk result (λ r. (d : ℕ) → d < day_count case.now → AreCovers roster.now d (slice_index_or r.0.items d [])) }
+    ensures counts { IfOk result (λ r. (d : ℕ) → d < day_count case.now → IsDay case.now roster.now d (slice_index_or r.0.items d no_day)) }
     ensures cost { IfOk result (λ r. r.1 ≡ staffing_cost case.now roster.now) }
 {
     case.keeps_limits();
-    let mut tables = Vec::with_capacity(alloc, case.days() as usize)?;
+    let mut days = Vec::with_capacity(alloc, case.days() as usize)?;
     let mut cost = 0;
     for day in 0..case.days() {
-        let table = covers(case, roster, day);
-        cost += staffing_cost_of_day(case, day, &table);
-        tables.push(table)?;
+        let covers = covers(case, roster, day);
+        let cost_of_day = staffing_cost_of_day(case, day, &covers);
+        let lacking = (cost_of_day / STAFFING as u64) as u32;
+        days.push(DayCounts { covers, lacking })?;
+        cost += cost_of_day;
     }
-    Ok((tables, cost))
+    Ok((days, cost))
 }
 
 fn nurse_costs_of(alloc: Global, case: &Case, roster: &Roster) -> Result<Vec<u32>, AllocError>

@@ -1,14 +1,16 @@
 //! A roster that keeps the hard rules.
 
-ghost use Rattle.std.specs.Prelude.{◌≡◌, ◌<◌, ◌≤◌, true, [], IfOk, IfErr, OnOk, length};
-ghost use Rattle.roster_instance.specs.Meaning.{day_count, nurse_count, shift_count, skill_count};
-ghost use Rattle.roster_instance.specs.Rosters.{fits_case, row_of, with_row};
+ghost use Rattle.std.specs.Prelude.{◌≡◌, ◌*◌, ◌<◌, ◌≤◌, true, [], IfOk, IfErr, OnOk, length};
+ghost use Rattle.roster_instance.specs.Limits.{most_shifts, most_skills, most_small};
+ghost use Rattle.roster_instance.specs.Meaning.{day_count, nurse_count, optimum, shift_count, skill_count};
+ghost use Rattle.roster_instance.specs.Rosters.{cover, fits_case, row_of, with_row};
 ghost use Rattle.roster_rules.specs.AllowedRows.{row_keeps};
 ghost use Rattle.roster_rules.specs.HardRules.{hard_faults, keeps_hard};
 ghost use Rattle.roster_rules.specs.Penalties.{costs_of, penalty, total_cost};
 ghost use Rattle.roster_rules.specs.Room.{most_staffing, penalty_room};
 ghost use Rattle.roster_case.specs.Held.{IsHandedBack};
 ghost use Rattle.roster_laws.specs.OneRow.{others, rest_of};
+ghost use Rattle.roster_laws.specs.Staffing.{lacking};
 
 use crate::allowed::is_open_row;
 use crate::counts::Counts;
@@ -19,8 +21,8 @@ use std::fmt::{self, Debug, Formatter};
 use std::marker::Model;
 use thiserror::Error;
 
-/// A case and a roster that keeps the hard rules, with its counts: how many nurses each day, shift and skill has, and what
-/// each nurse and the staffing cost. A replaced row changes the counts by that row alone, so nothing is counted anew.
+/// A case and a roster that keeps the hard rules, with its counts: how many nurses each day, shift and skill has, how many each
+/// day lacks, and what each nurse and the staffing cost. A replaced row changes the counts by that row alone, so nothing is counted anew.
 pub struct Held {
     case: Case,
     roster: Roster,
@@ -154,6 +156,16 @@ impl Held {
         self.case.keeps_limits();
         let own = choice_on(self.roster.row(nurse), day) == Choice::Work(shift, skill);
         self.counts.cover(day, shift, skill) - own as u16
+    }
+
+    /// How many nurses a day lacks to its optimums, over all shifts and skills. It is known, and isn't counted anew.
+    pub fn lacking(&self, day: u16) -> u32
+        requires { day < day_count self.now.case }
+        ensures lacking { result ≡ lacking self.now.case (optimum self.now.case day) (cover self.now.roster day) }
+        ensures within { result ≤ most_shifts * most_skills * most_small }
+    {
+        self.case.keeps_limits();
+        self.counts.lacking(day)
     }
 
     /// What the rows of all other nurses cost beside staffing, in penalty points.

@@ -1,16 +1,18 @@
-//! The tables of all days, with one row in the place of another.
+//! The counts of all days, with one row in the place of another.
 
-ghost use Rattle.std.specs.Prelude.{◌≡◌, ◌+◌, ◌*◌, ◌<◌, ◌≤◌, ℕ, [], true, length, slice_index_or};
+ghost use Rattle.std.specs.Prelude.{◌≡◌, ◌+◌, ◌-◌, ◌*◌, ◌<◌, ◌≤◌, ℕ, true, length, slice_index_or};
 ghost use Rattle.roster_instance.specs.Counting.{one_if};
-ghost use Rattle.roster_instance.specs.Limits.{most_days, most_shifts, most_skills};
+ghost use Rattle.roster_instance.specs.Limits.{most_days, most_shifts, most_skills, most_small};
 ghost use Rattle.roster_instance.specs.Meaning.{day_count, nurse_count, optimum};
 ghost use Rattle.roster_instance.specs.Rosters.{fits_case, is_choice_of, is_row_of, with_row};
-ghost use Rattle.roster_rules.specs.Covers.{AreCovers, IsTable, number_at};
+ghost use Rattle.roster_rules.specs.Covers.{IsTable, number_at};
 ghost use Rattle.roster_rules.specs.Penalties.{staffing_cost};
 ghost use Rattle.roster_rules.specs.Weights.{staffing_weight};
 ghost use Rattle.roster_case.specs.DayTables.{HasPlace, IsCounted};
+ghost use Rattle.roster_case.specs.Held.{IsDay, no_day};
 ghost use Rattle.roster_laws.specs.Staffing.{lacking, with_choice};
 
+use crate::counts::DayCounts;
 use roster_costs::place;
 use roster_rules::{Case, Choice, Roster};
 
@@ -27,15 +29,15 @@ pub(crate) fn recount(
     roster: &Roster,
     nurse: usize,
     row: &[Choice],
-    tables: &mut [[u16; 64]],
+    days: &mut [DayCounts],
 ) -> Change
     requires fitting { fits_case case.now roster.now ≡ true }
     requires nurse { nurse < nurse_count case.now }
     requires row { is_row_of case.now row.now ≡ true }
-    requires days { length tables.old ≡ day_count case.now }
-    requires covers { (d : ℕ) → d < day_count case.now → AreCovers roster.now d (slice_index_or tables.old d []) }
-    ensures days { length tables.new ≡ day_count case.now }
-    ensures covers { (d : ℕ) → d < day_count case.now → AreCovers (with_row roster.now nurse row.now) d (slice_index_or tables.new d []) }
+    requires days { length days.old ≡ day_count case.now }
+    requires counts { (d : ℕ) → d < day_count case.now → IsDay case.now roster.now d (slice_index_or days.old d no_day) }
+    ensures days { length days.new ≡ day_count case.now }
+    ensures counts { (d : ℕ) → d < day_count case.now → IsDay case.now (with_row roster.now nurse row.now) d (slice_index_or days.new d no_day) }
     ensures staffing { staffing_cost case.now (with_row roster.now nurse row.now) + staffing_weight * result.fewer ≡ staffing_cost case.now roster.now + staffing_weight * result.more }
     ensures more { result.more ≤ most_days }
     ensures fewer { result.fewer ≤ most_days }
@@ -45,10 +47,35 @@ pub(crate) fn recount(
     let mut change = Change::default();
     for day in 0..case.days() {
         let (old, new) = (old[day as usize], row[day as usize]);
-        let one = exchange(case, day, &mut tables[day as usize], old, new);
+        let one = exchange_on_day(case, day, &mut days[day as usize], old, new);
         change.more += one.more;
         change.fewer += one.fewer;
     }
+    change
+}
+
+/// One day's counts with one choice in the place of another.
+fn exchange_on_day(
+    case: &Case,
+    day: u16,
+    counts: &mut DayCounts,
+    old: Choice,
+    new: Choice,
+) -> Change
+    requires old { is_choice_of case.now old ≡ true }
+    requires new { is_choice_of case.now new ≡ true }
+    requires numbers { (s k : ℕ) → s < most_shifts → k < most_skills → number_at counts.old.covers s k < u16.MAX }
+    requires counted { IsCounted counts.old.covers old }
+    requires few { counts.old.lacking ≤ most_shifts * most_skills * most_small }
+    ensures table { (have : ℕ → ℕ → ℕ) → IsTable (with_choice have old) counts.old.covers → IsTable (with_choice have new) counts.new.covers }
+    ensures lacking { (have : ℕ → ℕ → ℕ) → IsTable (with_choice have old) counts.old.covers →
+        lacking case.now (optimum case.now day) (with_choice have new) + result.fewer ≡ lacking case.now (optimum case.now day) (with_choice have old) + result.more }
+    ensures kept { counts.new.lacking ≡ counts.old.lacking + result.more - result.fewer }
+    ensures more { result.more ≤ 1 }
+    ensures fewer { result.fewer ≤ 1 }
+{
+    let change = exchange(case, day, &mut counts.covers, old, new);
+    counts.lacking = (counts.lacking + change.more as u32).saturating_sub(change.fewer as u32);
     change
 }
 

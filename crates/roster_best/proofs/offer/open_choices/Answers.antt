@@ -1,13 +1,33 @@
-use Rattle.std.proofs.Common.{◌≡◌, ◌∙◌, ap, arith}
-use Rattle.roster_instance.specs.Meaning.{Meaning, shift_count, skill_count}
-use Rattle.roster_best.proofs.OfferLemmas.{of_shifts, offers_among, offers_shift, offers_skill}
+use Rattle.std.proofs.Common.{◌≡◌, ◌∙◌, ◌<◌, ◌==◌, ap, arith, false, slice_index_or}
+use Rattle.std.specs.List.{list_any}
+use Rattle.roster_instance.specs.Meaning.{Meaning, nurse_at, shift_count, skill_count}
+use Rattle.roster_best.proofs.OfferLemmas.{of_shifts, offers_among, offers_shift, offers_skill, offers_skill_not}
 use Rattle.roster_best.proofs.offer.open_choices.Goals as goal
+use Rattle.roster_best.proofs.offer.open_choices.Goals.{then-able-skill, else-able-skill}
 
 pub loop-skill-preserved : goal.loop-skill-preserved
-loop-skill-preserved c = record {
-  so_far = offers_skill c.args.held.now.case c.args.held.now.roster c.args.nurse c.args.day c.loop-shift.offers.items c.loop-skill.offers.items _ c.loop-shift.shift c.loop-skill.skill c.offered-in-loop-skill.result c.loop-skill.invariant.so_far c.push_some-in-loop-skill.ensures.items c.offered-in-loop-skill.ensures;
-  few = omega (arith, c.loop-skill.invariant.few, c.push_some-in-loop-skill.ensures.few);
-}
+loop-skill-preserved c =
+    let k = c.args.held.now.case in
+    let r = c.args.held.now.roster in
+    let n = c.args.nurse in
+    let d = c.args.day in
+    let start = c.loop-shift.offers.items in
+    let old = c.loop-skill.offers.items in
+    let shift = c.loop-shift.shift in
+    let skill = c.loop-skill.skill in
+    let before = c.loop-skill.invariant in
+    let inside : skill < skill_count c.case-case.result.now = omega (arith, c.loop-skill-test.true, c.skills-skills.ensures.count) in
+    let able = c.able_by_skill-able.ensures skill inside ∙ ap (λ (m : Meaning). list_any (λ own. own.0 == skill) (nurse_at m n).skills) c.case-case.ensures in
+    elim c.if-able-skill.branch [
+      | then-able-skill w ↦ rw w.offers-is (record {
+        so_far = offers_skill k r n d start old w.push_some-then-able-skill.new.offers.items shift skill w.offered-offer.result before.so_far w.push_some-then-able-skill.ensures.items w.offered-offer.ensures;
+        few = omega (arith, before.few, w.push_some-then-able-skill.ensures.few);
+      })
+      | else-able-skill w ↦ rw w.offers-is (record {
+        so_far = offers_skill_not k r n d start old shift skill (slice_index_or c.able_by_skill-able.result skill false) able w.if-able-skill.false before.so_far;
+        few = omega (arith, before.few);
+      })
+    ]
 
 pub loop-shift-preserved : goal.loop-shift-preserved
 loop-shift-preserved c =

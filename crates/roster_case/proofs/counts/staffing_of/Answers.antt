@@ -1,33 +1,44 @@
-use Rattle.std.proofs.Common.{◌≡◌, ◌∙◌, ◌+◌, [], ap, arith}
+use Rattle.std.proofs.Common.{◌≡◌, ◌∙◌, ◌+◌, ◌*◌, ◌/◌, ℕ, ap, arith}
 use Rattle.std.proofs.lemmas.List.{length_push}
 use Rattle.roster_instance.specs.Meaning.{day_count}
 use Rattle.roster_instance.specs.Rosters.{cover}
 use Rattle.roster_instance.specs.Counting.{sum_below}
-use Rattle.roster_rules.specs.Covers.{AreCovers}
 use Rattle.roster_rules.specs.Penalties.{staffing_cost_of_day}
 use Rattle.roster_rules.proofs.CountLemmas.{sum_more}
+use Rattle.roster_rules.specs.Weights.{staffing_weight}
+use Rattle.roster_laws.proofs.Lacking.{staffing-lacking}
+use Rattle.roster_case.specs.declared.counts.DayCounts.{DayCounts}
+use Rattle.roster_case.specs.Held.{IsDay, no_day}
 use Rattle.roster_case.proofs.PushLemmas.{each_more}
 use Rattle.roster_case.proofs.counts.staffing_of.Goals as goal
+
+-- what the day's staffing costs is so many points for each nurse that is lacking
+divided : (cost lacking : ℕ) → cost ≡ staffing_weight * lacking → cost / staffing_weight ≡ lacking
+divided cost lacking is = omega (arith, is)
 
 pub overflow_add-cost : goal.overflow_add-cost
 overflow_add-cost c =
     let limits = c.keeps_limits.ensures in
-    omega (arith, c.loop-day.invariant.within, c.staffing_cost_of_day-cost.ensures.within, limits.weeks, c.loop-day-test.true, c.days-day-end.ensures.count)
+    omega (arith, c.loop-day.invariant.within, c.staffing_cost_of_day-cost_of_day.ensures.within, limits.weeks, c.loop-day-test.true, c.days-day-end.ensures.count)
 
 pub loop-day-preserved : goal.loop-day-preserved
 loop-day-preserved c =
-    let tables = c.loop-day.tables.items in
+    let case = c.args.case.now in
+    let roster = c.args.roster.now in
+    let days = c.loop-day.days.items in
     let day = c.loop-day.day in
-    let table = c.covers-table.result in
+    let table = c.covers-covers.result in
+    let cost = c.staffing_cost_of_day-cost_of_day.ensures.cost (cover roster day) c.covers-covers.ensures in
+    let counts : DayCounts = record { covers = table; lacking = c.staffing_cost_of_day-cost_of_day.result / staffing_weight } in
     rw c.in_ok-push.ensures.items (record {
-      days = length_push tables table ∙ ap (λ n. n + 1) c.loop-day.invariant.days;
-      covers = each_more (AreCovers c.args.roster.now) tables table [] day c.loop-day.invariant.days c.loop-day.invariant.covers c.covers-table.ensures;
-      cost_is = sum_more (staffing_cost_of_day c.args.case.now c.args.roster.now) day _ _ c.loop-day.invariant.cost_is (c.staffing_cost_of_day-cost.ensures.cost (cover c.args.roster.now day) c.covers-table.ensures);
-      within = omega (arith, c.loop-day.invariant.within, c.staffing_cost_of_day-cost.ensures.within);
+      days = length_push days counts ∙ ap (λ n. n + 1) c.loop-day.invariant.days;
+      counted = each_more (IsDay case roster) days counts no_day day c.loop-day.invariant.days c.loop-day.invariant.counted (record { covers = c.covers-covers.ensures; lacks = divided _ _ (cost ∙ staffing-lacking case day (cover roster day)) });
+      cost_is = sum_more (staffing_cost_of_day case roster) day _ _ c.loop-day.invariant.cost_is cost;
+      within = omega (arith, c.loop-day.invariant.within, c.staffing_cost_of_day-cost_of_day.ensures.within);
     })
 
-pub returns-clause-covers : goal.returns-clause-covers
-returns-clause-covers c = λ d h. c.loop-day.invariant.covers d (omega (arith, h, c.loop-day-test.false, c.days-day-end.ensures.count))
+pub returns-clause-counts : goal.returns-clause-counts
+returns-clause-counts c = λ d h. c.loop-day.invariant.counted d (omega (arith, h, c.loop-day-test.false, c.days-day-end.ensures.count))
 
 pub returns-clause-cost : goal.returns-clause-cost
 returns-clause-cost c =
