@@ -1,5 +1,5 @@
 -- Lists of partial rows: one left out.
-use Rattle.std.proofs.Common.{◌≡◌, ◌∙◌, ◌+◌, ◌-◌, ◌<◌, ◌≤◌, ◌⊎◌, ℕ, zero, suc, inl, inr, ap, arith, refl, subst, sym, List, [], ◌∷◌, ◌++◌, length, Some, None, append-nil, slice_index_or, slice_set}
+use Rattle.std.proofs.Common.{Bool, if◌then◌else◌, true, false, ◌≡◌, ◌∙◌, ◌+◌, ◌-◌, ◌<◌, ◌≤◌, ◌⊎◌, ℕ, zero, suc, inl, inr, ap, arith, refl, subst, sym, List, [], ◌∷◌, ◌++◌, length, Some, None, append-nil, slice_index_or, slice_set}
 use Rattle.std.specs.List.{refill}
 use Rattle.std.proofs.Common.{drop, take}
 use borrow.Rule.Slice.PartMut.{put_mid}
@@ -178,20 +178,27 @@ drop_part first v part inside long =
     ∙ append-nil part
 
 -- and one more after it
-pub part_and_one : (first : ℕ) (old v part new : List Entry) (e : Entry) → first ≤ length old → v ≡ old → length part ≡ length v - first → new ≡ refill (length old) old (put_mid first (length v - first) v part) ++ e ∷ [] → drop first new ≡ part ++ e ∷ []
-part_and_one first old v part new e inside same long is =
+pub part_and_one : (n first : ℕ) (old v part new : List Entry) (e : Entry) → n ≡ length old → first ≤ length old → v ≡ old → length part ≡ length v - first → new ≡ refill n old (put_mid first (length v - first) v part) ++ e ∷ [] → drop first new ≡ part ++ e ∷ []
+part_and_one n first old v part new e all inside same long is =
     let in_v : first ≤ length v = omega (arith, inside, ap length same) in
     let written = part_length first v part in_v long in
-    ap (drop first) (is ∙ ap (λ xs. xs ++ e ∷ []) (refilled (length old) old (put_mid first (length v - first) v part) (sym (written ∙ ap length same)) (written ∙ ap length same)))
+    ap (drop first) (is ∙ ap (λ xs. xs ++ e ∷ []) (refilled n old (put_mid first (length v - first) v part) (all ∙ sym (written ∙ ap length same)) (written ∙ ap length same)))
     ∙ drop-append-le first (put_mid first (length v - first) v part) (e ∷ []) (omega (arith, in_v, written))
     ∙ ap (λ xs. xs ++ e ∷ []) (drop_part first v part in_v long)
 
 -- the part replaced, and nothing after it
-pub part_alone : (first : ℕ) (old v part : List Entry) → first ≤ length old → v ≡ old → length part ≡ length v - first → drop first (refill (length old) old (put_mid first (length v - first) v part)) ≡ part
-part_alone first old v part inside same long =
+pub part_alone : (n first : ℕ) (old v part new : List Entry) → n ≡ length old → first ≤ length old → v ≡ old → length part ≡ length v - first → new ≡ refill n old (put_mid first (length v - first) v part) → drop first new ≡ part
+part_alone n first old v part new all inside same long is =
     let in_v : first ≤ length v = omega (arith, inside, ap length same) in
     let written = part_length first v part in_v long in
-    ap (drop first) (refilled (length old) old (put_mid first (length v - first) v part) (sym (written ∙ ap length same)) (written ∙ ap length same)) ∙ drop_part first v part in_v long
+    ap (drop first) (is ∙ refilled n old (put_mid first (length v - first) v part) (all ∙ sym (written ∙ ap length same)) (written ∙ ap length same)) ∙ drop_part first v part in_v long
+
+-- what a list is after one more was put in or not
+pub one_more : (is_ok : Bool) (old more new : List Entry) → is_ok ≡ true → new ≡ (if is_ok then more else old) → new ≡ more
+one_more is_ok old more new ok is = is ∙ ap (λ (b : Bool). if b then more else old) ok
+
+pub no_more : (is_ok : Bool) (old more new : List Entry) → is_ok ≡ false → new ≡ (if is_ok then more else old) → new ≡ old
+no_more is_ok old more new ok is = is ∙ ap (λ (b : Bool). if b then more else old) ok
 
 -- what stands after a place, as a part
 pub part_is : (first : ℕ) (old v : List Entry) → v ≡ old → take (length v - first) (drop first v) ≡ drop first old

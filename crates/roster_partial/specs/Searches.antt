@@ -1,17 +1,19 @@
 -- What a search by partial rows goes over (our own).
-use Rattle.std.specs.Prelude.{◌≡◌, ℕ, ◌-◌, ◌<◌, List}
+use Rattle.std.specs.Prelude.{◌≡◌, ℕ, ◌-◌, ◌<◌, ◌≤◌, List}
 use Rattle.roster_instance.specs.Meaning.{contract_of, day_count}
 use Rattle.roster_search.specs.Search.{offers_on}
 use Rattle.roster_search.specs.Tables.{no_row}
 use Rattle.roster_floors.specs.Least.{AreReady}
 use Rattle.roster_partial.specs.declared.day.LimitedSearch.{LimitedSearch}
 use Rattle.roster_partial.specs.declared.rows.Entry.{Entry}
-use Rattle.roster_partial.specs.Rows.{Days}
+use Rattle.roster_partial.specs.Rows.{Days, most_rows}
 
--- the floors are those of the search, the limit is below the cost of no row, and the rules are the nurse's
+-- the floors are those of the search, the limit is below the cost of no row, no more entries than these are held at once, and the
+-- rules are the nurse's
 pub record IsSearch (limited : LimitedSearch) : Type 0 where
   pub floors : AreReady limited.floors
   pub limit : limited.limit < no_row
+  pub most : limited.most ≤ most_rows
   pub rules : limited.rules ≡ contract_of limited.floors.search.case.now limited.floors.search.nurse
 
 -- the entries of a day of this search, where these are those of the days before

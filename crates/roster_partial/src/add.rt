@@ -9,8 +9,7 @@ ghost use Rattle.roster_partial.specs.Rows.{IsEntryOf, best_of, entry_numbered};
 ghost use Rattle.roster_partial.specs.Searches.{IsSearch, days_on};
 
 use crate::day::{LimitedSearch, Link, RowsDay, go_on};
-use crate::rows::{Entry, MOST_ROWS, Seen};
-use arrayvec::ArrayVec;
+use crate::rows::{Entry, Seen};
 use roster_state::Meter;
 
 /// Goes on with each partial row of a day, which stand from a place on, by each of the day's offers. The answer is whether there was
@@ -19,7 +18,7 @@ pub fn add_day(
     limited: &LimitedSearch<'_>,
     day: u16,
     first: usize,
-    rows: &mut ArrayVec<Entry, MOST_ROWS>,
+    rows: &mut Vec<Entry>,
     seen: &mut Seen,
     meter: &mut Meter,
 ) -> bool
@@ -52,7 +51,7 @@ fn go_on_by_all(
     limited: &LimitedSearch<'_>,
     at: RowsDay,
     before: usize,
-    rows: &mut ArrayVec<Entry, MOST_ROWS>,
+    rows: &mut Vec<Entry>,
     seen: &mut Seen,
     meter: &mut Meter,
 ) -> bool

@@ -13,8 +13,7 @@ ghost use Rattle.roster_floors.specs.Floors.{AreFloors, AreSmall};
 ghost use Rattle.roster_partial.specs.Rows.{Days, IsEntryOf, best_by, best_of, IsLinked, entry_numbered, most_rows, offer_numbered};
 ghost use Rattle.roster_partial.specs.Searches.{IsSearch, days_on};
 
-use crate::rows::{Entry, MOST_ROWS, SEEN, Seen, leave_out};
-use arrayvec::ArrayVec;
+use crate::rows::{Entry, SEEN, Seen, leave_out};
 use roster_floors::{Floors, at_least};
 use roster_rules::ContractRules;
 use roster_search::RowSearch;
@@ -66,7 +65,7 @@ fn put(
     at: RowsDay,
     link: Link,
     reached: (State, u32),
-    rows: &mut ArrayVec<Entry, MOST_ROWS>,
+    rows: &mut Vec<Entry>,
     seen: &mut Seen,
 ) -> bool
     ghost days: { Days }
@@ -74,7 +73,7 @@ fn put(
     requires end { at.end ≤ length rows.old.items }
     requires low { days.limit < no_row }
     requires fits { fits_sizes (sizes_of days.case days.nurse) reached.0 ≡ true }
-    requires before { link.before < most_rows }
+    requires most { limited.now.most ≤ most_rows }
     requires offer { link.offer < 256 }
     requires linked { (e : Entry) → e.before ≡ link.before → e.offer ≡ link.offer → IsLinked days.offers days.earlier days.day e }
     requires entries { All (IsEntryOf days) (drop at.end rows.old.items) }
@@ -84,11 +83,14 @@ fn put(
     ensures entries { All (IsEntryOf days) (drop at.end rows.new.items) }
     ensures best { result ≡ true → (p : Priced (List Offer)) → ((e : Entry) → e.state ≡ reached.0 → e.cost ≡ reached.1 → e.before ≡ link.before → e.offer ≡ link.offer → best_of days e ≡ p) → cheapest (best_of days) (drop at.end rows.new.items) ≡ cheaper (cheapest (best_of days) (drop at.end rows.old.items)) p }
 {
+    let Ok(before) = u16::try_from(link.before) else {
+        return false;
+    };
     let more = Entry {
         state: reached.0,
         code: reached.0.code(&limited.floors.ranges),
         cost: reached.1,
-        before: link.before as u16,
+        before,
         offer: link.offer as u8,
     };
     let slot = more.code as usize % SEEN;
@@ -96,11 +98,14 @@ fn put(
     if leave_out(&mut rows.as_mut_slice()[at.end..], place, &more) {
         return true;
     }
-    if rows.is_full() || rows.len() >= limited.most {
+    let end = rows.len();
+    if end >= limited.most {
         return false;
     }
-    seen[slot] = (rows.len() - at.end) as u16;
-    rows.push(more);
+    if rows.push(more).is_err() {
+        return false;
+    }
+    seen[slot] = (end - at.end) as u16;
     true
 }
 
@@ -111,7 +116,7 @@ pub fn go_on(
     limited: &LimitedSearch<'_>,
     at: RowsDay,
     link: Link,
-    rows: &mut ArrayVec<Entry, MOST_ROWS>,
+    rows: &mut Vec<Entry>,
     seen: &mut Seen,
     meter: &mut Meter,
 ) -> bool

@@ -13,8 +13,7 @@ ghost use Rattle.roster_partial.specs.declared.days.Within.TheVariants.{Found};
 
 use crate::add::add_day;
 use crate::day::LimitedSearch;
-use crate::rows::{Entry, MOST_ROWS, Seen};
-use arrayvec::ArrayVec;
+use crate::rows::{Entry, Seen};
 use roster_rules::Choice;
 use roster_search::RowSearch;
 use roster_state::{Meter, end_cost, start};
@@ -35,7 +34,7 @@ pub enum Within {
 pub fn row_within(
     limited: &LimitedSearch<'_>,
     most: u64,
-    rows: &mut ArrayVec<Entry, MOST_ROWS>,
+    rows: &mut Vec<Entry>,
     seen: &mut Seen,
     row: &mut [Choice],
     meter: &mut Meter,
@@ -50,7 +49,9 @@ pub fn row_within(
     ensures length { length row.new ≡ length row.old }
 {
     rows.clear();
-    rows.push(start_entry(limited));
+    if rows.push(start_entry(limited)).is_err() {
+        return Within::Full;
+    }
     let Some(first) = add_days(limited, most, rows, seen, meter) else {
         return Within::Full;
     };
@@ -84,7 +85,7 @@ fn start_entry(limited: &LimitedSearch<'_>) -> Entry
 fn add_days(
     limited: &LimitedSearch<'_>,
     most: u64,
-    rows: &mut ArrayVec<Entry, MOST_ROWS>,
+    rows: &mut Vec<Entry>,
     seen: &mut Seen,
     meter: &mut Meter,
 ) -> Option<usize>
@@ -101,7 +102,8 @@ fn add_days(
     let mut first = 0;
     for day in 0..search.case.days() {
         let end = rows.len();
-        let steps = (end - first) as u64 * search.offers[day as usize].len() as u64;
+        let offers = search.offers[day as usize].len() as u64;
+        let steps = ((end - first) as u64).checked_mul(offers)?;
         if steps > most - meter.count() {
             return None;
         }

@@ -17,7 +17,6 @@ use crate::days::{Within, row_within};
 use crate::guesses::Guesses;
 use crate::rates::{Guess, set_best_floors};
 use crate::rows::{Entry, MOST_ROWS, SEEN, Seen};
-use arrayvec::ArrayVec;
 use roster_floors::{Floors, Rates};
 use roster_rules::{Case, Choice};
 use roster_search::{NO_ROW, RowSearch, Tables};
@@ -33,7 +32,7 @@ const MOST_LIMITS: usize = 24;
 /// Where partial rows and floors are kept while a row is searched. Both are long, so they don't stand on the stack.
 pub struct PartialRoom {
     floors: Vec<u32>,
-    rows: Box<ArrayVec<Entry, MOST_ROWS>>,
+    rows: Vec<Entry>,
     seen: Seen,
     guesses: Guesses,
 }
@@ -72,7 +71,7 @@ impl PartialRoom {
     fn with_floors(alloc: Global, floors: usize) -> Result<PartialRoom, AllocError> {
         Ok(PartialRoom {
             floors: vec![in alloc; 0; floors]?,
-            rows: Box::new(alloc, ArrayVec::new())?,
+            rows: Vec::with_capacity(alloc, MOST_ROWS)?,
             seen: [0; SEEN],
             guesses: Guesses::none(),
         })
@@ -244,7 +243,7 @@ struct Attempt<'a> {
 fn search_within(
     search: &RowSearch<'_>,
     attempt: &Attempt<'_>,
-    rows: &mut ArrayVec<Entry, MOST_ROWS>,
+    rows: &mut Vec<Entry>,
     seen: &mut Seen,
     row: &mut [Choice],
     meter: &mut Meter,

@@ -13,15 +13,15 @@ pub go_on_by_all-requires-clause-from : goal.go_on_by_all-requires-clause-from
 go_on_by_all-requires-clause-from c =
     let limited = c.args.limited.now in
     let rows = c.args.rows.now.items in
-    let front : take c.len.result c.befores.rows.items ≡ rows = ap (λ n. take n c.befores.rows.items) c.len.ensures.value ∙ c.befores.invariant.front in
+    let front : take c.len.result c.befores.rows.items ≡ rows = ap (λ n. take n c.befores.rows.items) (c.len.ensures ∙ c.args.rows.now.ok.0) ∙ c.befores.invariant.front in
     subst (λ earlier. IsEntryOf (days_on limited c.args.day earlier) (entry_numbered earlier c.befores.before)) (sym front)
-    (entry_of_day limited c.args.day c.args.first rows c.requires.first c.befores.before (omega (arith, c.befores.auto.before)) (omega (arith, c.befores-test.true, c.len.ensures.value)) c.requires.entries)
+    (entry_of_day limited c.args.day c.args.first rows c.requires.first c.befores.before (omega (arith, c.befores.auto.before)) (omega (arith, c.befores-test.true, (c.len.ensures ∙ c.args.rows.now.ok.0))) c.requires.entries)
 
 pub returns-then-not-go_on_by_all-clause-entries : goal.returns-then-not-go_on_by_all-clause-entries
 returns-then-not-go_on_by_all-clause-entries c =
     let rows = c.args.rows.now.items in
-    let front : take c.len.result c.befores.rows.items ≡ rows = ap (λ n. take n c.befores.rows.items) c.len.ensures.value ∙ c.befores.invariant.front in
-    transport (λ i. All (IsEntryOf (days_on c.args.limited.now (suc c.args.day) (front i))) (drop (c.len.ensures.value i) c.go_on_by_all.new.rows.items)) c.go_on_by_all.ensures.entries
+    let front : take c.len.result c.befores.rows.items ≡ rows = ap (λ n. take n c.befores.rows.items) (c.len.ensures ∙ c.args.rows.now.ok.0) ∙ c.befores.invariant.front in
+    transport (λ i. All (IsEntryOf (days_on c.args.limited.now (suc c.args.day) (front i))) (drop ((c.len.ensures ∙ c.args.rows.now.ok.0) i) c.go_on_by_all.new.rows.items)) c.go_on_by_all.ensures.entries
 
 pub befores-preserved : goal.befores-preserved
 befores-preserved c =
@@ -32,7 +32,7 @@ befores-preserved c =
     let rows = c.args.rows.now.items in
     let then = c.befores.rows.items in
     let now = c.go_on_by_all.new.rows.items in
-    let long = c.len.ensures.value in
+    let long = (c.len.ensures ∙ c.args.rows.now.ok.0) in
     let from : first ≤ before = omega (arith, c.befores.auto.before) in
     let below : before < length rows = omega (arith, c.befores-test.true, long) in
     let front : take c.len.result then ≡ rows = ap (λ n. take n then) long ∙ c.befores.invariant.front in
@@ -55,5 +55,5 @@ returns-clause-best c = λ _.
     let rows = c.args.rows.now.items in
     let first = c.args.first in
     c.befores.invariant.best
-    ∙ ap (cheapest (best_of (days_on limited c.args.day rows))) (take_all (c.befores.before - first) (drop first rows) (omega (arith, c.befores-test.false, c.len.ensures.value, length-drop first rows)))
+    ∙ ap (cheapest (best_of (days_on limited c.args.day rows))) (take_all (c.befores.before - first) (drop first rows) (omega (arith, c.befores-test.false, (c.len.ensures ∙ c.args.rows.now.ok.0), length-drop first rows)))
     ∙ sym (cheapest_of_all limited c.args.day first rows c.requires.first (drop first rows) c.requires.entries)

@@ -19,15 +19,15 @@ count_is c =
     let search = c.args.limited.now.floors.search in
     c.len-count.ensures.value ∙ ap length (offers_read search.case.now search.nurse search.offers.now c.requires.search.floors.offers c.args.at.day c.requires.day _ c.index-limited-at.result refl)
 
-pub returns-then-deref-before-clause-best : goal.returns-then-deref-before-clause-best
-returns-then-deref-before-clause-best c = λ _.
+pub returns-then-index-limited-clause-best : goal.returns-then-index-limited-clause-best
+returns-then-index-limited-clause-best c = λ _.
     let limited = c.args.limited.now in
     let rows = c.args.rows.now.items in
     let old = take c.args.at.end rows in
     let e = entry_numbered old c.args.before in
-    let is = read_entry rows c.deref.result.now c.args.at.end c.args.before c.index-deref-before.result c.deref.ensures.0 c.requires.before c.requires.end in
+    let is = c.index.ensures ∙ read_entry rows rows c.args.at.end c.args.before c.index.result.now refl c.requires.before c.requires.end in
     let best = cheapest (best_of (days_on limited (suc c.args.at.day) old)) (drop c.args.at.end rows) in
-    sym (ap (cheaper best) (dear_is_none (days_on limited c.args.at.day old) e (omega (arith, c.if-deref-before.true, ap (λ (x : Entry). x.cost) is))) ∙ cheaper_none best)
+    sym (ap (cheaper best) (dear_is_none (days_on limited c.args.at.day old) e (omega (arith, c.if-index-limited.true, ap (λ (x : Entry). x.cost) is))) ∙ cheaper_none best)
 
 pub go_on-requires-clause-entries : goal.go_on-requires-clause-entries
 go_on-requires-clause-entries c =

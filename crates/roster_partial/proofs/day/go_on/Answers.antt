@@ -19,8 +19,8 @@ returns-in_default-clause-best c = λ _.
     let day = c.args.at.day in
     let earlier = take c.args.at.end c.args.rows.now.items in
     let days : Days = days_on c.args.limited.now (suc day) earlier in
-    let e = c.index-deref-link.result in
-    let from : entry_numbered earlier c.args.link.before ≡ e = taken_entry c.args.rows.now.items c.args.at.end c.args.link.before e c.requires.before c.requires.end (c.index-deref-link.is ∙ ap (λ xs. slice_index_or xs c.args.link.before e) c.deref.ensures.0) in
+    let e = c.index-from.result.now in
+    let from : entry_numbered earlier c.args.link.before ≡ e = taken_entry c.args.rows.now.items c.args.at.end c.args.link.before e c.requires.before c.requires.end c.index-from.ensures in
     let read : c.as_slice-day_offers.result.now ≡ offers_on search.offers.now day = c.as_slice-day_offers.ensures.value ∙ sym (read_day search.offers.now day c.index-offers-at.result (omega (arith, c.requires.day, c.requires.search.floors.offers.days)) c.index-offers-at.is) in
     let x : Offer = slice_index_or c.as_slice-day_offers.result.now c.args.link.offer (record { choice = Off; price = 0 }) in
     let same : x ≡ offer_numbered (offers_on search.offers.now day) c.args.link.offer = ap (λ xs. slice_index_or xs c.args.link.offer (record { choice = Off; price = 0 })) read in
@@ -36,8 +36,8 @@ returns-then-is_dear-clause-best c = λ _.
     let day = c.args.at.day in
     let earlier = take c.args.at.end c.args.rows.now.items in
     let days : Days = days_on c.args.limited.now (suc day) earlier in
-    let e = c.index-deref-link.result in
-    let from : entry_numbered earlier c.args.link.before ≡ e = taken_entry c.args.rows.now.items c.args.at.end c.args.link.before e c.requires.before c.requires.end (c.index-deref-link.is ∙ ap (λ xs. slice_index_or xs c.args.link.before e) c.deref.ensures.0) in
+    let e = c.index-from.result.now in
+    let from : entry_numbered earlier c.args.link.before ≡ e = taken_entry c.args.rows.now.items c.args.at.end c.args.link.before e c.requires.before c.requires.end c.index-from.ensures in
     let read : c.as_slice-day_offers.result.now ≡ offers_on search.offers.now day = c.as_slice-day_offers.ensures.value ∙ sym (read_day search.offers.now day c.index-offers-at.result (omega (arith, c.requires.day, c.requires.search.floors.offers.days)) c.index-offers-at.is) in
     let x : Offer = slice_index_or c.as_slice-day_offers.result.now c.args.link.offer (record { choice = Off; price = 0 }) in
     let same : x ≡ offer_numbered (offers_on search.offers.now day) c.args.link.offer = ap (λ xs. slice_index_or xs c.args.link.offer (record { choice = Off; price = 0 })) read in
@@ -54,8 +54,8 @@ returns-clause-best c = λ is.
     let day = c.args.at.day in
     let earlier = take c.args.at.end c.args.rows.now.items in
     let days : Days = days_on c.args.limited.now (suc day) earlier in
-    let e = c.index-deref-link.result in
-    let from : entry_numbered earlier c.args.link.before ≡ e = taken_entry c.args.rows.now.items c.args.at.end c.args.link.before e c.requires.before c.requires.end (c.index-deref-link.is ∙ ap (λ xs. slice_index_or xs c.args.link.before e) c.deref.ensures.0) in
+    let e = c.index-from.result.now in
+    let from : entry_numbered earlier c.args.link.before ≡ e = taken_entry c.args.rows.now.items c.args.at.end c.args.link.before e c.requires.before c.requires.end c.index-from.ensures in
     let read : c.as_slice-day_offers.result.now ≡ offers_on search.offers.now day = c.as_slice-day_offers.ensures.value ∙ sym (read_day search.offers.now day c.index-offers-at.result (omega (arith, c.requires.day, c.requires.search.floors.offers.days)) c.index-offers-at.is) in
     let x : Offer = slice_index_or c.as_slice-day_offers.result.now c.args.link.offer (record { choice = Off; price = 0 }) in
     let same : x ≡ offer_numbered (offers_on search.offers.now day) c.args.link.offer = ap (λ xs. slice_index_or xs c.args.link.offer (record { choice = Off; price = 0 })) read in

@@ -7,7 +7,7 @@ use Rattle.roster_search.specs.Cheapest.{cheaper, cheapest}
 use Rattle.roster_search.proofs.Cheapest.{cheapest_more}
 use Rattle.roster_partial.specs.declared.rows.Entry.{Entry}
 use Rattle.roster_partial.specs.Rows.{Days, IsEntryOf, IsLinked, best_of}
-use Rattle.roster_partial.proofs.RowLaws.{part_alone, part_and_one, part_is}
+use Rattle.roster_partial.proofs.RowLaws.{no_more, one_more, part_alone, part_and_one, part_is}
 use Rattle.roster_partial.proofs.day.put.Goals as goal
 
 -- an entry with the code of its state
@@ -18,47 +18,54 @@ entry_is days z e ranges fits code linked = record {
   linked = linked e refl refl;
 }
 
-pub leave_out-requires : goal.leave_out-requires
-leave_out-requires g c =
-    (c.requires.1.1.0, (subst (All (IsEntryOf g.days)) (sym (part_is c.args.at.end c.args.rows.now.items c.as_mut_slice.result.now c.as_mut_slice.ensures.value)) c.requires.1.1.1.1.1.1.1, entry_is g.days c.args.limited.now.floors.ranges (record { state = c.args.reached.0; code = c.code.result; cost = c.args.reached.1; before = c.args.link.before; offer = c.args.link.offer }) c.requires.0 c.requires.1.1.1.0 c.code.ensures.code c.requires.1.1.1.1.1.1.0))
-
 pub returns-then-leave_out-clause-best : goal.returns-then-leave_out-clause-best
 returns-then-leave_out-clause-best g c = λ _ p is.
-    let e : Entry = record { state = c.args.reached.0; code = c.code.result; cost = c.args.reached.1; before = c.args.link.before; offer = c.args.link.offer } in
+    let before : c.in-Ok.before ≡ c.args.link.before = c.in-Ok.ensures.1 in
+    let e : Entry = record { state = c.args.reached.0; code = c.code.result; cost = c.args.reached.1; before = c.in-Ok.before; offer = c.args.link.offer } in
     let f = best_of g.days in
     let v = c.as_mut_slice.result.now in
     let end = c.args.at.end in
     let size = c.leave_out.ensures.length ∙ length-take-le (length v - end) (drop end v) (omega (arith, length-drop end v)) in
-    ap (cheapest f) (part_alone end c.args.rows.now.items v c.leave_out.new.list c.requires.1.0 c.as_mut_slice.ensures.value size)
+    ap (cheapest f) (part_alone _ end c.args.rows.now.items v c.leave_out.new.list _ c.args.rows.now.ok.0 c.requires.1.0 c.as_mut_slice.ensures.value size refl)
     ∙ c.leave_out.ensures.left_out c.if-leave_out.true
     ∙ ap (λ xs. cheapest f (xs ++ e ∷ [])) (part_is end c.args.rows.now.items v c.as_mut_slice.ensures.value)
     ∙ cheapest_more f (drop end c.args.rows.now.items) e
-    ∙ ap (cheaper (cheapest f (drop end c.args.rows.now.items))) (is e refl refl refl refl)
+    ∙ ap (cheaper (cheapest f (drop end c.args.rows.now.items))) (is e refl refl before refl)
 
-pub returns-then-is_full-clause-entries : goal.returns-then-is_full-clause-entries
-returns-then-is_full-clause-entries g c =
+pub returns-then-end-limited-clause-entries : goal.returns-then-end-limited-clause-entries
+returns-then-end-limited-clause-entries g c =
     let v = c.as_mut_slice.result.now in
     let end = c.args.at.end in
     let size = c.leave_out.ensures.length ∙ length-take-le (length v - end) (drop end v) (omega (arith, length-drop end v)) in
-    subst (All (IsEntryOf g.days)) (sym (part_alone end c.args.rows.now.items v c.leave_out.new.list c.requires.1.0 c.as_mut_slice.ensures.value size)) c.leave_out.ensures.entries
+    subst (All (IsEntryOf g.days)) (sym (part_alone _ end c.args.rows.now.items v c.leave_out.new.list _ c.args.rows.now.ok.0 c.requires.1.0 c.as_mut_slice.ensures.value size refl)) c.leave_out.ensures.entries
+
+pub returns-then-is_err-clause-entries : goal.returns-then-is_err-clause-entries
+returns-then-is_err-clause-entries g c =
+    let v = c.as_mut_slice.result.now in
+    let end = c.args.at.end in
+    let size = c.leave_out.ensures.length ∙ length-take-le (length v - end) (drop end v) (omega (arith, length-drop end v)) in
+    subst (All (IsEntryOf g.days)) (sym (part_alone _ end c.args.rows.now.items v c.leave_out.new.list c.push.new.self.items c.args.rows.now.ok.0 c.requires.1.0 c.as_mut_slice.ensures.value size (no_more _ _ _ _ c.if-is_err.ensures.negation c.push.ensures.items))) c.leave_out.ensures.entries
 
 pub returns-clause-entries : goal.returns-clause-entries
 returns-clause-entries g c =
-    let e : Entry = record { state = c.args.reached.0; code = c.code.result; cost = c.args.reached.1; before = c.args.link.before; offer = c.args.link.offer } in
+    let before : c.in-Ok.before ≡ c.args.link.before = c.in-Ok.ensures.1 in
+    let e : Entry = record { state = c.args.reached.0; code = c.code.result; cost = c.args.reached.1; before = c.in-Ok.before; offer = c.args.link.offer } in
     let v = c.as_mut_slice.result.now in
     let end = c.args.at.end in
     let size = c.leave_out.ensures.length ∙ length-take-le (length v - end) (drop end v) (omega (arith, length-drop end v)) in
-    subst (All (IsEntryOf g.days)) (sym (part_and_one end c.args.rows.now.items v c.leave_out.new.list c.push.new.self.items e c.requires.1.0 c.as_mut_slice.ensures.value size c.push.ensures.items)) (All-push (IsEntryOf g.days) c.leave_out.new.list e c.leave_out.ensures.entries (entry_is g.days c.args.limited.now.floors.ranges e c.requires.0 c.requires.1.1.1.0 c.code.ensures.code c.requires.1.1.1.1.1.1.0))
+    let linked : (x : Entry) → x.before ≡ e.before → x.offer ≡ e.offer → IsLinked g.days.offers g.days.earlier g.days.day x = λ x from by. c.requires.1.1.1.1.1.1.0 x (from ∙ before) by in
+    subst (All (IsEntryOf g.days)) (sym (part_and_one _ end c.args.rows.now.items v c.leave_out.new.list c.push.new.self.items e c.args.rows.now.ok.0 c.requires.1.0 c.as_mut_slice.ensures.value size (one_more _ _ _ _ c.if-is_err.ensures.negation c.push.ensures.items))) (All-push (IsEntryOf g.days) c.leave_out.new.list e c.leave_out.ensures.entries (entry_is g.days c.args.limited.now.floors.ranges e c.requires.0 c.requires.1.1.1.0 c.code.ensures.code linked))
 
 pub returns-clause-best : goal.returns-clause-best
 returns-clause-best g c = λ _ p is.
-    let e : Entry = record { state = c.args.reached.0; code = c.code.result; cost = c.args.reached.1; before = c.args.link.before; offer = c.args.link.offer } in
+    let before : c.in-Ok.before ≡ c.args.link.before = c.in-Ok.ensures.1 in
+    let e : Entry = record { state = c.args.reached.0; code = c.code.result; cost = c.args.reached.1; before = c.in-Ok.before; offer = c.args.link.offer } in
     let f = best_of g.days in
     let v = c.as_mut_slice.result.now in
     let end = c.args.at.end in
     let size = c.leave_out.ensures.length ∙ length-take-le (length v - end) (drop end v) (omega (arith, length-drop end v)) in
-    ap (cheapest f) (part_and_one end c.args.rows.now.items v c.leave_out.new.list c.push.new.self.items e c.requires.1.0 c.as_mut_slice.ensures.value size c.push.ensures.items)
+    ap (cheapest f) (part_and_one _ end c.args.rows.now.items v c.leave_out.new.list c.push.new.self.items e c.args.rows.now.ok.0 c.requires.1.0 c.as_mut_slice.ensures.value size (one_more _ _ _ _ c.if-is_err.ensures.negation c.push.ensures.items))
     ∙ c.leave_out.ensures.kept c.if-leave_out.false
     ∙ ap (λ xs. cheapest f (xs ++ e ∷ [])) (part_is end c.args.rows.now.items v c.as_mut_slice.ensures.value)
     ∙ cheapest_more f (drop end c.args.rows.now.items) e
-    ∙ ap (cheaper (cheapest f (drop end c.args.rows.now.items))) (is e refl refl refl refl)
+    ∙ ap (cheaper (cheapest f (drop end c.args.rows.now.items))) (is e refl refl before refl)
