@@ -13,11 +13,15 @@ pub fn meets_wishes(case: &Case, nurse: usize, day: u16, shift: Option<Shift>) -
     ensures { result ≡ meets_wishes case.now nurse day shift }
 {
     let wishes = case.wishes(nurse, day);
-    let mut met = !wishes.any || shift.is_some();
-    for number in 0..case.shifts() {
-        met = met && (!wishes.names(Shift(number)) || is_shift(number, shift));
+    if wishes.any && shift.is_none() {
+        return false;
     }
-    met
+    for number in 0..case.shifts() {
+        if wishes.names(Shift(number)) && !is_shift(number, shift) {
+            return false;
+        }
+    }
+    true
 }
 
 fn is_shift(number: u8, shift: Option<Shift>) -> bool
