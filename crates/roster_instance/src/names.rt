@@ -13,6 +13,9 @@ use std::alloc::{AllocError, Global};
 use std::collections::HashMap;
 use std::marker::Model;
 
+/// So few names are compared one after another sooner than a name is hashed.
+const FEW: usize = 8;
+
 /// Different names, numbered from 0 in the order in which they came.
 pub(crate) struct Names {
     names: Vec<Vec<u8>>,
@@ -97,6 +100,9 @@ impl Names {
         ensures number { result ≡ find_name self.now name.now }
         ensures within { IfSome result (λ number. number < length self.now) }
     {
+        if self.names.len() <= FEW {
+            return number_among(self.names.as_slice(), name);
+        }
         self.numbers.get(name).copied()
     }
 
@@ -120,4 +126,16 @@ impl Names {
             None => Err(CaseFault::Unknown { line: token.line }),
         }
     }
+}
+
+/// The number of the first of some names that is this one.
+fn number_among(names: &[Vec<u8>], name: &[u8]) -> Option<usize>
+    ensures { result ≡ find_name (map (λ own. own.items) names.now) name.now }
+{
+    for number in 0..names.len() {
+        if name == names[number].as_slice() {
+            return Some(number);
+        }
+    }
+    None
 }
