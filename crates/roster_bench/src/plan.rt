@@ -1,5 +1,7 @@
 //! What the words of the command line ask for.
 
+ghost use Rattle.std.specs.Prelude.{◌≤◌, IfSome};
+
 use crate::bundle::Size;
 use crate::kind::Kind;
 
@@ -77,7 +79,9 @@ fn rounds_in(word: &str) -> Option<u16> {
 }
 
 /// The number that a word says, where it is from `least` to `most`.
-fn number_in(word: &str, least: u32, most: u32) -> Option<u32> {
+fn number_in(word: &str, least: u32, most: u32) -> Option<u32>
+    ensures { IfSome result (λ number. (least ≤ number) × (number ≤ most)) }
+{
     let number = word.parse::<u32>().ok()?;
     if number < least || number > most {
         return None;
