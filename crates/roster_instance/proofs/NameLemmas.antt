@@ -1,22 +1,23 @@
 -- Names and their numbers.
-use Rattle.std.proofs.Common.{◌&&◌, ◌*◌, ◌≤◌, ◌≡◌, ◌∙◌, ◌+◌, ◌<◌, ◌||◌, ◌==◌, ℕ, Bool, cond, not, true, false, refl, sym, ap, ap₂, arith, List, [], ◌∷◌, ◌++◌, get_or, length, map, nat_lt, suc, unwrap_or, Option, Some, None, is_some, lt-ltb, true≢false}
+use Rattle.std.proofs.Common.{◌&&◌, ◌*◌, ◌≤◌, ◌≡◌, ◌∙◌, ◌+◌, ◌<◌, ◌||◌, ◌==◌, ℕ, Bool, cond, not, true, false, refl, sym, ap, ap₂, arith, List, [], ◌∷◌, ◌++◌, get_or, length, map, nat_lt, suc, unwrap_or, Option, Some, None, is_some, inl, inr, length-append, lt-ltb, true≢false}
 use Rattle.std.specs.Prelude.{IfSome, option_and_then, option_map, position}
 use Rattle.std.specs.List.{list_any, position_or_len}
 use Rattle.std.specs.Map.{KeepsOthers, lookup}
 use Rattle.std.specs.Str.{bytes_eq}
-use Rattle.std.proofs.lemmas.Bool.{ne_eqb}
+use Rattle.std.proofs.lemmas.Bool.{cases_lt, ne_eqb}
 use Rattle.std.proofs.lemmas.Bool.Decides.{nat_tests}
-use Rattle.std.proofs.lemmas.List.{length-map, map_push}
+use Rattle.std.proofs.lemmas.List.{get_or_append_left, length-map, map_push}
+use Rattle.std.proofs.Math.Seq.{get_or-append_seam}
 use Rattle.std.proofs.lemmas.List.Quantifiers.{position-Some}
 use Rattle.std.proofs.lemmas.Slice.Eq.{bytes_eq-Decides}
 use Rattle.roster_bundle.specs.Token.{text_of}
 use Rattle.roster_bundle.specs.declared.token.Token.{Token}
-use Rattle.roster_instance.specs.Names.{AreNumbers, find_name, found, has_number, is_known, name_number, names_of, same_name}
+use Rattle.roster_instance.specs.Names.{AreNumbers, HaveTheirPlaces, find_name, found, has_number, is_known, name_number, names_of, same_name}
 use Rattle.roster_instance.specs.Refusals.{repeated_fault, unknown_fault}
 use Rattle.roster_instance.specs.Faults.{fault_if}
 use Rattle.roster_instance.specs.Tables.{is_at}
 use Rattle.roster_instance.specs.declared.fault.CaseFault.TheVariants.{Repeated, Unknown}
-use Rattle.roster_instance.proofs.TableLemmas.{at_day, at_skill, is_at-same}
+use Rattle.roster_instance.proofs.TableLemmas.{at_day, at_skill, is_at-other, is_at-same}
 
 abbrev Text : Type 0
 Text = List ℕ
@@ -118,6 +119,39 @@ module _ {K : Type 0} (text : K → Text) where
           ap (λ x. lookup (is_named x) new) (same ∙ sym is) ∙ put ∙ ap (λ m. Some m) last
           ∙ sym (ap (find_name (names ++ name ∷ [])) same ∙ position-last (bytes_eq name) names name none ((bytes_eq-Decides name name).1 refl))
       go false e = keeps (is_named t) alike (apart e) ∙ are t ∙ sym (position-other (bytes_eq t) names name e)
+
+-- ---- names at their places
+
+pub places-more : (names : List Text) (name : Text) → find_name names name ≡ None → HaveTheirPlaces names → HaveTheirPlaces (names ++ name ∷ [])
+places-more names name none places n below = elim (cases_lt n (length names)) [
+  | inl early ↦
+      let here = get_or names n [] in
+      ap (find_name (names ++ name ∷ [])) (get_or_append_left names (name ∷ []) [] n early) ∙ position-other (bytes_eq here) names name (apart here (places n early) (bytes_eq here name) refl)
+      ∙ places n early
+  | inr late ↦
+      let last : n ≡ length names = omega (arith, below, late, length-append {A = Text} names (name ∷ [])) in
+      ap (λ k. find_name (names ++ name ∷ []) (get_or (names ++ name ∷ []) k [])) last ∙ ap (find_name (names ++ name ∷ [])) (get_or-append_seam names name [] [])
+      ∙ position-last (bytes_eq name) names name none ((bytes_eq-Decides name name).1 refl) ∙ ap (λ k. Some k) (sym last)
+]
+  where
+    -- a name before the new one is another
+    apart : (here : Text) → find_name names here ≡ Some n → (b : Bool) → bytes_eq here name ≡ b → bytes_eq here name ≡ false
+    apart here found_is true same = let e : find_name names here ≡ None = ap (find_name names) ((bytes_eq-Decides here name).0 same) ∙ none in absurd (cc)
+    apart here found_is false same = same
+
+-- whether a number is a name's
+module _ (names : List Text) (name : Text) (n : ℕ) where
+  pub place-is : HaveTheirPlaces names → n < length names → bytes_eq name (get_or names n []) ≡ is_at n (find_name names name)
+  place-is places within = go (bytes_eq name (get_or names n [])) refl
+    where
+      other : (o : Option ℕ) → find_name names name ≡ o → bytes_eq name (get_or names n []) ≡ false → false ≡ is_at n o
+      other None found_is differ = refl
+      other (Some m) found_is differ = sym (is_at-other n m (λ same. true≢false (sym (ap (λ k. bytes_eq name (get_or names k [])) same ∙ (position-Some (bytes_eq name) names m [] found_is).1) ∙ differ)))
+
+      go : (b : Bool) → bytes_eq name (get_or names n []) ≡ b → b ≡ is_at n (find_name names name)
+      go true same =
+          sym (ap (is_at n) (ap (find_name names) ((bytes_eq-Decides name (get_or names n [])).0 same) ∙ places n within) ∙ is_at-same n)
+      go false differ = other (find_name names name) refl differ
 
 -- ---- names that stand among others
 

@@ -1,5 +1,5 @@
 -- The names of a bundle: bytes of its source, numbered in the order of the scenario.
-use Rattle.std.specs.Prelude.{◌≡◌, ℕ, Bool, List, map, Option, is_some, position, unwrap_or, bytes_eq}
+use Rattle.std.specs.Prelude.{◌≡◌, ◌<◌, ℕ, Bool, List, [], length, map, Option, Some, is_some, position, slice_index_or, unwrap_or, bytes_eq}
 use Rattle.std.specs.Map.{lookup}
 use Rattle.roster_bundle.specs.declared.bundle.Bundle.{Bundle}
 use Rattle.roster_bundle.specs.declared.bundle.Contract.{Contract}
@@ -43,6 +43,10 @@ find_name names text = position (bytes_eq text) names
 -- a table by keys that stand for texts: it has the number of each name, and none for any other text
 abbrev pub AreNumbers : {K : Type 0} → List (List ℕ) → (K → List ℕ) → List (K × ℕ) → Type 0
 AreNumbers names text entries = (name : List ℕ) → lookup (λ k. bytes_eq name (text k)) entries ≡ find_name names name
+
+-- the names are different: the number of each is its place
+abbrev pub HaveTheirPlaces : List (List ℕ) → Type 0
+HaveTheirPlaces names = (number : ℕ) → number < length names → find_name names (slice_index_or names number []) ≡ Some number
 
 -- the number of a token's name, if it is one of these
 abbrev pub found : List ℕ → List (List ℕ) → Token → Option ℕ

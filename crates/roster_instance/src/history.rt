@@ -22,6 +22,8 @@ struct HistorySection<'a> {
     source: &'a [u8],
     scenario: &'a Scenario,
     past: Table<Past>,
+    // The nurse of the last line.
+    near: usize,
 }
 
 impl<'a> Section<NurseHistory> for HistorySection<'a> {
@@ -34,7 +36,11 @@ impl<'a> Section<NurseHistory> for HistorySection<'a> {
     ghost built = { λ s earlier. s.past ≡ past_meant s.source.now s.scenario.now.nurses s.scenario.now.shifts earlier };
 
     fn add(&mut self, line: &NurseHistory) -> Result<(), CaseFault> {
-        let nurse = self.scenario.nurses.number(self.source, line.nurse)?;
+        let nurse = self
+            .scenario
+            .nurses
+            .number_near(self.source, line.nurse, self.near)?;
+        self.near = nurse;
         if self.past.get(nurse).is_some() {
             return Err(CaseFault::HistoryNurses {
                 line: line.nurse.line,
@@ -99,6 +105,7 @@ pub(crate) fn past_of(
         source,
         scenario,
         past: Table::new(alloc, scenario.nurses.len())?,
+        near: 0,
     };
     add_all(&mut section, history.nurses.as_slice())?;
     Ok(section.past)

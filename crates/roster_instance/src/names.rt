@@ -6,6 +6,7 @@ ghost use Rattle.roster_bundle.specs.declared.token.Token.{Token};
 ghost use Rattle.roster_instance.specs.Checking.{IsFirst};
 ghost use Rattle.roster_instance.specs.Names.{find_name, found, names_of};
 ghost use Rattle.roster_instance.specs.Refusals.{repeated_fault, unknown_fault};
+ghost use Rattle.roster_instance.specs.Tables.{is_at};
 
 use crate::fault::CaseFault;
 use roster_bundle::Token;
@@ -34,13 +35,13 @@ impl Drop for Names {
 
 impl Model for Names {
     ghost use Rattle.std.specs.Prelude.{ℕ, List, map};
-    ghost use Rattle.roster_instance.specs.Names.{AreNumbers};
+    ghost use Rattle.roster_instance.specs.Names.{AreNumbers, HaveTheirPlaces};
 
     ghost Value = { List (List ℕ) };
 
     ghost view = { λ n. map (λ name. name.items) n.names.items };
 
-    ghost invariant = { λ n. AreNumbers (map (λ name. name.items) n.names.items) (λ name. name.items) n.numbers.entries };
+    ghost invariant = { λ n. AreNumbers (map (λ name. name.items) n.names.items) (λ name. name.items) n.numbers.entries × HaveTheirPlaces (map (λ name. name.items) n.names.items) };
 }
 
 impl Names {
@@ -106,6 +107,31 @@ impl Names {
         self.numbers.get(name).copied()
     }
 
+    /// Whether a name has this number.
+    fn is_at(&self, number: usize, name: &[u8]) -> bool
+        ensures { result ≡ is_at number (find_name self.now name.now) }
+    {
+        match self.names.get(number) {
+            Some(own) => name == own.as_slice(),
+            None => false,
+        }
+    }
+
+    /// The number of a name. Two numbers are tried before all others: `near`, and the one after it.
+    fn find_near(&self, name: &[u8], near: usize) -> Option<usize>
+        ensures number { result ≡ find_name self.now name.now }
+        ensures within { IfSome result (λ number. number < length self.now) }
+    {
+        if self.is_at(near, name) {
+            return Some(near);
+        }
+        let next = near.wrapping_add(1);
+        if self.is_at(next, name) {
+            return Some(next);
+        }
+        self.find(name)
+    }
+
     /// The name with a number.
     pub(crate) fn name(&self, number: usize) -> &[u8]
         requires { number < length self.now }
@@ -122,6 +148,25 @@ impl Names {
         ensures first { IfErr result (λ f. unknown_fault source.now self.now token ≡ f ∷ []) }
     {
         match self.find(token.text(source)) {
+            Some(number) => Ok(number),
+            None => Err(CaseFault::Unknown { line: token.line }),
+        }
+    }
+
+    /// The number of a token's name, found sooner where it is `near` or the next one. The lines of one nurse mostly stand
+    /// together, and the nurses in the order of their numbers.
+    pub(crate) fn number_near(
+        &self,
+        source: &[u8],
+        token: Token,
+        near: usize,
+    ) -> Result<usize, CaseFault>
+        ensures number { IfOk result (λ number. found source.now self.now token ≡ Some number) }
+        ensures within { IfOk result (λ number. number < length self.now) }
+        ensures none { OnOk result (unknown_fault source.now self.now token ≡ []) }
+        ensures first { IfErr result (λ f. unknown_fault source.now self.now token ≡ f ∷ []) }
+    {
+        match self.find_near(token.text(source), near) {
             Some(number) => Ok(number),
             None => Err(CaseFault::Unknown { line: token.line }),
         }

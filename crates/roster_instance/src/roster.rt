@@ -196,6 +196,8 @@ struct LineSection<'a> {
     scenario: &'a Scenario,
     week: u16,
     lines: Table<Choice>,
+    // The nurse of the last line.
+    near: usize,
     ghost early: { week < most_weeks },
 }
 
@@ -209,7 +211,11 @@ impl<'a> Section<Assignment> for LineSection<'a> {
     ghost built = { λ s earlier. s.lines ≡ table_of (place_of_line s.source.now s.scenario.now.nurses) (work_meant s.source.now s.scenario.now.shifts s.scenario.now.skills) (7 * length s.scenario.now.nurses) earlier };
 
     fn add(&mut self, line: &Assignment) -> Result<(), CaseFault> {
-        let nurse = self.scenario.nurses.number(self.source, line.nurse)?;
+        let nurse = self
+            .scenario
+            .nurses
+            .number_near(self.source, line.nurse, self.near)?;
+        self.near = nurse;
         let shift = self.scenario.shifts.number(self.source, line.shift)?;
         let skill = self.scenario.skills.number(self.source, line.skill)?;
         let weekday = weekday(line.day);
@@ -244,6 +250,7 @@ fn table_of(
         scenario,
         week,
         lines: Table::new(alloc, 7 * scenario.nurses.len())?,
+        near: 0,
     };
     add_all(&mut section, solution.assignments.items.as_slice())?;
     Ok(section.lines)

@@ -7,7 +7,7 @@ use Rattle.roster_instance.proofs.names.Names.find.Goals as goal
 pub returns-clause-number : goal.returns-clause-number
 returns-clause-number c =
     let name = c.args.name.now in
-    c.copied.ensures ∙ c.get.ensures.value ∙ c.self.invariant name ∙ ap (λ names. find_name names name) c.self.view_is
+    c.copied.ensures ∙ c.get.ensures.value ∙ c.self.invariant.0 name ∙ ap (λ names. find_name names name) c.self.view_is
 
 pub returns-clause-within : goal.returns-clause-within
 returns-clause-within c =
