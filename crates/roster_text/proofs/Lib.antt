@@ -3,6 +3,7 @@ pub mod TokenFacts
 pub mod TokenLemmas
 pub mod TokenLines
 pub mod TokenRules
+pub mod StartLemmas
 pub mod Loops
 pub mod Spelling
 pub mod Readers

@@ -1,11 +1,10 @@
 -- The tokens from a place on, as the place moves over separators, a mark or a word.
-use Rattle.std.proofs.Common.{◌≡◌, ℕ, zero, suc, ◌+◌, ◌-◌, ◌<◌, ◌≤◌, Bool, true, false, Option, Some, None, List, [], ◌∷◌, length, get_or, drop, refl, sym, subst, ◌∙◌, ap, arith, ⊎_elim}
+use Rattle.std.proofs.Common.{◌≡◌, ℕ, zero, suc, ◌+◌, ◌-◌, ◌<◌, ◌≤◌, Bool, true, false, Some, None, List, [], ◌∷◌, length, get_or, drop, refl, sym, subst, ◌∙◌, ap, arith, ⊎_elim}
 use Rattle.std.proofs.lemmas.Bool.{cases_Bool, both_ways, or_left, or_right, or_from, or_parts, and_from, and_right, not-true, not_from_true, not_from_false, lt-ltb, cond-true, cond-false}
 use Rattle.std.proofs.lemmas.List.{get_or-drop, length-drop}
-use Rattle.std.proofs.lemmas.List.FromFn.{length-range_with_len}
 use Rattle.std.proofs.lemmas.List.Sums.{prefix_len_passes, prefix_len_stops, prefix_len-le-length, prefix_len-drop_yes}
 use Rattle.std.specs.Prelude.{IsTrue, IsFalse}
-use Rattle.std.specs.List.{cons_option, filter_map, prefix_len, range_with_len}
+use Rattle.std.specs.List.{cons_option, prefix_len}
 use Rattle.roster_text.proofs.TokenLines.{line_at-other, line_at-over}
 use Rattle.roster_bundle.specs.Token.{is_separator, is_mark, is_word_byte, follows_word_byte, begins_at, end_from, line_at, token_at, tokens_from, IsBetweenTokens}
 
@@ -200,19 +199,3 @@ next_end_is text start end inside between stands place =
     (λ mark. subst (IsNextEnd text start) (sym (place ∙ cond-true _ _ _ mark)) (mark_end_is text start inside mark))
     (λ no_mark. subst (IsNextEnd text start) (sym (place ∙ cond-false _ _ _ no_mark)) (word_end_is text start inside (word_byte_from _ stands no_mark) between))
     (cases_Bool (is_mark (get_or text start 0)))
-
--- ---- how many tokens
-
-length-filter_map-le : {X Y : Type 0} (h : X → Option Y) (xs : List X) → length (filter_map h xs) ≤ length xs
-length-filter_map-le h [] = omega arith
-length-filter_map-le h (x ∷ xs) =
-    elim (h x) as (λ o. length (cons_option o (filter_map h xs)) ≤ suc (length xs)) [
-      | None ↦ omega (arith, length-filter_map-le h xs)
-      | Some y ↦ omega (arith, length-filter_map-le h xs)
-    ]
-
--- no more tokens than bytes
-pub length-tokens_from-le : (text : List ℕ) (i : ℕ) → length (tokens_from text i) ≤ length text
-unfolding tokens_from
-length-tokens_from-le text i =
-    omega (arith, length-filter_map-le (token_at text) (range_with_len i (length text - i)), length-range_with_len i (length text - i))

@@ -10,3 +10,4 @@ pub mod Reading
 pub mod Io
 pub mod Pieces
 pub mod ReadBack
+pub mod Starts

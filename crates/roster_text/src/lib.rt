@@ -8,6 +8,7 @@ mod parsing;
 mod parts;
 mod pieces;
 mod reading;
+mod starts;
 mod token;
 mod watch;
 mod watching;

@@ -5,6 +5,7 @@ ghost use Rattle.std.specs.List.{prefix_len};
 ghost use Rattle.roster_bundle.specs.Token.{is_separator, is_mark, is_word_byte, end_from, line_at, line_at_end, tokens_from, tokens_of, IsBetweenTokens, IsWithin, AreTokensOf};
 
 use crate::fault::TextFault;
+use crate::starts::token_count;
 use roster_bundle::Token;
 use std::alloc::Global;
 
@@ -24,7 +25,7 @@ pub(crate) fn is_mark(byte: u8) -> bool
 
 // Letters and digits come first, since this runs at each byte of a word: of the bytes from `-` on only `=` isn't one.
 #[tactic(auto, unfolding(roster_bundle::specs::Token::is_word_byte, roster_bundle::specs::Token::is_separator, roster_bundle::specs::Token::is_mark))]
-fn is_word_byte(byte: u8) -> bool
+pub(crate) fn is_word_byte(byte: u8) -> bool
     ensures { result ≡ is_word_byte byte }
 {
     if byte >= b'-' {
@@ -131,8 +132,7 @@ pub fn tokens(alloc: Global, text: &[u8]) -> Result<Vec<Token>, TextFault>
     ensures within { IfOk result (λ ts. All (IsWithin (length text.now)) ts.items) }
     ensures only_memory { IfErr result (λ e. e ≡ TextFault.Memory) }
 {
-    let count = Scanner::new(text).count();
-    let mut kept = Vec::with_capacity(alloc, count)?;
+    let mut kept = Vec::with_capacity(alloc, token_count(text))?;
     for token in Scanner::new(text) {
         kept.push(token)?;
     }

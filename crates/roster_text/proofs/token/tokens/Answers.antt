@@ -1,14 +1,8 @@
-use Rattle.std.proofs.Common.{sym, subst, inl, arith}
+use Rattle.std.proofs.Common.{sym, subst, arith}
 use Rattle.std.proofs.lemmas.Grind.{common_steps}
 use Rattle.roster_bundle.specs.Token.{AreTokensOf}
 use Rattle.roster_text.proofs.TokenFacts.{tokens_are}
-use Rattle.roster_text.proofs.TokenLemmas.{length-tokens_from-le}
 use Rattle.roster_text.proofs.token.tokens.Goals as goal
-
-pub count-count-requires-clause-fits : goal.count-count-requires-clause-fits
-count-count-requires-clause-fits c =
-    let no_more_than_bytes = length-tokens_from-le c.new.result.text.now c.new.result.at in
-    inl (omega arith)
 
 pub returns-clause-exact : goal.returns-clause-exact
 returns-clause-exact c = grind (arith, common_steps)
