@@ -1,10 +1,14 @@
 -- Floors as they are kept for a search, with what is looked up once (our own).
-use Rattle.std.specs.Prelude.{◌≡◌, ◌+◌, ◌*◌, ◌<◌, ◌≤◌, length}
-use Rattle.roster_instance.specs.Meaning.{contract_of, day_count, nurse_count}
+use Rattle.std.specs.Prelude.{◌≡◌, ℕ, ◌+◌, ◌-◌, ◌*◌, ◌/◌, ◌<◌, ◌≤◌, length, min}
+use Rattle.roster_instance.specs.Meaning.{Meaning, contract_of, day_count, nurse_count}
+use Rattle.roster_instance.specs.Sizes.{cap}
+use Rattle.roster_rules.specs.Weights.{assignment_weight}
 use Rattle.roster_search.specs.Search.{AreOffers, offers_on}
 use Rattle.roster_state.specs.Codes.{sizes_of}
 use Rattle.roster_floors.specs.Floors.{AreFloors, AreSmall, floor_count}
+use Rattle.roster_floors.specs.declared.least.Beside.{Beside}
 use Rattle.roster_floors.specs.declared.least.Floors.{Floors}
+use Rattle.roster_floors.specs.declared.rates.Rates.{Rates}
 
 -- the floors are those of the search's days and offers, and what is looked up is its nurse's
 pub record AreReady (floors : Floors) : Type 0 where
@@ -16,3 +20,16 @@ pub record AreReady (floors : Floors) : Type 0 where
   pub days : floors.days ≡ day_count floors.search.case.now
   pub ranges : floors.ranges ≡ sizes_of floors.search.case.now floors.search.nurse
   pub least : floors.least ≡ (contract_of floors.search.case.now floors.search.nurse).total.least
+
+-- how many assignments, and worked weekends, are still told apart before a day on, at most
+abbrev pub days_to_come : Meaning → ℕ → (day assignments : ℕ) → ℕ
+days_to_come c n day assignments = min (cap (contract_of c n).total - assignments) (day_count c - day)
+
+abbrev pub weekends_to_come : Meaning → ℕ → (day weekends : ℕ) → ℕ
+weekends_to_come c n day weekends = min ((contract_of c n).weekends - weekends) ((day_count c - day + 6) / 7)
+
+-- after so many assignments and worked weekends before a day: the points for assignments that are missing in the end, even if each day
+-- to come is worked, and what the rates take for the assignments and the worked weekends that may come
+pub record IsBeside (c : Meaning) (n : ℕ) (rates : Rates) (day assignments weekends : ℕ) (beside : Beside) : Type 0 where
+  pub more : beside.more ≡ assignment_weight * ((contract_of c n).total.least - (assignments + days_to_come c n day assignments))
+  pub less : beside.less ≡ rates.day * days_to_come c n day assignments + rates.weekend * weekends_to_come c n day weekends

@@ -7,7 +7,7 @@ ghost use Rattle.roster_search.specs.Search.{AreOffers, offers_on};
 ghost use Rattle.roster_search.specs.declared.offer.Offer.{Offer};
 ghost use Rattle.roster_state.specs.Codes.{fits_sizes, sizes_of};
 ghost use Rattle.roster_floors.specs.Floors.{AreFloors, AreSmall, floor_place, floor_count};
-ghost use Rattle.roster_floors.specs.Least.{AreReady};
+ghost use Rattle.roster_floors.specs.Least.{AreReady, IsBeside};
 
 use crate::rates::Rates;
 use roster_rules::weights::ASSIGNMENT;
@@ -47,8 +47,52 @@ impl<'a> Floors<'a> {
     }
 }
 
+/// What assignments and worked weekends still cost before a day on, whatever comes, and what a floor takes for them.
+#[derive(Clone, Copy)]
+pub struct Beside {
+    /// Penalty points for assignments that will be missing.
+    pub more: u32,
+    /// What the floor takes for the assignments and the worked weekends to come.
+    pub less: u32,
+}
+
+/// What a floor leaves out, or takes too much, after so many assignments and worked weekends before a day.
+#[inline(always)]
+pub fn beside_floor(floors: &Floors<'_>, day: u16, assignments: u16, weekends: u16) -> Beside
+    requires ready { AreReady floors.now }
+    requires day { day ≤ day_count floors.now.search.case.now }
+    requires assignments { assignments < (sizes_of floors.now.search.case.now floors.now.search.nurse).assignments }
+    requires weekends { weekends < (sizes_of floors.now.search.case.now floors.now.search.nurse).weekends }
+    ensures { IsBeside floors.now.search.case.now floors.now.search.nurse floors.now.rates day assignments weekends result }
+{
+    let left = (floors.days - day) as u32;
+    let days = left.min(floors.ranges.assignments() - 1 - assignments as u32);
+    let weeks = (left + 6) / 7;
+    let weekends = weeks.min(floors.ranges.weekends() - 1 - weekends as u32);
+    let missing = (floors.least as u32).saturating_sub(assignments as u32 + days);
+    Beside {
+        more: ASSIGNMENT * missing,
+        less: floors.rates.day * days + floors.rates.weekend * weekends,
+    }
+}
+
 /// What the rest of a row costs at least from a state before a day on, in penalty points: the floor, with what assignments and worked
 /// weekends still cost, whatever comes, less what the floor takes for them.
+#[inline(always)]
+pub fn at_least_beside(floors: &Floors<'_>, day: u16, state: &State, beside: &Beside) -> u32
+    requires ready { AreReady floors.now }
+    requires day { day ≤ day_count floors.now.search.case.now }
+    requires fits { fits_sizes (sizes_of floors.now.search.case.now floors.now.search.nurse) state.now ≡ true }
+    requires beside { IsBeside floors.now.search.case.now floors.now.search.nurse floors.now.rates day state.now.assignments state.now.weekends beside.now }
+    ensures least { (cost : ℕ) (row : List Offer) → best_of_offers floors.now.search.case.now floors.now.search.nurse (offers_on floors.now.search.offers.now) (day_count floors.now.search.case.now - day) day state.now ≡ Some (cost, row) → result ≤ cost }
+{
+    let floor = floors.cells[place(floors, day, state)];
+    floor
+        .saturating_add(beside.more)
+        .saturating_sub(beside.less)
+}
+
+/// The same, where nothing is known of what is beside the floor.
 #[inline(always)]
 pub fn at_least(floors: &Floors<'_>, day: u16, state: &State) -> u32
     requires ready { AreReady floors.now }
@@ -56,16 +100,8 @@ pub fn at_least(floors: &Floors<'_>, day: u16, state: &State) -> u32
     requires fits { fits_sizes (sizes_of floors.now.search.case.now floors.now.search.nurse) state.now ≡ true }
     ensures least { (cost : ℕ) (row : List Offer) → best_of_offers floors.now.search.case.now floors.now.search.nurse (offers_on floors.now.search.offers.now) (day_count floors.now.search.case.now - day) day state.now ≡ Some (cost, row) → result ≤ cost }
 {
-    let floor = floors.cells[place(floors, day, state)];
-    let left = (floors.days - day) as u32;
-    let assignments = state.assignments() as u32;
-    let days = left.min(floors.ranges.assignments() - 1 - assignments);
-    let weeks = (left + 6) / 7;
-    let weekends = weeks.min(floors.ranges.weekends() - 1 - state.weekends() as u32);
-    let missing = (floors.least as u32).saturating_sub(assignments + days);
-    floor
-        .saturating_add(ASSIGNMENT * missing)
-        .saturating_sub(floors.rates.day * days + floors.rates.weekend * weekends)
+    let beside = beside_floor(floors, day, state.assignments(), state.weekends());
+    at_least_beside(floors, day, state, &beside)
 }
 
 /// The place of a state's floor.

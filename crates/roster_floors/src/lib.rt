@@ -16,6 +16,6 @@ mod shift;
 mod ways;
 
 pub use laws::floors_lie_under_the_rest;
-pub use least::{Floors, at_least};
+pub use least::{Beside, Floors, at_least, at_least_beside, beside_floor};
 pub use rates::Rates;
 pub use set::set_floors;

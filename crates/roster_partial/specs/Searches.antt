@@ -1,9 +1,12 @@
 -- What a search by partial rows goes over (our own).
-use Rattle.std.specs.Prelude.{◌≡◌, ℕ, ◌-◌, ◌<◌, ◌≤◌, List}
+use Rattle.std.specs.Prelude.{◌≡◌, ℕ, ◌+◌, ◌-◌, ◌<◌, ◌≤◌, List}
 use Rattle.roster_instance.specs.Meaning.{contract_of, day_count}
 use Rattle.roster_search.specs.Search.{offers_on}
 use Rattle.roster_search.specs.Tables.{no_row}
-use Rattle.roster_floors.specs.Least.{AreReady}
+use Rattle.roster_rules.specs.Prefix.{Summary}
+use Rattle.roster_state.specs.Worked.{IsWorkedDay}
+use Rattle.roster_floors.specs.Least.{AreReady, IsBeside}
+use Rattle.roster_partial.specs.declared.day.Ahead.{Ahead}
 use Rattle.roster_partial.specs.declared.day.LimitedSearch.{LimitedSearch}
 use Rattle.roster_partial.specs.declared.rows.Entry.{Entry}
 use Rattle.roster_partial.specs.Rows.{Days, most_rows}
@@ -27,3 +30,8 @@ days_on limited day earlier = record {
   day = day;
   earlier = earlier;
 }
+
+-- what is the same for all shifts that are worked on a day after a state: what a worked day brings, and what is beside the floor after it
+pub record IsAhead (limited : LimitedSearch) (day : ℕ) (s : Summary) (ahead : Ahead) : Type 0 where
+  pub worked : IsWorkedDay limited.floors.search.case.now limited.floors.search.nurse day s ahead.worked
+  pub beside : IsBeside limited.floors.search.case.now limited.floors.search.nurse limited.floors.rates (day + 1) ahead.worked.assignments ahead.worked.weekends ahead.beside

@@ -8,7 +8,7 @@ ghost use Rattle.roster_search.specs.Search.{offers_on};
 ghost use Rattle.roster_partial.specs.Rows.{IsEntryOf, best_of, entry_numbered};
 ghost use Rattle.roster_partial.specs.Searches.{IsSearch, days_on};
 
-use crate::day::{LimitedSearch, Link, RowsDay, go_on};
+use crate::day::{Going, LimitedSearch, Link, RowsDay, ahead_of, go_on};
 use crate::rows::{Entry, Seen};
 use roster_state::Meter;
 
@@ -69,12 +69,15 @@ fn go_on_by_all(
     ensures counted { meter.new ≤ meter.old + length (offers_on limited.now.floors.search.offers.now at.day) }
     ensures each { length rows.new.items + meter.old ≤ length rows.old.items + meter.new }
 {
-    if rows[before].cost > limited.limit {
+    let from = rows[before];
+    if from.cost > limited.limit {
         return true;
     }
+    let ahead = ahead_of(limited, at.day, from.state);
     let count = limited.floors.search.offers[at.day as usize].len();
     'offers: for offer in 0..count {
-        if !go_on(limited, at, Link { before, offer }, rows, seen, meter) {
+        let link = Link { before, offer };
+        if !go_on(limited, at, Going { link, ahead }, rows, seen, meter) {
             return false;
         }
     }

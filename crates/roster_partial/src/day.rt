@@ -1,6 +1,6 @@
 //! A day of the search by partial rows.
 
-ghost use Rattle.std.specs.Prelude.{◌≡◌, ◌+◌, ◌-◌, ◌*◌, ◌<◌, ◌≤◌, ℕ, suc, [], ◌∷◌, ◌++◌, All, List, Some, drop, length, take, true, false};
+ghost use Rattle.std.specs.Prelude.{◌≡◌, ◌+◌, ◌-◌, ◌*◌, ◌<◌, ◌≤◌, ℕ, suc, [], ◌∷◌, ◌++◌, All, List, Some, drop, length, take, true, false, is_some};
 ghost use Rattle.roster_bundle.specs.Limits.{greatest_u64};
 ghost use Rattle.roster_instance.specs.Meaning.{day_count, nurse_count};
 ghost use Rattle.roster_search.specs.Cheapest.{Priced, cheaper, cheapest};
@@ -10,14 +10,15 @@ ghost use Rattle.roster_search.specs.Search.{AreOffers, offers_on};
 ghost use Rattle.roster_search.specs.Tables.{no_row};
 ghost use Rattle.roster_state.specs.Codes.{fits_sizes, sizes_of};
 ghost use Rattle.roster_floors.specs.Floors.{AreFloors, AreSmall};
+ghost use Rattle.roster_floors.specs.Least.{IsBeside};
 ghost use Rattle.roster_partial.specs.Rows.{Days, IsEntryOf, best_by, best_of, IsLinked, entry_numbered, most_rows, offer_numbered};
-ghost use Rattle.roster_partial.specs.Searches.{IsSearch, days_on};
+ghost use Rattle.roster_partial.specs.Searches.{IsAhead, IsSearch, days_on};
 
 use crate::rows::{Entry, SEEN, Seen, leave_out};
-use roster_floors::{Floors, at_least};
-use roster_rules::ContractRules;
+use roster_floors::{Beside, Floors, at_least_beside, beside_floor};
+use roster_rules::{ContractRules, Shift};
 use roster_search::RowSearch;
-use roster_state::{Meter, NurseDays, State, extend_by};
+use roster_state::{Meter, NurseDays, State, WorkedDay, extend_ahead, worked_day};
 
 /// What partial rows are searched for: a nurse's rows of at most so many penalty points, with floors under what the rest of a row costs.
 #[derive(Clone, Copy)]
@@ -38,16 +39,71 @@ pub struct RowsDay {
     pub end: usize,
 }
 
-/// Whether each row that begins so costs more than the limit.
+/// What is the same for all shifts with which a partial row may go on: what a worked day brings, and what is beside the floor after it.
+#[derive(Clone, Copy)]
+pub struct Ahead {
+    pub worked: WorkedDay,
+    pub beside: Beside,
+}
+
+/// What is the same for all shifts that are worked on a day after a state.
 #[inline(always)]
-fn is_dear(limited: &LimitedSearch<'_>, day: u16, state: &State, cost: u32) -> bool
+pub fn ahead_of(limited: &LimitedSearch<'_>, day: u16, state: State) -> Ahead
+    requires search { IsSearch limited.now }
+    requires day { day < day_count limited.now.floors.search.case.now }
+    ensures { IsAhead limited.now day state result }
+{
+    let RowSearch { case, nurse, .. } = limited.floors.search;
+    case.keeps_limits();
+    let days = NurseDays {
+        case,
+        nurse,
+        rules: limited.rules,
+    };
+    let worked = worked_day(&days, day, state);
+    Ahead {
+        worked,
+        beside: beside_floor(
+            &limited.floors,
+            day + 1,
+            worked.assignments,
+            worked.weekends,
+        ),
+    }
+}
+
+/// What is beside the floor of the state after a day, where a shift is worked or not.
+#[inline(always)]
+fn beside_after(
+    limited: &LimitedSearch<'_>,
+    day: u16,
+    ahead: &Ahead,
+    shift: Option<Shift>,
+    state: &State,
+) -> Beside
     requires search { IsSearch limited.now }
     requires day { day ≤ day_count limited.now.floors.search.case.now }
     requires fits { fits_sizes (sizes_of limited.now.floors.search.case.now limited.now.floors.search.nurse) state.now ≡ true }
+    requires worked { is_some shift ≡ true → IsBeside limited.now.floors.search.case.now limited.now.floors.search.nurse limited.now.floors.rates day state.now.assignments state.now.weekends ahead.now.beside }
+    ensures { IsBeside limited.now.floors.search.case.now limited.now.floors.search.nurse limited.now.floors.rates day state.now.assignments state.now.weekends result }
+{
+    match shift {
+        Some(_) => ahead.beside,
+        None => beside_floor(&limited.floors, day, state.assignments(), state.weekends()),
+    }
+}
+
+/// Whether each row that begins so costs more than the limit.
+#[inline(always)]
+fn is_dear(limited: &LimitedSearch<'_>, day: u16, state: &State, cost: u32, beside: &Beside) -> bool
+    requires search { IsSearch limited.now }
+    requires day { day ≤ day_count limited.now.floors.search.case.now }
+    requires fits { fits_sizes (sizes_of limited.now.floors.search.case.now limited.now.floors.search.nurse) state.now ≡ true }
+    requires beside { IsBeside limited.now.floors.search.case.now limited.now.floors.search.nurse limited.now.floors.rates day state.now.assignments state.now.weekends beside.now }
     ensures dear { result ≡ true → (rest : ℕ) (row : List Offer) → best_of_offers limited.now.floors.search.case.now limited.now.floors.search.nurse (offers_on limited.now.floors.search.offers.now) (day_count limited.now.floors.search.case.now - day) day state.now ≡ Some (rest, row) → limited.now.limit < cost + rest }
     ensures low { result ≡ false → cost ≤ limited.now.limit }
 {
-    let least = at_least(&limited.floors, day, state);
+    let least = at_least_beside(&limited.floors, day, state, beside);
     cost as u64 + least as u64 > limited.limit as u64
 }
 
@@ -56,6 +112,13 @@ fn is_dear(limited: &LimitedSearch<'_>, day: u16, state: &State, cost: u32) -> b
 pub struct Link {
     pub before: usize,
     pub offer: usize,
+}
+
+/// How a partial row goes on, with what is the same for all shifts.
+#[derive(Clone, Copy)]
+pub struct Going {
+    pub link: Link,
+    pub ahead: Ahead,
 }
 
 /// Puts a partial row with a state and a cost at the end of those of its day, if it isn't left out. The answer is whether there was room.
@@ -115,7 +178,7 @@ fn put(
 pub fn go_on(
     limited: &LimitedSearch<'_>,
     at: RowsDay,
-    link: Link,
+    going: Going,
     rows: &mut Vec<Entry>,
     seen: &mut Seen,
     meter: &mut Meter,
@@ -123,18 +186,19 @@ pub fn go_on(
     requires search { IsSearch limited.now }
     requires day { at.day < day_count limited.now.floors.search.case.now }
     requires end { at.end ≤ length rows.old.items }
-    requires before { link.before < at.end }
-    requires offer { link.offer < length (offers_on limited.now.floors.search.offers.now at.day) }
-    requires from { IsEntryOf (days_on limited.now at.day (take at.end rows.old.items)) (entry_numbered (take at.end rows.old.items) link.before) }
-    requires low { (entry_numbered (take at.end rows.old.items) link.before).cost < no_row }
+    requires before { going.link.before < at.end }
+    requires offer { going.link.offer < length (offers_on limited.now.floors.search.offers.now at.day) }
+    requires from { IsEntryOf (days_on limited.now at.day (take at.end rows.old.items)) (entry_numbered (take at.end rows.old.items) going.link.before) }
+    requires low { (entry_numbered (take at.end rows.old.items) going.link.before).cost < no_row }
+    requires ahead { IsAhead limited.now at.day (entry_numbered (take at.end rows.old.items) going.link.before).state going.ahead }
     requires entries { All (IsEntryOf (days_on limited.now (suc at.day) (take at.end rows.old.items))) (drop at.end rows.old.items) }
     requires room { meter.old < greatest_u64 }
     ensures front { take at.end rows.new.items ≡ take at.end rows.old.items }
     ensures length { at.end ≤ length rows.new.items }
     ensures entries { All (IsEntryOf (days_on limited.now (suc at.day) (take at.end rows.old.items))) (drop at.end rows.new.items) }
-    ensures best { result ≡ true → cheapest (best_of (days_on limited.now (suc at.day) (take at.end rows.old.items))) (drop at.end rows.new.items) ≡ cheaper (cheapest (best_of (days_on limited.now (suc at.day) (take at.end rows.old.items))) (drop at.end rows.old.items)) (best_by (days_on limited.now (suc at.day) (take at.end rows.old.items)) at.day (entry_numbered (take at.end rows.old.items) link.before) (offer_numbered (offers_on limited.now.floors.search.offers.now at.day) link.offer)) }
-    ensures counted { (meter.old ≤ meter.new) × (meter.new ≤ meter.old + 1) }
-    ensures each { length rows.new.items + meter.old ≤ length rows.old.items + meter.new }
+    ensures best { result ≡ true → cheapest (best_of (days_on limited.now (suc at.day) (take at.end rows.old.items))) (drop at.end rows.new.items) ≡ cheaper (cheapest (best_of (days_on limited.now (suc at.day) (take at.end rows.old.items))) (drop at.end rows.old.items)) (best_by (days_on limited.now (suc at.day) (take at.end rows.old.items)) at.day (entry_numbered (take at.end rows.old.items) going.link.before) (offer_numbered (offers_on limited.now.floors.search.offers.now at.day) going.link.offer)) }
+    ensures counted { meter.new ≡ meter.old + 1 }
+    ensures few { length rows.new.items ≤ length rows.old.items + 1 }
 {
     let RowSearch {
         case,
@@ -142,21 +206,23 @@ pub fn go_on(
         offers,
     } = limited.floors.search;
     case.keeps_limits();
-    let from = rows[link.before];
+    let from = rows[going.link.before];
     let day_offers = offers[at.day as usize].as_slice();
-    let offer = day_offers[link.offer];
+    let offer = day_offers[going.link.offer];
     let shift = offer.choice.shift();
     let days = NurseDays {
         case,
         nurse,
         rules: limited.rules,
     };
-    let Some(step) = extend_by(&days, at.day, from.state, shift, meter) else {
+    let worked = &going.ahead.worked;
+    let Some(step) = extend_ahead(&days, at.day, from.state, worked, shift, meter) else {
         return true;
     };
     let cost = from.cost + offer.price + step.1;
-    if is_dear(limited, at.day + 1, &step.0, cost) {
+    let beside = beside_after(limited, at.day + 1, &going.ahead, shift, &step.0);
+    if is_dear(limited, at.day + 1, &step.0, cost, &beside) {
         return true;
     }
-    put(limited, at, link, (step.0, cost), rows, seen)
+    put(limited, at, going.link, (step.0, cost), rows, seen)
 }

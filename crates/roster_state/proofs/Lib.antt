@@ -11,3 +11,4 @@ pub mod CodeLemmas
 pub mod TriedDays
 pub mod Standing
 pub mod StretchLaw
+pub mod WorkedLaw

@@ -5,3 +5,4 @@ pub mod Codes
 pub mod Room
 pub mod Standing
 pub mod Stretches
+pub mod Worked

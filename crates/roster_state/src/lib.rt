@@ -9,6 +9,7 @@ mod row;
 mod state;
 mod step;
 mod stretch;
+mod worked;
 
 pub use area::{AREAS, Area, NOWHERE, Span, areas_of, widen};
 pub use block::{Block, BlockStep, extend_block};
@@ -18,3 +19,4 @@ pub use row::row_cost;
 pub use state::State;
 pub use step::{NurseDays, after, end_cost, extend, extend_by, start};
 pub use stretch::{Stretch, extend_stretch};
+pub use worked::{WorkedDay, extend_ahead, extend_stretch_ahead, worked_day, worked_stretch};

@@ -1,6 +1,6 @@
 //! One day more: what it costs, and the state after it.
 
-ghost use Rattle.std.specs.Prelude.{◌≡◌, ◌↔◌, ◌+◌, ◌*◌, ◌<◌, ◌≤◌, ◌++◌, ◌∷◌, [], true, false, length, IfSome, IsNone, MatchOption, None, Some, if◌then◌else◌, is_some, min, nat_le, not};
+ghost use Rattle.std.specs.Prelude.{◌≡◌, ◌↔◌, ◌+◌, ◌*◌, ◌<◌, ◌≤◌, ◌++◌, ◌∷◌, [], true, false, length, IfSome, IsNone, None, Some, if◌then◌else◌, is_some, min, nat_le, not};
 ghost use Rattle.roster_bundle.specs.Limits.{greatest_u64};
 ghost use Rattle.roster_instance.specs.Days.{Days};
 ghost use Rattle.roster_instance.specs.Meaning.{contract_of, day_count, nurse_count, past_of, run_of_shift, shift_count, forbids};
@@ -80,7 +80,7 @@ pub struct NurseDays<'a> {
     pub rules: ContractRules,
 }
 
-/// What `extend` does, by rules that were looked up before. Where the last shift forbids the next, nothing is taken, so nothing is counted.
+/// What `extend` does, by rules that were looked up before.
 #[inline(always)]
 pub fn extend_by(
     days: &NurseDays<'_>,
@@ -93,15 +93,14 @@ pub fn extend_by(
     requires shift { IfSome shift (λ s. s.0 < shift_count days.now.case.now) }
     requires fits { fits_sizes (sizes_of days.now.case.now days.now.nurse) state ≡ true }
     requires room { meter.old < greatest_u64 }
-    ensures counted { MatchOption result (meter.new ≡ meter.old) (λ _. meter.new ≡ meter.old + 1) }
+    ensures counted { meter.new ≡ meter.old + 1 }
     ensures step { result ≡ step_of days.now.case.now days.now.nurse day state shift }
     ensures next_fits { IfSome result (λ step. fits_sizes (sizes_of days.now.case.now days.now.nurse) step.0 ≡ true) }
     ensures within { IfSome result (λ step. step.1 ≤ most_of_step) }
 {
     let NurseDays { case, nurse, rules } = *days;
-    let step = step_of_both(case, nurse, rules, day, state, shift)?;
     meter.add(1);
-    Some(step)
+    step_of_both(case, nurse, rules, day, state, shift)
 }
 
 /// What `extend` answers. It counts nothing.
@@ -125,7 +124,7 @@ pub(crate) fn step(
 
 /// The same by the nurse's rules.
 #[inline(always)]
-fn step_of_both(
+pub(crate) fn step_of_both(
     case: &Case,
     nurse: usize,
     rules: ContractRules,
@@ -315,7 +314,7 @@ pub(crate) fn cost_apart(
 
 /// S2, S3. The points for each missing or extra day of the runs of working days and of days off.
 #[inline(always)]
-fn runs_more(rules: ContractRules, state: State, shift: Option<Shift>) -> u32
+pub(crate) fn runs_more(rules: ContractRules, state: State, shift: Option<Shift>) -> u32
     ensures cost { result ≡ working_run_weight * day_violations rules.working (working_run state) (is_some shift) + free_run_weight * day_violations rules.free (free_run state) (not (is_some shift)) }
     ensures within { result ≤ 65536 * (working_run_weight + free_run_weight) }
 {
@@ -327,7 +326,7 @@ fn runs_more(rules: ContractRules, state: State, shift: Option<Shift>) -> u32
 
 /// S5. The points for a weekend that the day splits, where the contract wants whole weekends.
 #[inline(always)]
-fn split_more(rules: ContractRules, day: u16, state: State, shift: Option<Shift>) -> u32
+pub(crate) fn split_more(rules: ContractRules, day: u16, state: State, shift: Option<Shift>) -> u32
     ensures cost { result ≡ (if rules.whole_weekends then split_weight * splits_more day (is_some state.last) (is_some shift) else 0) }
     ensures within { result ≤ split_weight }
 {
@@ -339,7 +338,12 @@ fn split_more(rules: ContractRules, day: u16, state: State, shift: Option<Shift>
 
 /// S7. The points for a worked weekend above the greatest number.
 #[inline(always)]
-fn weekend_more(rules: ContractRules, day: u16, state: State, shift: Option<Shift>) -> u32
+pub(crate) fn weekend_more(
+    rules: ContractRules,
+    day: u16,
+    state: State,
+    shift: Option<Shift>,
+) -> u32
     ensures cost { result ≡ (if nat_le rules.weekends state.weekends then weekend_weight * weekends_more day (is_some state.last) (is_some shift) else 0) }
     ensures within { result ≤ weekend_weight }
 {
@@ -364,7 +368,7 @@ fn shifts_more(case: &Case, state: State, shift: Option<Shift>) -> u32
 
 /// What the run of the last shift misses, where it ends.
 #[inline(always)]
-fn ended(case: &Case, state: State, shift: Option<Shift>) -> u32
+pub(crate) fn ended(case: &Case, state: State, shift: Option<Shift>) -> u32
     ensures violations { result ≡ ended (run_of_shift case.now) state.last state.shift_run shift }
     ensures within { result ≤ 65536 }
 {
@@ -393,7 +397,7 @@ fn worked(case: &Case, state: State, shift: Option<Shift>) -> u32
 
 // ---- the runs that are open
 
-fn working_run(state: State) -> u32
+pub(crate) fn working_run(state: State) -> u32
     ensures run { result ≡ working_run state }
     ensures within { result ≤ 65535 }
 {
@@ -413,7 +417,7 @@ fn free_run(state: State) -> u32
     }
 }
 
-fn open_shift_run(state: State, shift: Shift) -> u32
+pub(crate) fn open_shift_run(state: State, shift: Shift) -> u32
     ensures run { result ≡ open_shift_run state shift.0 }
     ensures within { result ≤ 65535 }
 {
@@ -424,7 +428,7 @@ fn open_shift_run(state: State, shift: Shift) -> u32
 }
 
 /// A run with one day more, up to its cap.
-fn longer(run: u32, limits: Limits) -> u16
+pub(crate) fn longer(run: u32, limits: Limits) -> u16
     requires { run ≤ 65535 }
     ensures { result ≡ min (run + 1) (cap limits) }
 {

@@ -7,7 +7,7 @@ use Rattle.roster_search.proofs.Cheapest.{cheaper_none}
 use Rattle.roster_search.proofs.SearchLaws.{offers_read}
 use Rattle.roster_partial.specs.declared.rows.Entry.{Entry}
 use Rattle.roster_partial.specs.Rows.{IsEntryOf, best_by, best_of, entry_numbered, offer_numbered}
-use Rattle.roster_partial.specs.Searches.{days_on}
+use Rattle.roster_partial.specs.Searches.{IsAhead, days_on}
 use Rattle.roster_partial.proofs.AddLaws.{by_offers, gathered, read_entry}
 use Rattle.roster_partial.proofs.RowLaws.{dear_is_none}
 use Rattle.roster_partial.proofs.add.go_on_by_all.Goals as goal
@@ -19,19 +19,27 @@ count_is c =
     let search = c.args.limited.now.floors.search in
     c.len-count.ensures.value ∙ ap length (offers_read search.case.now search.nurse search.offers.now c.requires.search.floors.offers c.args.at.day c.requires.day _ c.index-limited-at.result refl)
 
-pub returns-then-index-limited-clause-best : goal.returns-then-index-limited-clause-best
-returns-then-index-limited-clause-best c = λ _.
+pub returns-then-from-limited-clause-best : goal.returns-then-from-limited-clause-best
+returns-then-from-limited-clause-best c = λ _.
     let limited = c.args.limited.now in
     let rows = c.args.rows.now.items in
     let old = take c.args.at.end rows in
     let e = entry_numbered old c.args.before in
-    let is = c.index.ensures ∙ read_entry rows rows c.args.at.end c.args.before c.index.result.now refl c.requires.before c.requires.end in
+    let is = c.index-from.ensures ∙ read_entry rows rows c.args.at.end c.args.before c.index-from.result.now refl c.requires.before c.requires.end in
     let best = cheapest (best_of (days_on limited (suc c.args.at.day) old)) (drop c.args.at.end rows) in
-    sym (ap (cheaper best) (dear_is_none (days_on limited c.args.at.day old) e (omega (arith, c.if-index-limited.true, ap (λ (x : Entry). x.cost) is))) ∙ cheaper_none best)
+    sym (ap (cheaper best) (dear_is_none (days_on limited c.args.at.day old) e (omega (arith, c.if-from-limited.true, ap (λ (x : Entry). x.cost) is))) ∙ cheaper_none best)
 
 pub go_on-requires-clause-entries : goal.go_on-requires-clause-entries
 go_on-requires-clause-entries c =
     subst (λ earlier. All (IsEntryOf (days_on c.args.limited.now (suc c.args.at.day) earlier)) (drop c.args.at.end c.offers.rows.items)) (sym c.offers.invariant.front) c.offers.invariant.entries
+
+pub go_on-requires-clause-ahead : goal.go_on-requires-clause-ahead
+go_on-requires-clause-ahead c =
+    let limited = c.args.limited.now in
+    let rows = c.args.rows.now.items in
+    let is = c.index-from.ensures ∙ read_entry rows rows c.args.at.end c.args.before c.index-from.result.now refl c.requires.before c.requires.end in
+    subst (λ old. IsAhead limited c.args.at.day (entry_numbered old c.args.before).state c.ahead_of-ahead.result) (sym c.offers.invariant.front)
+    (subst (λ (e : Entry). IsAhead limited c.args.at.day e.state c.ahead_of-ahead.result) is c.ahead_of-ahead.ensures)
 
 pub returns-then-not-go_on-clause-entries : goal.returns-then-not-go_on-clause-entries
 returns-then-not-go_on-clause-entries c =
@@ -55,9 +63,9 @@ offers-preserved c =
       long = c.go_on.ensures.length;
       entries = subst (λ earlier. All (IsEntryOf (days_on limited (suc at.day) earlier)) now) c.offers.invariant.front c.go_on.ensures.entries;
       best = gathered (best_by days at.day (entry_numbered old c.args.before)) offers c.offers.offer _ _ _ _ inside c.offers.invariant.best next;
-      from = omega (arith, c.go_on.ensures.counted.0, c.offers.invariant.from);
-      meter = omega (arith, c.go_on.ensures.counted.1, c.offers.invariant.meter);
-      each = omega (arith, c.go_on.ensures.each, c.offers.invariant.each);
+      from = omega (arith, c.go_on.ensures.counted, c.offers.invariant.from);
+      meter = omega (arith, c.go_on.ensures.counted, c.offers.invariant.meter);
+      each = omega (arith, c.go_on.ensures.counted, c.go_on.ensures.few, c.offers.invariant.each);
     }
 
 pub returns-clause-best : goal.returns-clause-best

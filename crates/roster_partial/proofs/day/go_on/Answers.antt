@@ -1,4 +1,4 @@
-use Rattle.std.proofs.Common.{◌≡◌, ◌∙◌, ◌+◌, ◌-◌, ap, arith, drop, Some, refl, slice_index_or, suc, sym, subst, take, ℕ}
+use Rattle.std.proofs.Common.{◌≡◌, ◌∙◌, ◌+◌, ◌-◌, ◌≤◌, ap, arith, drop, Some, refl, slice_index_or, suc, sym, subst, take, ℕ}
 use Rattle.roster_instance.specs.declared.choice.Choice.TheVariants.{Off}
 use Rattle.roster_instance.specs.Meaning.{day_count}
 use Rattle.roster_state.specs.Step.{step_of}
@@ -7,6 +7,10 @@ use Rattle.roster_search.specs.Offers.{best_of_offers, dearer, offer_step}
 use Rattle.roster_search.specs.Cheapest.{cheaper, cheapest}
 use Rattle.roster_search.specs.declared.offer.Offer.{Offer}
 use Rattle.roster_search.proofs.Cheapest.{cheaper_none}
+use Rattle.std.proofs.lemmas.List.Elements.{All-get_or}
+use Rattle.roster_state.specs.Worked.{IsWorkedDay}
+use Rattle.roster_search.specs.Tables.{IsOfferOf, most_price}
+use Rattle.roster_floors.specs.Least.{IsBeside}
 use Rattle.roster_partial.specs.declared.rows.Entry.{Entry}
 use Rattle.roster_partial.specs.Rows.{Days, best_by, best_of, entry_numbered, offer_numbered}
 use Rattle.roster_partial.specs.Searches.{days_on}
@@ -20,13 +24,13 @@ returns-in_default-clause-best c = λ _.
     let earlier = take c.args.at.end c.args.rows.now.items in
     let days : Days = days_on c.args.limited.now (suc day) earlier in
     let e = c.index-from.result.now in
-    let from : entry_numbered earlier c.args.link.before ≡ e = taken_entry c.args.rows.now.items c.args.at.end c.args.link.before e c.requires.before c.requires.end c.index-from.ensures in
+    let from : entry_numbered earlier c.args.going.link.before ≡ e = taken_entry c.args.rows.now.items c.args.at.end c.args.going.link.before e c.requires.before c.requires.end c.index-from.ensures in
     let read : c.as_slice-day_offers.result.now ≡ offers_on search.offers.now day = c.as_slice-day_offers.ensures.value ∙ sym (read_day search.offers.now day c.index-offers-at.result (omega (arith, c.requires.day, c.requires.search.floors.offers.days)) c.index-offers-at.is) in
-    let x : Offer = slice_index_or c.as_slice-day_offers.result.now c.args.link.offer (record { choice = Off; price = 0 }) in
-    let same : x ≡ offer_numbered (offers_on search.offers.now day) c.args.link.offer = ap (λ xs. slice_index_or xs c.args.link.offer (record { choice = Off; price = 0 })) read in
-    let step : offer_step search.case.now search.nurse day e.state x ≡ dearer x.price c.extend_by.result = ap (dearer x.price) (ap (step_of search.case.now search.nurse day e.state) (sym c.shift-shift.ensures) ∙ sym c.extend_by.ensures.step) in
+    let x : Offer = slice_index_or c.as_slice-day_offers.result.now c.args.going.link.offer (record { choice = Off; price = 0 }) in
+    let same : x ≡ offer_numbered (offers_on search.offers.now day) c.args.going.link.offer = ap (λ xs. slice_index_or xs c.args.going.link.offer (record { choice = Off; price = 0 })) read in
+    let step : offer_step search.case.now search.nurse day e.state x ≡ dearer x.price c.extend_ahead.result = ap (dearer x.price) (ap (step_of search.case.now search.nurse day e.state) (sym c.shift-shift.ensures) ∙ sym c.extend_ahead.ensures.step) in
     let kept = cheapest (best_of days) (drop c.args.at.end c.args.rows.now.items) in
-    let wanted : best_by days day e x ≡ best_by days day (entry_numbered earlier c.args.link.before) (offer_numbered (offers_on search.offers.now day) c.args.link.offer) = (λ i. best_by days day (sym from i) (same i)) in
+    let wanted : best_by days day e x ≡ best_by days day (entry_numbered earlier c.args.going.link.before) (offer_numbered (offers_on search.offers.now day) c.args.going.link.offer) = (λ i. best_by days day (sym from i) (same i)) in
     let none = by_forbidden days day e x (step ∙ ap (dearer x.price) c.in_default.is) in
     sym (ap (cheaper kept) (sym wanted ∙ none) ∙ cheaper_none kept)
 
@@ -37,13 +41,13 @@ returns-then-is_dear-clause-best c = λ _.
     let earlier = take c.args.at.end c.args.rows.now.items in
     let days : Days = days_on c.args.limited.now (suc day) earlier in
     let e = c.index-from.result.now in
-    let from : entry_numbered earlier c.args.link.before ≡ e = taken_entry c.args.rows.now.items c.args.at.end c.args.link.before e c.requires.before c.requires.end c.index-from.ensures in
+    let from : entry_numbered earlier c.args.going.link.before ≡ e = taken_entry c.args.rows.now.items c.args.at.end c.args.going.link.before e c.requires.before c.requires.end c.index-from.ensures in
     let read : c.as_slice-day_offers.result.now ≡ offers_on search.offers.now day = c.as_slice-day_offers.ensures.value ∙ sym (read_day search.offers.now day c.index-offers-at.result (omega (arith, c.requires.day, c.requires.search.floors.offers.days)) c.index-offers-at.is) in
-    let x : Offer = slice_index_or c.as_slice-day_offers.result.now c.args.link.offer (record { choice = Off; price = 0 }) in
-    let same : x ≡ offer_numbered (offers_on search.offers.now day) c.args.link.offer = ap (λ xs. slice_index_or xs c.args.link.offer (record { choice = Off; price = 0 })) read in
-    let step : offer_step search.case.now search.nurse day e.state x ≡ dearer x.price c.extend_by.result = ap (dearer x.price) (ap (step_of search.case.now search.nurse day e.state) (sym c.shift-shift.ensures) ∙ sym c.extend_by.ensures.step) in
+    let x : Offer = slice_index_or c.as_slice-day_offers.result.now c.args.going.link.offer (record { choice = Off; price = 0 }) in
+    let same : x ≡ offer_numbered (offers_on search.offers.now day) c.args.going.link.offer = ap (λ xs. slice_index_or xs c.args.going.link.offer (record { choice = Off; price = 0 })) read in
+    let step : offer_step search.case.now search.nurse day e.state x ≡ dearer x.price c.extend_ahead.result = ap (dearer x.price) (ap (step_of search.case.now search.nurse day e.state) (sym c.shift-shift.ensures) ∙ sym c.extend_ahead.ensures.step) in
     let kept = cheapest (best_of days) (drop c.args.at.end c.args.rows.now.items) in
-    let wanted : best_by days day e x ≡ best_by days day (entry_numbered earlier c.args.link.before) (offer_numbered (offers_on search.offers.now day) c.args.link.offer) = (λ i. best_by days day (sym from i) (same i)) in
+    let wanted : best_by days day e x ≡ best_by days day (entry_numbered earlier c.args.going.link.before) (offer_numbered (offers_on search.offers.now day) c.args.going.link.offer) = (λ i. best_by days day (sym from i) (same i)) in
     let next : suc day ≡ day + 1 = omega arith in
     let none = by_dear days day e x c.in-Some.step.0 (x.price + c.in-Some.step.1) (step ∙ ap (dearer x.price) c.in-Some.is) (λ rest row is. omega (arith, c.if-is_dear.ensures.dear refl rest row (subst (λ (n : ℕ). best_of_offers search.case.now search.nurse (offers_on search.offers.now) (day_count search.case.now - n) n c.in-Some.step.0 ≡ Some (rest, row)) next is))) in
     sym (ap (cheaper kept) (sym wanted ∙ none) ∙ cheaper_none kept)
@@ -55,13 +59,38 @@ returns-clause-best c = λ is.
     let earlier = take c.args.at.end c.args.rows.now.items in
     let days : Days = days_on c.args.limited.now (suc day) earlier in
     let e = c.index-from.result.now in
-    let from : entry_numbered earlier c.args.link.before ≡ e = taken_entry c.args.rows.now.items c.args.at.end c.args.link.before e c.requires.before c.requires.end c.index-from.ensures in
+    let from : entry_numbered earlier c.args.going.link.before ≡ e = taken_entry c.args.rows.now.items c.args.at.end c.args.going.link.before e c.requires.before c.requires.end c.index-from.ensures in
     let read : c.as_slice-day_offers.result.now ≡ offers_on search.offers.now day = c.as_slice-day_offers.ensures.value ∙ sym (read_day search.offers.now day c.index-offers-at.result (omega (arith, c.requires.day, c.requires.search.floors.offers.days)) c.index-offers-at.is) in
-    let x : Offer = slice_index_or c.as_slice-day_offers.result.now c.args.link.offer (record { choice = Off; price = 0 }) in
-    let same : x ≡ offer_numbered (offers_on search.offers.now day) c.args.link.offer = ap (λ xs. slice_index_or xs c.args.link.offer (record { choice = Off; price = 0 })) read in
-    let step : offer_step search.case.now search.nurse day e.state x ≡ dearer x.price c.extend_by.result = ap (dearer x.price) (ap (step_of search.case.now search.nurse day e.state) (sym c.shift-shift.ensures) ∙ sym c.extend_by.ensures.step) in
+    let x : Offer = slice_index_or c.as_slice-day_offers.result.now c.args.going.link.offer (record { choice = Off; price = 0 }) in
+    let same : x ≡ offer_numbered (offers_on search.offers.now day) c.args.going.link.offer = ap (λ xs. slice_index_or xs c.args.going.link.offer (record { choice = Off; price = 0 })) read in
+    let step : offer_step search.case.now search.nurse day e.state x ≡ dearer x.price c.extend_ahead.result = ap (dearer x.price) (ap (step_of search.case.now search.nurse day e.state) (sym c.shift-shift.ensures) ∙ sym c.extend_ahead.ensures.step) in
     let kept = cheapest (best_of days) (drop c.args.at.end c.args.rows.now.items) in
-    let wanted : best_by days day e x ≡ best_by days day (entry_numbered earlier c.args.link.before) (offer_numbered (offers_on search.offers.now day) c.args.link.offer) = (λ i. best_by days day (sym from i) (same i)) in
-    let more : (m : Entry) → m.state ≡ c.in-Some.step.0 → m.cost ≡ e.cost + x.price + c.in-Some.step.1 → m.before ≡ c.args.link.before → m.offer ≡ c.args.link.offer → best_of days m ≡ best_by days day e x
+    let wanted : best_by days day e x ≡ best_by days day (entry_numbered earlier c.args.going.link.before) (offer_numbered (offers_on search.offers.now day) c.args.going.link.offer) = (λ i. best_by days day (sym from i) (same i)) in
+    let more : (m : Entry) → m.state ≡ c.in-Some.step.0 → m.cost ≡ e.cost + x.price + c.in-Some.step.1 → m.before ≡ c.args.going.link.before → m.offer ≡ c.args.going.link.offer → best_of days m ≡ best_by days day e x
     = λ m state cost before offer. by_entry days day e x c.in-Some.step.0 (x.price + c.in-Some.step.1) (step ∙ ap (dearer x.price) c.in-Some.is) m refl state (omega (arith, cost)) (ap (entry_numbered earlier) before ∙ from) (ap (offer_numbered (offers_on search.offers.now day)) offer ∙ sym same) in
     c.put.ensures.best is (best_by days day e x) more ∙ ap (cheaper kept) wanted
+
+pub extend_ahead-requires-clause-worked : goal.extend_ahead-requires-clause-worked
+extend_ahead-requires-clause-worked c =
+    let limited = c.args.limited.now in
+    let search = limited.floors.search in
+    let from = taken_entry c.args.rows.now.items c.args.at.end c.args.going.link.before c.index-from.result.now c.requires.before c.requires.end c.index-from.ensures in
+    subst (λ (e : Entry). IsWorkedDay search.case.now search.nurse c.args.at.day e.state c.args.going.ahead.worked) from c.requires.ahead.worked
+
+pub overflow_add-cost-2 : goal.overflow_add-cost-2
+overflow_add-cost-2 c =
+    let search = c.args.limited.now.floors.search in
+    let from = taken_entry c.args.rows.now.items c.args.at.end c.args.going.link.before c.index-from.result.now c.requires.before c.requires.end c.index-from.ensures in
+    let read : c.as_slice-day_offers.result.now ≡ offers_on search.offers.now c.args.at.day = c.as_slice-day_offers.ensures.value ∙ sym (read_day search.offers.now c.args.at.day c.index-offers-at.result (omega (arith, c.requires.day, c.requires.search.floors.offers.days)) c.index-offers-at.is) in
+    let none : Offer = record { choice = Off; price = 0 } in
+    let of_case = All-get_or (IsOfferOf search.case.now) (offers_on search.offers.now c.args.at.day) c.args.going.link.offer none c.requires.offer (c.requires.search.floors.offers.each c.args.at.day c.requires.day).of_case in
+    let price : (slice_index_or c.as_slice-day_offers.result.now c.args.going.link.offer none).price ≤ most_price = subst (λ xs. (slice_index_or xs c.args.going.link.offer none).price ≤ most_price) (sym read) of_case.price in
+    omega (arith, price, c.in-Some.ensures.within, c.requires.low, ap (λ (e : Entry). e.cost) from)
+
+pub beside_after-beside-requires-clause-worked : goal.beside_after-beside-requires-clause-worked
+beside_after-beside-requires-clause-worked c works =
+    let limited = c.args.limited.now in
+    let search = limited.floors.search in
+    let same = c.in-Some.ensures.works works in
+    subst (λ a. IsBeside search.case.now search.nurse limited.floors.rates (c.args.at.day + 1) a c.in-Some.step.0.weekends c.args.going.ahead.beside) (sym same.0)
+    (subst (λ w. IsBeside search.case.now search.nurse limited.floors.rates (c.args.at.day + 1) c.args.going.ahead.worked.assignments w c.args.going.ahead.beside) (sym same.1) c.requires.ahead.beside)

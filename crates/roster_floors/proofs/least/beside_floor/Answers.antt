@@ -1,0 +1,19 @@
+use Rattle.std.proofs.Common.{◌≡◌, ◌+◌, ◌*◌, ap, arith}
+use Rattle.roster_floors.specs.Least.{days_to_come, weekends_to_come}
+use Rattle.roster_floors.proofs.CountLaws.{taken_small}
+use Rattle.roster_floors.proofs.least.beside_floor.Goals as goal
+
+pub overflow_add-result : goal.overflow_add-result
+overflow_add-result c = omega (arith, taken_small c.args.floors.now.rates.day 20 c.min-days.result 65536 c.requires.ready.small.day (omega (arith, c.min-days.ensures, c.ranges.day.fits)), taken_small c.args.floors.now.rates.weekend 30 c.min-weekends.result 65536 c.requires.ready.small.weekend (omega (arith, c.min-weekends.ensures)))
+
+pub returns : goal.returns
+returns c =
+    let floors = c.args.floors.now in
+    let k = floors.search.case.now in
+    let n = floors.search.nurse in
+    let days : c.min-days.result ≡ days_to_come k n c.args.day c.args.assignments = omega (arith, c.min-days.ensures, c.assignments.ensures, c.requires.ready.days, ap (λ z. z.assignments) c.requires.ready.ranges, c.requires.day) in
+    let weekends : c.min-weekends.result ≡ weekends_to_come k n c.args.day c.args.weekends = omega (arith, c.min-weekends.ensures, c.weekends.ensures, c.requires.ready.days, ap (λ z. z.weekends) c.requires.ready.ranges, c.requires.day) in
+    record {
+      more = omega (arith, days, c.saturating_sub-missing.ensures, c.requires.ready.least);
+      less = (λ i. floors.rates.day * days i + floors.rates.weekend * weekends i);
+    }
