@@ -4,7 +4,7 @@ use Rattle.std.specs.Prelude.{◌≡◌, ◌+◌, ◌-◌, ◌*◌, ◌<◌, ◌
 use Rattle.roster_instance.specs.declared.choice.Choice.{Choice}
 use Rattle.roster_instance.specs.Choices.{shift_of}
 use Rattle.roster_instance.specs.Limits.{most_shifts, most_skills, most_small}
-use Rattle.roster_instance.specs.Meaning.{Meaning, day_count, nurse_count}
+use Rattle.roster_instance.specs.Meaning.{Meaning, contract_of, day_count, nurse_count}
 use Rattle.roster_rules.specs.Prefix.{Summary}
 use Rattle.roster_instance.specs.Rosters.{is_choice_of}
 use Rattle.roster_rules.specs.Weights.{off_request_weight, staffing_weight, wish_weight}
@@ -14,8 +14,10 @@ use Rattle.roster_state.specs.Areas.{InArea, area_at}
 use Rattle.roster_state.specs.Codes.{Sizes, code_of, fits_sizes, product, shift_digit, sizes_of}
 use Rattle.roster_state.specs.Standing.{can_be}
 use Rattle.roster_state.specs.Stretches.{stretch_state}
+use Rattle.roster_state.specs.Worked.{IsWorkedDay}
 use Rattle.roster_state.specs.Step.{end_cost_of, step_of, with_assignments, with_weekends}
 use Rattle.roster_search.specs.declared.day.SearchDay.{SearchDay}
+use Rattle.roster_search.specs.declared.labels.StretchDay.{StretchDay}
 use Rattle.roster_search.specs.declared.offer.Offer.{Offer}
 use Rattle.roster_search.specs.ByStates.{best_after}
 use Rattle.roster_search.specs.Cheapest.{Priced, cheapest}
@@ -155,6 +157,11 @@ pub record IsStretchOf (c : Meaning) (at : SearchDay) (here : List Area) (stretc
   pub assignments : stretch.end ≤ at.ranges.assignments
   pub short : stretch.rows * at.ranges.assignments ≤ most_places
   pub stands : (i b : ℕ) → i < stretch.rows → b < stretch.end - stretch.from → Stands c at.nurse here (stretch_state stretch.block stretch.from i b)
+
+-- the rules are the nurse's, and what a worked day brings is what it brings to the first state
+pub record IsStretchDay (c : Meaning) (at : SearchDay) (from : StretchDay) : Type 0 where
+  pub rules : from.rules ≡ contract_of c at.nurse
+  pub worked : IsWorkedDay c at.nurse at.day (with_assignments from.stretch.block from.stretch.from) from.worked
 
 -- the label and the pointer of the state with so many assignments are those of the least of some offers
 abbrev pub LeastFrom : Meaning → SearchDay → BestOnward → Summary → List Offer → ℕ → ℕ → ℕ → Type 0

@@ -14,13 +14,16 @@ ghost use Rattle.roster_state.specs.Stretches.{IsAlike};
 ghost use Rattle.roster_lanes.specs.Lanes.{SameOutside};
 ghost use Rattle.roster_search.specs.Halves.{IsWritten};
 ghost use Rattle.roster_search.specs.Counts.{states_on, states_with};
-ghost use Rattle.roster_search.specs.Tables.{AreLabels, ArePointers, Around, IsReady, IsStretchOf, LabelsOf, PointersOf, PlacesKept, RunCells, Stands, StandsLike, StretchCells, best_at_end, best_on, label_of, most_places, no_row};
+ghost use Rattle.roster_search.specs.Tables.{AreLabels, ArePointers, Around, IsReady, IsStretchDay, IsStretchOf, LabelsOf, PointersOf, PlacesKept, RunCells, Stands, StandsLike, StretchCells, best_at_end, best_on, label_of, most_places, no_row};
 
 use crate::day::OpenDay;
 use crate::pointers::Pointers;
 use roster_lanes::{lower_all, set_all};
-use roster_rules::Case;
-use roster_state::{AREAS, Area, Block, Meter, Ranges, Stretch, end_cost, extend_stretch};
+use roster_rules::{Case, ContractRules};
+use roster_state::{
+    AREAS, Area, Block, Meter, NurseDays, Ranges, Stretch, WorkedDay, end_cost,
+    extend_stretch_ahead, worked_stretch,
+};
 
 /// The label of a state from which no row goes on. Each row costs less.
 pub const NO_ROW: u32 = 1_073_741_824;
@@ -416,6 +419,15 @@ fn put_run(labels: &mut [u32], first: usize, run: &[u32])
     labels[first..first + run.len()].copy_from_slice(run);
 }
 
+/// A stretch from which a day is taken by one offer after another: the nurse's rules, and what a worked day brings to the first state,
+/// whatever the shift.
+#[derive(Clone, Copy)]
+struct StretchDay {
+    stretch: Stretch,
+    rules: ContractRules,
+    worked: WorkedDay,
+}
+
 /// The labels of a stretch, and for each place the number of the offer with which the best row begins, by all offers of the day.
 fn label_run(
     day: &OpenDay<'_>,
@@ -436,12 +448,20 @@ fn label_run(
     ensures lengths { (length labels.new ≡ length labels.old) × (length numbers.new ≡ length numbers.old) }
     ensures counted { meter.new ≡ meter.old + length day.now.offers.now * (stretch.now.rows * (stretch.now.end - stretch.now.from)) }
 {
+    let (case, nurse) = (day.case, day.at.nurse);
+    let rules = case.contract_rules(nurse);
+    let days = NurseDays { case, nurse, rules };
+    let from = StretchDay {
+        stretch: *stretch,
+        rules,
+        worked: worked_stretch(&days, day.at.day, stretch),
+    };
     let mut is_set = false;
     for place in 0..day.offers.len() {
         if is_set {
-            lower_run(day, stretch, place, labels, numbers, meter);
+            lower_run(day, &from, place, labels, numbers, meter);
         } else {
-            is_set = set_run(day, stretch, place, labels, numbers, meter);
+            is_set = set_run(day, &from, place, labels, numbers, meter);
         }
     }
     if !is_set {
@@ -454,7 +474,7 @@ fn label_run(
 /// answer is whether it is allowed.
 fn set_run(
     day: &OpenDay<'_>,
-    stretch: &Stretch,
+    from: &StretchDay,
     place: usize,
     labels: &mut [u32],
     numbers: &mut [u8],
@@ -462,23 +482,30 @@ fn set_run(
 ) -> bool
     ghost rest: { Around }
     requires ready { IsReady day.now.case.now day.now.at rest day.now.offers.now day.now.later.now }
-    requires stretch { IsStretchOf day.now.case.now day.now.at rest.here stretch.now }
-    requires alike { IsAlike day.now.case.now day.now.at.nurse day.now.at.day stretch.now.block stretch.now.rows stretch.now.from stretch.now.end }
+    requires stretch { IsStretchOf day.now.case.now day.now.at rest.here from.now.stretch }
+    requires alike { IsAlike day.now.case.now day.now.at.nurse day.now.at.day from.now.stretch.block from.now.stretch.rows from.now.stretch.from from.now.stretch.end }
     requires place { place < length day.now.offers.now }
-    requires labels_length { length labels.old ≡ (stretch.now.rows - 1) * day.now.at.ranges.assignments + (stretch.now.end - stretch.now.from) }
-    requires numbers_length { length numbers.old ≡ (stretch.now.rows - 1) * day.now.at.ranges.assignments + (stretch.now.end - stretch.now.from) }
-    requires none { RunCells day.now.case.now day.now.at rest.best stretch.now (take place day.now.offers.now) (replicate (length labels.old) no_row) (replicate (length labels.old) 0) }
-    requires room { meter.old + stretch.now.rows * (stretch.now.end - stretch.now.from) ≤ greatest_u64 }
-    ensures least { result ≡ true → RunCells day.now.case.now day.now.at rest.best stretch.now (take (place + 1) day.now.offers.now) labels.new numbers.new }
+    requires labels_length { length labels.old ≡ (from.now.stretch.rows - 1) * day.now.at.ranges.assignments + (from.now.stretch.end - from.now.stretch.from) }
+    requires numbers_length { length numbers.old ≡ (from.now.stretch.rows - 1) * day.now.at.ranges.assignments + (from.now.stretch.end - from.now.stretch.from) }
+    requires none { RunCells day.now.case.now day.now.at rest.best from.now.stretch (take place day.now.offers.now) (replicate (length labels.old) no_row) (replicate (length labels.old) 0) }
+    requires room { meter.old + from.now.stretch.rows * (from.now.stretch.end - from.now.stretch.from) ≤ greatest_u64 }
+    requires from { IsStretchDay day.now.case.now day.now.at from.now }
+    ensures least { result ≡ true → RunCells day.now.case.now day.now.at rest.best from.now.stretch (take (place + 1) day.now.offers.now) labels.new numbers.new }
     ensures small { result ≡ true → (a : ℕ) → a < length numbers.new → slice_index_or numbers.new a 0 < 16 }
-    ensures none { result ≡ false → RunCells day.now.case.now day.now.at rest.best stretch.now (take (place + 1) day.now.offers.now) (replicate (length labels.new) no_row) (replicate (length labels.new) 0) }
+    ensures none { result ≡ false → RunCells day.now.case.now day.now.at rest.best from.now.stretch (take (place + 1) day.now.offers.now) (replicate (length labels.new) no_row) (replicate (length labels.new) 0) }
     ensures lengths { (length labels.new ≡ length labels.old) × (length numbers.new ≡ length numbers.old) }
-    ensures counted { meter.new ≡ meter.old + stretch.now.rows * (stretch.now.end - stretch.now.from) }
+    ensures counted { meter.new ≡ meter.old + from.now.stretch.rows * (from.now.stretch.end - from.now.stretch.from) }
 {
     let at = day.at;
     let offer = day.offers[place];
     let shift = offer.choice.shift();
-    let Some(step) = extend_stretch(day.case, at.nurse, at.day, *stretch, shift, meter) else {
+    let days = NurseDays {
+        case: day.case,
+        nurse: at.nurse,
+        rules: from.rules,
+    };
+    let (stretch, worked) = (&from.stretch, &from.worked);
+    let Some(step) = extend_stretch_ahead(&days, at.day, stretch, worked, shift, meter) else {
         return false;
     };
     let after = step.0.code(&at.ranges) as usize;
@@ -492,7 +519,7 @@ fn set_run(
 /// first stays.
 fn lower_run(
     day: &OpenDay<'_>,
-    stretch: &Stretch,
+    from: &StretchDay,
     place: usize,
     labels: &mut [u32],
     numbers: &mut [u8],
@@ -500,23 +527,30 @@ fn lower_run(
 )
     ghost rest: { Around }
     requires ready { IsReady day.now.case.now day.now.at rest day.now.offers.now day.now.later.now }
-    requires stretch { IsStretchOf day.now.case.now day.now.at rest.here stretch.now }
-    requires alike { IsAlike day.now.case.now day.now.at.nurse day.now.at.day stretch.now.block stretch.now.rows stretch.now.from stretch.now.end }
+    requires stretch { IsStretchOf day.now.case.now day.now.at rest.here from.now.stretch }
+    requires alike { IsAlike day.now.case.now day.now.at.nurse day.now.at.day from.now.stretch.block from.now.stretch.rows from.now.stretch.from from.now.stretch.end }
     requires place { place < length day.now.offers.now }
-    requires labels_length { length labels.old ≡ (stretch.now.rows - 1) * day.now.at.ranges.assignments + (stretch.now.end - stretch.now.from) }
-    requires numbers_length { length numbers.old ≡ (stretch.now.rows - 1) * day.now.at.ranges.assignments + (stretch.now.end - stretch.now.from) }
-    requires least { RunCells day.now.case.now day.now.at rest.best stretch.now (take place day.now.offers.now) labels.old numbers.old }
+    requires labels_length { length labels.old ≡ (from.now.stretch.rows - 1) * day.now.at.ranges.assignments + (from.now.stretch.end - from.now.stretch.from) }
+    requires numbers_length { length numbers.old ≡ (from.now.stretch.rows - 1) * day.now.at.ranges.assignments + (from.now.stretch.end - from.now.stretch.from) }
+    requires least { RunCells day.now.case.now day.now.at rest.best from.now.stretch (take place day.now.offers.now) labels.old numbers.old }
     requires small { (a : ℕ) → a < length numbers.old → slice_index_or numbers.old a 0 < 16 }
-    requires room { meter.old + stretch.now.rows * (stretch.now.end - stretch.now.from) ≤ greatest_u64 }
-    ensures least { RunCells day.now.case.now day.now.at rest.best stretch.now (take (place + 1) day.now.offers.now) labels.new numbers.new }
+    requires room { meter.old + from.now.stretch.rows * (from.now.stretch.end - from.now.stretch.from) ≤ greatest_u64 }
+    requires from { IsStretchDay day.now.case.now day.now.at from.now }
+    ensures least { RunCells day.now.case.now day.now.at rest.best from.now.stretch (take (place + 1) day.now.offers.now) labels.new numbers.new }
     ensures small { (a : ℕ) → a < length numbers.new → slice_index_or numbers.new a 0 < 16 }
     ensures lengths { (length labels.new ≡ length labels.old) × (length numbers.new ≡ length numbers.old) }
-    ensures counted { meter.new ≡ meter.old + stretch.now.rows * (stretch.now.end - stretch.now.from) }
+    ensures counted { meter.new ≡ meter.old + from.now.stretch.rows * (from.now.stretch.end - from.now.stretch.from) }
 {
     let at = day.at;
     let offer = day.offers[place];
     let shift = offer.choice.shift();
-    if let Some(step) = extend_stretch(day.case, at.nurse, at.day, *stretch, shift, meter) {
+    let days = NurseDays {
+        case: day.case,
+        nurse: at.nurse,
+        rules: from.rules,
+    };
+    let (stretch, worked) = (&from.stretch, &from.worked);
+    if let Some(step) = extend_stretch_ahead(&days, at.day, stretch, worked, shift, meter) {
         let after = step.0.code(&at.ranges) as usize;
         let others = &day.later[after..after + labels.len()];
         let points = offer.price + step.1;

@@ -2,7 +2,7 @@ use Rattle.std.proofs.Common.{◌≡◌, ◌∙◌, ◌-◌, ◌*◌, ◌+◌, �
 use Rattle.std.proofs.lemmas.List.{get_or-replicate, take_all}
 use Rattle.roster_state.specs.Stretches.{stretch_state}
 use Rattle.std.proofs.Math.Path.{transport}
-use Rattle.roster_search.specs.Tables.{AreOfLeast, best_by, no_row, RunCells}
+use Rattle.roster_search.specs.Tables.{AreOfLeast, IsStretchDay, best_by, no_row, RunCells}
 use Rattle.roster_search.proofs.LabelLaws.{least_of_none}
 use Rattle.roster_search.proofs.StretchLaws.{in_stretch}
 use Rattle.roster_search.proofs.CellLaws.{room_for_more}
@@ -19,7 +19,8 @@ lower_run-requires g c =
     let labels_length : length c.loop-place.labels ≡ count = old.labels_length ∙ r.1.1.1.0 in
     let numbers_length : length c.loop-place.numbers ≡ count = old.numbers_length ∙ r.1.1.1.1.0 in
     let room = room_for_more c.loop-place.place (length day.offers.now) (stretch.rows * (stretch.end - stretch.from)) c.args.meter.now c.loop-place.meter 18446744073709551615 c.loop-place-test.true old.counted r.1.1.1.1.1 in
-    (r.0, (r.1.0, (r.1.1.0, (c.loop-place-test.true, (labels_length, (numbers_length, (old.least c.if-is_set.true, (old.small c.if-is_set.true, room))))))))
+    let known : IsStretchDay day.case.now day.at (record { stretch = stretch; rules = c.contract_rules-rules.result; worked = c.worked_stretch.result }) = record { rules = c.contract_rules-rules.ensures.rules; worked = c.worked_stretch.ensures } in
+    (r.0, (r.1.0, (r.1.1.0, (c.loop-place-test.true, (labels_length, (numbers_length, (old.least c.if-is_set.true, (old.small c.if-is_set.true, (room, known)))))))))
 
 pub set_run-is_set-requires : goal.set_run-is_set-requires
 set_run-is_set-requires g c =
@@ -31,7 +32,8 @@ set_run-is_set-requires g c =
     let labels_length : length c.loop-place.labels ≡ count = old.labels_length ∙ r.1.1.1.0 in
     let numbers_length : length c.loop-place.numbers ≡ count = old.numbers_length ∙ r.1.1.1.1.0 in
     let room = room_for_more c.loop-place.place (length day.offers.now) (stretch.rows * (stretch.end - stretch.from)) c.args.meter.now c.loop-place.meter 18446744073709551615 c.loop-place-test.true old.counted r.1.1.1.1.1 in
-    (r.0, (r.1.0, (r.1.1.0, (c.loop-place-test.true, (labels_length, (numbers_length, (old.none c.if-is_set.false, room)))))))
+    let known : IsStretchDay day.case.now day.at (record { stretch = stretch; rules = c.contract_rules-rules.result; worked = c.worked_stretch.result }) = record { rules = c.contract_rules-rules.ensures.rules; worked = c.worked_stretch.ensures } in
+    (r.0, (r.1.0, (r.1.1.0, (c.loop-place-test.true, (labels_length, (numbers_length, (old.none c.if-is_set.false, (room, known))))))))
 
 pub loop-place-init : goal.loop-place-init
 loop-place-init g c =

@@ -18,8 +18,8 @@ later_room g c =
     let k = day.case.now in
     let offers = day.offers.now in
     let leads = All-get_or (LeadsOn k day.at g.rest.here g.rest.next) offers c.args.place no_offer r.1.1.1.0 r.0.leads in
-    let within : c.code-after.result + ((c.args.stretch.now.rows - 1) * day.at.ranges.assignments + (c.args.stretch.now.end - c.args.stretch.now.from)) ≤ product day.at.ranges =
-    stretch_within k day.at g.rest.best c.args.stretch.now offers c.args.place r.1.1.1.0 no_offer c.shift-shift.result c.shift-shift.ensures c.args.labels.now c.args.numbers.now r.1.1.1.1.1.1.0
+    let within : c.code-after.result + ((c.args.from.now.stretch.rows - 1) * day.at.ranges.assignments + (c.args.from.now.stretch.end - c.args.from.now.stretch.from)) ≤ product day.at.ranges =
+    stretch_within k day.at g.rest.best c.args.from.now.stretch offers c.args.place r.1.1.1.0 no_offer c.shift-shift.result c.shift-shift.ensures c.args.labels.now c.args.numbers.now r.1.1.1.1.1.1.0
     g.rest r.1.0 refl day.later.now r.0 leads c.in-Some.step c.in-Some.ensures.steps c.code-after.result c.code-after.ensures.code in
     omega (arith, within, r.0.all, r.1.1.1.1.0)
 
@@ -39,7 +39,7 @@ returns-in-Some-clause-least g c =
     let offers = day.offers.now in
     let leads = All-get_or (LeadsOn k day.at g.rest.here g.rest.next) offers c.args.place no_offer r.1.1.1.0 r.0.leads in
     let price = (All-get_or (IsOfferOf k) offers c.args.place no_offer r.1.1.1.0 r.0.offers).price in
-    stretch_lowered k day.at g.rest.best c.args.stretch.now offers c.args.place r.1.1.1.0 no_offer c.shift-shift.result c.shift-shift.ensures c.args.labels.now c.args.numbers.now r.1.1.1.1.1.1.0
+    stretch_lowered k day.at g.rest.best c.args.from.now.stretch offers c.args.place r.1.1.1.0 no_offer c.shift-shift.result c.shift-shift.ensures c.args.labels.now c.args.numbers.now r.1.1.1.1.1.1.0
     g.rest r.1.0 refl day.later.now r.0 leads c.in-Some.step c.in-Some.ensures.steps c.code-after.result c.code-after.ensures.code
     _ c.lower_all.new.labels c.lower_all.new.pointers r.1.1.1.1.0 price c.in-Some.ensures.within
     (λ j below. get_or-between day.later.now c.code-after.result (c.code-after.result + length c.args.labels.now) j 0 (omega (arith, below)))
@@ -56,34 +56,34 @@ pub returns-in_default-clause-least : goal.returns-in_default-clause-least
 returns-in_default-clause-least g c =
     let r = c.requires in
     let day = c.args.day.now in
-    stretch_same day.case.now day.at g.rest.best c.args.stretch.now day.offers.now c.args.place r.1.1.1.0 no_offer c.shift-shift.result c.shift-shift.ensures c.args.labels.now c.args.numbers.now r.1.1.1.1.1.1.0
+    stretch_same day.case.now day.at g.rest.best c.args.from.now.stretch day.offers.now c.args.place r.1.1.1.0 no_offer c.shift-shift.result c.shift-shift.ensures c.args.labels.now c.args.numbers.now r.1.1.1.1.1.1.0
     c.in_default.ensures.steps
 
-pub extend_stretch-requires-clause-nurse : goal.extend_stretch-requires-clause-nurse
-extend_stretch-requires-clause-nurse g c = c.requires.0.day.nurse
-
-pub extend_stretch-requires-clause-day : goal.extend_stretch-requires-clause-day
-extend_stretch-requires-clause-day g c = c.requires.0.day.day
-
-pub extend_stretch-requires-clause-shift : goal.extend_stretch-requires-clause-shift
-extend_stretch-requires-clause-shift g c =
+pub extend_stretch_ahead-requires-clause-shift : goal.extend_stretch_ahead-requires-clause-shift
+extend_stretch_ahead-requires-clause-shift g c =
     let k = c.args.day.now.case.now in
     let offers = c.args.day.now.offers.now in
     let of_case = All-get_or (IsOfferOf k) offers c.args.place no_offer c.requires.1.1.1.0 c.requires.0.offers in
     subst (λ (x : Option Shift). IfSome x (λ u. u.0 < shift_count k)) (sym c.shift-shift.ensures) (shift_of_case k (slice_index_or offers c.args.place no_offer).choice of_case.choice)
 
-pub extend_stretch-requires-clause-fits : goal.extend_stretch-requires-clause-fits
-extend_stretch-requires-clause-fits g c = subst (λ (z : Sizes). fits_sizes z c.args.stretch.now.block ≡ true) c.requires.0.day.ranges c.requires.1.0.fits
+pub extend_stretch_ahead-requires-clause-fits : goal.extend_stretch_ahead-requires-clause-fits
+extend_stretch_ahead-requires-clause-fits g c = subst (λ (z : Sizes). fits_sizes z c.args.from.now.stretch.block ≡ true) c.requires.0.day.ranges c.requires.1.0.fits
 
-pub extend_stretch-requires-clause-places : goal.extend_stretch-requires-clause-places
-extend_stretch-requires-clause-places g c =
+pub extend_stretch_ahead-requires-clause-places : goal.extend_stretch_ahead-requires-clause-places
+extend_stretch_ahead-requires-clause-places g c =
     omega (arith, c.requires.1.0.some_places, c.requires.1.0.assignments, ap (λ (z : Sizes). z.assignments) c.requires.0.day.ranges)
 
-pub extend_stretch-requires-clause-alike : goal.extend_stretch-requires-clause-alike
-extend_stretch-requires-clause-alike g c = c.requires.1.1.0
+pub extend_stretch_ahead-requires-clause-alike : goal.extend_stretch_ahead-requires-clause-alike
+extend_stretch_ahead-requires-clause-alike g c = c.requires.1.1.0
 
-pub extend_stretch-requires-clause-room : goal.extend_stretch-requires-clause-room
-extend_stretch-requires-clause-room g c = c.requires.1.1.1.1.1.1.1.1
+pub extend_stretch_ahead-requires-clause-room : goal.extend_stretch_ahead-requires-clause-room
+extend_stretch_ahead-requires-clause-room g c = c.requires.1.1.1.1.1.1.1.1.0
+
+pub extend_stretch_ahead-requires-clause-rules : goal.extend_stretch_ahead-requires-clause-rules
+extend_stretch_ahead-requires-clause-rules g c = (c.requires.1.1.1.1.1.1.1.1.1).rules
+
+pub extend_stretch_ahead-requires-clause-worked : goal.extend_stretch_ahead-requires-clause-worked
+extend_stretch_ahead-requires-clause-worked g c = (c.requires.1.1.1.1.1.1.1.1.1).worked
 
 pub code-after-requires : goal.code-after-requires
 code-after-requires g c = subst (λ (z : Sizes). fits_sizes z c.in-Some.step.0 ≡ true) (sym c.requires.0.day.ranges) c.in-Some.ensures.next_fits
