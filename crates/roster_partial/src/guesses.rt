@@ -2,9 +2,6 @@
 //!
 //! Only time depends on it: whichever rates and limits a search begins with, it finds the same row.
 
-ghost use Rattle.std.specs.Prelude.{◌<◌};
-ghost use Rattle.roster_instance.specs.Meaning.{nurse_count};
-
 use crate::rates::{Aim, Guess};
 use roster_search::RowSearch;
 
@@ -21,6 +18,7 @@ struct Misses {
     waits: u8,
 }
 
+/// None yet.
 const NO_MISSES: Misses = Misses { count: 0, waits: 0 };
 
 /// After so many misses in a row no further one makes a nurse wait longer.
@@ -55,8 +53,8 @@ impl Guesses {
         }
     }
 
-    /// Whether a search for the nurse goes to the tables at once, since partial rows found nothing in earlier ones. It is one less then
-    /// for which that is so.
+    /// Whether a search for the nurse goes to the tables at once, since partial rows found nothing in earlier ones. Each search that
+    /// does is one fewer to come.
     pub(crate) fn waits(&mut self, nurse: usize) -> bool {
         match self.misses.get_mut(nurse) {
             Some(misses) if misses.waits > 0 => {

@@ -1,6 +1,6 @@
 //! The rates at which a search by partial rows has its floors.
 
-ghost use Rattle.std.specs.Prelude.{◌≡◌, ◌+◌, ◌*◌, ◌<◌, ◌≤◌, ◌⊎◌, IfSome, length, true};
+ghost use Rattle.std.specs.Prelude.{◌≡◌, ◌+◌, ◌*◌, ◌<◌, ◌≤◌, IfSome, length, true};
 ghost use Rattle.roster_bundle.specs.Limits.{greatest_u64};
 ghost use Rattle.roster_instance.specs.Meaning.{day_count, nurse_count};
 ghost use Rattle.roster_search.specs.Search.{AreOffers, offers_on};
@@ -74,7 +74,6 @@ pub fn set_best_floors(
     if most - meter.count() < 2 * steps_to_follow(search) {
         return None;
     }
-    let none = Rates { day: 0, weekend: 0 };
     let plan = plan_by(search, guess, most, meter);
     if !set_floors(search, plan.rates, floors) {
         return None;

@@ -68,6 +68,7 @@ impl PartialRoom {
         PartialRoom::with_floors(alloc, greatest_floors(case))
     }
 
+    /// Room for so many floors, and for the partial rows of any nurse.
     fn with_floors(alloc: Global, floors: usize) -> Result<PartialRoom, AllocError> {
         Ok(PartialRoom {
             floors: vec![in alloc; 0; floors]?,
@@ -129,47 +130,19 @@ pub fn search_row(
     let all = states * case.days() as u64 * choices;
     // The tables take so much less than each state on each day by each choice: on the first day no state but one stands.
     let spare = (states - 1) * choices;
-    if meter.room() >= spare + all {
+    if meter.room() >= spare + all && !room.guesses.waits(nurse) {
         let most = meter.count() + spare;
         if let Some(cost) = search_partial(search, room, most, row, meter) {
             return cost;
         }
+        room.guesses.miss(nurse);
     }
     roster_search::search_row(search, tables, row, meter)
 }
 
-/// Searches the best row by partial rows. None where they find it in no limit that is tried, where there isn't room, or where it came to
-/// that in earlier searches for the nurse.
-fn search_partial(
-    search: &RowSearch<'_>,
-    room: &mut PartialRoom,
-    most: u64,
-    row: &mut [Choice],
-    meter: &mut Meter,
-) -> Option<u32>
-    requires nurse { search.now.nurse < nurse_count search.now.case.now }
-    requires offers { AreOffers search.now.case.now search.now.nurse search.now.offers.now }
-    requires row_room { day_count search.now.case.now ≤ length row.old }
-    requires room { meter.old ≤ most }
-    ensures best { IfSome result (λ cost. IsFound (best_over search.now.case.now search.now.nurse (offers_on search.now.offers.now)) cost (take (day_count search.now.case.now) row.new)) }
-    ensures below { IfSome result (λ cost. cost < no_row) }
-    ensures each_day { IfSome result (λ cost. meter.old + day_count search.now.case.now ≤ meter.new) }
-    ensures counted { (meter.old ≤ meter.new) × (meter.new ≤ most) }
-    ensures length { length row.new ≡ length row.old }
-{
-    if room.guesses.waits(search.nurse) {
-        return None;
-    }
-    let found = search_limits(search, room, most, row, meter);
-    if found.is_none() {
-        room.guesses.miss(search.nurse);
-    }
-    found
-}
-
 /// Searches the best row by partial rows, within higher and higher limits: from the least cost that a row can have up to what one is
 /// known to cost. None where there isn't room, or where no limit that was tried was high enough.
-fn search_limits(
+fn search_partial(
     search: &RowSearch<'_>,
     room: &mut PartialRoom,
     most: u64,

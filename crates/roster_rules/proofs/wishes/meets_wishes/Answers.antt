@@ -1,4 +1,4 @@
-use Rattle.std.proofs.Common.{Bool, ◌≡◌, ◌∙◌, ◌+◌, ◌<◌, ◌&&◌, ◌||◌, ℕ, ap, arith, false, inl, inr, is_some, not, refl, slice_index_or, suc, sym, true, zero}
+use Rattle.std.proofs.Common.{Bool, ◌≡◌, ◌∙◌, ◌<◌, ◌&&◌, ◌||◌, ℕ, ap, arith, false, inl, inr, is_some, not, refl, slice_index_or, suc, sym, true, zero}
 use Rattle.std.proofs.lemmas.Bool.{cases_lt}
 use Rattle.roster_instance.specs.Counting.{all_below}
 use Rattle.roster_instance.specs.Days.{is_shift}

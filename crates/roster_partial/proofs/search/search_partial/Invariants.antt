@@ -1,5 +1,5 @@
 use Rattle.std.proofs.Common.{◌≡◌, ◌≤◌, length}
-use Rattle.roster_partial.proofs.search.search_limits.Given as goal
+use Rattle.roster_partial.proofs.search.search_partial.Given as goal
 
 abbrev pub invariant-limits : goal.invariant-limits
 invariant-limits l = record {
