@@ -18,7 +18,7 @@ use Rattle.roster_partial.proofs.RowLaws.{within_cheapest}
 
 module _ {Y X : Type 0} where
   -- with the next element
-  cheapest_next : (f : Y → Priced X) (ys : List Y) (k : ℕ) (d : Y) → k < length ys → cheapest f (take (suc k) ys) ≡ cheaper (cheapest f (take k ys)) (f (slice_index_or ys k d))
+  pub cheapest_next : (f : Y → Priced X) (ys : List Y) (k : ℕ) (d : Y) → k < length ys → cheapest f (take (suc k) ys) ≡ cheaper (cheapest f (take k ys)) (f (slice_index_or ys k d))
   cheapest_next f [] k d inside = absurd (omega (arith, inside))
   cheapest_next f (y ∷ ys) zero d inside = cheaper_none (f y)
   cheapest_next f (y ∷ ys) (suc k) d inside = ap (cheaper (f y)) (cheapest_next f ys k d (omega (arith, inside))) ∙ sym (grouped (f y) (cheapest f (take k ys)) (f (slice_index_or ys k d)))

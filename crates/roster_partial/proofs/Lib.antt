@@ -3,3 +3,4 @@ mod DaysLaws
 mod RowLaws
 mod SearchLaws
 mod StepLaws
+pub mod AllowedLaw

@@ -2,3 +2,4 @@ pub mod Counts
 pub mod Rates
 pub mod Rows
 pub mod Searches
+pub mod Allowed

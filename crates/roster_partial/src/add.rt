@@ -5,11 +5,14 @@ ghost use Rattle.roster_bundle.specs.Limits.{greatest_u64};
 ghost use Rattle.roster_instance.specs.Meaning.{day_count};
 ghost use Rattle.roster_search.specs.Cheapest.{cheaper, cheapest};
 ghost use Rattle.roster_search.specs.Search.{offers_on};
+ghost use Rattle.roster_partial.specs.Allowed.{IsAllowed};
 ghost use Rattle.roster_partial.specs.Rows.{IsEntryOf, best_of, entry_numbered};
 ghost use Rattle.roster_partial.specs.Searches.{IsSearch, days_on};
 
+use crate::allowed::allowed_on;
 use crate::day::{Going, LimitedSearch, Link, RowsDay, ahead_of, go_on};
 use crate::rows::{Entry, Seen};
+use roster_search::RowSearch;
 use roster_state::Meter;
 
 /// Goes on with each partial row of a day, which stand from a place on, by each of the day's offers. The answer is whether there was
@@ -38,19 +41,35 @@ pub fn add_day(
         day,
         end: rows.len(),
     };
+    let RowSearch { case, offers, .. } = limited.floors.search;
+    case.keeps_limits();
+    let lasts = limited.floors.ranges.last();
+    let allowed = allowed_on(case, lasts, offers[day as usize].as_slice());
     'befores: for before in first..at.end {
-        if !go_on_by_all(limited, at, before, rows, seen, meter) {
+        let last = rows[before].state.last_number();
+        let onward = Onward {
+            before,
+            allowed: allowed[last as usize].as_slice(),
+        };
+        if !go_on_by_all(limited, at, &onward, rows, seen, meter) {
             return false;
         }
     }
     true
 }
 
-/// Goes on with a partial row by each offer of its day. The answer is whether there was room.
+/// A partial row that is gone on with: its place in the list, and the places of the offers that may follow its last shift.
+#[derive(Clone, Copy)]
+struct Onward<'a> {
+    before: usize,
+    allowed: &'a [u8],
+}
+
+/// Goes on with a partial row by each offer of its day that may follow. The answer is whether there was room.
 fn go_on_by_all(
     limited: &LimitedSearch<'_>,
     at: RowsDay,
-    before: usize,
+    onward: &Onward<'_>,
     rows: &mut Vec<Entry>,
     seen: &mut Seen,
     meter: &mut Meter,
@@ -58,25 +77,28 @@ fn go_on_by_all(
     requires search { IsSearch limited.now }
     requires day { at.day < day_count limited.now.floors.search.case.now }
     requires end { at.end ≤ length rows.old.items }
-    requires before { before < at.end }
-    requires from { IsEntryOf (days_on limited.now at.day (take at.end rows.old.items)) (entry_numbered (take at.end rows.old.items) before) }
+    requires before { onward.now.before < at.end }
+    requires from { IsEntryOf (days_on limited.now at.day (take at.end rows.old.items)) (entry_numbered (take at.end rows.old.items) onward.now.before) }
+    requires allowed { IsAllowed limited.now.floors.search.case.now (entry_numbered (take at.end rows.old.items) onward.now.before).state.last (offers_on limited.now.floors.search.offers.now at.day) onward.now.allowed.now }
     requires entries { All (IsEntryOf (days_on limited.now (suc at.day) (take at.end rows.old.items))) (drop at.end rows.old.items) }
     requires room { meter.old + length (offers_on limited.now.floors.search.offers.now at.day) ≤ greatest_u64 }
     ensures front { take at.end rows.new.items ≡ take at.end rows.old.items }
     ensures length { at.end ≤ length rows.new.items }
     ensures entries { All (IsEntryOf (days_on limited.now (suc at.day) (take at.end rows.old.items))) (drop at.end rows.new.items) }
-    ensures best { result ≡ true → cheapest (best_of (days_on limited.now (suc at.day) (take at.end rows.old.items))) (drop at.end rows.new.items) ≡ cheaper (cheapest (best_of (days_on limited.now (suc at.day) (take at.end rows.old.items))) (drop at.end rows.old.items)) (best_of (days_on limited.now at.day (take at.end rows.old.items)) (entry_numbered (take at.end rows.old.items) before)) }
+    ensures best { result ≡ true → cheapest (best_of (days_on limited.now (suc at.day) (take at.end rows.old.items))) (drop at.end rows.new.items) ≡ cheaper (cheapest (best_of (days_on limited.now (suc at.day) (take at.end rows.old.items))) (drop at.end rows.old.items)) (best_of (days_on limited.now at.day (take at.end rows.old.items)) (entry_numbered (take at.end rows.old.items) onward.now.before)) }
     ensures counted { meter.new ≤ meter.old + length (offers_on limited.now.floors.search.offers.now at.day) }
     ensures each { length rows.new.items + meter.old ≤ length rows.old.items + meter.new }
 {
-    let from = rows[before];
+    let from = rows[onward.before];
     if from.cost > limited.limit {
         return true;
     }
     let ahead = ahead_of(limited, at.day, from.state);
-    let count = limited.floors.search.offers[at.day as usize].len();
-    'offers: for offer in 0..count {
-        let link = Link { before, offer };
+    'offers: for next in 0..onward.allowed.len() {
+        let link = Link {
+            before: onward.before,
+            offer: onward.allowed[next] as usize,
+        };
         if !go_on(limited, at, Going { link, ahead }, rows, seen, meter) {
             return false;
         }

@@ -7,6 +7,7 @@
 #![tactic(auto)]
 
 mod add;
+mod allowed;
 mod day;
 mod days;
 mod guesses;

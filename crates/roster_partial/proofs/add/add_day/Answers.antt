@@ -1,13 +1,65 @@
-use Rattle.std.proofs.Common.{◌≡◌, ◌∙◌, ◌+◌, ◌-◌, ◌<◌, ◌≤◌, ap, arith, drop, length, subst, suc, sym, take}
+use Rattle.std.proofs.Common.{◌≡◌, ◌∙◌, ◌+◌, ◌-◌, ◌<◌, ◌≤◌, ap, arith, drop, length, refl, slice_index_or, subst, suc, sym, take, true, ℕ}
 use Rattle.std.specs.List.{All}
 use Rattle.std.proofs.Math.Path.{transport}
-use Rattle.std.proofs.lemmas.List.{length-drop, take_all}
+use Rattle.arrayvec.specs.ArrayVec.{ArrayVec}
+use Rattle.std.proofs.lemmas.List.{get_or_default, length-drop, take_all}
 use Rattle.roster_search.specs.Cheapest.{cheaper, cheapest}
 use Rattle.roster_search.specs.Search.{offers_on}
 use Rattle.roster_partial.specs.Rows.{IsEntryOf, best_of, entry_numbered}
 use Rattle.roster_partial.specs.Searches.{days_on}
-use Rattle.roster_partial.proofs.AddLaws.{cheapest_of_all, count_more, entry_of_day, next_entry}
+use Rattle.roster_state.specs.Codes.{Sizes, fits_sizes, shift_digit, sizes_of}
+use Rattle.roster_state.proofs.CodeLemmas.{fits-all}
+use Rattle.roster_partial.specs.declared.rows.Entry.{Entry}
+use Rattle.roster_partial.specs.Allowed.{IsAllowed, no_places}
+use Rattle.roster_partial.proofs.StepLaws.{read_day}
+use Rattle.roster_partial.proofs.AddLaws.{cheapest_of_all, count_more, entry_of_day, next_entry, read_entry}
 use Rattle.roster_partial.proofs.add.add_day.Goals as goal
+use Rattle.roster_partial.proofs.add.add_day.Goals.{After-index}
+
+-- the partial row as it is read
+read : (c : After-index) → c.index.result.now ≡ entry_numbered (take c.len.result c.befores.rows.items) c.befores.before
+read c = c.index.ensures ∙ read_entry c.befores.rows.items c.befores.rows.items c.len.result c.befores.before c.index.result.now refl (omega (arith, c.befores-test.true)) (omega (arith, c.befores.invariant.long, c.len.ensures ∙ c.args.rows.now.ok.0))
+
+-- its last shift is one of those that are told apart
+told : (c : After-index) → shift_digit c.index.result.now.state.last < c.last-lasts.result
+told c =
+    let limited = c.args.limited.now in
+    let search = limited.floors.search in
+    let rows = c.args.rows.now.items in
+    let z = sizes_of search.case.now search.nurse in
+    let front : take c.len.result c.befores.rows.items ≡ rows = ap (λ n. take n c.befores.rows.items) (c.len.ensures ∙ c.args.rows.now.ok.0) ∙ c.befores.invariant.front in
+    let from = entry_of_day limited c.args.day c.args.first rows c.requires.first c.befores.before (omega (arith, c.befores.auto.before)) (omega (arith, c.befores-test.true, (c.len.ensures ∙ c.args.rows.now.ok.0))) c.requires.entries in
+    let e : entry_numbered rows c.befores.before ≡ c.index.result.now = sym (read c ∙ ap (λ xs. entry_numbered xs c.befores.before) front) in
+    let fits : shift_digit c.index.result.now.state.last < z.last = (fits-all z c.index.result.now.state (subst (λ (e : Entry). fits_sizes z e.state ≡ true) e from.fits)).last in
+    omega (arith, fits, c.last-lasts.ensures.last, ap (λ (z : Sizes). z.last) c.requires.search.floors.ranges)
+
+pub bounds-deref-last : goal.bounds-deref-last
+bounds-deref-last c = omega (arith, told (goal.at.bounds-deref-last c).After-index, c.last_number-last.ensures.number, c.allowed_on-allowed.ensures.long, ap length c.deref.ensures.0)
+
+pub go_on_by_all-requires-clause-allowed : goal.go_on_by_all-requires-clause-allowed
+go_on_by_all-requires-clause-allowed c =
+    let limited = c.args.limited.now in
+    let search = limited.floors.search in
+    let k = search.case.now in
+    let of = (goal.at.go_on_by_all-requires-clause-allowed c).After-index in
+    let s = c.index.result.now.state in
+    let offers : c.as_slice.result.now ≡ offers_on search.offers.now c.args.day = c.as_slice.ensures.value ∙ sym (read_day search.offers.now c.args.day c.index-offers-day.result (omega (arith, c.requires.day, c.requires.search.floors.offers.days)) c.index-offers-day.is) in
+    let digit = shift_digit s.last in
+    let all = c.allowed_on-allowed.result.items in
+    let one = c.index-deref-last.result in
+    let inside : digit < length all = omega (arith, told of, c.allowed_on-allowed.ensures.long) in
+    let at : one ≡ slice_index_or all digit no_places = c.index-deref-last.is ∙ ap (λ xs. slice_index_or xs c.last_number-last.result one) c.deref.ensures.0 ∙ ap (λ d. slice_index_or all d one) c.last_number-last.ensures.number ∙ get_or_default all digit one no_places inside in
+    let places : c.as_slice-in-befores.result.now ≡ (slice_index_or all digit no_places).items = c.as_slice-in-befores.ensures.value ∙ ap (λ (p : ArrayVec ℕ). p.items) at in
+    subst (λ (e : Entry). IsAllowed k e.state.last (offers_on search.offers.now c.args.day) c.as_slice-in-befores.result.now) (read of)
+    (subst (λ xs. IsAllowed k s.last xs c.as_slice-in-befores.result.now) offers
+    (subst (IsAllowed k s.last c.as_slice.result.now) (sym places) (c.allowed_on-allowed.ensures.each s.last (told of))))
+
+pub go_on_by_all-requires-clause-entries : goal.go_on_by_all-requires-clause-entries
+go_on_by_all-requires-clause-entries c =
+    let limited = c.args.limited.now in
+    let long = c.len.ensures ∙ c.args.rows.now.ok.0 in
+    let front : take c.len.result c.befores.rows.items ≡ c.args.rows.now.items = ap (λ n. take n c.befores.rows.items) long ∙ c.befores.invariant.front in
+    transport (λ i. All (IsEntryOf (days_on limited (suc c.args.day) (sym front i))) (drop (sym long i) c.befores.rows.items)) c.befores.invariant.entries
 
 pub go_on_by_all-requires-clause-from : goal.go_on_by_all-requires-clause-from
 go_on_by_all-requires-clause-from c =

@@ -1,31 +1,26 @@
-use Rattle.std.proofs.Common.{◌≡◌, ◌∙◌, ◌<◌, ap, arith, drop, length, refl, subst, suc, sym, take}
+use Rattle.std.proofs.Common.{◌≡◌, ◌∙◌, ◌<◌, ap, arith, drop, length, map, refl, slice_index_or, subst, suc, sym, take}
 use Rattle.std.specs.List.{All}
-use Rattle.std.proofs.lemmas.List.{take_all}
+use Rattle.std.proofs.lemmas.List.{get_or-map, length-map}
+use Rattle.roster_instance.specs.declared.choice.Choice.TheVariants.{Off}
+use Rattle.roster_search.specs.declared.offer.Offer.{Offer}
 use Rattle.roster_search.specs.Cheapest.{cheaper, cheapest}
 use Rattle.roster_search.specs.Search.{offers_on}
 use Rattle.roster_search.proofs.Cheapest.{cheaper_none}
-use Rattle.roster_search.proofs.SearchLaws.{offers_read}
 use Rattle.roster_partial.specs.declared.rows.Entry.{Entry}
 use Rattle.roster_partial.specs.Rows.{IsEntryOf, best_by, best_of, entry_numbered, offer_numbered}
 use Rattle.roster_partial.specs.Searches.{IsAhead, days_on}
 use Rattle.roster_partial.proofs.AddLaws.{by_offers, gathered, read_entry}
+use Rattle.roster_partial.proofs.AllowedLaw.{by_allowed}
 use Rattle.roster_partial.proofs.RowLaws.{dear_is_none}
 use Rattle.roster_partial.proofs.add.go_on_by_all.Goals as goal
-use Rattle.roster_partial.proofs.add.go_on_by_all.Goals.{After-len-count}
-
--- the count is that of the day's offers
-count_is : (c : After-len-count) → c.len-count.result ≡ length (offers_on c.args.limited.now.floors.search.offers.now c.args.at.day)
-count_is c =
-    let search = c.args.limited.now.floors.search in
-    c.len-count.ensures.value ∙ ap length (offers_read search.case.now search.nurse search.offers.now c.requires.search.floors.offers c.args.at.day c.requires.day _ c.index-limited-at.result refl)
 
 pub returns-then-from-limited-clause-best : goal.returns-then-from-limited-clause-best
 returns-then-from-limited-clause-best c = λ _.
     let limited = c.args.limited.now in
     let rows = c.args.rows.now.items in
     let old = take c.args.at.end rows in
-    let e = entry_numbered old c.args.before in
-    let is = c.index-from.ensures ∙ read_entry rows rows c.args.at.end c.args.before c.index-from.result.now refl c.requires.before c.requires.end in
+    let e = entry_numbered old c.args.onward.now.before in
+    let is = c.index-from.ensures ∙ read_entry rows rows c.args.at.end c.args.onward.now.before c.index-from.result.now refl c.requires.before c.requires.end in
     let best = cheapest (best_of (days_on limited (suc c.args.at.day) old)) (drop c.args.at.end rows) in
     sym (ap (cheaper best) (dear_is_none (days_on limited c.args.at.day old) e (omega (arith, c.if-from-limited.true, ap (λ (x : Entry). x.cost) is))) ∙ cheaper_none best)
 
@@ -37,8 +32,8 @@ pub go_on-requires-clause-ahead : goal.go_on-requires-clause-ahead
 go_on-requires-clause-ahead c =
     let limited = c.args.limited.now in
     let rows = c.args.rows.now.items in
-    let is = c.index-from.ensures ∙ read_entry rows rows c.args.at.end c.args.before c.index-from.result.now refl c.requires.before c.requires.end in
-    subst (λ old. IsAhead limited c.args.at.day (entry_numbered old c.args.before).state c.ahead_of-ahead.result) (sym c.offers.invariant.front)
+    let is = c.index-from.ensures ∙ read_entry rows rows c.args.at.end c.args.onward.now.before c.index-from.result.now refl c.requires.before c.requires.end in
+    subst (λ old. IsAhead limited c.args.at.day (entry_numbered old c.args.onward.now.before).state c.ahead_of-ahead.result) (sym c.offers.invariant.front)
     (subst (λ (e : Entry). IsAhead limited c.args.at.day e.state c.ahead_of-ahead.result) is c.ahead_of-ahead.ensures)
 
 pub returns-then-not-go_on-clause-entries : goal.returns-then-not-go_on-clause-entries
@@ -51,18 +46,23 @@ offers-preserved c =
     let at = c.args.at in
     let old = take at.end c.args.rows.now.items in
     let offers = offers_on limited.floors.search.offers.now at.day in
-    let inside : c.offers.offer < length offers = omega (arith, c.offers-test.true, count_is (goal.at.offers-preserved c).After-len-count) in
+    let allowed = c.args.onward.now.allowed.now in
+    let place = slice_index_or allowed c.offers.next 0 in
+    let ys = map (offer_numbered offers) allowed in
+    let none : Offer = record { choice = Off; price = 0 } in
+    let inside : c.offers.next < length ys = omega (arith, c.offers-test.true, length-map allowed (offer_numbered offers)) in
+    let at_next : slice_index_or ys c.offers.next none ≡ offer_numbered offers place = get_or-map (offer_numbered offers) allowed c.offers.next 0 none (omega (arith, c.offers-test.true)) in
     let then = drop at.end c.offers.rows.items in
     let now = drop at.end c.go_on.new.rows.items in
     let next =
-    subst (λ earlier. cheapest (best_of (days_on limited (suc at.day) earlier)) now ≡ cheaper (cheapest (best_of (days_on limited (suc at.day) earlier)) then) (best_by (days_on limited (suc at.day) earlier) at.day (entry_numbered earlier c.args.before) (offer_numbered offers c.offers.offer)))
+    subst (λ earlier. cheapest (best_of (days_on limited (suc at.day) earlier)) now ≡ cheaper (cheapest (best_of (days_on limited (suc at.day) earlier)) then) (best_by (days_on limited (suc at.day) earlier) at.day (entry_numbered earlier c.args.onward.now.before) (offer_numbered offers place)))
     c.offers.invariant.front (c.go_on.ensures.best c.if-not-go_on.false) in
     let days = days_on limited (suc at.day) old in
     record {
       front = c.go_on.ensures.front ∙ c.offers.invariant.front;
       long = c.go_on.ensures.length;
       entries = subst (λ earlier. All (IsEntryOf (days_on limited (suc at.day) earlier)) now) c.offers.invariant.front c.go_on.ensures.entries;
-      best = gathered (best_by days at.day (entry_numbered old c.args.before)) offers c.offers.offer _ _ _ _ inside c.offers.invariant.best next;
+      best = gathered (best_by days at.day (entry_numbered old c.args.onward.now.before)) ys c.offers.next none _ _ _ inside c.offers.invariant.best (next ∙ ap (λ x. cheaper (cheapest (best_of days) then) (best_by days at.day (entry_numbered old c.args.onward.now.before) x)) (sym at_next));
       from = omega (arith, c.go_on.ensures.counted, c.offers.invariant.from);
       meter = omega (arith, c.go_on.ensures.counted, c.offers.invariant.meter);
       each = omega (arith, c.go_on.ensures.counted, c.go_on.ensures.few, c.offers.invariant.each);
@@ -73,9 +73,8 @@ returns-clause-best c = λ _.
     let limited = c.args.limited.now in
     let at = c.args.at in
     let old = take at.end c.args.rows.now.items in
-    let e = entry_numbered old c.args.before in
+    let e = entry_numbered old c.args.onward.now.before in
     let offers = offers_on limited.floors.search.offers.now at.day in
     let days = days_on limited (suc at.day) old in
-    let all : cheapest (best_by days at.day e) (take c.offers.offer offers) ≡ cheapest (best_by days at.day e) offers =
-    ap (cheapest (best_by days at.day e)) (take_all c.offers.offer offers (omega (arith, c.offers-test.false, count_is (goal.at.returns-clause-best c).After-len-count))) in
+    let all = by_allowed days at.day e offers c.args.onward.now.allowed.now c.offers.next c.requires.allowed (omega (arith, c.offers-test.false)) in
     c.offers.invariant.best ∙ ap (cheaper (cheapest (best_of days) (drop at.end c.args.rows.now.items))) (all ∙ by_offers limited at.day old e c.requires.day)

@@ -1,8 +1,8 @@
-use Rattle.std.proofs.Common.{◌≡◌, ◌+◌, ◌≤◌, drop, length, suc, take}
+use Rattle.std.proofs.Common.{◌≡◌, ◌+◌, ◌≤◌, drop, length, map, suc, take}
 use Rattle.std.specs.List.{All}
 use Rattle.roster_search.specs.Cheapest.{cheaper, cheapest}
 use Rattle.roster_search.specs.Search.{offers_on}
-use Rattle.roster_partial.specs.Rows.{IsEntryOf, best_by, best_of, entry_numbered}
+use Rattle.roster_partial.specs.Rows.{IsEntryOf, best_by, best_of, entry_numbered, offer_numbered}
 use Rattle.roster_partial.specs.Searches.{days_on}
 use Rattle.roster_partial.proofs.add.go_on_by_all.Given as goal
 
@@ -12,8 +12,8 @@ invariant-offers l = record {
   front : take l.at.end l.rows.items ≡ take l.at.end l.fn.rows.items;
   long : l.at.end ≤ length l.rows.items;
   entries : All (IsEntryOf (days_on l.limited (suc l.at.day) (take l.at.end l.fn.rows.items))) (drop l.at.end l.rows.items);
-  best : cheapest (best_of (days_on l.limited (suc l.at.day) (take l.at.end l.fn.rows.items))) (drop l.at.end l.rows.items) ≡ cheaper (cheapest (best_of (days_on l.limited (suc l.at.day) (take l.at.end l.fn.rows.items))) (drop l.at.end l.fn.rows.items)) (cheapest (best_by (days_on l.limited (suc l.at.day) (take l.at.end l.fn.rows.items)) l.at.day (entry_numbered (take l.at.end l.fn.rows.items) l.before)) (take l.offer (offers_on l.limited.floors.search.offers.now l.at.day)));
+  best : cheapest (best_of (days_on l.limited (suc l.at.day) (take l.at.end l.fn.rows.items))) (drop l.at.end l.rows.items) ≡ cheaper (cheapest (best_of (days_on l.limited (suc l.at.day) (take l.at.end l.fn.rows.items))) (drop l.at.end l.fn.rows.items)) (cheapest (best_by (days_on l.limited (suc l.at.day) (take l.at.end l.fn.rows.items)) l.at.day (entry_numbered (take l.at.end l.fn.rows.items) l.onward.before)) (take l.next (map (offer_numbered (offers_on l.limited.floors.search.offers.now l.at.day)) l.onward.allowed.now)));
   from : l.fn.meter ≤ l.meter;
-  meter : l.meter ≤ l.fn.meter + l.offer;
+  meter : l.meter ≤ l.fn.meter + l.next;
   each : length l.rows.items + l.fn.meter ≤ length l.fn.rows.items + l.meter;
 }

@@ -1,0 +1,6 @@
+use Rattle.roster_partial.proofs.AllowedLaw.{AreAllowed}
+use Rattle.roster_partial.proofs.allowed.allowed_after.Given as goal
+
+-- the places of the offers before this one
+abbrev pub invariant-loop-place : goal.invariant-loop-place
+invariant-loop-place l = AreAllowed l.case l.last l.offers l.place l.places.items
