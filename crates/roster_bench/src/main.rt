@@ -2,17 +2,10 @@
 //! what it wrote. It tells no times; `bench/run` does.
 #![tactic(auto)]
 
-mod bundle;
-mod digest;
-mod kind;
-mod plan;
-mod random;
 mod runs;
-mod text;
-mod ward;
 
-use crate::plan::{Plan, Work};
 use crate::runs::run_plan;
+use roster_wards::{Plan, Work};
 use std::io::Write;
 use std::process::ExitCode;
 use std::rt::Env;

@@ -1,14 +1,14 @@
 //! Runs of the program `roster` over bundles in memory.
 
-use crate::digest::Digest;
-use crate::plan::{Plan, Work};
-use roster_cli::{Command, Request, run};
+use roster_commands::run;
+use roster_request::{Command, Request};
 use roster_text::Watch;
+use roster_wards::{Digest, Plan, Work};
 use std::alloc::{AllocError, Global};
 
 /// What runs wrote: a digest of all outputs, logs and statuses, how many bundles there were, how many bytes of output, and
 /// the last status.
-#[derive(Clone, Copy, Debug)]
+#[derive(Clone, Copy)]
 pub struct Told {
     pub digest: Digest,
     pub bundles: u32,

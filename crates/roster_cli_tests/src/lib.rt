@@ -4,8 +4,4 @@
 #[cfg(test)]
 mod devices_tests;
 #[cfg(test)]
-mod failing_tests;
-#[cfg(test)]
-mod hostile_tests;
-#[cfg(test)]
 mod start_tests;

@@ -1,4 +1,4 @@
-//! Tests of public calls below the command line, over stand-in devices, and the texts that they share with `roster_cli_tests`.
+//! Tests of public calls below the command line, over stand-in devices, and the texts that all tests of the program share.
 #![tactic(auto)]
 
 #[cfg(test)]

@@ -5,7 +5,7 @@ use crate::random::Random;
 use std::alloc::{AllocError, Global};
 
 /// What a nurse does on a day.
-#[derive(Clone, Copy, Debug)]
+#[derive(Clone, Copy)]
 pub struct Duty {
     pub shift: usize,
     pub skill: usize,
@@ -14,7 +14,7 @@ pub struct Duty {
 /// A week of a nurse, from Monday to Sunday.
 pub type Week = [Option<Duty>; 7];
 
-#[derive(Clone, Copy, Debug)]
+#[derive(Clone, Copy)]
 pub enum Contract {
     FullTime,
     PartTime,
@@ -57,7 +57,7 @@ impl Contract {
 }
 
 /// The days before the first Monday.
-#[derive(Clone, Copy, Debug)]
+#[derive(Clone, Copy)]
 pub enum Past {
     /// So many days of work, the last of them with this shift so many times in a row.
     Working {

@@ -6,7 +6,7 @@ use crate::bundle::Size;
 use crate::kind::Kind;
 
 /// What is done.
-#[derive(Clone, Copy, Debug)]
+#[derive(Clone, Copy)]
 pub enum Work {
     /// Writes the bundle of this number.
     Show { number: u32 },
@@ -17,7 +17,7 @@ pub enum Work {
 }
 
 /// What is done, and with bundles of which size.
-#[derive(Clone, Copy, Debug)]
+#[derive(Clone, Copy)]
 pub struct Plan {
     pub work: Work,
     pub size: Size,

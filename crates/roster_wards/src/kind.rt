@@ -1,7 +1,7 @@
 //! The kinds of wards.
 
 /// What a ward is like.
-#[derive(Clone, Copy, Debug, PartialEq, Eq)]
+#[derive(Clone, Copy, PartialEq, Eq)]
 pub enum Kind {
     /// A ward like those of the competition.
     Ward,

@@ -14,7 +14,7 @@ const WIDE_CONTRACTS: &str = "FullTime (2,181) (1,7) (1,7) 9 1\n\
      PartTime (2,129) (1,7) (1,7) 13 1\nHalfTime (2,90) (1,7) (1,7) 19 0\n";
 
 /// How large a ward is, and what its bundles come from.
-#[derive(Clone, Copy, Debug)]
+#[derive(Clone, Copy)]
 pub struct Size {
     pub kind: Kind,
     pub nurses: u32,
@@ -48,7 +48,7 @@ impl Size {
 }
 
 /// A day on which a nurse doesn't want to work a shift, or any.
-#[derive(Clone, Copy, Debug)]
+#[derive(Clone, Copy)]
 struct OffRequest {
     nurse: usize,
     shift: Option<&'static str>,
