@@ -1,6 +1,6 @@
 -- What clap's definition of the command line makes of words that have no fault.
 use Rattle.std.proofs.Common.{◌≡◌, ◌≢◌, ◌∙◌, ◌&&◌, ◌||◌, ℕ, Bool, cond, true, false, not, refl, sym, ap, subst, List, [], ◌∷◌, ◌++◌, length, take, get_or, Option, Some, None, is_some, codes, inl, inr, ◌⊎◌, true≢false}
-use Rattle.std.specs.Prelude.{IsSomeAnd, find, option_map}
+use Rattle.std.specs.Prelude.{IfOk, IsOkAnd, IsSomeAnd, Result, Ok, Err, find, option_map}
 use Rattle.std.specs.List.{fold, list_any}
 use Rattle.std.specs.Str.{bytes_eq}
 use Rattle.std.proofs.lemmas.Slice.Eq.{bytes_eq-Decides}
@@ -11,7 +11,9 @@ use Rattle.clap.specs.Simple.{Shape, argument_words, built, entered, help_shape,
 use Rattle.clap.specs.Faults.{check_fault, defaults_fault, entered_fault, fault_of, other_fault, settle_fault, step_fault, walk_fault}
 use Rattle.clap.specs.Facts.{explicit_source}
 use Rattle.clap.specs.Takes.{is_given}
-use Rattle.clap.specs.Words.{subcommand_of, takes}
+use Rattle.clap.specs.Words.{App, app_of, subcommand_of, takes, with_subcommand}
+use Rattle.std.specs.declared.alloc.AllocError.{AllocError}
+use Rattle.clap.specs.declared.builder.command.Command.{Command}
 use Rattle.clap.specs.declared.error.kind.ErrorKind.{ErrorKind}
 use Rattle.clap.specs.declared.error.kind.ErrorKind.TheVariants as kind
 use Rattle.clap.proofs.WalkLemmas.{walk_stopped}
@@ -27,6 +29,46 @@ no_globals true true false d e = refl
 no_globals true true true d e = absurd (true≢false (sym e))
 no_globals true false globals d e = absurd (true≢false (sym e))
 no_globals false b globals d e = absurd (true≢false (sym e))
+
+-- a command that was made is this one
+abbrev pub IsMade : App → Result Command AllocError → Type 0
+IsMade a made = IfOk made (λ c. app_of c ≡ a)
+
+-- a command that was made comes of another by this step
+abbrev pub MadeBy : (App → App) → Result Command AllocError → Result Command AllocError → Type 0
+MadeBy step before after = IfOk after (λ c. IsOkAnd before (λ b. app_of c ≡ step (app_of b)))
+
+-- a program that was made has one more command, if that is plain
+abbrev pub Adds : Result Command AllocError → Result Command AllocError → Result Command AllocError → Type 0
+Adds before added after =
+    IfOk after (λ c. IsOkAnd before (λ p. IsOkAnd added (λ s. (app_of s).top.is_plain ≡ true → app_of c ≡ with_subcommand (app_of p) (app_of s).top)))
+
+-- a step from a known command gives a known one
+pub made_by : (step : App → App) (a : App) (before after : Result Command AllocError) → IsMade a before → MadeBy step before after → IsMade (step a) after
+made_by step a before (Err e) same by = tt
+made_by step a (Ok b) (Ok c) same by = by ∙ ap step same
+made_by step a (Err e) (Ok c) same by = absurd by
+
+-- what a call adds to a command that was made, it adds to the outcome
+pub adds_made : (before added after : Result Command AllocError) (p s : Command) → before ≡ Ok p → added ≡ Ok s
+    → IfOk after (λ c. (app_of s).top.is_plain ≡ true → app_of c ≡ with_subcommand (app_of p) (app_of s).top) → Adds before added after
+adds_made before added after p s is_p is_s adds = subst (λ b. Adds b added after) (sym is_p) (subst (λ x. Adds (Ok p) x after) (sym is_s) adds)
+
+-- two steps, one after the other
+pub made_by_both : (f g : App → App) (first second third : Result Command AllocError) → MadeBy f first second → MadeBy g second third → MadeBy (λ a. g (f a)) first third
+made_by_both f g first second (Err e) by_f by_g = tt
+made_by_both f g (Ok a) (Ok b) (Ok c) by_f by_g = by_g ∙ ap g by_f
+made_by_both f g (Err e) (Ok b) (Ok c) by_f by_g = absurd by_f
+made_by_both f g first (Err e) (Ok c) by_f by_g = absurd by_g
+
+-- a known plain command is added, as a step
+pub adds_known : (a : App) (before added after : Result Command AllocError) → a.top.is_plain ≡ true → IsMade a added → Adds before added after
+    → MadeBy (λ p. with_subcommand p a.top) before after
+adds_known a before added (Err e) is_plain same adds = tt
+adds_known a (Ok p) (Ok s) (Ok c) is_plain same adds =
+    adds (ap (λ (x : App). x.top.is_plain) same ∙ is_plain) ∙ ap (λ (x : App). with_subcommand (app_of p) x.top) same
+adds_known a (Ok p) (Err e) (Ok c) is_plain same adds = absurd adds
+adds_known a (Err e) added (Ok c) is_plain same adds = absurd adds
 
 -- ---- no fault
 

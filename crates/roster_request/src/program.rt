@@ -1,6 +1,6 @@
 //! The command line of the program, as `clap` reads it.
 
-ghost use Rattle.std.specs.Prelude.{◌≡◌, [], ◌∷◌, codes, drop, IfOk, false};
+ghost use Rattle.std.specs.Prelude.{◌≡◌, [], ◌∷◌, codes, drop, IfOk, IsOkAnd, false, true};
 ghost use Rattle.std.specs.List.{fold};
 ghost use Rattle.clap.specs.Words.{app_of, new_app, rule_of, with_rule, with_subcommand};
 ghost use Rattle.roster_request.specs.CommandLine.{bare, command_of, commands, files_rule, from_rule, number_rule, nurse_rule, own_command_of, program, rounds_rule, searches_rule, seed_rule, value_rule};
@@ -10,7 +10,8 @@ use crate::texts::{
     IMPROVE_HELP, NURSE_NAME, POLISH, POLISH_HELP, ROUND_COUNT, SEARCH_COUNT, SEED_NUMBER, SHOW,
     SHOW_HELP, SIZES, SIZES_HELP, TEXTS,
 };
-use clap::{Arg, ArgAction, Command, value_parser};
+use clap::builder::ValueParser;
+use clap::{Arg, ArgAction, Command};
 use std::alloc::{AllocError, Global};
 
 /// The name by which the files of a command are asked for.
@@ -66,26 +67,29 @@ pub(crate) const FROM: NumberOption = NumberOption {
     help: FIRST_WEEK,
 };
 
+/// A command of which each part was made.
+type Made<'a> = Result<Command<'a>, AllocError>;
+
 /// The command line of the program.
 pub(crate) fn program<'a>(alloc: Global) -> Result<Command<'a>, AllocError>
     ensures { IfOk result (λ c. app_of c ≡ program) }
 {
-    let with_show = with_files_command(alloc, bare(alloc), "show", SHOW, SHOW_HELP)?;
-    let with_cost = with_files_command(alloc, with_show, "cost", COST, COST_HELP)?;
-    let with_sizes = with_files_command(alloc, with_cost, "sizes", SIZES, SIZES_HELP)?;
+    let with_show = with_files_command(alloc, Ok(bare(alloc)), "show", SHOW, SHOW_HELP);
+    let with_cost = with_files_command(alloc, with_show, "cost", COST, COST_HELP);
+    let with_sizes = with_files_command(alloc, with_cost, "sizes", SIZES, SIZES_HELP);
     with_searches(alloc, with_sizes)
 }
 
 /// A program with the commands that search, after those that it has.
-fn with_searches<'a>(alloc: Global, program: Command<'a>) -> Result<Command<'a>, AllocError>
-    ensures { IfOk result (λ c. app_of c ≡ fold with_subcommand (app_of program.entry) (drop 3 commands)) }
+fn with_searches<'a>(alloc: Global, program: Made<'a>) -> Made<'a>
+    ensures { IfOk result (λ c. IsOkAnd program.entry (λ p. app_of c ≡ fold with_subcommand (app_of p) (drop 3 commands))) }
 {
-    let with_best = program.subcommand(best_command(alloc)?)?;
-    let improve = rounds_command(alloc, "improve", IMPROVE, IMPROVE_HELP)?;
-    let with_improve = with_best.subcommand(improve)?;
-    let bound = rounds_command(alloc, "bound", BOUND, BOUND_HELP)?;
-    let with_bound = with_improve.subcommand(bound)?;
-    with_bound.subcommand(polish_command(alloc)?)
+    let with_best = with_command(program, best_command(alloc));
+    let improve = rounds_command(alloc, "improve", IMPROVE, IMPROVE_HELP);
+    let with_improve = with_command(with_best, improve);
+    let bound = rounds_command(alloc, "bound", BOUND, BOUND_HELP);
+    let with_bound = with_command(with_improve, bound);
+    with_command(with_bound, polish_command(alloc))
 }
 
 /// The program before its commands.
@@ -105,48 +109,47 @@ fn bare<'a>(alloc: Global) -> Command<'a>
 /// A program with one more command that reads files.
 fn with_files_command<'a>(
     alloc: Global,
-    program: Command<'a>,
+    program: Made<'a>,
     name: &'a str,
     about: &'a str,
     help: &'a str,
-) -> Result<Command<'a>, AllocError>
-    ensures { IfOk result (λ c. app_of c ≡ with_subcommand (app_of program.entry) (command_of name.now).top) }
+) -> Made<'a>
+    ensures { IfOk result (λ c. IsOkAnd program.entry (λ p. app_of c ≡ with_subcommand (app_of p) (command_of name.now).top)) }
 {
-    program.subcommand(with_files(alloc, command(alloc, name, about, help))?)
+    let command = Ok(command(alloc, name, about, help));
+    with_command(program, with_files(alloc, command))
+}
+
+/// A program with one more command.
+fn with_command<'a>(program: Made<'a>, command: Made<'a>) -> Made<'a>
+    ensures { IfOk result (λ c. IsOkAnd program.entry (λ p. IsOkAnd command.entry (λ added. (app_of added).top.is_plain ≡ true → app_of c ≡ with_subcommand (app_of p) (app_of added).top))) }
+{
+    program?.subcommand(command?)
 }
 
 /// The command `best`.
-fn best_command<'a>(alloc: Global) -> Result<Command<'a>, AllocError>
+fn best_command<'a>(alloc: Global) -> Made<'a>
     ensures { IfOk result (λ c. app_of c ≡ own_command_of (nurse_rule ∷ from_rule ∷ []) (codes "best")) }
 {
-    let with_nurse = command(alloc, "best", BEST, BEST_HELP).arg(nurse_arg(alloc))?;
+    let with_nurse = command(alloc, "best", BEST, BEST_HELP).arg(nurse_arg(alloc));
     with_weeks(alloc, with_nurse)
 }
 
 /// A command that makes rounds.
-fn rounds_command<'a>(
-    alloc: Global,
-    name: &'a str,
-    about: &'a str,
-    help: &'a str,
-) -> Result<Command<'a>, AllocError>
+fn rounds_command<'a>(alloc: Global, name: &'a str, about: &'a str, help: &'a str) -> Made<'a>
     ensures { IfOk result (λ c. app_of c ≡ own_command_of (rounds_rule ∷ from_rule ∷ []) name.now) }
 {
-    let with_rounds = with_number(alloc, command(alloc, name, about, help), ROUNDS)?;
-    with_weeks(alloc, with_rounds)
+    let command = Ok(command(alloc, name, about, help));
+    with_weeks(alloc, with_number(alloc, command, ROUNDS))
 }
 
 /// The command `polish`.
-fn polish_command<'a>(alloc: Global) -> Result<Command<'a>, AllocError>
+fn polish_command<'a>(alloc: Global) -> Made<'a>
     ensures { IfOk result (λ c. app_of c ≡ own_command_of (searches_rule ∷ seed_rule ∷ from_rule ∷ []) (codes "polish")) }
 {
-    let with_searches = with_number(
-        alloc,
-        command(alloc, "polish", POLISH, POLISH_HELP),
-        SEARCHES,
-    )?;
-    let with_seed = with_number(alloc, with_searches, SEED)?;
-    with_weeks(alloc, with_seed)
+    let command = Ok(command(alloc, "polish", POLISH, POLISH_HELP));
+    let with_searches = with_number(alloc, command, SEARCHES);
+    with_weeks(alloc, with_number(alloc, with_searches, SEED))
 }
 
 /// A command before its arguments, with what its help says.
@@ -157,29 +160,24 @@ fn command<'a>(alloc: Global, name: &'a str, about: &'a str, help: &'a str) -> C
 }
 
 /// A command with a first week that may change, and the files, as its last arguments.
-fn with_weeks<'a>(alloc: Global, command: Command<'a>) -> Result<Command<'a>, AllocError>
-    ensures { IfOk result (λ c. app_of c ≡ with_rule (with_rule (app_of command.entry) from_rule) files_rule) }
+fn with_weeks<'a>(alloc: Global, command: Made<'a>) -> Made<'a>
+    ensures { IfOk result (λ c. IsOkAnd command.entry (λ before. app_of c ≡ with_rule (with_rule (app_of before) from_rule) files_rule)) }
 {
-    let with_from = with_number(alloc, command, FROM)?;
-    with_files(alloc, with_from)
+    with_files(alloc, with_number(alloc, command, FROM))
 }
 
 /// A command with one more number that may be left out.
-fn with_number<'a>(
-    alloc: Global,
-    command: Command<'a>,
-    option: NumberOption,
-) -> Result<Command<'a>, AllocError>
-    ensures { IfOk result (λ c. app_of c ≡ with_rule (app_of command.entry) (number_rule option.name.now option.most option.default.now)) }
+fn with_number<'a>(alloc: Global, command: Made<'a>, option: NumberOption) -> Made<'a>
+    ensures { IfOk result (λ c. IsOkAnd command.entry (λ before. app_of c ≡ with_rule (app_of before) (number_rule option.name.now option.most option.default.now))) }
 {
-    command.arg(number_arg(alloc, option))
+    command?.arg(number_arg(alloc, option))
 }
 
 /// A command that reads any number of files.
-fn with_files<'a>(alloc: Global, command: Command<'a>) -> Result<Command<'a>, AllocError>
-    ensures { IfOk result (λ c. app_of c ≡ with_rule (app_of command.entry) files_rule) }
+fn with_files<'a>(alloc: Global, command: Made<'a>) -> Made<'a>
+    ensures { IfOk result (λ c. IsOkAnd command.entry (λ before. app_of c ≡ with_rule (app_of before) files_rule)) }
 {
-    command.arg(files_arg(alloc))
+    command?.arg(files_arg(alloc))
 }
 
 // ---- arguments
@@ -211,7 +209,7 @@ fn number_arg<'a>(alloc: Global, option: NumberOption) -> Arg<'a>
     ensures local { result.global ≡ false }
 {
     value_arg(alloc, option.name, option.value)
-        .value_parser(value_parser!(u32).range(0..=option.most as i64))
+        .value_parser(ValueParser::Signed(0, i64::from(option.most)))
         .default_value(option.default)
         .help(option.help)
 }

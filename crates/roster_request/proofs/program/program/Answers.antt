@@ -1,13 +1,20 @@
-use Rattle.std.proofs.Common.{◌∙◌, ap, codes, drop}
+use Rattle.std.proofs.Common.{Ok, codes, drop}
 use Rattle.std.specs.List.{fold}
-use Rattle.std.proofs.lemmas.Result.{IfOk-weaker}
-use Rattle.clap.specs.Words.{App, with_subcommand}
-use Rattle.roster_request.specs.CommandLine.{command_of, commands}
+use Rattle.clap.specs.Words.{App, Text, with_subcommand}
+use Rattle.roster_request.specs.CommandLine.{bare, command_of, commands}
+use Rattle.roster_request.proofs.CommandLineLemmas.{made_by}
 use Rattle.roster_request.proofs.program.program.Goals as goal
+
+-- a program with a command of this name that reads files
+abbrev step : Text → App → App
+step name p = with_subcommand p (command_of name).top
 
 pub returns : goal.returns
 returns c =
-    let with_show = c.in_ok-with_show.ensures ∙ ap (λ (a : App). with_subcommand a (command_of (codes "show")).top) c.bare.ensures in
-    let with_cost = c.in_ok-with_cost.ensures ∙ ap (λ (a : App). with_subcommand a (command_of (codes "cost")).top) with_show in
-    let with_sizes = c.in_ok-with_sizes.ensures ∙ ap (λ (a : App). with_subcommand a (command_of (codes "sizes")).top) with_cost in
-    IfOk-weaker c.with_searches.result _ _ (λ made h. h ∙ ap (λ (a : App). fold with_subcommand a (drop 3 commands)) with_sizes) c.with_searches.ensures
+    let show = c.with_files_command-with_show in
+    let cost = c.with_files_command-with_cost in
+    let sizes = c.with_files_command-with_sizes in
+    let with_show = made_by (step (codes "show")) bare (Ok c.bare.result) show.result c.bare.ensures show.ensures in
+    let with_cost = made_by (step (codes "cost")) (step (codes "show") bare) show.result cost.result with_show cost.ensures in
+    let with_sizes = made_by (step (codes "sizes")) (step (codes "cost") (step (codes "show") bare)) cost.result sizes.result with_cost sizes.ensures in
+    made_by (λ p. fold with_subcommand p (drop 3 commands)) (step (codes "sizes") (step (codes "cost") (step (codes "show") bare))) sizes.result c.with_searches.result with_sizes c.with_searches.ensures

@@ -1,17 +1,32 @@
-use Rattle.std.proofs.Common.{◌∙◌, ap, ap₂}
-use Rattle.std.proofs.lemmas.Result.{IfOk-weaker}
-use Rattle.clap.specs.Words.{App, app_of, with_subcommand}
-use Rattle.roster_request.proofs.CommandLineLemmas.{no_globals}
+use Rattle.std.proofs.Common.{[], ◌∷◌, codes, refl}
+use Rattle.clap.specs.Words.{App, Text, with_subcommand}
+use Rattle.roster_request.specs.CommandLine.{from_rule, nurse_rule, own_command_of, rounds_rule, searches_rule, seed_rule}
+use Rattle.roster_request.proofs.CommandLineLemmas.{adds_known, made_by_both}
 use Rattle.roster_request.proofs.program.with_searches.Goals as goal
+
+abbrev best : App
+best = own_command_of (nurse_rule ∷ from_rule ∷ []) (codes "best")
+
+abbrev rounds : Text → App
+rounds name = own_command_of (rounds_rule ∷ from_rule ∷ []) name
+
+abbrev polish : App
+polish = own_command_of (searches_rule ∷ seed_rule ∷ from_rule ∷ []) (codes "polish")
+
+-- a program with this command too
+abbrev step : App → App → App
+step a p = with_subcommand p a.top
 
 pub returns : goal.returns
 returns c =
-    let best_local = no_globals _ _ _ _ (ap (λ (a : App). a.top.is_plain) c.in_ok-best_command.ensures) in
-    let improve_local = no_globals _ _ _ _ (ap (λ (a : App). a.top.is_plain) c.in_ok-improve.ensures) in
-    let bound_local = no_globals _ _ _ _ (ap (λ (a : App). a.top.is_plain) c.in_ok-bound.ensures) in
-    let polish_local = no_globals _ _ _ _ (ap (λ (a : App). a.top.is_plain) c.in_ok-polish_command.ensures) in
-    let with_best = c.in_ok-with_best.ensures.shape best_local ∙ ap (λ (b : App). with_subcommand (app_of c.args.program) b.top) c.in_ok-best_command.ensures in
-    let with_improve = c.in_ok-with_improve.ensures.shape improve_local ∙ ap₂ (λ (a b : App). with_subcommand a b.top) with_best c.in_ok-improve.ensures in
-    let with_bound = c.in_ok-with_bound.ensures.shape bound_local ∙ ap₂ (λ (a b : App). with_subcommand a b.top) with_improve c.in_ok-bound.ensures in
-    IfOk-weaker c.subcommand-4.result _ _ (λ made h. h.shape polish_local ∙ ap₂ (λ (a b : App). with_subcommand a b.top) with_bound c.in_ok-polish_command.ensures)
-    c.subcommand-4.ensures
+    let program = c.args.program in
+    let best_added = adds_known best program c.best_command.result c.with_command-with_best.result refl c.best_command.ensures c.with_command-with_best.ensures in
+    let improve_added =
+    adds_known (rounds (codes "improve")) c.with_command-with_best.result c.rounds_command-improve.result c.with_command-with_improve.result refl c.rounds_command-improve.ensures c.with_command-with_improve.ensures in
+    let bound_added =
+    adds_known (rounds (codes "bound")) c.with_command-with_improve.result c.rounds_command-bound.result c.with_command-with_bound.result refl c.rounds_command-bound.ensures c.with_command-with_bound.ensures in
+    let polish_added = adds_known polish c.with_command-with_bound.result c.polish_command.result c.with_command.result refl c.polish_command.ensures c.with_command.ensures in
+    let with_improve = made_by_both (step best) (step (rounds (codes "improve"))) program c.with_command-with_best.result c.with_command-with_improve.result best_added improve_added in
+    let with_bound =
+    made_by_both (λ p. step (rounds (codes "improve")) (step best p)) (step (rounds (codes "bound"))) program c.with_command-with_improve.result c.with_command-with_bound.result with_improve bound_added in
+    made_by_both (λ p. step (rounds (codes "bound")) (step (rounds (codes "improve")) (step best p))) (step polish) program c.with_command-with_bound.result c.with_command.result with_bound polish_added
