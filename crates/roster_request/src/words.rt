@@ -78,8 +78,8 @@ fn command_in(alloc: Global, name: &str, given: &ArgMatches<'_>) -> Result<Comma
             from: from_of(given),
         }),
         "polish" => Ok(Command::Polish {
-            searches: number_of(given, SEARCHES),
-            seed: number_of(given, SEED),
+            searches: searches_of(given),
+            seed: seed_of(given),
             from: from_of(given),
         }),
         _ => unreachable!(),
@@ -104,6 +104,23 @@ fn rounds_of(given: &ArgMatches<'_>) -> u16
     ensures range { result ≤ most_rounds }
 {
     number_of(given, ROUNDS) as u16
+}
+
+/// The number of searches.
+fn searches_of(given: &ArgMatches<'_>) -> u32
+    requires { HasSearches (rows_of (found_of given.now)) }
+    ensures searches { IsNumberOf (codes "searches") result (rows_of (found_of given.now)) }
+    ensures range { result ≤ most_searches }
+{
+    number_of(given, SEARCHES)
+}
+
+/// What the random numbers begin with.
+fn seed_of(given: &ArgMatches<'_>) -> u32
+    requires { HasSeed (rows_of (found_of given.now)) }
+    ensures { IsNumberOf (codes "seed") result (rows_of (found_of given.now)) }
+{
+    number_of(given, SEED)
 }
 
 /// The first week that may change.

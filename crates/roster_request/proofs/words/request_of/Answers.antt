@@ -1,7 +1,8 @@
 use Rattle.std.proofs.Common.{◌≡◌, ◌∙◌, ap, map, refl, subst, sym, true, Result, Ok, Err}
 use Rattle.std.specs.Prelude.{IfOk, IsSomeAnd, OnOk}
+use Rattle.std.proofs.lemmas.Result.{IfErr-weaker}
 use Rattle.clap.specs.Words.{App, HasKind, fault_of, is_simple, is_simple_and_free, kind_of, subcommand_of, takes}
-use Rattle.roster_request.specs.CommandLine.{HasFrom, HasNurse, HasRounds, HasSearches, HasSeed, IsAskedIn, IsNameOf, Meets, commands, program, with_from, with_rounds, with_searches}
+use Rattle.roster_request.specs.CommandLine.{HasFrom, HasNurse, HasRounds, HasSearches, HasSeed, HasText, IsAskedIn, IsNameOf, Meets, Refuses, commands, program, with_from, with_rounds, with_searches}
 use Rattle.roster_request.proofs.CommandLineLemmas.{meets_command, refuses}
 use Rattle.roster_request.proofs.NumberLemmas.{meets_from, meets_rounds, meets_searches, meets_seed}
 use Rattle.roster_request.proofs.NurseLemmas.{meets_nurse}
@@ -79,3 +80,25 @@ returns-in-Err-clause-refusal g c =
     refuses words (kind_of c.in-Err.error) c.refusal.result c.refusal.ensures.kind
     (λ taken. c.in-Err.ensures.passes (ap (λ (a : App). takes a words) is_program ∙ taken))
     (subst (λ (a : App). HasKind (fault_of a words) c.in-Err.error) is_program among)
+
+pub returns-in-Ok-clause-range : goal.returns-in-Ok-clause-range
+returns-in-Ok-clause-range g c = c.request_in.ensures.range
+
+pub returns-in-Ok-clause-refusal : goal.returns-in-Ok-clause-refusal
+returns-in-Ok-clause-refusal g c =
+    IfErr-weaker c.request_in.result _ _ (λ e memory. subst (Refuses (map g.S.AsStr.text c.args.words.now)) (sym memory) tt) c.request_in.ensures.memory
+
+pub returns-in-Ok-clause-text : goal.returns-in-Ok-clause-text
+returns-in-Ok-clause-text g c = IfErr-weaker c.request_in.result _ _ (λ e memory. subst HasText (sym memory) tt) c.request_in.ensures.memory
+
+pub returns-in-Err-clause-request : goal.returns-in-Err-clause-request
+returns-in-Err-clause-request g c = tt
+
+pub returns-in-Err-clause-range : goal.returns-in-Err-clause-range
+returns-in-Err-clause-range g c = tt
+
+pub returns-in-Err-clause-faultless : goal.returns-in-Err-clause-faultless
+returns-in-Err-clause-faultless g c = tt
+
+pub returns-in-Err-clause-text : goal.returns-in-Err-clause-text
+returns-in-Err-clause-text g c = c.refusal.ensures.text

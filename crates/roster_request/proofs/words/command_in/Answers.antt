@@ -1,0 +1,29 @@
+use Rattle.std.proofs.Common.{inl, inr}
+use Rattle.roster_request.proofs.words.command_in.Goals as goal
+
+pub given_nurse-requires : goal.given_nurse-requires
+given_nurse-requires c = c.requires.nurse c.in-best.is
+
+pub from_of-requires : goal.from_of-requires
+from_of-requires c = c.requires.from (inl c.in-best.is)
+
+pub rounds_of-requires : goal.rounds_of-requires
+rounds_of-requires c = c.requires.rounds (inl c.in-improve.is)
+
+pub from_of-requires-in-improve : goal.from_of-requires-in-improve
+from_of-requires-in-improve c = c.requires.from (inr (inr (inl c.in-improve.is)))
+
+pub rounds_of-requires-in-bound : goal.rounds_of-requires-in-bound
+rounds_of-requires-in-bound c = c.requires.rounds (inr (inl c.in-bound.is))
+
+pub from_of-requires-in-bound : goal.from_of-requires-in-bound
+from_of-requires-in-bound c = c.requires.from (inr (inr (inr (inl c.in-bound.is))))
+
+pub searches_of-requires : goal.searches_of-requires
+searches_of-requires c = c.requires.searches (inl c.in-polish.is)
+
+pub seed_of-requires : goal.seed_of-requires
+seed_of-requires c = c.requires.seed (inl c.in-polish.is)
+
+pub from_of-requires-in-polish : goal.from_of-requires-in-polish
+from_of-requires-in-polish c = c.requires.from (inr (inl c.in-polish.is))
