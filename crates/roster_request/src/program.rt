@@ -124,7 +124,13 @@ fn with_files_command<'a>(
 fn with_command<'a>(program: Made<'a>, command: Made<'a>) -> Made<'a>
     ensures { IfOk result (λ c. IsOkAnd program.entry (λ p. IsOkAnd command.entry (λ added. (app_of added).top.is_plain ≡ true → app_of c ≡ with_subcommand (app_of p) (app_of added).top))) }
 {
-    program?.subcommand(command?)
+    match (program, command) {
+        (Ok(program), Ok(command)) => program.subcommand(command),
+        (Err(e), other) | (other, Err(e)) => {
+            drop(other);
+            Err(e)
+        }
+    }
 }
 
 /// The command `best`.
