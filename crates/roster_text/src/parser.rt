@@ -1,6 +1,6 @@
 //! Reading tokens from left to right: one token, so many of a kind, or lines up to the next section.
 
-ghost use Rattle.std.specs.Prelude.{◌≡◌, ◌≤◌, ◌<◌, ℕ, List, [], length, codes, Result, OnOk, IfOk, Option, Some, None, IsTrue, option_map, drop, min};
+ghost use Rattle.std.specs.Prelude.{◌≡◌, ◌≤◌, ◌<◌, ℕ, List, [], length, codes, Result, IfOk, Option, Some, None, IsTrue, option_map, drop, min};
 ghost use Rattle.std.specs.Char.{digit_value, is_ascii_digit};
 ghost use Rattle.std.specs.List.{list_all};
 ghost use Rattle.std.specs.Str.Parse.{digits_value};
@@ -76,8 +76,7 @@ pub(crate) trait Parse: Sized + Drop {
     ghost read: { List Seen → Read Self };
 
     fn parse(parser: &mut Parser<'_>) -> Result<Self, Stop>
-        ensures reads { Reads result parser.new (read parser.old) }
-        ensures takes { OnOk result (length parser.new < length parser.old) };
+        ensures { Reads result parser.new (read parser.old) };
 }
 
 impl<'a> Parser<'a> {
@@ -107,8 +106,10 @@ impl<'a> Parser<'a> {
     pub(crate) fn line(&self) -> Option<usize>
         ensures { result ≡ option_map (λ t. t.token.line) (first_of self.now) }
     {
-        let (token, _) = self.next()?;
-        Some(token.line)
+        match self.tokens {
+            [] => None,
+            [token, ..] => Some(token.line),
+        }
     }
 
     /// Goes after the next token.
@@ -121,8 +122,7 @@ impl<'a> Parser<'a> {
 
     /// The next token is this text; `due` says what it is.
     pub(crate) fn word(&mut self, due: What, text: &[u8]) -> Result<(), Stop>
-        ensures reads { Reads result self.new (word_at due text.now self.old) }
-        ensures takes { OnOk result (length self.new < length self.old) }
+        ensures { Reads result self.new (word_at due text.now self.old) }
     {
         match self.next() {
             Some((_, found)) if found == text => {
@@ -134,22 +134,19 @@ impl<'a> Parser<'a> {
     }
 
     pub(crate) fn key(&mut self, keyword: Keyword) -> Result<(), Stop>
-        ensures reads { Reads result self.new (key_at keyword self.old) }
-        ensures takes { OnOk result (length self.new < length self.old) }
+        ensures { Reads result self.new (key_at keyword self.old) }
     {
         self.word(What::Keyword(keyword), keyword.text().as_bytes())
     }
 
     pub(crate) fn equals(&mut self) -> Result<(), Stop>
-        ensures reads { Reads result self.new (word_at What.Equals (codes "=") self.old) }
-        ensures takes { OnOk result (length self.new < length self.old) }
+        ensures { Reads result self.new (word_at What.Equals (codes "=") self.old) }
     {
         self.word(What::Equals, b"=")
     }
 
     pub(crate) fn name(&mut self) -> Result<Token, Stop>
-        ensures reads { Reads result self.new (name_at self.old) }
-        ensures takes { OnOk result (length self.new < length self.old) }
+        ensures { Reads result self.new (name_at self.old) }
     {
         match self.next() {
             Some((token, text)) if is_name(text) => {
@@ -164,7 +161,6 @@ impl<'a> Parser<'a> {
     pub(crate) fn number(&mut self, limit: u32) -> Result<Number, Stop>
         requires { limit < BEYOND }
         ensures reads { Reads result self.new (number_at limit self.old) }
-        ensures takes { OnOk result (length self.new < length self.old) }
         ensures within { IfOk result (λ n. n.value ≤ limit) }
     {
         let Some((token, text)) = self.next() else {
@@ -183,8 +179,7 @@ impl<'a> Parser<'a> {
 
     /// A number from 0 to the limit, without its token.
     pub(crate) fn value(&mut self, limit: u16) -> Result<u16, Stop>
-        ensures reads { Reads result self.new (value_at limit self.old) }
-        ensures takes { OnOk result (length self.new < length self.old) }
+        ensures { Reads result self.new (value_at limit self.old) }
     {
         let number = self.number(u32::from(limit))?;
         Ok(number.value as u16)
@@ -192,15 +187,13 @@ impl<'a> Parser<'a> {
 
     /// A number from 0 to 999.
     pub(crate) fn small(&mut self) -> Result<u16, Stop>
-        ensures reads { Reads result self.new (small_at self.old) }
-        ensures takes { OnOk result (length self.new < length self.old) }
+        ensures { Reads result self.new (small_at self.old) }
     {
         self.value(MAX_SMALL)
     }
 
     pub(crate) fn day(&mut self) -> Result<Day, Stop>
-        ensures reads { Reads result self.new (day_at self.old) }
-        ensures takes { OnOk result (length self.new < length self.old) }
+        ensures { Reads result self.new (day_at self.old) }
     {
         let Some((_, text)) = self.next() else {
             return Err(Stop::Refused(Refusal::Due(What::Day)));
@@ -217,8 +210,8 @@ impl<'a> Parser<'a> {
         ensures { result ≡ begins_section keyword self.now }
     {
         match self.tokens {
-            [first, second, ..] => {
-                &self.source[first.start..first.end] == keyword.text().as_bytes()
+            [_, second, ..] => {
+                self.begins_with(keyword)
                     && &self.source[second.start..second.end] == b"=".as_slice()
             }
             _ => false,
@@ -227,8 +220,7 @@ impl<'a> Parser<'a> {
 
     /// So many, one after the other.
     pub(crate) fn times<T: Parse>(&mut self, count: usize) -> Result<Items<T>, Stop>
-        ensures reads { Reads result self.new (times_at T.read count self.old) }
-        ensures takes { OnOk result (length self.new ≤ length self.old) }
+        ensures { Reads result self.new (times_at T.read count self.old) }
     {
         let mut items = Vec::with_capacity(self.alloc, count.min(self.tokens.len()))?;
         for _ in 0..count {
@@ -240,8 +232,7 @@ impl<'a> Parser<'a> {
     /// A count, and that many.
     #[tactic(auto, unfolding(crate::specs::Reading::listed_at))]
     pub(crate) fn listed<T: Parse>(&mut self) -> Result<Listed<T>, Stop>
-        ensures reads { Reads result self.new (listed_at T.read self.old) }
-        ensures takes { OnOk result (length self.new < length self.old) }
+        ensures { Reads result self.new (listed_at T.read self.old) }
     {
         let count = self.number(MAX_COUNT)?;
         let items = self.times(count.value as usize)?;
@@ -254,8 +245,7 @@ impl<'a> Parser<'a> {
     /// A keyword, `=`, a count, and that many.
     #[tactic(auto, unfolding(crate::specs::Reading::section_at))]
     pub(crate) fn section<T: Parse>(&mut self, keyword: Keyword) -> Result<Listed<T>, Stop>
-        ensures reads { Reads result self.new (section_at keyword T.read self.old) }
-        ensures takes { OnOk result (length self.new < length self.old) }
+        ensures { Reads result self.new (section_at keyword T.read self.old) }
     {
         self.key(keyword)?;
         self.equals()?;
@@ -278,8 +268,7 @@ impl<'a> Parser<'a> {
         &mut self,
         keyword: Keyword,
     ) -> Result<Option<Listed<T>>, Stop>
-        ensures reads { Reads result self.new (optional_at keyword T.read self.old) }
-        ensures takes { OnOk result (length self.new ≤ length self.old) }
+        ensures { Reads result self.new (optional_at keyword T.read self.old) }
     {
         if !self.begins_with(keyword) {
             return Ok(None);
@@ -291,25 +280,28 @@ impl<'a> Parser<'a> {
     /// A count of names, and the names.
     #[tactic(auto, unfolding(crate::specs::Reading::names_at))]
     pub(crate) fn names(&mut self) -> Result<Items<Token>, Stop>
-        ensures reads { Reads result self.new (names_at self.old) }
-        ensures takes { OnOk result (length self.new < length self.old) }
+        ensures { Reads result self.new (names_at self.old) }
     {
         let count = self.number(MAX_COUNT)?;
         self.times(count.value as usize)
     }
 
-    /// Lines up to the keyword and `=` of the next section, and these two.
+    /// Lines up to the keyword and `=` of the next section, and these two. A line takes a token at least, so there
+    /// are at most as many lines as tokens.
     pub(crate) fn until<T: Parse>(&mut self, keyword: Keyword) -> Result<Items<T>, Stop>
-        ensures reads { Reads result self.new (until_at T.read keyword self.old) }
-        ensures takes { OnOk result (length self.new < length self.old) }
+        ensures { Reads result self.new (until_at T.read keyword self.old) }
     {
+        let tries = self.tokens.len() + 1;
         let mut items = Vec::new(self.alloc);
-        while !self.begins_section(keyword) {
+        for _ in 0..tries {
+            if self.begins_section(keyword) {
+                self.skip();
+                self.skip();
+                return Ok(Items::from_vec(items));
+            }
             items.push(T::parse(self)?)?;
         }
-        self.skip();
-        self.skip();
-        Ok(Items::from_vec(items))
+        Err(Stop::Refused(Refusal::Due(What::Name)))
     }
 }
 

@@ -1,6 +1,6 @@
 //! The parts of the four texts, each read as the grammar says.
 
-ghost use Rattle.std.specs.Prelude.{◌≡◌, ◌<◌, length, OnOk};
+ghost use Rattle.std.specs.Prelude.{◌≡◌};
 ghost use Rattle.roster_text.specs.Reading.{Reads, assignment_at, bundle_at, contract_at, history_at, nurse_at, nurse_history_at, pair_at, request_at, requirement_at, scenario_at, shift_type_at, solution_at, succession_at, title_at, week_data_at, week_pairs_at};
 
 use crate::fault::{Keyword, What};
@@ -87,8 +87,7 @@ impl Parse for Nurse {
 /// The name of the scenario, and how many weeks it has.
 #[tactic(auto, unfolding(crate::specs::Reading::title_at))]
 fn scenario_title(parser: &mut Parser<'_>) -> Result<(Token, Number), Stop>
-    ensures reads { Reads result parser.new (title_at parser.old) }
-    ensures takes { OnOk result (length parser.new < length parser.old) }
+    ensures { Reads result parser.new (title_at parser.old) }
 {
     parser.key(Keyword::Scenario)?;
     parser.equals()?;
@@ -143,8 +142,7 @@ impl Parse for NurseHistory {
 /// The history, with so many lines.
 #[tactic(auto, unfolding(crate::specs::Reading::history_at))]
 fn parse_history(parser: &mut Parser<'_>, lines: usize) -> Result<History, Stop>
-    ensures reads { Reads result parser.new (history_at lines parser.old) }
-    ensures takes { OnOk result (length parser.new < length parser.old) }
+    ensures { Reads result parser.new (history_at lines parser.old) }
 {
     parser.key(Keyword::History)?;
     let week = parser.number(u32::from(MAX_SMALL))?;

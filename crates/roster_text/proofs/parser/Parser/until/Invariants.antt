@@ -1,13 +1,7 @@
-use Rattle.std.proofs.Common.{◌≤◌, length}
-use Rattle.roster_text.specs.Reading.{until_at}
-use Rattle.roster_text.proofs.Loops.{UntilSoFar}
+use Rattle.std.proofs.Common.{◌≡◌, ◌-◌, suc, length}
+use Rattle.roster_text.specs.Reading.{until_at, until_with}
+use Rattle.roster_text.proofs.Loops.{with_front}
 use Rattle.roster_text.proofs.parser.Parser.until.Given as goal
 
-abbrev pub invariant-loop-keyword : goal.invariant-loop-keyword
-invariant-loop-keyword g l = record {
-  so_far : UntilSoFar g.T.Parse.read l.keyword l.items.items l.self (until_at g.T.Parse.read l.keyword l.fn.self);
-  shorter : length l.self ≤ length l.fn.self;
-}
-
-abbrev pub decreases-loop-keyword : goal.decreases-loop-keyword
-decreases-loop-keyword g l = length l.self
+abbrev pub invariant-loop : goal.invariant-loop
+invariant-loop g l = with_front l.items.items (until_with g.T.Parse.read l.keyword (suc (length l.fn.self) - l.counter) l.self) ≡ until_at g.T.Parse.read l.keyword l.fn.self
