@@ -215,7 +215,6 @@ impl<'a> Section<Assignment> for LineSection<'a> {
             .scenario
             .nurses
             .number_near(self.source, line.nurse, self.near)?;
-        self.near = nurse;
         let shift = self.scenario.shifts.number(self.source, line.shift)?;
         let skill = self.scenario.skills.number(self.source, line.skill)?;
         let weekday = weekday(line.day);
@@ -228,6 +227,7 @@ impl<'a> Section<Assignment> for LineSection<'a> {
         }
         let work = Choice::Work(Shift(shift as u8), Skill(skill as u8));
         self.lines.set(place, work);
+        self.near = nurse;
         Ok(())
     }
 }
