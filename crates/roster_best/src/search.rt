@@ -96,11 +96,12 @@ pub fn cheaper_row(
     held.keeps_rules();
     let Workspace { offers, space } = workspace;
     offers_of_days(held, nurse, from, offers);
-    if last.has_none_cheaper(held, nurse, offers.as_slice()) {
+    let offers = offers.as_slice();
+    if last.has_none_cheaper(held, nurse, offers) {
         return None;
     }
-    let (cost, best) = search_offers(held, nurse, offers.as_slice(), space, meter);
-    last.remember(held, nurse, offers.as_slice(), cost);
+    let (cost, best) = search_offers(held, nurse, offers, space, meter);
+    last.remember(held, nurse, offers, cost);
     Some(best)
 }
 

@@ -2,11 +2,30 @@ use Rattle.std.proofs.Common.{◌∙◌, subst, sym}
 use Rattle.roster_best.specs.Workspaces.{AreShiftOffers}
 use Rattle.roster_best.proofs.BestLaws.{best_keeps, found_best, found_penalty}
 use Rattle.roster_best.proofs.search.cheaper_row.Goals as goal
+use Rattle.roster_best.proofs.search.cheaper_row.Goals.{After-as_slice-offers}
+
+are : (c : After-as_slice-offers) → AreShiftOffers c.args.held.now.case c.args.from c.args.held.now.roster c.args.nurse c.as_slice-offers.result.now
+are c = subst (AreShiftOffers c.args.held.now.case c.args.from c.args.held.now.roster c.args.nurse) (sym c.as_slice-offers.ensures.value) c.offers_of_days.ensures.offers
+
+pub has_none_cheaper-requires-clause-offers : goal.has_none_cheaper-requires-clause-offers
+has_none_cheaper-requires-clause-offers c = (c.args.from, are (goal.at.has_none_cheaper-requires-clause-offers c).After-as_slice-offers)
+
+pub returns-then-has_none_cheaper-clause-none : goal.returns-then-has_none_cheaper-clause-none
+returns-then-has_none_cheaper-clause-none c =
+    c.has_none_cheaper.ensures c.if-has_none_cheaper.true c.args.from (are (goal.at.returns-then-has_none_cheaper-clause-none c).After-as_slice-offers)
+
+pub search_offers-cost-requires-clause-offers : goal.search_offers-cost-requires-clause-offers
+search_offers-cost-requires-clause-offers c = (c.args.from, are (goal.at.search_offers-cost-requires-clause-offers c).After-as_slice-offers)
+
+pub remember-requires-clause-offers : goal.remember-requires-clause-offers
+remember-requires-clause-offers c = (c.args.from, are (goal.at.remember-requires-clause-offers c).After-as_slice-offers)
+
+pub remember-requires-clause-found : goal.remember-requires-clause-found
+remember-requires-clause-found c = (_, c.search_offers-cost.ensures.found)
 
 pub returns-clause-best : goal.returns-clause-best
 returns-clause-best c =
-    let are = subst (AreShiftOffers c.args.held.now.case c.args.from c.args.held.now.roster c.args.nurse) (sym c.as_slice-2.ensures.value) c.offers_of_days.ensures.offers in
-    found_best c.args.held.now.case c.args.from c.args.held.now.roster c.keeps_rules.ensures.fits c.keeps_rules.ensures.keeps c.args.nurse c.requires.nurse c.as_slice-2.result.now are
+    found_best c.args.held.now.case c.args.from c.args.held.now.roster c.keeps_rules.ensures.fits c.keeps_rules.ensures.keeps c.args.nurse c.requires.nurse c.as_slice-offers.result.now (are (goal.at.returns-clause-best c).After-as_slice-offers)
     c.search_offers-cost.result.0 c.search_offers-cost.new.space.row c.search_offers-cost.ensures.found
 
 pub returns-clause-keeps : goal.returns-clause-keeps
@@ -14,7 +33,6 @@ returns-clause-keeps c = best_keeps c.args.held.now.case c.args.from c.args.held
 
 pub returns-clause-total : goal.returns-clause-total
 returns-clause-total c =
-    let are = subst (AreShiftOffers c.args.held.now.case c.args.from c.args.held.now.roster c.args.nurse) (sym c.as_slice-2.ensures.value) c.offers_of_days.ensures.offers in
     c.search_offers-cost.ensures.total
-    ∙ sym (found_penalty c.args.held.now.case c.args.from c.args.held.now.roster c.keeps_rules.ensures.fits c.keeps_rules.ensures.keeps c.args.nurse c.requires.nurse c.as_slice-2.result.now are
+    ∙ sym (found_penalty c.args.held.now.case c.args.from c.args.held.now.roster c.keeps_rules.ensures.fits c.keeps_rules.ensures.keeps c.args.nurse c.requires.nurse c.as_slice-offers.result.now (are (goal.at.returns-clause-total c).After-as_slice-offers)
     c.search_offers-cost.result.0 c.search_offers-cost.new.space.row c.search_offers-cost.ensures.found)
