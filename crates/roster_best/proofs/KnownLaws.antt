@@ -256,6 +256,19 @@ module _ (c : Meaning) (n : ℕ) (inside : n < nurse_count c) where
       go m within (inr differs) =
           subst (λ (o : Option ℕ). IfSome o (WasSearched c new m)) (sym (get_or-set_other old.costs.items n m (Some cost) None differs)) (kept m differs (slice_index_or old.costs.items m None) (known.searched m within))
 
+-- ---- the offers of a day
+
+-- one offer more, with a smaller rise and a greater fall of all
+pub dearer_more : (prices : List ℕ) (offers : List Offer) (index rise fall rise_now fall_now : ℕ) → rise_now ≤ rise → fall ≤ fall_now → ((k : ℕ) (d : Offer) → k < index → IsDearer prices rise fall (slice_index_or offers k d)) → ((d : Offer) → IsDearer prices rise_now fall_now (slice_index_or offers index d))
+    → (k : ℕ) (d : Offer) → k < index + 1 → IsDearer prices rise_now fall_now (slice_index_or offers k d)
+dearer_more prices offers index rise fall rise_now fall_now less more so_far here k d below = go (cases_eq k index)
+  where
+    go : (k ≡ index) ⊎ (k ≡ index → ⊥) → IsDearer prices rise_now fall_now (slice_index_or offers k d)
+    go (inl same) = subst (λ i. IsDearer prices rise_now fall_now (slice_index_or offers i d)) (sym same) (here d)
+    go (inr other) =
+        let old = so_far k d (omega (arith, below, other)) in
+        record { place = old.place; offered = old.offered; price = omega (arith, old.price, less, more) }
+
 -- ---- nothing is kept
 
 pub known_fits : (c : Meaning) (last : LastSearches) → IsKnown c last → fits_last c last ≡ true
