@@ -1,9 +1,9 @@
 -- What a read of several readers as one takes.
-use Rattle.std.proofs.Common.{rules, ◌≡◌, ◌∙◌, ◌+◌, ◌<◌, add-one, ap, arith, sym, subst, refl, codes, List, ◌∷◌, ◌++◌, ℕ, Option, Some, None, Ok, Result, length, get_or, drop, take, suc}
+use Rattle.std.proofs.Common.{rules, ◌≡◌, ◌∙◌, ◌+◌, ◌<◌, add-one, ap, arith, sym, subst, refl, codes, List, ◌∷◌, ◌++◌, ℕ, Option, Some, None, Ok, Result, length, get_or, drop, take, suc, map, ◌-◌, append_assoc}
 use Rattle.std.proofs.Math.ListN.{set}
 use Rattle.std.proofs.Math.Seq.{drop-cons}
 use Rattle.std.proofs.lemmas.List.{drop-drop, drop-set}
-use Rattle.std.specs.Io.KnownBytes.{Consumes, IsAtEnd}
+use Rattle.std.specs.Io.KnownBytes.{Consumes, IsAtEnd, Keeps, ReadConsumes}
 use Rattle.std.specs.Prelude.{[], Err, IsErr, option_and_then, option_map}
 use Rattle.roster_text.specs.Io.{Watched}
 use Rattle.roster_joined.specs.JoinedBytes.{FailsAsFirst, FirstFails, joined_bytes}
@@ -46,3 +46,48 @@ first_byte (b ∷ buf) byte room = refl
 pub passed_on : {R E : Type 0} (result : Result ℕ E) (readers left : List (Watched R)) → IsErr result → FirstFails readers left → FailsAsFirst result readers left
 passed_on (Ok n) readers left is fails = search rules
 passed_on (Err e) readers left is fails = fails
+
+-- a reader's bytes are given, those of the others stay
+first_given : (before after others : Option (List ℕ)) (bs : List ℕ) → Consumes before after bs → Consumes (joined_with others before) (joined_with others after) bs
+first_given None after others bs taken = tt
+first_given (Some bytes) None others bs taken = absurd taken
+first_given (Some bytes) (Some left) None bs taken = tt
+first_given (Some bytes) (Some left) (Some xs) bs taken = rw taken (simp append_assoc)
+
+first_kept : (before after others : Option (List ℕ)) → Keeps before after → Keeps (joined_with others before) (joined_with others after)
+first_kept None after others kept = tt
+first_kept (Some bytes) None others kept = absurd kept
+first_kept (Some bytes) (Some left) None kept = tt
+first_kept (Some bytes) (Some left) (Some xs) kept = ap (λ b. b ++ codes "\n" ++ xs) kept
+
+-- the first gave some bytes
+pub bytes_given : {R : Type 0} (remaining : R → Option (List ℕ)) (readers left : List (Watched R)) (old new : Watched R) (rest : List (Watched R)) (bs : List ℕ) → readers ≡ old ∷ rest → left ≡ new ∷ rest
+    → Consumes (remaining old.inner) (remaining new.inner) bs → Consumes (joined_bytes remaining readers) (joined_bytes remaining left) bs
+bytes_given remaining readers left old new rest bs before after taken =
+    rw (before, after) (first_given (remaining old.inner) (remaining new.inner) (joined_bytes remaining rest) bs taken)
+
+-- the first failed
+pub bytes_kept : {R E : Type 0} (remaining : R → Option (List ℕ)) (readers left : List (Watched R)) (old new : Watched R) (rest : List (Watched R)) (result : Result ℕ E) (buf : List ℕ) → readers ≡ old ∷ rest → left ≡ new ∷ rest
+    → IsErr result → Keeps (remaining old.inner) (remaining new.inner) → ReadConsumes (joined_bytes remaining readers) (joined_bytes remaining left) result buf
+bytes_kept remaining readers left old new rest (Ok n) buf before after is kept = absurd cc
+bytes_kept remaining readers left old new rest (Err e) buf before after is kept =
+    rw (before, after) (first_kept (remaining old.inner) (remaining new.inner) (joined_bytes remaining rest) kept)
+
+-- ---- no reader that is left has failed
+
+abbrev failures : {R : Type 0} → List (Watched R) → List ℕ
+failures readers = map (λ r. r.failures) readers
+
+pub none_read : {R : Type 0} (readers : List (Watched R)) → failures readers ≡ drop (length readers - length readers) (failures readers)
+none_read readers = let none : length readers - length readers ≡ 0 = omega arith in rw none refl
+
+pub first_read : {R : Type 0} (readers left : List (Watched R)) (old new : Watched R) (rest : List (Watched R)) → readers ≡ old ∷ rest → left ≡ new ∷ rest → new.failures ≡ old.failures
+    → failures left ≡ drop (length readers - length left) (failures readers)
+first_read readers left old new rest before after same =
+    let none : length (old ∷ rest) - length (new ∷ rest) ≡ 0 = omega arith in
+    rw (before, after, none) (ap (λ n. n ∷ failures rest) same)
+
+pub first_ended : {R : Type 0} (readers left : List (Watched R)) (old : Watched R) (rest : List (Watched R)) → readers ≡ old ∷ rest → left ≡ rest → failures left ≡ drop (length readers - length left) (failures readers)
+first_ended readers left old rest before after =
+    let one : length (old ∷ rest) - length rest ≡ 1 = omega arith in
+    rw (before, after, one) refl
