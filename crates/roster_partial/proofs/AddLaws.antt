@@ -1,6 +1,7 @@
 -- A day more for all partial rows: each goes on by each offer.
 use Rattle.std.proofs.Common.{◌≡◌, ◌∙◌, ◌+◌, ◌-◌, ◌*◌, ◌<◌, ◌≤◌, ℕ, zero, suc, ap, arith, refl, sym, subst, List, [], ◌∷◌, ◌++◌, length, take, drop, slice_index_or}
 use Rattle.std.specs.List.{All}
+use Rattle.std.proofs.lemmas.Nat.{mul-le}
 use Rattle.std.proofs.lemmas.List.{get_or_default, get_or-drop, get_or-take, length-drop, length-take-le}
 use Rattle.roster_instance.specs.Meaning.{day_count}
 use Rattle.roster_search.specs.declared.offer.Offer.{Offer}
@@ -115,3 +116,9 @@ next_entry f rows first before so_far more from below is next =
 -- as many more steps at most, for one partial row more
 pub count_more : (start now new size n m : ℕ) → m ≡ n + 1 → now ≤ start + n * size → new ≤ now + size → new ≤ start + m * size
 count_more start now new size n m one so_far next = omega (arith, ap (λ k. k * size) one, so_far, next)
+
+-- where another one is to come, there is room for its steps
+pub room_left : (start now n m size most : ℕ) → n < m → now ≤ start + n * size → start + m * size ≤ most → now + size ≤ most
+room_left start now n m size most more so_far all =
+    let next : (n + 1) * size ≤ m * size = mul-le (n + 1) size m size (omega (arith, more)) (omega arith) in
+    omega (arith, next, so_far, all)

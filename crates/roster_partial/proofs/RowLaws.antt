@@ -1,11 +1,11 @@
 -- Lists of partial rows: one left out.
-use Rattle.std.proofs.Common.{Bool, if◌then◌else◌, true, false, ◌≡◌, ◌∙◌, ◌+◌, ◌-◌, ◌<◌, ◌≤◌, ◌⊎◌, ℕ, zero, suc, inl, inr, ap, arith, refl, subst, sym, List, [], ◌∷◌, ◌++◌, length, Some, None, append-nil, slice_index_or, slice_set}
+use Rattle.std.proofs.Common.{Bool, if◌then◌else◌, true, false, ◌≡◌, ◌∙◌, ◌+◌, ◌-◌, ◌<◌, ◌≤◌, ◌⊎◌, ℕ, zero, suc, inl, inr, ap, arith, refl, subst, sym, List, [], ◌∷◌, ◌++◌, length, Some, None, append-nil, append_assoc, slice_index_or, slice_set}
 use Rattle.std.specs.List.{refill}
 use Rattle.std.proofs.Common.{drop, take}
 use borrow.Rule.Slice.PartMut.{put_mid}
 use Rattle.std.proofs.lemmas.Grind.{common_steps}
-use Rattle.std.proofs.lemmas.List.{drop-append-le, drop_all, length-drop, length-take-le}
-use Rattle.std.proofs.Math.Seq.{drop-append_seam, take-length}
+use Rattle.std.proofs.lemmas.List.{drop_all, length-append, length-drop, length-take-le}
+use Rattle.std.proofs.Math.Seq.{drop-append_seam, take-append_seam, take-length}
 use Rattle.std.proofs.lemmas.Bool.{cases_lt, lt-ltb, le-ltb}
 use Rattle.roster_state.specs.Codes.{code_of, fits_sizes, sizes_of, state_at}
 use Rattle.roster_state.proofs.CodeLemmas.{numbered-back}
@@ -170,28 +170,52 @@ refilled n old new long same = grind (arith, common_steps)
 part_length : (first : ℕ) (v part : List Entry) → first ≤ length v → length part ≡ length v - first → length (put_mid first (length v - first) v part) ≡ length v
 part_length first v part inside long = grind (arith, common_steps)
 
-drop_part : (first : ℕ) (v part : List Entry) → first ≤ length v → length part ≡ length v - first → drop first (put_mid first (length v - first) v part) ≡ part
-drop_part first v part inside long =
-    ap (λ n. drop n (put_mid first (length v - first) v part)) (sym (length-take-le first v inside))
-    ∙ drop-append_seam (take first v) (part ++ drop (length v - first) (drop first v))
-    ∙ ap (λ xs. part ++ xs) (drop_all (length v - first) (drop first v) (omega (arith, inside, length-drop first v)))
-    ∙ append-nil part
+module _ (n first : ℕ) (old v part : List Entry) (all : n ≡ length old) (inside : first ≤ length old) (same : v ≡ old) (long : length part ≡ length v - first) where
+  -- the part is written back to the list
+  written : refill n old (put_mid first (length v - first) v part) ≡ take first old ++ part
+  written =
+      let in_v : first ≤ length v = omega (arith, inside, ap length same) in
+      let size = part_length first v part in_v long in
+      refilled n old (put_mid first (length v - first) v part) (all ∙ sym (size ∙ ap length same)) (size ∙ ap length same)
+      ∙ ap (λ xs. take first v ++ (part ++ xs)) (drop_all (length v - first) (drop first v) (omega (arith, in_v, length-drop first v)))
+      ∙ ap (λ xs. take first v ++ xs) (append-nil part)
+      ∙ ap (λ xs. take first xs ++ part) same
 
--- and one more after it
-pub part_and_one : (n first : ℕ) (old v part new : List Entry) (e : Entry) → n ≡ length old → first ≤ length old → v ≡ old → length part ≡ length v - first → new ≡ refill n old (put_mid first (length v - first) v part) ++ e ∷ [] → drop first new ≡ part ++ e ∷ []
-part_and_one n first old v part new e all inside same long is =
-    let in_v : first ≤ length v = omega (arith, inside, ap length same) in
-    let written = part_length first v part in_v long in
-    ap (drop first) (is ∙ ap (λ xs. xs ++ e ∷ []) (refilled n old (put_mid first (length v - first) v part) (all ∙ sym (written ∙ ap length same)) (written ∙ ap length same)))
-    ∙ drop-append-le first (put_mid first (length v - first) v part) (e ∷ []) (omega (arith, in_v, written))
-    ∙ ap (λ xs. xs ++ e ∷ []) (drop_part first v part in_v long)
+  -- the list with these in the place of those from the first one on
+  module _ (rest new : List Entry) (is : new ≡ take first old ++ rest) where
+    front_of : take first new ≡ take first old
+    front_of = ap (take first) is ∙ ap (λ k. take k (take first old ++ rest)) (sym (length-take-le first old inside)) ∙ take-append_seam (take first old) rest
 
--- the part replaced, and nothing after it
-pub part_alone : (n first : ℕ) (old v part new : List Entry) → n ≡ length old → first ≤ length old → v ≡ old → length part ≡ length v - first → new ≡ refill n old (put_mid first (length v - first) v part) → drop first new ≡ part
-part_alone n first old v part new all inside same long is =
-    let in_v : first ≤ length v = omega (arith, inside, ap length same) in
-    let written = part_length first v part in_v long in
-    ap (drop first) (is ∙ refilled n old (put_mid first (length v - first) v part) (all ∙ sym (written ∙ ap length same)) (written ∙ ap length same)) ∙ drop_part first v part in_v long
+    rest_of : drop first new ≡ rest
+    rest_of = ap (drop first) is ∙ ap (λ k. drop k (take first old ++ rest)) (sym (length-take-le first old inside)) ∙ drop-append_seam (take first old) rest
+
+    size_of : length new ≡ first + length rest
+    size_of = ap length is ∙ length-append (take first old) rest ∙ ap (λ k. k + length rest) (length-take-le first old inside)
+
+  -- the part replaced, and nothing after it
+  module _ (new : List Entry) (is : new ≡ refill n old (put_mid first (length v - first) v part)) where
+    pub part_alone : drop first new ≡ part
+    part_alone = rest_of part new (is ∙ written)
+
+    pub front_alone : take first new ≡ take first old
+    front_alone = front_of part new (is ∙ written)
+
+    pub length_alone : length new ≡ length old
+    length_alone = omega (arith, size_of part new (is ∙ written), long, inside, ap length same)
+
+  -- and one more after it
+  module _ (new : List Entry) (e : Entry) (is : new ≡ refill n old (put_mid first (length v - first) v part) ++ e ∷ []) where
+    and_one : new ≡ take first old ++ (part ++ e ∷ [])
+    and_one = is ∙ ap (λ xs. xs ++ e ∷ []) written ∙ append_assoc (take first old) part (e ∷ [])
+
+    pub part_and_one : drop first new ≡ part ++ e ∷ []
+    part_and_one = rest_of (part ++ e ∷ []) new and_one
+
+    pub front_and_one : take first new ≡ take first old
+    front_and_one = front_of (part ++ e ∷ []) new and_one
+
+    pub length_and_one : length new ≡ length old + 1
+    length_and_one = omega (arith, size_of (part ++ e ∷ []) new and_one, length-append part (e ∷ []), long, inside, ap length same)
 
 -- what a list is after one more was put in or not
 pub one_more : (is_ok : Bool) (old more new : List Entry) → is_ok ≡ true → new ≡ (if is_ok then more else old) → new ≡ more

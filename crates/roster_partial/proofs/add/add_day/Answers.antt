@@ -1,8 +1,10 @@
-use Rattle.std.proofs.Common.{◌≡◌, ◌∙◌, ◌+◌, ◌-◌, ◌<◌, ◌≤◌, ap, arith, drop, length, refl, slice_index_or, subst, suc, sym, take, true, ℕ}
+use Rattle.std.proofs.Common.{◌≡◌, ◌∙◌, ◌+◌, ◌-◌, ◌*◌, ◌<◌, ◌≤◌, [], ap, arith, drop, length, refl, slice_index_or, subst, suc, sym, take, true, ℕ}
 use Rattle.std.specs.List.{All}
 use Rattle.std.proofs.Math.Path.{transport}
 use Rattle.arrayvec.specs.ArrayVec.{ArrayVec}
-use Rattle.std.proofs.lemmas.List.{get_or_default, length-drop, take_all}
+use Rattle.std.proofs.lemmas.List.{drop_all, get_or_default, length-drop, take_all}
+use Rattle.std.proofs.Math.Seq.{take-length}
+use Rattle.roster_bundle.specs.Limits.{greatest_u64}
 use Rattle.roster_search.specs.Cheapest.{cheaper, cheapest}
 use Rattle.roster_search.specs.Search.{offers_on}
 use Rattle.roster_partial.specs.Rows.{IsEntryOf, best_of, entry_numbered}
@@ -12,7 +14,7 @@ use Rattle.roster_state.proofs.CodeLemmas.{fits-all}
 use Rattle.roster_partial.specs.declared.rows.Entry.{Entry}
 use Rattle.roster_partial.specs.Allowed.{IsAllowed, no_places}
 use Rattle.roster_partial.proofs.StepLaws.{read_day}
-use Rattle.roster_partial.proofs.AddLaws.{cheapest_of_all, count_more, entry_of_day, next_entry, read_entry}
+use Rattle.roster_partial.proofs.AddLaws.{cheapest_of_all, count_more, entry_of_day, next_entry, read_entry, room_left}
 use Rattle.roster_partial.proofs.add.add_day.Goals as goal
 use Rattle.roster_partial.proofs.add.add_day.Goals.{After-index}
 
@@ -35,6 +37,30 @@ told c =
 
 pub bounds-deref-last : goal.bounds-deref-last
 bounds-deref-last c = omega (arith, told (goal.at.bounds-deref-last c).After-index, c.last_number-last.ensures.number, c.allowed_on-allowed.ensures.long, ap length c.deref.ensures.0)
+
+pub befores-init : goal.befores-init
+befores-init c =
+    let limited = c.args.limited.now in
+    let rows = c.args.rows.now.items in
+    let first = c.args.first in
+    let none : drop (length rows) rows ≡ [] = drop_all (length rows) rows (omega arith) in
+    let no_days : first - first ≡ 0 = omega arith in
+    record {
+      front = take-length rows;
+      long = omega arith;
+      entries = λ k d below. absurd (omega (arith, below, ap length none));
+      best = ap (cheapest (best_of (days_on limited (suc c.args.day) rows))) none ∙ sym (ap (λ n. cheapest (best_of (days_on limited c.args.day rows)) (take n (drop first rows))) no_days);
+      counted = omega arith;
+      each = omega arith;
+    }
+
+pub go_on_by_all-requires-clause-search : goal.go_on_by_all-requires-clause-search
+go_on_by_all-requires-clause-search c = c.requires.search
+
+pub go_on_by_all-requires-clause-room : goal.go_on_by_all-requires-clause-room
+go_on_by_all-requires-clause-room c =
+    room_left c.args.meter.now c.befores.meter (c.befores.before - c.args.first) (length c.args.rows.now.items - c.args.first) (length (offers_on c.args.limited.now.floors.search.offers.now c.args.day)) greatest_u64
+    (omega (arith, c.befores.auto.before, c.befores-test.true, c.len.ensures ∙ c.args.rows.now.ok.0)) c.befores.invariant.counted c.requires.room
 
 pub go_on_by_all-requires-clause-allowed : goal.go_on_by_all-requires-clause-allowed
 go_on_by_all-requires-clause-allowed c =
@@ -75,6 +101,21 @@ returns-then-not-go_on_by_all-clause-entries c =
     let front : take c.len.result c.befores.rows.items ≡ rows = ap (λ n. take n c.befores.rows.items) (c.len.ensures ∙ c.args.rows.now.ok.0) ∙ c.befores.invariant.front in
     transport (λ i. All (IsEntryOf (days_on c.args.limited.now (suc c.args.day) (front i))) (drop ((c.len.ensures ∙ c.args.rows.now.ok.0) i) c.go_on_by_all.new.rows.items)) c.go_on_by_all.ensures.entries
 
+pub returns-then-not-go_on_by_all-clause-front : goal.returns-then-not-go_on_by_all-clause-front
+returns-then-not-go_on_by_all-clause-front c =
+    let long = c.len.ensures ∙ c.args.rows.now.ok.0 in
+    transport (λ i. take (long i) c.go_on_by_all.new.rows.items ≡ take (long i) c.befores.rows.items) c.go_on_by_all.ensures.front ∙ c.befores.invariant.front
+
+pub returns-then-not-go_on_by_all-clause-counted : goal.returns-then-not-go_on_by_all-clause-counted
+returns-then-not-go_on_by_all-clause-counted c =
+    let size = length (offers_on c.args.limited.now.floors.search.offers.now c.args.day) in
+    let more = c.befores.before - c.args.first in
+    let all = length c.args.rows.now.items - c.args.first in
+    omega (arith, c.go_on_by_all.ensures.counted, room_left c.args.meter.now c.befores.meter more all size (c.args.meter.now + all * size) (omega (arith, c.befores.auto.before, c.befores-test.true, c.len.ensures ∙ c.args.rows.now.ok.0)) c.befores.invariant.counted (omega arith))
+
+pub returns-then-not-go_on_by_all-clause-each : goal.returns-then-not-go_on_by_all-clause-each
+returns-then-not-go_on_by_all-clause-each c = omega (arith, c.befores.invariant.each, c.go_on_by_all.ensures.each)
+
 pub befores-preserved : goal.befores-preserved
 befores-preserved c =
     let limited = c.args.limited.now in
@@ -109,3 +150,12 @@ returns-clause-best c = λ _.
     c.befores.invariant.best
     ∙ ap (cheapest (best_of (days_on limited c.args.day rows))) (take_all (c.befores.before - first) (drop first rows) (omega (arith, c.befores-test.false, (c.len.ensures ∙ c.args.rows.now.ok.0), length-drop first rows)))
     ∙ sym (cheapest_of_all limited c.args.day first rows c.requires.first (drop first rows) c.requires.entries)
+
+pub returns-clause-front : goal.returns-clause-front
+returns-clause-front c = c.befores.invariant.front
+
+pub returns-clause-entries : goal.returns-clause-entries
+returns-clause-entries c = c.befores.invariant.entries
+
+pub returns-clause-each : goal.returns-clause-each
+returns-clause-each c = c.befores.invariant.each

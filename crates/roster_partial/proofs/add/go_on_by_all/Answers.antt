@@ -5,6 +5,7 @@ use Rattle.roster_instance.specs.declared.choice.Choice.TheVariants.{Off}
 use Rattle.roster_search.specs.declared.offer.Offer.{Offer}
 use Rattle.roster_search.specs.Cheapest.{cheaper, cheapest}
 use Rattle.roster_search.specs.Search.{offers_on}
+use Rattle.roster_search.specs.Tables.{no_row}
 use Rattle.roster_search.proofs.Cheapest.{cheaper_none}
 use Rattle.roster_partial.specs.declared.rows.Entry.{Entry}
 use Rattle.roster_partial.specs.Rows.{IsEntryOf, best_by, best_of, entry_numbered, offer_numbered}
@@ -23,6 +24,63 @@ returns-then-from-limited-clause-best c = λ _.
     let is = c.index-from.ensures ∙ read_entry rows rows c.args.at.end c.args.onward.now.before c.index-from.result.now refl c.requires.before c.requires.end in
     let best = cheapest (best_of (days_on limited (suc c.args.at.day) old)) (drop c.args.at.end rows) in
     sym (ap (cheaper best) (dear_is_none (days_on limited c.args.at.day old) e (omega (arith, c.if-from-limited.true, ap (λ (x : Entry). x.cost) is))) ∙ cheaper_none best)
+
+pub returns-then-from-limited-clause-length : goal.returns-then-from-limited-clause-length
+returns-then-from-limited-clause-length c = c.requires.end
+
+pub returns-then-from-limited-clause-entries : goal.returns-then-from-limited-clause-entries
+returns-then-from-limited-clause-entries c = c.requires.entries
+
+pub offers-init : goal.offers-init
+offers-init c = record {
+  front = refl;
+  long = c.requires.end;
+  entries = c.requires.entries;
+  best = sym (cheaper_none (cheapest (best_of (days_on c.args.limited.now (suc c.args.at.day) (take c.args.at.end c.args.rows.now.items))) (drop c.args.at.end c.args.rows.now.items)));
+  from = omega arith;
+  meter = omega arith;
+  each = omega arith;
+}
+
+pub go_on-requires-clause-search : goal.go_on-requires-clause-search
+go_on-requires-clause-search c = c.requires.search
+
+pub go_on-requires-clause-offer : goal.go_on-requires-clause-offer
+go_on-requires-clause-offer c = c.requires.allowed.inside c.offers.next 0 c.offers-test.true
+
+pub go_on-requires-clause-from : goal.go_on-requires-clause-from
+go_on-requires-clause-from c =
+    subst (λ old. IsEntryOf (days_on c.args.limited.now c.args.at.day old) (entry_numbered old c.args.onward.now.before)) (sym c.offers.invariant.front) c.requires.from
+
+pub go_on-requires-clause-low : goal.go_on-requires-clause-low
+go_on-requires-clause-low c =
+    let rows = c.args.rows.now.items in
+    let is = c.index-from.ensures ∙ read_entry rows rows c.args.at.end c.args.onward.now.before c.index-from.result.now refl c.requires.before c.requires.end in
+    subst (λ old. (entry_numbered old c.args.onward.now.before).cost < no_row) (sym c.offers.invariant.front) (omega (arith, ap (λ (e : Entry). e.cost) is, c.if-from-limited.false, c.requires.search.limit))
+
+pub go_on-requires-clause-room : goal.go_on-requires-clause-room
+go_on-requires-clause-room c = omega (arith, c.offers.invariant.meter, c.offers-test.true, c.requires.allowed.few, c.requires.room)
+
+pub returns-then-not-go_on-clause-front : goal.returns-then-not-go_on-clause-front
+returns-then-not-go_on-clause-front c = c.go_on.ensures.front ∙ c.offers.invariant.front
+
+pub returns-then-not-go_on-clause-counted : goal.returns-then-not-go_on-clause-counted
+returns-then-not-go_on-clause-counted c = omega (arith, c.go_on.ensures.counted, c.offers.invariant.meter, c.offers-test.true, c.requires.allowed.few)
+
+pub returns-then-not-go_on-clause-each : goal.returns-then-not-go_on-clause-each
+returns-then-not-go_on-clause-each c = omega (arith, c.go_on.ensures.counted, c.go_on.ensures.few, c.offers.invariant.each)
+
+pub returns-clause-front : goal.returns-clause-front
+returns-clause-front c = c.offers.invariant.front
+
+pub returns-clause-entries : goal.returns-clause-entries
+returns-clause-entries c = c.offers.invariant.entries
+
+pub returns-clause-counted : goal.returns-clause-counted
+returns-clause-counted c = omega (arith, c.offers.invariant.meter, c.offers.auto.next-end, c.requires.allowed.few)
+
+pub returns-clause-each : goal.returns-clause-each
+returns-clause-each c = c.offers.invariant.each
 
 pub go_on-requires-clause-entries : goal.go_on-requires-clause-entries
 go_on-requires-clause-entries c =

@@ -1,18 +1,20 @@
-use Rattle.std.proofs.Common.{◌≡◌, ◌∙◌, ◌+◌, ◌-◌, ◌≤◌, ap, arith, drop, Some, refl, slice_index_or, suc, sym, subst, take, ℕ}
+use Rattle.std.proofs.Common.{◌≡◌, ◌∙◌, ◌+◌, ◌-◌, ◌<◌, ◌≤◌, ap, arith, drop, length, Some, refl, slice_index_or, suc, sym, subst, take, true, ℕ}
 use Rattle.roster_instance.specs.declared.choice.Choice.TheVariants.{Off}
 use Rattle.roster_instance.specs.Meaning.{day_count}
+use Rattle.roster_state.specs.Codes.{fits_sizes, sizes_of}
 use Rattle.roster_state.specs.Step.{step_of}
 use Rattle.roster_search.specs.Search.{offers_on}
 use Rattle.roster_search.specs.Offers.{best_of_offers, dearer, offer_step}
 use Rattle.roster_search.specs.Cheapest.{cheaper, cheapest}
 use Rattle.roster_search.specs.declared.offer.Offer.{Offer}
 use Rattle.roster_search.proofs.Cheapest.{cheaper_none}
+use Rattle.std.proofs.lemmas.List.{length-take-le}
 use Rattle.std.proofs.lemmas.List.Elements.{All-get_or}
 use Rattle.roster_state.specs.Worked.{IsWorkedDay}
 use Rattle.roster_search.specs.Tables.{IsOfferOf, most_price}
 use Rattle.roster_floors.specs.Least.{IsBeside}
 use Rattle.roster_partial.specs.declared.rows.Entry.{Entry}
-use Rattle.roster_partial.specs.Rows.{Days, best_by, best_of, entry_numbered, offer_numbered}
+use Rattle.roster_partial.specs.Rows.{Days, IsLinked, best_by, best_of, entry_numbered, offer_numbered}
 use Rattle.roster_partial.specs.Searches.{days_on}
 use Rattle.roster_partial.proofs.StepLaws.{by_dear, by_entry, by_forbidden, read_day, taken_entry}
 use Rattle.roster_partial.proofs.day.go_on.Goals as goal
@@ -94,3 +96,70 @@ beside_after-beside-requires-clause-worked c works =
     let same = c.in-Some.ensures.works works in
     subst (λ a. IsBeside search.case.now search.nurse limited.floors.rates (c.args.at.day + 1) a c.in-Some.step.0.weekends c.args.going.ahead.beside) (sym same.0)
     (subst (λ w. IsBeside search.case.now search.nurse limited.floors.rates (c.args.at.day + 1) c.args.going.ahead.worked.assignments w c.args.going.ahead.beside) (sym same.1) c.requires.ahead.beside)
+
+-- what the callees ask of the partial row that is taken
+pub extend_ahead-requires-clause-fits : goal.extend_ahead-requires-clause-fits
+extend_ahead-requires-clause-fits c =
+    let search = c.args.limited.now.floors.search in
+    let from = taken_entry c.args.rows.now.items c.args.at.end c.args.going.link.before c.index-from.result.now c.requires.before c.requires.end c.index-from.ensures in
+    subst (λ (e : Entry). fits_sizes (sizes_of search.case.now search.nurse) e.state ≡ true) from c.requires.from.fits
+
+pub extend_ahead-requires-clause-rules : goal.extend_ahead-requires-clause-rules
+extend_ahead-requires-clause-rules c = c.requires.search.rules
+
+pub extend_ahead-requires-clause-room : goal.extend_ahead-requires-clause-room
+extend_ahead-requires-clause-room c = c.requires.room
+
+pub beside_after-beside-requires-clause-search : goal.beside_after-beside-requires-clause-search
+beside_after-beside-requires-clause-search c = c.requires.search
+
+pub beside_after-beside-requires-clause-fits : goal.beside_after-beside-requires-clause-fits
+beside_after-beside-requires-clause-fits c = c.in-Some.ensures.next_fits
+
+pub is_dear-requires-clause-search : goal.is_dear-requires-clause-search
+is_dear-requires-clause-search c = c.requires.search
+
+pub is_dear-requires-clause-fits : goal.is_dear-requires-clause-fits
+is_dear-requires-clause-fits c = c.in-Some.ensures.next_fits
+
+pub is_dear-requires-clause-beside : goal.is_dear-requires-clause-beside
+is_dear-requires-clause-beside c = c.beside_after-beside.ensures
+
+pub put-requires : goal.put-requires
+put-requires c =
+    let search = c.args.limited.now.floors.search in
+    let day = c.args.at.day in
+    let earlier = take c.args.at.end c.args.rows.now.items in
+    let offers = offers_on search.offers.now in
+    let read : c.as_slice-day_offers.result.now ≡ offers day = c.as_slice-day_offers.ensures.value ∙ sym (read_day search.offers.now day c.index-offers-at.result (omega (arith, c.requires.day, c.requires.search.floors.offers.days)) c.index-offers-at.is) in
+    let small : c.args.going.link.offer < 256 = omega (arith, c.requires.offer, ap length read, c.as_slice-day_offers.ensures.fits) in
+    let linked : (e : Entry) → e.before ≡ c.args.going.link.before → e.offer ≡ c.args.going.link.offer → IsLinked offers earlier (suc day) e
+    = λ e before offer. (omega (arith, before, c.requires.before, length-take-le c.args.at.end c.args.rows.now.items c.requires.end), omega (arith, offer, c.requires.offer), subst (λ k. IsLinked offers earlier day (entry_numbered earlier k)) (sym before) c.requires.from.linked) in
+    (c.requires.search.floors.ranges, (c.requires.end, (c.requires.search.limit, (c.in-Some.ensures.next_fits, (c.requires.search.most, (small, (linked, c.requires.entries)))))))
+
+pub returns-in_default-clause-entries : goal.returns-in_default-clause-entries
+returns-in_default-clause-entries c = c.requires.entries
+
+pub returns-in_default-clause-length : goal.returns-in_default-clause-length
+returns-in_default-clause-length c = c.requires.end
+
+pub returns-then-is_dear-clause-entries : goal.returns-then-is_dear-clause-entries
+returns-then-is_dear-clause-entries c = c.requires.entries
+
+pub returns-then-is_dear-clause-length : goal.returns-then-is_dear-clause-length
+returns-then-is_dear-clause-length c = c.requires.end
+
+pub returns-clause-front : goal.returns-clause-front
+returns-clause-front c = c.put.ensures.front
+
+pub returns-clause-length : goal.returns-clause-length
+returns-clause-length c = c.put.ensures.length
+
+pub returns-clause-entries : goal.returns-clause-entries
+returns-clause-entries c = c.put.ensures.entries
+
+pub returns-clause-counted : goal.returns-clause-counted
+returns-clause-counted c = c.extend_ahead.ensures.counted
+
+pub returns-clause-few : goal.returns-clause-few
+returns-clause-few c = c.put.ensures.few

@@ -1,5 +1,6 @@
 use Rattle.std.proofs.Common.{◌≡◌, ◌∙◌, ◌++◌, ◌-◌, [], ◌∷◌, ap, arith, drop, length, refl, sym, subst, true}
 use Rattle.std.specs.List.{All}
+use Rattle.std.proofs.lemmas.Bool.{false≢true}
 use Rattle.std.proofs.lemmas.List.{length-drop, length-take-le}
 use Rattle.std.proofs.lemmas.List.Elements.{All-push}
 use Rattle.roster_state.specs.Codes.{Sizes, code_of, fits_sizes, sizes_of}
@@ -7,7 +8,7 @@ use Rattle.roster_search.specs.Cheapest.{cheaper, cheapest}
 use Rattle.roster_search.proofs.Cheapest.{cheapest_more}
 use Rattle.roster_partial.specs.declared.rows.Entry.{Entry}
 use Rattle.roster_partial.specs.Rows.{Days, IsEntryOf, IsLinked, best_of}
-use Rattle.roster_partial.proofs.RowLaws.{no_more, one_more, part_alone, part_and_one, part_is}
+use Rattle.roster_partial.proofs.RowLaws.{front_alone, front_and_one, length_alone, length_and_one, no_more, one_more, part_alone, part_and_one, part_is}
 use Rattle.roster_partial.proofs.day.put.Goals as goal
 
 -- an entry with the code of its state
@@ -18,54 +19,98 @@ entry_is days z e ranges fits code linked = record {
   linked = linked e refl refl;
 }
 
-pub returns-then-leave_out-clause-best : goal.returns-then-leave_out-clause-best
-returns-then-leave_out-clause-best g c = λ _ p is.
+pub returns-in_default : goal.returns-in_default
+returns-in_default g c = record {
+  front = refl;
+  length = c.requires.1.0;
+  few = omega arith;
+  entries = c.requires.1.1.1.1.1.1.1;
+  best = λ e. absurd (false≢true e);
+}
+
+pub returns-then-leave_out : goal.returns-then-leave_out
+returns-then-leave_out g c =
     let before : c.in-Ok.before ≡ c.args.link.before = c.in-Ok.ensures.1 in
     let e : Entry = record { state = c.args.reached.0; code = c.code.result; cost = c.args.reached.1; before = c.in-Ok.before; offer = c.args.link.offer } in
     let f = best_of g.days in
+    let rows = c.args.rows.now.items in
     let v = c.as_mut_slice.result.now in
     let end = c.args.at.end in
+    let part = c.leave_out.new.list in
     let size = c.leave_out.ensures.length ∙ length-take-le (length v - end) (drop end v) (omega (arith, length-drop end v)) in
-    ap (cheapest f) (part_alone _ end c.args.rows.now.items v c.leave_out.new.list _ c.args.rows.now.ok.0 c.requires.1.0 c.as_mut_slice.ensures.value size refl)
-    ∙ c.leave_out.ensures.left_out c.if-leave_out.true
-    ∙ ap (λ xs. cheapest f (xs ++ e ∷ [])) (part_is end c.args.rows.now.items v c.as_mut_slice.ensures.value)
-    ∙ cheapest_more f (drop end c.args.rows.now.items) e
-    ∙ ap (cheaper (cheapest f (drop end c.args.rows.now.items))) (is e refl refl before refl)
+    let long = length_alone _ end rows v part c.args.rows.now.ok.0 c.requires.1.0 c.as_mut_slice.ensures.value size _ refl in
+    let put = part_alone _ end rows v part c.args.rows.now.ok.0 c.requires.1.0 c.as_mut_slice.ensures.value size _ refl in
+    record {
+      front = front_alone _ end rows v part c.args.rows.now.ok.0 c.requires.1.0 c.as_mut_slice.ensures.value size _ refl;
+      length = omega (arith, long, c.requires.1.0);
+      few = omega (arith, long);
+      entries = subst (All (IsEntryOf g.days)) (sym put) c.leave_out.ensures.entries;
+      best = λ _ p is.
+          ap (cheapest f) put
+          ∙ c.leave_out.ensures.left_out c.if-leave_out.true
+          ∙ ap (λ xs. cheapest f (xs ++ e ∷ [])) (part_is end rows v c.as_mut_slice.ensures.value)
+          ∙ cheapest_more f (drop end rows) e
+          ∙ ap (cheaper (cheapest f (drop end rows))) (is e refl refl before refl);
+    }
 
-pub returns-then-end-limited-clause-entries : goal.returns-then-end-limited-clause-entries
-returns-then-end-limited-clause-entries g c =
+pub returns-then-end-limited : goal.returns-then-end-limited
+returns-then-end-limited g c =
+    let rows = c.args.rows.now.items in
     let v = c.as_mut_slice.result.now in
     let end = c.args.at.end in
+    let part = c.leave_out.new.list in
     let size = c.leave_out.ensures.length ∙ length-take-le (length v - end) (drop end v) (omega (arith, length-drop end v)) in
-    subst (All (IsEntryOf g.days)) (sym (part_alone _ end c.args.rows.now.items v c.leave_out.new.list _ c.args.rows.now.ok.0 c.requires.1.0 c.as_mut_slice.ensures.value size refl)) c.leave_out.ensures.entries
+    let long = length_alone _ end rows v part c.args.rows.now.ok.0 c.requires.1.0 c.as_mut_slice.ensures.value size _ refl in
+    record {
+      front = front_alone _ end rows v part c.args.rows.now.ok.0 c.requires.1.0 c.as_mut_slice.ensures.value size _ refl;
+      length = omega (arith, long, c.requires.1.0);
+      few = omega (arith, long);
+      entries = subst (All (IsEntryOf g.days)) (sym (part_alone _ end rows v part c.args.rows.now.ok.0 c.requires.1.0 c.as_mut_slice.ensures.value size _ refl)) c.leave_out.ensures.entries;
+      best = λ e. absurd (false≢true e);
+    }
 
-pub returns-then-is_err-clause-entries : goal.returns-then-is_err-clause-entries
-returns-then-is_err-clause-entries g c =
+pub returns-then-is_err : goal.returns-then-is_err
+returns-then-is_err g c =
+    let rows = c.args.rows.now.items in
     let v = c.as_mut_slice.result.now in
     let end = c.args.at.end in
+    let part = c.leave_out.new.list in
+    let new = c.push.new.self.items in
     let size = c.leave_out.ensures.length ∙ length-take-le (length v - end) (drop end v) (omega (arith, length-drop end v)) in
-    subst (All (IsEntryOf g.days)) (sym (part_alone _ end c.args.rows.now.items v c.leave_out.new.list c.push.new.self.items c.args.rows.now.ok.0 c.requires.1.0 c.as_mut_slice.ensures.value size (no_more _ _ _ _ c.if-is_err.ensures.negation c.push.ensures.items))) c.leave_out.ensures.entries
+    let is = no_more _ _ _ _ c.if-is_err.ensures.negation c.push.ensures.items in
+    let long = length_alone _ end rows v part c.args.rows.now.ok.0 c.requires.1.0 c.as_mut_slice.ensures.value size new is in
+    record {
+      front = front_alone _ end rows v part c.args.rows.now.ok.0 c.requires.1.0 c.as_mut_slice.ensures.value size new is;
+      length = omega (arith, long, c.requires.1.0);
+      few = omega (arith, long);
+      entries = subst (All (IsEntryOf g.days)) (sym (part_alone _ end rows v part c.args.rows.now.ok.0 c.requires.1.0 c.as_mut_slice.ensures.value size new is)) c.leave_out.ensures.entries;
+      best = λ e. absurd (false≢true e);
+    }
 
-pub returns-clause-entries : goal.returns-clause-entries
-returns-clause-entries g c =
+pub returns : goal.returns
+returns g c =
     let before : c.in-Ok.before ≡ c.args.link.before = c.in-Ok.ensures.1 in
     let e : Entry = record { state = c.args.reached.0; code = c.code.result; cost = c.args.reached.1; before = c.in-Ok.before; offer = c.args.link.offer } in
+    let f = best_of g.days in
+    let rows = c.args.rows.now.items in
     let v = c.as_mut_slice.result.now in
     let end = c.args.at.end in
+    let part = c.leave_out.new.list in
+    let new = c.push.new.self.items in
     let size = c.leave_out.ensures.length ∙ length-take-le (length v - end) (drop end v) (omega (arith, length-drop end v)) in
+    let is = one_more _ _ _ _ c.if-is_err.ensures.negation c.push.ensures.items in
+    let long = length_and_one _ end rows v part c.args.rows.now.ok.0 c.requires.1.0 c.as_mut_slice.ensures.value size new e is in
+    let put = part_and_one _ end rows v part c.args.rows.now.ok.0 c.requires.1.0 c.as_mut_slice.ensures.value size new e is in
     let linked : (x : Entry) → x.before ≡ e.before → x.offer ≡ e.offer → IsLinked g.days.offers g.days.earlier g.days.day x = λ x from by. c.requires.1.1.1.1.1.1.0 x (from ∙ before) by in
-    subst (All (IsEntryOf g.days)) (sym (part_and_one _ end c.args.rows.now.items v c.leave_out.new.list c.push.new.self.items e c.args.rows.now.ok.0 c.requires.1.0 c.as_mut_slice.ensures.value size (one_more _ _ _ _ c.if-is_err.ensures.negation c.push.ensures.items))) (All-push (IsEntryOf g.days) c.leave_out.new.list e c.leave_out.ensures.entries (entry_is g.days c.args.limited.now.floors.ranges e c.requires.0 c.requires.1.1.1.0 c.code.ensures.code linked))
-
-pub returns-clause-best : goal.returns-clause-best
-returns-clause-best g c = λ _ p is.
-    let before : c.in-Ok.before ≡ c.args.link.before = c.in-Ok.ensures.1 in
-    let e : Entry = record { state = c.args.reached.0; code = c.code.result; cost = c.args.reached.1; before = c.in-Ok.before; offer = c.args.link.offer } in
-    let f = best_of g.days in
-    let v = c.as_mut_slice.result.now in
-    let end = c.args.at.end in
-    let size = c.leave_out.ensures.length ∙ length-take-le (length v - end) (drop end v) (omega (arith, length-drop end v)) in
-    ap (cheapest f) (part_and_one _ end c.args.rows.now.items v c.leave_out.new.list c.push.new.self.items e c.args.rows.now.ok.0 c.requires.1.0 c.as_mut_slice.ensures.value size (one_more _ _ _ _ c.if-is_err.ensures.negation c.push.ensures.items))
-    ∙ c.leave_out.ensures.kept c.if-leave_out.false
-    ∙ ap (λ xs. cheapest f (xs ++ e ∷ [])) (part_is end c.args.rows.now.items v c.as_mut_slice.ensures.value)
-    ∙ cheapest_more f (drop end c.args.rows.now.items) e
-    ∙ ap (cheaper (cheapest f (drop end c.args.rows.now.items))) (is e refl refl before refl)
+    record {
+      front = front_and_one _ end rows v part c.args.rows.now.ok.0 c.requires.1.0 c.as_mut_slice.ensures.value size new e is;
+      length = omega (arith, long, c.requires.1.0);
+      few = omega (arith, long);
+      entries = subst (All (IsEntryOf g.days)) (sym put) (All-push (IsEntryOf g.days) part e c.leave_out.ensures.entries (entry_is g.days c.args.limited.now.floors.ranges e c.requires.0 c.requires.1.1.1.0 c.code.ensures.code linked));
+      best = λ _ p is.
+          ap (cheapest f) put
+          ∙ c.leave_out.ensures.kept c.if-leave_out.false
+          ∙ ap (λ xs. cheapest f (xs ++ e ∷ [])) (part_is end rows v c.as_mut_slice.ensures.value)
+          ∙ cheapest_more f (drop end rows) e
+          ∙ ap (cheaper (cheapest f (drop end rows))) (is e refl refl before refl);
+    }
