@@ -34,6 +34,10 @@ module _ (c : Meaning) (from : ℕ) (r new : Rows) (n : ℕ) (is : new ≡ step 
   falls_if changed changed_is differs =
       ltb-true (penalty c new) (penalty c r) (ap (λ s. nat_lt (penalty c s) (penalty c r)) is ∙ sym (changed_is_cheaper c (best_row c from) r n) ∙ ap (λ s. not (same_rows s r)) (sym is) ∙ sym changed_is ∙ differs)
 
+-- what holds of a case and a week holds of the same ones
+pub at_same : (P : Meaning → ℕ → Type 0) (m c : Meaning) (week from : ℕ) → m ≡ c → week ≡ from → P m week → P c from
+at_same P m c week from same weeks p = subst (P c) weeks (subst (λ (k : Meaning). P k week) same p)
+
 pub one_and_rest : (less size : ℕ) → (less + 1) * size ≡ size + less * size
 one_and_rest less size = omega arith
 
@@ -70,6 +74,10 @@ module _ (c : Meaning) (n meter left : ℕ) (inside : n < nurse_count c) (some :
 -- one spending after another
 pub spent_both : (c : Meaning) (meter left meter2 left2 meter3 left3 : ℕ) → Spends c meter left meter2 left2 → Spends c meter2 left2 meter3 left3 → Spends c meter left meter3 left3
 spent_both c meter left meter2 left2 meter3 left3 first later = record { fewer = omega (arith, first.fewer, later.fewer); counted = omega (arith, first.counted, later.counted) }
+
+-- what is left has room where all had
+pub room_left : (c : Meaning) (meter left meter2 left2 most : ℕ) → Spends c meter left meter2 left2 → meter + extensions_of c left ≤ most → meter2 + extensions_of c left2 ≤ most
+room_left c meter left meter2 left2 most spends room = omega (arith, spends.counted, room)
 
 pub spent_none : (c : Meaning) (meter left : ℕ) → Spends c meter left meter left
 spent_none c meter left = record { fewer = omega arith; counted = omega arith }

@@ -14,7 +14,7 @@ ghost use Rattle.roster_polish.specs.Settled.{IsSettled, Spends, extensions_of};
 use crate::offers::{Kick, offers_of_days};
 use crate::random::Random;
 use crate::searches::Searches;
-use crate::settle::{Aim, settle};
+use crate::settle::{Aim, settle_in};
 use crate::space::PolishSpace;
 use roster_best::Workspace;
 use roster_case::Held;
@@ -22,19 +22,10 @@ use roster_search::RowSearch;
 use roster_state::Meter;
 
 /// What kicks take: searches, and random numbers.
+#[derive(Clone, Copy)]
 pub(crate) struct Kicking {
     pub(crate) searches: Searches,
     pub(crate) random: Random,
-}
-
-// By hand, so that who drops it has one call to prove.
-impl Drop for Kicking {
-    fn drop(self) {
-        let Kicking {
-            searches: _,
-            random: _,
-        } = self;
-    }
 }
 
 /// What is drawn for a kick: whether its prices are those by worths, its weeks, how many of a hundred prices are raised, and by how
@@ -76,13 +67,9 @@ pub(crate) fn try_kick(
         first,
         most: before,
     };
-    let PolishSpace { floor, last, .. } = space;
-    let workspace = &mut floor.rows.workspace;
-    let settled = settle(held, aim, &mut kicking.searches, workspace, last, meter);
+    let settled = settle_in(held, aim, &mut kicking.searches, space, meter);
     if settled && held.total() <= before {
-        held.keeps_rules();
-        space.kept.put_rows(held.roster());
-        space.kept_last.put(&space.last);
+        space.keep(held);
         true
     } else {
         held.replace_rows(&space.kept);

@@ -3,15 +3,9 @@
 ghost use Rattle.std.specs.Prelude.{◌<◌};
 
 /// A generator of the kind xorshift64*.
+#[derive(Clone, Copy)]
 pub(crate) struct Random {
     state: u64,
-}
-
-// By hand, so that who drops a generator has one call to prove.
-impl Drop for Random {
-    fn drop(self) {
-        let Random { state: _ } = self;
-    }
 }
 
 impl Random {

@@ -63,9 +63,6 @@ pub fn polish<W: Write>(
     let mut sent = log_word(log, 0, b"start", held.total())?;
     let mut settled = settle_first(held, course.from, space, meter);
     let mut kicking = begin(held, course, space, meter);
-    held.keeps_rules();
-    space.kept.put_rows(held.roster());
-    space.kept_last.put(&space.last);
     for kicks_before in 0..course.searches {
         if kicking.searches.left == 0 {
             break;
@@ -94,10 +91,11 @@ fn end_word(settled: bool) -> &'static [u8]
     if settled { b"settled" } else { b"stopped" }
 }
 
-/// Improves the worths by which kicks price, with half of the searches at most.
+/// Improves the worths by which kicks price, with half of the searches at most, and keeps the roster.
 fn begin(held: &Held, course: &Course, space: &mut PolishSpace, meter: &mut Meter) -> Kicking
     requires fits { FitsPolish held.now.case space.old }
     requires room { meter.old + extensions_of held.now.case course.now.searches ≤ greatest_u64 }
+    ensures kept { space.new.kept ≡ held.now.roster }
     ensures from { result.searches.from ≡ course.now.from }
     ensures counted { meter.new + extensions_of held.now.case result.searches.left ≤ meter.old + extensions_of held.now.case course.now.searches }
     ensures fits { FitsPolish held.now.case space.new }
@@ -106,6 +104,7 @@ fn begin(held: &Held, course: &Course, space: &mut PolishSpace, meter: &mut Mete
     let nurses = held.case().nurses() as u32;
     let rounds = rounds_within(course.searches, nurses);
     improve_worths(held, rounds as u16, course.from, &mut space.floor, meter);
+    space.keep(held);
     Kicking {
         searches: Searches {
             left: (course.searches - rounds * nurses) as u64,

@@ -4,16 +4,10 @@ ghost use Rattle.std.specs.Prelude.{◌≡◌, ◌-◌, ◌<◌, true};
 ghost use Rattle.roster_instance.specs.Counting.{one_if};
 
 /// The searches that a run may still take: how many are left, and the week before which all is frozen.
+#[derive(Clone, Copy)]
 pub(crate) struct Searches {
     pub(crate) left: u64,
     pub(crate) from: u16,
-}
-
-// By hand, so that who drops it has one call to prove.
-impl Drop for Searches {
-    fn drop(self) {
-        let Searches { left: _, from: _ } = self;
-    }
 }
 
 impl Searches {

@@ -5,7 +5,6 @@ ghost use Rattle.roster_bundle.specs.Limits.{greatest_u64};
 ghost use Rattle.roster_instance.specs.Meaning.{nurse_count};
 ghost use Rattle.roster_rules.specs.AllowedRows.{best_row};
 ghost use Rattle.roster_rules.specs.Improver.{round, same_rows, step};
-ghost use Rattle.roster_rules.specs.Penalties.{penalty};
 ghost use Rattle.roster_laws.specs.FrozenDays.{FrozenDaysStay};
 ghost use Rattle.roster_best.specs.Known.{IsKnown};
 ghost use Rattle.roster_best.specs.Workspaces.{fits_space};
@@ -70,10 +69,32 @@ pub(crate) fn settle_first(
     false
 }
 
+/// Settles a roster in the memory of a run.
+pub(crate) fn settle_in(
+    held: &mut Held,
+    aim: Aim,
+    searches: &mut Searches,
+    space: &mut PolishSpace,
+    meter: &mut Meter,
+) -> bool
+    requires fits { FitsPolish held.old.case space.old }
+    requires room { meter.old + extensions_of held.old.case searches.old.left ≤ greatest_u64 }
+    ensures case { held.new.case ≡ held.old.case }
+    ensures kept { space.new.kept ≡ space.old.kept }
+    ensures settled { result ≡ true → IsSettled held.old.case searches.old.from held.new.roster }
+    ensures frozen { FrozenDaysStay held.old.case searches.old.from held.old.roster held.new.roster }
+    ensures from { searches.new.from ≡ searches.old.from }
+    ensures spends { Spends held.old.case meter.old searches.old.left meter.new searches.new.left }
+    ensures fits { FitsPolish held.old.case space.new }
+{
+    let PolishSpace { floor, last, .. } = space;
+    settle(held, aim, searches, &mut floor.rows.workspace, last, meter)
+}
+
 /// Makes steps until no nurse has a cheaper row, and says whether it came so far: first from a nurse on, then for all, pass by pass.
 /// Each search is one of those that are left. It gives up where none is left, or where the roster is still too far above the penalty
 /// that is to be reached.
-pub(crate) fn settle(
+fn settle(
     held: &mut Held,
     aim: Aim,
     searches: &mut Searches,
@@ -87,7 +108,6 @@ pub(crate) fn settle(
     ensures case { held.new.case ≡ held.old.case }
     ensures settled { result ≡ true → IsSettled held.old.case searches.old.from held.new.roster }
     ensures frozen { FrozenDaysStay held.old.case searches.old.from held.old.roster held.new.roster }
-    ensures no_dearer { penalty held.old.case held.new.roster ≤ penalty held.old.case held.old.roster }
     ensures from { searches.new.from ≡ searches.old.from }
     ensures spends { Spends held.old.case meter.old searches.old.left meter.new searches.new.left }
     ensures fits { fits_space held.old.case workspace.new ≡ true }
@@ -134,7 +154,6 @@ fn make_pass(
     ensures end { first ≡ 0 → nurse_count held.old.case ≤ searches.old.left → result ≡ (if same_rows held.new.roster held.old.roster then Unchanged else Changed) }
     ensures unchanged { result ≡ Unchanged → (n : ℕ) → first ≤ n → n < nurse_count held.old.case → HasBestRow held.old.case searches.old.from held.new.roster n }
     ensures frozen { FrozenDaysStay held.old.case searches.old.from held.old.roster held.new.roster }
-    ensures no_dearer { penalty held.old.case held.new.roster ≤ penalty held.old.case held.old.roster }
     ensures from { searches.new.from ≡ searches.old.from }
     ensures few { first ≡ 0 → searches.old.left ≤ searches.new.left + nurse_count held.old.case }
     ensures spends { Spends held.old.case meter.old searches.old.left meter.new searches.new.left }

@@ -1,6 +1,6 @@
 //! The memory of a run.
 
-ghost use Rattle.std.specs.Prelude.{IfOk};
+ghost use Rattle.std.specs.Prelude.{◌≡◌, IfOk};
 ghost use Rattle.roster_polish.specs.Polished.{FitsPolish};
 
 use roster_best::{BestFault, LastSearches};
@@ -50,5 +50,15 @@ impl PolishSpace {
             kept: held.roster().copy(alloc)?,
             kept_last: LastSearches::for_case(alloc, held.case())?,
         })
+    }
+
+    /// Keeps a roster, with what the last searches tell of it.
+    pub(crate) fn keep(&mut self, held: &Held)
+        requires { FitsPolish held.now.case self.old }
+        ensures kept { self.new.kept ≡ held.now.roster }
+        ensures fits { FitsPolish held.now.case self.new }
+    {
+        self.kept.put_rows(held.roster());
+        self.kept_last.put(&self.last);
     }
 }

@@ -27,25 +27,14 @@ returns-in_err-sent-clause-err g c =
 
 -- ---- the first settling
 
-pub put_rows-requires : goal.put_rows-requires
-put_rows-requires g c =
-    let k = c.args.held.now.case in
-    let now = c.settle_first-settled.new.held in
-    let same = c.settle_first-settled.ensures.case in
-    ap (λ (rows : Rows). map (λ (row : Row). length row) rows) c.roster.ensures.roster
-    ∙ same_days k now.roster c.begin-kicking.new.space.kept (subst (λ (m : Meaning). fits_case m now.roster ≡ true) same c.keeps_rules-2.ensures.fits) (subst (λ (m : Meaning). FitsPolish m c.begin-kicking.new.space) same c.begin-kicking.ensures.fits).kept
-
 pub loop-kicks_before-init : goal.loop-kicks_before-init
 loop-kicks_before-init g c =
     let k = c.args.held.now.case in
     let given = c.args.held.now.roster in
-    let now = c.settle_first-settled.new.held in
     let told = c.settle_first-settled.ensures in
-    let fits = subst (λ (m : Meaning). FitsPolish m c.begin-kicking.new.space) told.case c.begin-kicking.ensures.fits in
-    let kept : c.put_rows.new.self ≡ now.roster = c.put_rows.ensures ∙ c.roster.ensures.roster in
     record {
       case = told.case;
-      kept = kept;
+      kept = c.begin-kicking.ensures.kept;
       frozen = subst (FrozenDaysStay k c.args.course.now.from given) (sym told.roster) (first_kept k c.args.course.now.from given (c.keeps_rules.ensures.fits, c.keeps_rules.ensures.keeps)).stays;
       going = rw (told.roster, told.settled) (underway_first k c.args.course.now.from given g.W.Write.contents c.args.log.now c.log_word.new.log c.in_ok-sent.sent
           (subst (Sends g.W.Write.contents c.args.log.now c.log_word.new.log 0 c.in_ok-sent.sent) (first_text k given c.total.result c.total.ensures.total) c.in_ok-sent.ensures.ok));
@@ -58,13 +47,7 @@ loop-kicks_before-init g c =
         ap (λ (m : Meaning). extensions_of m c.args.course.now.searches) told.case,
         both_of c.args.course.now.searches (first_searches k) (greatest_extension_count k),
       );
-      fits = record {
-        floor = fits.floor;
-        known = fits.known;
-        kept_known = c.put.ensures.known k fits.known;
-        dearer = fits.dearer;
-        kept = subst (λ (rows : Rows). fits_case k rows ≡ true) (sym kept) (subst (λ (m : Meaning). fits_case m now.roster ≡ true) told.case c.keeps_rules-2.ensures.fits);
-      };
+      fits = subst (λ (m : Meaning). FitsPolish m c.begin-kicking.new.space) told.case c.begin-kicking.ensures.fits;
     }
 
 -- ---- a kick
@@ -166,7 +149,7 @@ returns-in_err-log_word-clause-err g c =
     let total : c.total-total-2.result ≡ penalty k l.held.roster = c.total-total-2.ensures.total ∙ ap (λ (m : Meaning). penalty m l.held.roster) i.case in
     let text : line c.end_word.result.now c.total-total-2.result ≡ last_line k l.settled l.held.roster = λ j. line (c.end_word.ensures j) (total j) in
     rw (p.1, p.2) (end_breaks k from given g.W.Write.contents c.args.log.now l.log l.kicks_before l.sent l.settled l.held.roster i.going c.args.course.now.searches c.log_word-2.new.log c.in_err-log_word.field-0.0
-    (omega (arith, l.auto.kicks_before-end)) (reached_by l.held.case k from given l.held.roster i.case c.keeps_rules-3.ensures.fits c.keeps_rules-3.ensures.keeps i.frozen)
+    (omega (arith, l.auto.kicks_before-end)) (reached_by l.held.case k from given l.held.roster i.case c.keeps_rules-2.ensures.fits c.keeps_rules-2.ensures.keeps i.frozen)
     (subst (λ end. BreaksIn g.W.Write.contents l.log c.log_word-2.new.log l.sent end c.in_err-log_word.field-0.0) text c.in_err-log_word.ensures.err))
 
 pub returns-clause-ok : goal.returns-clause-ok
@@ -179,5 +162,5 @@ returns-clause-ok g c =
     let total : c.total-total-2.result ≡ penalty k l.held.roster = c.total-total-2.ensures.total ∙ ap (λ (m : Meaning). penalty m l.held.roster) i.case in
     let text : line c.end_word.result.now c.total-total-2.result ≡ last_line k l.settled l.held.roster = λ j. line (c.end_word.ensures j) (total j) in
     ends k from given g.W.Write.contents c.args.log.now l.log l.kicks_before l.sent l.settled l.held.roster i.going c.args.course.now.searches c.log_word-2.new.log c.in_ok-log_word.field-0 (record { settled = l.settled; total = c.total-total-2.result })
-    (omega (arith, l.auto.kicks_before-end)) (reached_by l.held.case k from given l.held.roster i.case c.keeps_rules-3.ensures.fits c.keeps_rules-3.ensures.keeps i.frozen) refl total
+    (omega (arith, l.auto.kicks_before-end)) (reached_by l.held.case k from given l.held.roster i.case c.keeps_rules-2.ensures.fits c.keeps_rules-2.ensures.keeps i.frozen) refl total
     (subst (Sends g.W.Write.contents l.log c.log_word-2.new.log l.sent c.in_ok-log_word.field-0) text c.in_ok-log_word.ensures.ok)

@@ -44,7 +44,7 @@ returns-clause-settled c =
     sym (ap (λ (r : Run). r.is_settled) (l.invariant.run_is ∙ run_stops k c.args.from l.held.roster most_rounds l.rounds_before (omega (arith, l.auto.rounds_before-end, c.loop-rounds_before-test.false))))
 
 -- the round that was made is the last one
-ended : (c : goal.After-drop-searches) → first_run c.args.held.now.case c.args.from c.args.held.now.roster ≡ record { roster = c.make_pass.new.held.roster; is_settled = true }
+ended : (c : goal.In-Unchanged) → first_run c.args.held.now.case c.args.from c.args.held.now.roster ≡ record { roster = c.make_pass.new.held.roster; is_settled = true }
 ended c =
     let k = c.args.held.now.case in
     let from = c.args.from in

@@ -1,0 +1,107 @@
+use Rattle.std.proofs.Common.{◌≡◌, ◌∙◌, arith, refl, rules, subst, sym, true}
+use Rattle.std.proofs.lemmas.Bool.{true≢false}
+use Rattle.roster_instance.specs.Meaning.{Meaning}
+use Rattle.roster_best.specs.Known.{IsKnown}
+use Rattle.roster_best.specs.Workspaces.{fits_space}
+use Rattle.roster_laws.specs.FrozenDays.{FrozenDaysStay}
+use Rattle.roster_laws.proofs.Frozen.{stays_on, stays_self}
+use Rattle.roster_polish.specs.declared.settle.Pass.TheVariants.{Unchanged}
+use Rattle.roster_polish.specs.Settled.{HasBestRow, Spends}
+use Rattle.roster_polish.proofs.Steps.{at_same, room_left, spent_both, spent_none}
+use Rattle.roster_polish.proofs.settle.settle.Goals as goal
+use Rattle.roster_polish.proofs.settle.settle.Goals.{After-make_pass-end}
+
+pub loop-pass-init : goal.loop-pass-init
+loop-pass-init c = record {
+  case = refl;
+  frozen = stays_self c.args.held.now.case c.args.searches.now.from c.args.held.now.roster;
+  from = refl;
+  spends = spent_none c.args.held.now.case c.args.meter.now c.args.searches.now.left;
+  fits = c.requires.fits;
+  known = c.requires.known;
+}
+
+pub make_pass-end-requires : goal.make_pass-end-requires
+make_pass-end-requires c =
+    let k = c.args.held.now.case in
+    let l = c.loop-pass in
+    let i = l.invariant in
+    record {
+      fits = rw i.case i.fits;
+      known = subst (λ (m : Meaning). IsKnown m l.last) (sym i.case) i.known;
+      room = rw i.case (room_left k c.args.meter.now c.args.searches.now.left l.meter l.searches.left 18446744073709551615 i.spends c.requires.room);
+    }
+
+-- ---- after a pass
+
+frozen : (c : After-make_pass-end) → FrozenDaysStay c.args.held.now.case c.args.searches.now.from c.args.held.now.roster c.make_pass-end.new.held.roster
+frozen c =
+    let k = c.args.held.now.case in
+    let l = c.loop-pass in
+    let next = c.make_pass-end.new.held.roster in
+    stays_on k c.args.searches.now.from c.args.held.now.roster l.held.roster next l.invariant.frozen
+    (at_same (λ m from. FrozenDaysStay m from l.held.roster next) l.held.case k l.searches.from c.args.searches.now.from l.invariant.case l.invariant.from c.make_pass-end.ensures.frozen)
+
+spends : (c : After-make_pass-end) → Spends c.args.held.now.case c.args.meter.now c.args.searches.now.left c.make_pass-end.new.meter c.make_pass-end.new.searches.left
+spends c =
+    let l = c.loop-pass in
+    let end = c.make_pass-end.new in
+    spent_both c.args.held.now.case c.args.meter.now c.args.searches.now.left l.meter l.searches.left end.meter end.searches.left l.invariant.spends
+    (subst (λ (m : Meaning). Spends m l.meter l.searches.left end.meter end.searches.left) l.invariant.case c.make_pass-end.ensures.spends)
+
+fits : (c : After-make_pass-end) → fits_space c.args.held.now.case c.make_pass-end.new.workspace ≡ true
+fits c = subst (λ (m : Meaning). fits_space m c.make_pass-end.new.workspace ≡ true) c.loop-pass.invariant.case c.make_pass-end.ensures.fits
+
+known : (c : After-make_pass-end) → IsKnown c.args.held.now.case c.make_pass-end.new.last
+known c = subst (λ (m : Meaning). IsKnown m c.make_pass-end.new.last) c.loop-pass.invariant.case c.make_pass-end.ensures.known
+
+pub returns-then-eq : goal.returns-then-eq
+returns-then-eq c =
+    let k = c.args.held.now.case in
+    let l = c.loop-pass in
+    let i = l.invariant in
+    let told = c.make_pass-end.ensures in
+    let here = (goal.at.returns-then-eq c).After-make_pass-end in
+    let next = c.make_pass-end.new.held.roster in
+    let unchanged : c.make_pass-end.result ≡ Unchanged = search rules in
+    record {
+      case = told.case ∙ i.case;
+      settled = λ e n inside.
+          at_same (λ m from. HasBestRow m from next n) l.held.case k l.searches.from c.args.searches.now.from i.case i.from
+          (told.unchanged unchanged n (omega (arith, c.if-first-eq0.true)) (rw i.case inside));
+      frozen = frozen here;
+      from = told.from ∙ i.from;
+      spends = spends here;
+      fits = fits here;
+      known = known here;
+    }
+
+pub returns-then-eq-2 : goal.returns-then-eq-2
+returns-then-eq-2 c =
+    let here = (goal.at.returns-then-eq-2 c).After-make_pass-end in
+    record {
+      case = c.make_pass-end.ensures.case ∙ c.loop-pass.invariant.case;
+      settled = λ e. absurd (true≢false (sym e));
+      frozen = frozen here;
+      from = c.make_pass-end.ensures.from ∙ c.loop-pass.invariant.from;
+      spends = spends here;
+      fits = fits here;
+      known = known here;
+    }
+
+pub loop-pass-preserved : goal.loop-pass-preserved
+loop-pass-preserved c =
+    let here = (goal.at.loop-pass-preserved c).After-make_pass-end in
+    record {
+      case = c.make_pass-end.ensures.case ∙ c.loop-pass.invariant.case;
+      frozen = frozen here;
+      from = c.make_pass-end.ensures.from ∙ c.loop-pass.invariant.from;
+      spends = spends here;
+      fits = fits here;
+      known = known here;
+    }
+
+pub returns : goal.returns
+returns c =
+    let i = c.loop-pass.invariant in
+    record { case = i.case; settled = λ e. absurd (true≢false (sym e)); frozen = i.frozen; from = i.from; spends = i.spends; fits = i.fits; known = i.known }

@@ -1,0 +1,30 @@
+use Rattle.std.proofs.Common.{refl}
+use Rattle.roster_polish.proofs.settle.settle_in.Goals as goal
+
+pub settle-requires : goal.settle-requires
+settle-requires c = record { fits = c.requires.fits.floor.rows.search; known = c.requires.fits.known; room = c.requires.room }
+
+pub returns : goal.returns
+returns c =
+    let told = c.settle.ensures in
+    let fits = c.requires.fits in
+    record {
+      case = told.case;
+      kept = refl;
+      settled = told.settled;
+      frozen = told.frozen;
+      from = told.from;
+      spends = told.spends;
+      fits = record {
+        floor = record {
+          rows = record { search = told.fits; cover = fits.floor.rows.cover };
+          worths = fits.floor.worths;
+          wanted = fits.floor.wanted;
+          had = fits.floor.had;
+        };
+        known = told.known;
+        kept_known = fits.kept_known;
+        dearer = fits.dearer;
+        kept = fits.kept;
+      };
+    }

@@ -1,0 +1,26 @@
+use Rattle.std.proofs.Common.{◌≡◌, ◌∙◌, ap, length, map, subst, sym, true}
+use Rattle.roster_instance.specs.Rosters.{Row, Rows, fits_case}
+use Rattle.roster_polish.proofs.Keeping.{same_days}
+use Rattle.roster_polish.proofs.space.PolishSpace.keep.Goals as goal
+
+pub put_rows-requires : goal.put_rows-requires
+put_rows-requires c =
+    ap (λ (rows : Rows). map (λ (row : Row). length row) rows) c.roster.ensures.roster
+    ∙ same_days c.args.held.now.case c.args.held.now.roster c.args.self.now.kept c.roster.ensures.fits c.requires.kept
+
+pub put-requires : goal.put-requires
+put-requires c = (c.args.held.now.case, c.requires.kept_known, c.requires.known)
+
+pub returns : goal.returns
+returns c =
+    let kept : c.put_rows.new.self ≡ c.args.held.now.roster = c.put_rows.ensures ∙ c.roster.ensures.roster in
+    record {
+      kept = kept;
+      fits = record {
+        floor = c.requires.floor;
+        known = c.requires.known;
+        kept_known = c.put.ensures.known c.args.held.now.case c.requires.known;
+        dearer = c.requires.dearer;
+        kept = subst (λ (rows : Rows). fits_case c.args.held.now.case rows ≡ true) (sym kept) c.roster.ensures.fits;
+      };
+    }
