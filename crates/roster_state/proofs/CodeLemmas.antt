@@ -161,12 +161,6 @@ module _ (z now : Sizes) (s state : Summary) (number : ℕ) (sizes : z ≡ now) 
       pub weekends-small : to_weekends ≤ most_states
       weekends-small = factor-within to_weekends z.assignments most_states keep.assignments.some (omega (arith, digits-small))
 
-      pub shift_runs-small : (number * z.run + s.run) * z.shift_run + s.shift_run ≤ most_states
-      shift_runs-small = factor-within _ z.weekends most_states keep.weekends.some (omega (arith, weekends-small))
-
-      pub runs-small : number * z.run + s.run ≤ most_states
-      runs-small = factor-within _ z.shift_run most_states keep.shift_run.some (omega (arith, shift_runs-small))
-
 -- ---- the state of a number
 
 module _ (z : Sizes) (code : ℕ) where

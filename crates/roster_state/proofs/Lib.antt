@@ -12,4 +12,3 @@ pub mod TriedDays
 pub mod Standing
 pub mod StretchLaw
 pub mod WorkedLaw
-pub mod Minimum

@@ -1,21 +1,17 @@
 -- A row from day to day: its first days, and whether they keep the successions.
-use Rattle.std.proofs.Common.{◌≡◌, ◌∙◌, ◌+◌, ◌-◌, ◌<◌, ◌≤◌, ◌⊎◌, ℕ, zero, suc, Bool, true, false, ap, arith, if◌then◌else◌, inl, inr, refl, sym, ◌==◌, [], ◌∷◌, ◌++◌, length, take, nat_lt, Option, IfSome}
+use Rattle.std.proofs.Common.{◌≡◌, ◌∙◌, ◌+◌, ◌-◌, ◌<◌, ◌≤◌, ◌⊎◌, ℕ, zero, suc, Bool, true, false, ap, arith, if◌then◌else◌, inl, inr, refl, sym, ◌==◌, [], ◌∷◌, ◌++◌, length, take, Option}
 use Rattle.std.proofs.Math.ListN.{get_or-map}
 use Rattle.std.proofs.Math.Seq.{take-suc}
-use Rattle.std.specs.List.{list_all}
-use Rattle.std.proofs.lemmas.Bool.{and_parts, cases_eq, ltb-true}
-use Rattle.std.proofs.lemmas.List.Elements.{All-get_or}
-use Rattle.std.proofs.lemmas.List.Sums.{AllPass-from_list_all}
+use Rattle.std.proofs.lemmas.Bool.{cases_eq}
 use Rattle.std.proofs.lemmas.List.{get_or-take, length-map, length-take-le, map-append}
-use Rattle.roster_instance.specs.declared.choice.Choice.{Choice}
-use Rattle.roster_instance.specs.declared.choice.Choice.TheVariants.{Off, Work}
+use Rattle.roster_instance.specs.declared.choice.Choice.TheVariants.{Off}
 use Rattle.roster_instance.specs.declared.choice.Shift.{Shift}
 use Rattle.roster_instance.specs.Choices.{days_of, shift_of}
 use Rattle.roster_instance.specs.Days.{Days, shift_on}
 use Rattle.roster_rules.specs.HardRules.{shift_before}
-use Rattle.roster_instance.specs.Meaning.{Meaning, day_count, last_shift, past_of, forbids, shift_count, skill_count}
+use Rattle.roster_instance.specs.Meaning.{Meaning, last_shift, past_of, forbids}
 use Rattle.roster_rules.specs.Prefix.{Summary, last_of, summary_of}
-use Rattle.roster_instance.specs.Rosters.{Row, choice_on, is_choice_of, is_row_of}
+use Rattle.roster_instance.specs.Rosters.{Row, choice_on}
 
 abbrev pub front : ℕ → Row → Days
 front day row = days_of (take day row)
@@ -61,16 +57,6 @@ kept_more p day so_far own d below = go (cases_eq d day)
     go : (d ≡ day) ⊎ (d ≡ day → ⊥) → p d ≡ false
     go (inl same) = ap p same ∙ not_true (p day) own
     go (inr other) = so_far d (omega (arith, below, other))
-
--- the shift of a row's choice is one of the case's
-pub shift_known : (c : Meaning) (row : Row) (day : ℕ) → day < length row → is_row_of c row ≡ true → IfSome (shift_of (choice_on row day)) (λ s. s.0 < shift_count c)
-shift_known c row day inside fitting =
-    of_choice (choice_on row day)
-    (All-get_or (λ choice. is_choice_of c choice ≡ true) row day Off inside (AllPass-from_list_all (is_choice_of c) row (and_parts (length row == day_count c) (list_all (is_choice_of c) row) fitting).1))
-  where
-    of_choice : (choice : Choice) → is_choice_of c choice ≡ true → IfSome (shift_of choice) (λ s. s.0 < shift_count c)
-    of_choice Off known = tt
-    of_choice (Work shift skill) known = ltb-true shift.0 (shift_count c) (and_parts (nat_lt shift.0 (shift_count c)) (nat_lt skill.0 (skill_count c)) known).0
 
 pub not_both : (b : Bool) → b ≡ true → b ≡ false → ⊥
 not_both true e f = absurd (cc)

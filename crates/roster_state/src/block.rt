@@ -141,7 +141,7 @@ impl Block {
     {
         let rules = case.contract_rules(nurse);
         match self.state.last {
-            None => (self.state.run <= rules.free.cap()) & (self.state.shift_run == 0),
+            None => self.state.run <= rules.free.cap() && self.state.shift_run == 0,
             Some(shift) => can_work(
                 &self.state,
                 rules.working,
@@ -178,9 +178,9 @@ fn can_work(state: &State, working: Limits, shift: Limits, more: u32) -> bool
     ensures { result ≡ (nat_le state.now.run (cap working) && nat_le state.now.shift_run (cap shift) && (nat_le (cap working) state.now.run || nat_le state.now.shift_run (state.now.run + more))) }
 {
     let is_full = working.cap() <= state.run;
-    (state.run <= working.cap())
-        & (state.shift_run <= shift.cap())
-        & (is_full | (state.shift_run as u32 <= state.run as u32 + more))
+    state.run <= working.cap()
+        && state.shift_run <= shift.cap()
+        && (is_full || state.shift_run as u32 <= state.run as u32 + more)
 }
 
 /// How many days more the history counts of its last shift than of working days.

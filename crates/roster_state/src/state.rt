@@ -75,11 +75,11 @@ impl State {
     pub fn fits(&self, ranges: &Ranges) -> bool
         ensures { result ≡ fits_sizes ranges.now self.now }
     {
-        (shift_digit(self.last) < ranges.last)
-            & ((self.run as u32) < ranges.run)
-            & ((self.shift_run as u32) < ranges.shift_run)
-            & ((self.assignments as u32) < ranges.assignments)
-            & ((self.weekends as u32) < ranges.weekends)
+        shift_digit(self.last) < ranges.last
+            && (self.run as u32) < ranges.run
+            && (self.shift_run as u32) < ranges.shift_run
+            && (self.assignments as u32) < ranges.assignments
+            && (self.weekends as u32) < ranges.weekends
     }
 
     /// The number of the state, below the product of the ranges. States that differ in their assignments alone have

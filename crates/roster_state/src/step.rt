@@ -258,6 +258,7 @@ fn missing_cost(case: &Case, nurse: usize, state: State) -> u32
 
 // ---- a step
 
+#[tactic(auto, unfolding(crate::specs::Step::next_of))]
 #[inline(always)]
 pub(crate) fn next_of(
     case: &Case,
@@ -270,8 +271,6 @@ pub(crate) fn next_of(
     requires { rules ≡ contract_of case.now nurse }
     ensures { result ≡ next_of case.now nurse day state shift }
 {
-    let assignments = state.assignments as u32 + shift.is_some() as u32;
-    let weekends = state.weekends as u32 + weekends_more(day, state.last, shift);
     let (run, shift_run) = match shift {
         Some(shift) => (
             longer(working_run(state), rules.working),
@@ -279,6 +278,8 @@ pub(crate) fn next_of(
         ),
         None => (longer(free_run(state), rules.free), 0),
     };
+    let assignments = state.assignments as u32 + shift.is_some() as u32;
+    let weekends = state.weekends as u32 + weekends_more(day, state.last, shift);
     State {
         last: shift,
         run,
@@ -443,7 +444,7 @@ pub(crate) fn weekends_more(day: u16, before: Option<Shift>, now: Option<Shift>)
 {
     match day % 7 {
         5 => now.is_some() as u32,
-        6 => (before.is_none() & now.is_some()) as u32,
+        6 => (before.is_none() && now.is_some()) as u32,
         _ => 0,
     }
 }

@@ -1,16 +1,14 @@
-use Rattle.std.proofs.Common.{◌≡◌, ◌∙◌, ◌+◌, ◌<◌, Bool, ℕ, ap, arith, length, refl, subst, sym, take, true, ◌==◌, IfSome, Option}
+use Rattle.std.proofs.Common.{◌≡◌, ◌∙◌, ◌+◌, ◌<◌, Bool, ℕ, ap, arith, length, refl, sym, true, ◌==◌}
 use Rattle.std.proofs.lemmas.Bool.{and_parts, eqb-true}
-use Rattle.std.proofs.lemmas.List.{length-map, take_all}
+use Rattle.std.proofs.lemmas.List.{length-map}
 use Rattle.std.specs.List.{list_all}
 use Rattle.roster_instance.specs.Choices.{days_of, shift_of}
 use Rattle.roster_instance.specs.Days.{shift_on}
 use Rattle.roster_rules.specs.HardRules.{breaks_succession, shift_before}
-use Rattle.roster_instance.specs.Meaning.{Meaning, day_count, last_shift, past_of, forbids, shift_count}
-use Rattle.roster_instance.specs.declared.choice.Shift.{Shift}
-use Rattle.roster_rules.specs.Penalties.{own_cost}
+use Rattle.roster_instance.specs.Meaning.{Meaning, day_count, last_shift, past_of, forbids}
 use Rattle.roster_rules.specs.Prefix.{due, summary_of}
 use Rattle.roster_instance.specs.Rosters.{Row, is_choice_of, is_row_of}
-use Rattle.roster_state.proofs.RowLemmas.{forbidden_by, front, front_more, kept_more, length_front, not_both, shift_known}
+use Rattle.roster_state.proofs.RowLemmas.{forbidden_by, front, front_more, kept_more, length_front, not_both}
 use Rattle.roster_state.proofs.TriedDays.{tried-all, tried-up_to}
 use Rattle.roster_state.proofs.row.row_cost.Goals as goal
 
@@ -77,44 +75,3 @@ returns-clause-counted c =
     let all : length (days_of row) ≡ c.loop-day.day = omega (arith, days, length-map row shift_of, c.days-day-end.ensures.count, c.loop-day-test.false) in
     let tried = tried-all (breaks_succession k c.args.nurse (days_of row)) (length (days_of row)) (λ d h. c.loop-day.invariant.kept d (omega (arith, h, all))) in
     omega (arith, all, tried, c.loop-day.invariant.counted)
-
-pub loop-day-init : goal.loop-day-init
-loop-day-init c = record {
-  state_is = c.start-state.ensures.state;
-  cost_is = c.start-state.ensures.cost;
-  fitting = c.start-state.ensures.fits;
-  kept = λ d below. absurd (omega (arith, below));
-  within = c.start-state.ensures.within;
-  counted = omega arith;
-}
-
-pub bounds-row-day : goal.bounds-row-day
-bounds-row-day c = omega (arith, row_days c.args.case.now c.args.row.now c.requires.row, c.days-day-end.ensures.count, c.loop-day-test.true)
-
-pub extend-requires-clause-day : goal.extend-requires-clause-day
-extend-requires-clause-day c = omega (arith, c.days-day-end.ensures.count, c.loop-day-test.true)
-
-pub extend-requires-clause-room : goal.extend-requires-clause-room
-extend-requires-clause-room c = omega (arith, c.loop-day.invariant.counted, c.requires.room, c.days-day-end.ensures.count, c.loop-day-test.true)
-
-pub overflow_add-cost : goal.overflow_add-cost
-overflow_add-cost c = omega (arith, c.loop-day.invariant.within, c.in_ok-next.ensures.within)
-
-pub overflow_add-result : goal.overflow_add-result
-overflow_add-result c = omega (arith, c.loop-day.invariant.within, c.end_cost.ensures.within)
-
-pub extend-requires-clause-shift : goal.extend-requires-clause-shift
-extend-requires-clause-shift c =
-    let k = c.args.case.now in
-    let row = c.args.row.now in
-    let inside : c.loop-day.day < length row = omega (arith, row_days k row c.requires.row, c.days-day-end.ensures.count, c.loop-day-test.true) in
-    subst (λ (shift : Option Shift). IfSome shift (λ s. s.0 < shift_count k)) (sym c.shift.ensures) (shift_known k row c.loop-day.day inside c.requires.row)
-
-pub returns-clause-cost : goal.returns-clause-cost
-returns-clause-cost c =
-    let k = c.args.case.now in
-    let n = c.args.nurse in
-    let row = c.args.row.now in
-    let day = c.loop-day.day in
-    let whole : take day row ≡ row = take_all day row (omega (arith, row_days k row c.requires.row, c.days-day-end.ensures.count, c.loop-day-test.false)) in
-    ap (λ x. x + c.end_cost.result) c.loop-day.invariant.cost_is ∙ sym (c.end_cost.ensures.closes (front day row) c.loop-day.invariant.state_is) ∙ ap (λ (r : Row). own_cost k n (days_of r)) whole

@@ -1,10 +1,8 @@
-use Rattle.std.proofs.Common.{◌≡◌, ◌∙◌, ◌+◌, ◌≤◌, ap, arith, max, subst, sym}
+use Rattle.std.proofs.Common.{◌≡◌, ◌+◌, ◌≤◌, arith, max, rules, subst, sym}
 use Rattle.roster_instance.specs.Limits.{most_states}
-use Rattle.roster_instance.specs.declared.rules.ContractRules.{ContractRules}
-use Rattle.roster_instance.specs.Sizes.{cap, state_count}
+use Rattle.roster_instance.specs.Sizes.{state_count}
 use Rattle.roster_state.specs.Codes.{Sizes, product, sizes_of}
 use Rattle.roster_state.proofs.CodeLemmas.{product-is_state_count}
-use Rattle.roster_state.proofs.Minimum.{greater}
 use Rattle.roster_state.proofs.ranges.Ranges.of.Goals as goal
 
 abbrev sizes : goal.After-struct_known-1 → Sizes
@@ -16,24 +14,15 @@ sizes c = record {
   weekends = c.contract_rules-rules.result.weekends + 1;
 }
 
-run : (c : goal.After-struct_known-1) → c.max.result ≡ max c.cap.result c.cap-2.result
-run c = c.max.ensures ∙ greater _ _
-
-are : (c : goal.After-struct_known-1) → sizes c ≡ sizes_of c.args.case.now c.args.nurse
-are c =
-    let rules = c.contract_rules-rules.ensures.rules in
-    let total = c.cap-3.ensures ∙ ap (λ (r : ContractRules). cap r.total) rules in
-    let runs = run c ∙ (λ i. max ((c.cap.ensures ∙ ap (λ (r : ContractRules). cap r.working) rules) i) ((c.cap-2.ensures ∙ ap (λ (r : ContractRules). cap r.free) rules) i)) in
-    λ i. record { last = c.shifts.ensures.count i + 1; run = runs i + 1; shift_run = c.greatest_cap.ensures.cap i + 1; assignments = total i + 1; weekends = (rules i).weekends + 1 }
-
 states : (c : goal.After-struct_known-1) → product (sizes c) ≡ state_count c.args.case.now c.args.nurse
 states c =
-    product-is_state_count c.args.case.now c.args.nurse (sizes c) (are c)
+    let are : sizes c ≡ sizes_of c.args.case.now c.args.nurse = search rules in
+    product-is_state_count c.args.case.now c.args.nurse (sizes c) are
 
 pub invariant_of-result : goal.invariant_of-result
 invariant_of-result c =
     let small = c.contract_rules-rules.ensures.small in
-    let run_is = run c in
+    let run_is : c.max.result ≡ max c.cap.result c.cap-2.result = search rules in
     record {
       last = record { some = omega arith; few = omega arith };
       run = record { some = omega arith; few = omega arith };
@@ -45,6 +34,3 @@ invariant_of-result c =
 
 pub returns-clause-states : goal.returns-clause-states
 returns-clause-states c = states c
-
-pub returns-clause-sizes : goal.returns-clause-sizes
-returns-clause-sizes c = are c

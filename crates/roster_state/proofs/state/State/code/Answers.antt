@@ -1,5 +1,5 @@
 use Rattle.std.proofs.Common.{arith}
-use Rattle.roster_state.proofs.CodeLemmas.{code-is, digits-back, digits-of_one, digits-small, digits-within, runs-small, shift_runs-small, weekends-small}
+use Rattle.roster_state.proofs.CodeLemmas.{code-is, digits-back, digits-of_one, digits-small, digits-within, weekends-small}
 use Rattle.roster_state.proofs.state.State.code.Goals as goal
 
 pub overflow_mul-weekends : goal.overflow_mul-weekends
@@ -33,23 +33,3 @@ returns-clause-one c = digits-of_one _ _ _ _ _ c.ranges-2.view_is c.self.view_is
 
 pub returns-clause-back : goal.returns-clause-back
 returns-clause-back c = digits-back _ _ _ _ _ c.ranges-2.view_is c.self.view_is c.shift_digit.ensures.number c.requires
-
-pub overflow_mul-run : goal.overflow_mul-run
-overflow_mul-run c =
-    let small = runs-small _ _ _ _ _ c.ranges-2.view_is c.self.view_is c.shift_digit.ensures.number c.requires c.ranges-2.invariant in
-    omega (arith, small)
-
-pub overflow_add-run : goal.overflow_add-run
-overflow_add-run c =
-    let small = runs-small _ _ _ _ _ c.ranges-2.view_is c.self.view_is c.shift_digit.ensures.number c.requires c.ranges-2.invariant in
-    omega (arith, small)
-
-pub overflow_mul-shift_run : goal.overflow_mul-shift_run
-overflow_mul-shift_run c =
-    let small = shift_runs-small _ _ _ _ _ c.ranges-2.view_is c.self.view_is c.shift_digit.ensures.number c.requires c.ranges-2.invariant in
-    omega (arith, small)
-
-pub overflow_add-shift_run : goal.overflow_add-shift_run
-overflow_add-shift_run c =
-    let small = shift_runs-small _ _ _ _ _ c.ranges-2.view_is c.self.view_is c.shift_digit.ensures.number c.requires c.ranges-2.invariant in
-    omega (arith, small)
