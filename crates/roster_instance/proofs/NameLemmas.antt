@@ -153,14 +153,6 @@ module _ (names : List Text) (name : Text) (n : ℕ) where
           sym (ap (is_at n) (ap (find_name names) ((bytes_eq-Decides name (get_or names n [])).0 same) ∙ places n within) ∙ is_at-same n)
       go false differ = other (find_name names name) refl differ
 
-  -- a number past the last is none
-  pub place-beyond : length names ≤ n → false ≡ is_at n (find_name names name)
-  place-beyond beyond = go (find_name names name) (find_name-within names name)
-    where
-      go : (o : Option ℕ) → IfSome o (λ m. m < length names) → false ≡ is_at n o
-      go None within = refl
-      go (Some m) within = sym (is_at-other n m (λ same. omega (arith, beyond, within, same)))
-
 -- ---- names that stand among others
 
 pub known-any : (source : Text) (earlier : List Token) (t : Token) → is_known source (names_of source earlier) t ≡ list_any (same_name source t) earlier

@@ -1,10 +1,9 @@
-use Rattle.std.proofs.Common.{◌<◌, ◌≡◌, ◌∙◌, [], ap, arith, get_or, is_some, length, map, rules, sym}
+use Rattle.std.proofs.Common.{◌<◌, ◌≡◌, ◌∙◌, [], ap, arith, get_or, length, map, rules, sym}
 use Rattle.std.specs.Prelude.{bytes_eq}
-use Rattle.std.proofs.lemmas.Bool.{ltb-false}
 use Rattle.std.proofs.lemmas.List.{get_or-map, length-map}
 use Rattle.roster_instance.specs.Names.{find_name}
 use Rattle.roster_instance.specs.Tables.{is_at}
-use Rattle.roster_instance.proofs.NameLemmas.{place-beyond, place-is}
+use Rattle.roster_instance.proofs.NameLemmas.{place-is}
 use Rattle.roster_instance.proofs.names.Names.is_at.Goals as goal
 
 pub returns-in-Some : goal.returns-in-Some
@@ -18,12 +17,3 @@ returns-in-Some c =
     let at : get_or all number [] ≡ c.as_slice.result.now = get_or-map (λ own. own.items) owned number c.in-Some.own.now [] within ∙ ap (λ own. own.items) (sym here) ∙ sym c.as_slice.ensures.value in
     c.eq.ensures ∙ ap (bytes_eq name) (sym at) ∙ place-is all name number c.self.invariant.1 (omega (arith, within, length-map owned (λ own. own.items)))
     ∙ ap (λ names. is_at number (find_name names name)) c.self.view_is
-
-pub returns-in-None : goal.returns-in-None
-returns-in-None c =
-    let name = c.args.name.now in
-    let number = c.args.number in
-    let owned = c.self.inside.names.items in
-    let all = map (λ own. own.items) owned in
-    let beyond = ltb-false number (length c.deref.result.now) (sym c.get.ensures.lookup.0 ∙ ap is_some c.in-None.is) in
-    place-beyond all name number (omega (arith, beyond, ap length c.deref.ensures.value, length-map owned (λ own. own.items))) ∙ ap (λ names. is_at number (find_name names name)) c.self.view_is
