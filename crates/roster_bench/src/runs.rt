@@ -1,5 +1,9 @@
 //! Runs of the program `roster` over bundles in memory.
 
+ghost use Rattle.std.specs.Prelude.{◌≡◌};
+ghost use Rattle.roster_request.specs.declared.request.Command.TheVariants as command;
+ghost use Rattle.roster_wards.specs.declared.plan.Work.TheVariants as work;
+
 use roster_commands::run;
 use roster_request::{Command, Request};
 use roster_text::Watch;
@@ -35,7 +39,12 @@ pub fn run_plan(alloc: Global, plan: &Plan) -> Result<Told, AllocError> {
     Ok(told)
 }
 
-fn command_of(plan: &Plan) -> Command {
+/// The command by which a plan's bundles are answered. It has the plan's amount, and no week is frozen.
+fn command_of(plan: &Plan) -> Command
+    ensures improve { (rounds : ℕ) → plan.now.work ≡ work.Improve rounds → result ≡ command.Improve rounds 0 }
+    ensures bound { (rounds : ℕ) → plan.now.work ≡ work.Bound rounds → result ≡ command.Bound rounds 0 }
+    ensures polish { (searches : ℕ) → plan.now.work ≡ work.Polish searches → result ≡ command.Polish searches plan.now.size.seed 0 }
+{
     match plan.work {
         Work::Show { .. } => Command::Show,
         Work::Cost { .. } => Command::Cost,
