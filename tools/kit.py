@@ -65,6 +65,12 @@ def kit():
     return os.path.dirname(subprocess.run(["rt", "doc"], stdout=subprocess.PIPE, text=True, check=True).stdout.strip())
 
 
+def version():
+    """What tells this kit from others."""
+    with open(f"{kit()}/KIT-ID", encoding="utf-8") as file:
+        return file.read()
+
+
 def crates():
     """The crates that crates.txt lists, by their names, lowest first."""
     with open(f"{TOP}/crates.txt", encoding="utf-8") as file:
