@@ -19,11 +19,11 @@ use Rattle.roster_laws.specs.OneRow.{rest_of}
 use Rattle.roster_laws.specs.Greatest.{greatest_state_count}
 use Rattle.roster_laws.proofs.Allowed.{allowed_keeps}
 use Rattle.roster_laws.proofs.GreatestLemmas.{greatest_states}
-use Rattle.roster_search.specs.declared.offer.Offer.{Offer}
-use Rattle.roster_search.specs.Cheapest.{Priced}
-use Rattle.roster_search.specs.Offers.{best_by_states, choices_of}
-use Rattle.roster_search.specs.Search.{IsFound, best_over, offers_on}
-use Rattle.roster_search.proofs.Best.{best_some, is_best, penalty_is}
+use Rattle.roster_offers.specs.declared.offer.Offer.{Offer}
+use Rattle.roster_offers.specs.Cheapest.{Priced}
+use Rattle.roster_offers.specs.Offers.{best_by_states, choices_of}
+use Rattle.roster_offers.specs.Lists.{IsFound, best_over, offers_on}
+use Rattle.roster_offers.proofs.Best.{best_some, is_best, penalty_is}
 use Rattle.roster_best.specs.Workspaces.{AreShiftOffers, Space, fits_space}
 use Rattle.roster_best.proofs.SearchLaws.{best_is}
 

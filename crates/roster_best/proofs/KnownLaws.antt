@@ -24,14 +24,13 @@ use Rattle.roster_rules.specs.Prefix.{due}
 use Rattle.roster_rules.proofs.RunSums.{sum_same}
 use Rattle.roster_laws.specs.OneRow.{rest_of}
 use Rattle.roster_laws.proofs.Steps.{left_out}
-use Rattle.roster_search.specs.declared.offer.Offer.{Offer}
-use Rattle.roster_search.specs.Cheapest.{Priced}
-use Rattle.roster_search.specs.Offers.{best_by_states}
-use Rattle.roster_search.specs.Rises.{HasRisen}
-use Rattle.roster_search.specs.Search.{AreDayOffers, best_over, offers_on}
-use Rattle.roster_search.specs.Tables.{IsOfferOf}
-use Rattle.roster_search.proofs.Best.{best_some, is_best, penalty_is}
-use Rattle.roster_search.proofs.RiseLaws.{cost_has_risen}
+use Rattle.roster_offers.specs.declared.offer.Offer.{Offer}
+use Rattle.roster_offers.specs.Cheapest.{Priced}
+use Rattle.roster_offers.specs.Offers.{best_by_states}
+use Rattle.roster_offers.specs.Rises.{HasRisen}
+use Rattle.roster_offers.specs.Lists.{AreDayOffers, IsOfferOf, best_over, offers_on}
+use Rattle.roster_offers.proofs.Best.{best_some, is_best, penalty_is}
+use Rattle.roster_offers.proofs.RiseLaws.{cost_has_risen}
 use Rattle.roster_best.specs.declared.last.LastSearches.{LastSearches}
 use Rattle.roster_best.specs.Known.{ArePrices, IsDearer, IsKnown, IsPriceOf, WasSearched, fits_last, not_offered, price_place, prices_on}
 use Rattle.roster_best.specs.Workspaces.{AreShiftOffers}

@@ -1,5 +1,5 @@
 -- The offers of a day, choice by choice.
-use Rattle.std.proofs.Common.{◌≡◌, ◌∙◌, ◌+◌, ◌-◌, ◌*◌, ◌<◌, ◌&&◌, ◌||◌, ◌==◌, ◌⊎◌, inl, inr, ℕ, Bool, true, false, ap, ap₂, append-nil, append_assoc, arith, refl, sym, List, [], ◌∷◌, ◌++◌, filter, if◌then◌else◌, is_some, length, map, not, nat_lt, slice_index_or, slice_set, None, Option, Some}
+use Rattle.std.proofs.Common.{◌≡◌, ◌∙◌, ◌+◌, ◌-◌, ◌*◌, ◌<◌, ◌&&◌, ◌==◌, ◌⊎◌, inl, inr, ℕ, Bool, true, false, ap, ap₂, append-nil, append_assoc, arith, refl, sym, List, [], ◌∷◌, ◌++◌, filter, if◌then◌else◌, length, map, nat_lt, slice_index_or, slice_set, None, Option, Some}
 use Rattle.std.specs.Option.{option_to_list}
 use Rattle.std.specs.List.{flat_map, list_any, range_with_len}
 use Rattle.std.proofs.lemmas.Bool.{and_parts, cases_eq, eqb-true}
@@ -12,21 +12,19 @@ use Rattle.roster_instance.specs.declared.choice.Shift.{Shift}
 use Rattle.roster_instance.specs.declared.choice.Skill.{Skill}
 use Rattle.roster_instance.specs.Choices.{shift_of}
 use Rattle.roster_instance.specs.Counting.{one_if}
-use Rattle.roster_instance.specs.Days.{is_shift}
-use Rattle.roster_instance.specs.Meaning.{Meaning, day_count, has_wish, has_wish_for_any, minimum, nurse_at, nurse_count, optimum, shift_at, shift_count, skill_at, skill_count}
+use Rattle.roster_instance.specs.Meaning.{Meaning, day_count, minimum, nurse_at, nurse_count, optimum, shift_at, shift_count, skill_at, skill_count}
 use Rattle.roster_instance.specs.Rosters.{Rows, choice_on, cover, fits_case, row_of}
 use Rattle.roster_instance.proofs.RosterFacts.{has_row}
 use Rattle.roster_rules.specs.HardRules.{is_able, keeps_hard}
-use Rattle.roster_rules.specs.Penalties.{meets_wishes, request_cost_on, wish_cost_on}
-use Rattle.roster_rules.specs.Weights.{staffing_weight, wish_weight}
+use Rattle.roster_rules.specs.Penalties.{request_cost_on}
+use Rattle.roster_rules.specs.Weights.{staffing_weight}
 use Rattle.roster_laws.specs.OneRow.{is_open, others}
 use Rattle.roster_laws.specs.Staffing.{lacking, meets, with_choice}
-use Rattle.roster_laws.proofs.Below.{all_true}
 use Rattle.roster_case.proofs.DayTableLemmas.{cover-parts}
 use Rattle.roster_case.proofs.Lacking.{lacking-off, lacking-work, meets-lacking, staffing-lacking}
-use Rattle.roster_search.specs.declared.offer.Offer.{Offer}
-use Rattle.roster_search.specs.Offers.{offer_of}
-use Rattle.roster_search.proofs.OfferLaws.{present_open}
+use Rattle.roster_offers.specs.declared.offer.Offer.{Offer}
+use Rattle.roster_offers.specs.Offers.{offer_of}
+use Rattle.roster_offers.proofs.OfferLaws.{present_open}
 
 -- the choices of a shift with the first skills, and those of the first shifts
 abbrev pub of_shift : ℕ → ℕ → List Choice
@@ -112,14 +110,6 @@ module _ (c : Meaning) (r : Rows) (n d : ℕ) where
   pub offer_alone : (choice now : Choice) (start items : List Offer) (o : Option Offer) → items ≡ start ++ option_to_list o → start ≡ [] → o ≡ offered choice → choice ≡ now → is_open c r n d now ≡ true → items ≡ offer_of c r n d now ∷ []
   offer_alone choice now start items o pushed none is same is_so =
       pushed ∙ (λ i. none i ++ option_to_list ((is ∙ ap offered same ∙ ap (λ b. if b then Some (offer_of c r n d now) else None) is_so) i))
-
-  -- ---- what the requests cost
-
-  -- without a wish for the day none costs anything
-  pub no_wish : (shift : Option Shift) → has_wish_for_any c n d ≡ false → ((s : ℕ) → s < shift_count c → has_wish c n d s ≡ false) → wish_cost_on c n d shift ≡ 0
-  no_wish shift any named =
-      let met : meets_wishes c n d shift ≡ true = ap₂ (λ a b. (not a || is_some shift) && b) any (all_true (shift_count c) (λ s. not (has_wish c n d s) || is_shift s shift) (λ s h. ap (λ b. not b || is_shift s shift) (named s h))) in
-      ap (λ b. if b then 0 else wish_weight) met
 
   -- ---- what the day lacks with the nurse
 

@@ -19,8 +19,8 @@ use Rattle.roster_case.proofs.Below.{all_both, all_elim, all_true}
 use Rattle.roster_case.proofs.Keeps.{allowed-with_row}
 use Rattle.roster_laws.proofs.Allowed.{kept_is_member, kept_passes, member_is_kept}
 use Rattle.roster_laws.proofs.AllRows.{choice_is_member, member_is_choice}
-use Rattle.roster_search.specs.declared.offer.Offer.{Offer}
-use Rattle.roster_search.specs.Offers.{offer_of, offers_of}
+use Rattle.roster_offers.specs.declared.offer.Offer.{Offer}
+use Rattle.roster_offers.specs.Offers.{offer_of, offers_of}
 use Rattle.roster_best.specs.Offers.{IsOffered}
 
 -- ---- the offers of a day are the choices that are offered

@@ -13,15 +13,16 @@ use Rattle.roster_instance.proofs.SizeLemmas.{greatest_of-push}
 use Rattle.roster_rules.specs.HardRules.{keeps_hard}
 use Rattle.roster_rules.specs.Prefix.{summary_of}
 use Rattle.roster_laws.specs.Greatest.{greatest_state_count}
-use Rattle.roster_search.specs.declared.offer.Offer.{Offer}
-use Rattle.roster_search.specs.Offers.{best_by_states, offers_of, shift_offers}
-use Rattle.roster_search.specs.Search.{AreDayOffers, AreOffers, CountsStates, best_over, offers_on}
-use Rattle.roster_search.specs.Cheapest.{Priced}
-use Rattle.roster_search.specs.Tables.{IsOfferOf}
-use Rattle.roster_search.proofs.Best.{best_some}
-use Rattle.roster_search.proofs.ByShift.{best_by_shift, by_shift_all, by_shift_fewer, by_shift_some}
-use Rattle.roster_search.proofs.OfferLaws.{offers_few, offers_of_case, offers_some}
-use Rattle.roster_search.proofs.SearchLaws.{best_over_same, counts_same}
+use Rattle.roster_offers.specs.declared.offer.Offer.{Offer}
+use Rattle.roster_offers.specs.Offers.{best_by_states, offers_of, shift_offers}
+use Rattle.roster_offers.specs.Lists.{AreDayOffers, AreOffers, IsOfferOf, best_over, offers_on}
+use Rattle.roster_offers.specs.Cheapest.{Priced}
+use Rattle.roster_offers.proofs.Best.{best_some}
+use Rattle.roster_offers.proofs.ByShift.{best_by_shift, by_shift_all, by_shift_fewer, by_shift_some}
+use Rattle.roster_offers.proofs.OfferLaws.{offers_few, offers_of_case, offers_some}
+use Rattle.roster_offers.proofs.ListLaws.{best_over_same}
+use Rattle.roster_search.specs.Search.{CountsStates}
+use Rattle.roster_search.proofs.SearchLaws.{counts_same}
 use Rattle.roster_partial.specs.Counts.{CountsSearch}
 use Rattle.roster_best.specs.Workspaces.{AreShiftOffers, CountsStanding}
 

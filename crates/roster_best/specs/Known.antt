@@ -4,8 +4,8 @@ use Rattle.roster_instance.specs.declared.choice.Shift.{Shift}
 use Rattle.roster_instance.specs.Choices.{shift_of}
 use Rattle.roster_instance.specs.Limits.{most_shifts}
 use Rattle.roster_instance.specs.Meaning.{Meaning, day_count, nurse_count}
-use Rattle.roster_search.specs.declared.offer.Offer.{Offer}
-use Rattle.roster_search.specs.Search.{best_over}
+use Rattle.roster_offers.specs.declared.offer.Offer.{Offer}
+use Rattle.roster_offers.specs.Lists.{best_over}
 use Rattle.roster_best.specs.declared.last.LastSearches.{LastSearches}
 
 -- the price of what isn't offered

@@ -2,7 +2,7 @@
 use Rattle.std.specs.Prelude.{ℕ, ◌<◌, Contains, length}
 use Rattle.roster_instance.specs.Meaning.{Meaning}
 use Rattle.roster_instance.specs.Rosters.{Row, Rows, choice_on}
-use Rattle.roster_search.specs.Offers.{offer_of, offers_of}
+use Rattle.roster_offers.specs.Offers.{offer_of, offers_of}
 
 -- each choice of the row, with its price, is among the offers of its day
 abbrev pub IsOffered : Meaning → ℕ → Rows → ℕ → Row → Type 0

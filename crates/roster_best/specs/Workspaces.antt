@@ -4,9 +4,9 @@ use Rattle.arrayvec.specs.ArrayVec.{ArrayVec}
 use Rattle.roster_instance.specs.Meaning.{Meaning, day_count}
 use Rattle.roster_instance.specs.Rosters.{Row, Rows}
 use Rattle.roster_laws.specs.Greatest.{greatest_state_count}
-use Rattle.roster_search.specs.declared.offer.Offer.{Offer}
-use Rattle.roster_search.specs.Offers.{shift_offers}
-use Rattle.roster_search.specs.Search.{offers_on}
+use Rattle.roster_offers.specs.declared.offer.Offer.{Offer}
+use Rattle.roster_offers.specs.Offers.{shift_offers}
+use Rattle.roster_offers.specs.Lists.{offers_on}
 use Rattle.roster_partial.specs.Counts.{CountsSearch}
 
 -- how many labels its two tables have together, how many pointers and choices it has room for, and the row of the last search,

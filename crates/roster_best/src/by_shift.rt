@@ -3,16 +3,16 @@
 ghost use Rattle.std.specs.Prelude.{◌≡◌, ◌+◌, ◌<◌, ◌≤◌, length};
 ghost use Rattle.roster_instance.specs.Limits.{most_shifts};
 ghost use Rattle.roster_instance.specs.Meaning.{day_count, nurse_count};
-ghost use Rattle.roster_search.specs.Offers.{shift_offers};
+ghost use Rattle.roster_offers.specs.Offers.{shift_offers};
 
 use crate::offer::choices;
 use arrayvec::ArrayVec;
 use roster_case::Held;
-use roster_search::{MOST_OFFERS, Offer, cheapest_by_shift};
+use roster_offers::{MOST_OFFERS, Offer, cheapest_by_shift};
 
 /// The offers of a nurse on a day that the search goes over: to be off, and for each shift the cheapest, of equally cheap ones the
 /// first.
-#[tactic(auto, using(roster_search::proofs::ByShift::by_shift_few))]
+#[tactic(auto, using(roster_offers::proofs::ByShift::by_shift_few))]
 pub(crate) fn choices_by_shift(
     held: &Held,
     nurse: usize,

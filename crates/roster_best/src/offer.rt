@@ -12,17 +12,17 @@ ghost use Rattle.roster_instance.specs.Meaning.{day_count, minimum, nurse_at, nu
 ghost use Rattle.roster_instance.specs.Rosters.{choice_on, is_choice_of, row_of};
 ghost use Rattle.roster_rules.specs.AllowedRows.{is_frozen};
 ghost use Rattle.roster_rules.specs.HardRules.{is_able};
-ghost use Rattle.roster_rules.specs.Penalties.{off_request_cost_on, request_cost_on, wish_cost_on};
+ghost use Rattle.roster_rules.specs.Penalties.{request_cost_on};
 ghost use Rattle.roster_rules.specs.Weights.{off_request_weight, wish_weight};
 ghost use Rattle.roster_laws.specs.OneRow.{is_open, others};
 ghost use Rattle.roster_laws.specs.Staffing.{lacking, with_choice};
-ghost use Rattle.roster_search.specs.Offers.{offer_of, offers_of, open_offers};
+ghost use Rattle.roster_offers.specs.Offers.{offer_of, offers_of, open_offers};
 
 use arrayvec::ArrayVec;
 use roster_case::{Case, Choice, Held, Shift, Skill};
-use roster_rules::weights::{OFF_REQUEST, STAFFING, WISH};
-use roster_rules::{is_able, meets_wishes};
-use roster_search::{MOST_CHOICES, Offer};
+use roster_offers::{MOST_CHOICES, Offer, cost_of_requests, has_some_wish, request_cost};
+use roster_rules::is_able;
+use roster_rules::weights::STAFFING;
 
 /// How many nurses a day lacks to its minimums and to its optimums, over all shifts and skills.
 #[derive(Clone, Copy)]
@@ -154,64 +154,6 @@ fn offer_if(lacking: u32, choice: Choice, price: u32) -> Option<Offer>
         return Some(Offer { choice, price });
     }
     None
-}
-
-// ---- what the requests cost
-
-/// What the requests of a day cost, where it is known whether there is some wish to work: mostly there is none.
-fn cost_of_requests(case: &Case, nurse: usize, day: u16, shift: Option<Shift>, wished: bool) -> u32
-    requires nurse { nurse < nurse_count case.now }
-    requires wished { wished ≡ false → wish_cost_on case.now nurse day shift ≡ 0 }
-    ensures cost { result ≡ request_cost_on case.now nurse day shift }
-    ensures within { result ≤ off_request_weight + wish_weight }
-{
-    if wished {
-        return request_cost(case, nurse, day, shift);
-    }
-    off_request_cost(case, nurse, day, shift)
-}
-
-/// Whether the nurse has a wish to work on the day. Without one, no wish costs anything there.
-fn has_some_wish(case: &Case, nurse: usize, day: u16) -> bool
-    requires { nurse < nurse_count case.now }
-    ensures { (shift : Option Shift) → result ≡ false → wish_cost_on case.now nurse day shift ≡ 0 }
-{
-    let wishes = case.wishes(nurse, day);
-    let mut some = wishes.any;
-    for number in 0..case.shifts() {
-        some = some || wishes.names(Shift(number));
-    }
-    some
-}
-
-/// The points for the nurse's requests of a day, by the shift that is worked then, if one is.
-pub fn request_cost(case: &Case, nurse: usize, day: u16, shift: Option<Shift>) -> u32
-    requires { nurse < nurse_count case.now }
-    ensures cost { result ≡ request_cost_on case.now nurse day shift }
-    ensures within { result ≤ off_request_weight + wish_weight }
-{
-    off_request_cost(case, nurse, day, shift) + wish_cost(case, nurse, day, shift)
-}
-
-/// S4. The points for an off request against the shift of a day, if one is worked.
-fn off_request_cost(case: &Case, nurse: usize, day: u16, shift: Option<Shift>) -> u32
-    requires { nurse < nurse_count case.now }
-    ensures cost { result ≡ off_request_cost_on case.now nurse day shift }
-    ensures within { result ≤ off_request_weight }
-{
-    match shift {
-        Some(shift) => OFF_REQUEST * case.has_off_request(nurse, day, shift) as u32,
-        None => 0,
-    }
-}
-
-/// S8. The points for a wish to work that isn't met, also by a day off.
-fn wish_cost(case: &Case, nurse: usize, day: u16, shift: Option<Shift>) -> u32
-    requires { nurse < nurse_count case.now }
-    ensures cost { result ≡ wish_cost_on case.now nurse day shift }
-    ensures within { result ≤ wish_weight }
-{
-    WISH * !meets_wishes(case, nurse, day, shift) as u32
 }
 
 // ---- what a day lacks

@@ -8,7 +8,7 @@ ghost use Rattle.roster_rules.specs.Improver.{step};
 ghost use Rattle.roster_rules.specs.Prefix.{due};
 ghost use Rattle.roster_laws.specs.Greatest.{extension_count};
 ghost use Rattle.roster_laws.specs.OneRow.{rest_of};
-ghost use Rattle.roster_search.specs.Search.{IsFound, best_over, offers_on};
+ghost use Rattle.roster_offers.specs.Lists.{IsFound, best_over, offers_on};
 ghost use Rattle.roster_partial.specs.Counts.{CountsSearch};
 ghost use Rattle.roster_best.specs.Known.{IsKnown};
 ghost use Rattle.roster_best.specs.Workspaces.{AreOffersOf, AreShiftOffers, CountsStanding, SameRoom, fits_space};
@@ -18,7 +18,7 @@ use crate::last::LastSearches;
 use crate::workspace::{SearchSpace, Workspace};
 use arrayvec::ArrayVec;
 use roster_case::Held;
-use roster_search::{DayOffers, MOST_OFFERS, Offer, RowSearch};
+use roster_offers::{DayOffers, MOST_OFFERS, Offer, RowSearch};
 use roster_state::{Meter, start};
 
 /// What the search for a nurse's best row gives beside the row.

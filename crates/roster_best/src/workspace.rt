@@ -5,15 +5,15 @@ ghost use Rattle.roster_bundle.specs.Limits.{greatest_u64};
 ghost use Rattle.roster_instance.specs.Limits.{most_days, most_shifts, most_skills, most_states};
 ghost use Rattle.roster_instance.specs.Meaning.{day_count, nurse_count};
 ghost use Rattle.roster_laws.specs.Greatest.{extension_count, greatest_state_count};
-ghost use Rattle.roster_search.specs.Search.{AreOffers, IsFound, best_over, offers_on};
-ghost use Rattle.roster_search.specs.Tables.{no_row};
+ghost use Rattle.roster_offers.specs.Lists.{AreOffers, IsFound, best_over, no_row, offers_on};
 ghost use Rattle.roster_partial.specs.Counts.{CountsSearch};
 ghost use Rattle.roster_best.specs.Workspaces.{SameRoom, fits_space};
 
 use arrayvec::ArrayVec;
 use roster_case::{Case, Choice};
+use roster_offers::{DayOffers, RowSearch};
 use roster_partial::{PartialRoom, search_row};
-use roster_search::{DayOffers, RowSearch, Tables};
+use roster_search::Tables;
 use roster_state::Meter;
 use std::alloc::{AllocError, Global};
 use std::marker::Model;

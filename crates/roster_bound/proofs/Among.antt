@@ -8,7 +8,7 @@ use Rattle.roster_bundle.proofs.Ranges.{flat_map-range_more, range_with_len_more
 use Rattle.roster_instance.specs.declared.choice.Choice.{Choice}
 use Rattle.roster_instance.specs.declared.choice.Choice.TheVariants.{Off, Work}
 use Rattle.roster_instance.specs.Meaning.{Meaning, shift_at, skill_at, skill_count}
-use Rattle.roster_search.specs.declared.offer.Offer.{Offer}
+use Rattle.roster_offers.specs.declared.offer.Offer.{Offer}
 
 -- the choices of a shift with the first skills, and those of the first shifts
 abbrev pub of_shift : ℕ → ℕ → List Choice

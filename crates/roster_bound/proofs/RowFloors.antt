@@ -22,16 +22,15 @@ use Rattle.roster_laws.proofs.AllRows.{choice_is_member, member_is_choice, row_i
 use Rattle.roster_laws.proofs.Allowed.{member_is_kept}
 use Rattle.roster_laws.proofs.Below.{all_both, all_elim, all_same}
 use Rattle.roster_laws.proofs.Frozen.{stays_self}
-use Rattle.roster_search.specs.declared.offer.Offer.{Offer}
-use Rattle.roster_search.specs.Cheapest.{Priced, raised}
-use Rattle.roster_search.specs.Offers.{choices_of, offer_at, offered_row_by}
-use Rattle.roster_search.specs.Search.{AreDayOffers, AreOffers, IsFound, best_over, offers_on}
-use Rattle.roster_search.specs.Tables.{IsOfferOf, most_price}
-use Rattle.roster_search.proofs.ByOffers.{found_by_offers}
-use Rattle.roster_search.proofs.ByShift.{best_by_shift, by_shift_all, by_shift_fewer, by_shift_some}
-use Rattle.roster_search.proofs.Cheapest.{cost_or, thing_or}
-use Rattle.roster_search.proofs.OfferLaws.{offers_few_of, present_of_case}
-use Rattle.roster_search.proofs.SearchLaws.{best_over_same}
+use Rattle.roster_offers.specs.declared.offer.Offer.{Offer}
+use Rattle.roster_offers.specs.Cheapest.{Priced, raised}
+use Rattle.roster_offers.specs.Offers.{choices_of, offer_at, offered_row_by}
+use Rattle.roster_offers.specs.Lists.{AreDayOffers, AreOffers, IsFound, IsOfferOf, best_over, most_price, offers_on}
+use Rattle.roster_offers.proofs.ByOffers.{found_by_offers}
+use Rattle.roster_offers.proofs.ByShift.{best_by_shift, by_shift_all, by_shift_fewer, by_shift_some}
+use Rattle.roster_offers.proofs.Cheapest.{cost_or, thing_or}
+use Rattle.roster_offers.proofs.OfferLaws.{offers_few_of, present_of_case}
+use Rattle.roster_offers.proofs.ListLaws.{best_over_same}
 use Rattle.roster_bound.specs.Days.{AreWorthOffers, can_do, offers_by_worth, shift_offers_by_worth}
 use Rattle.roster_bound.specs.Worths.{PlaceWorths, can_work, floor_row, free_price, most_free, own_rows, price_with, row_cost_by, row_floor}
 use Rattle.roster_bound.proofs.Duality.{worked}

@@ -6,9 +6,9 @@ use Rattle.roster_instance.specs.Meaning.{Meaning, day_count, nurse_at}
 use Rattle.roster_instance.specs.Rosters.{Rows}
 use Rattle.roster_rules.specs.AllowedRows.{keeps_frozen_day}
 use Rattle.roster_rules.specs.HardRules.{is_able}
-use Rattle.roster_search.specs.declared.offer.Offer.{Offer}
-use Rattle.roster_search.specs.Offers.{cheapest_by_shift, offers_by}
-use Rattle.roster_search.specs.Search.{offers_on}
+use Rattle.roster_offers.specs.declared.offer.Offer.{Offer}
+use Rattle.roster_offers.specs.Offers.{cheapest_by_shift, offers_by}
+use Rattle.roster_offers.specs.Lists.{offers_on}
 use Rattle.roster_bound.specs.Worths.{PlaceWorths, price_with}
 
 -- the nurse has the skill, and on a frozen day it is the given choice

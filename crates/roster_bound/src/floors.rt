@@ -25,9 +25,9 @@ use crate::places::places_floor;
 use crate::workspace::RowSpace;
 use crate::worths::{MOST_WORTH, Worths};
 use arrayvec::ArrayVec;
+use roster_offers::{DayOffers, MOST_OFFERS, Offer, RowSearch, cheapest_by_shift};
 use roster_rules::weights::{ASSIGNMENT, SHIFT_RUN};
 use roster_rules::{Case, Limits};
-use roster_search::{DayOffers, MOST_OFFERS, Offer, RowSearch, cheapest_by_shift};
 use roster_state::{Meter, start};
 
 /// A floor by worths and pays: no roster costs less that fits the case, keeps the hard rules and agrees with the held one on the days

@@ -10,15 +10,14 @@ ghost use Rattle.roster_rules.specs.AllowedRows.{keeps_frozen_day};
 ghost use Rattle.roster_rules.specs.Penalties.{request_cost_on};
 ghost use Rattle.roster_rules.specs.Weights.{off_request_weight, wish_weight};
 ghost use Rattle.roster_bound.specs.Days.{can_do, offers_by_worth};
-ghost use Rattle.roster_search.specs.Offers.{offer_at};
+ghost use Rattle.roster_offers.specs.Offers.{offer_at};
 ghost use Rattle.roster_bound.specs.Tables.{worths_of};
 ghost use Rattle.roster_bound.specs.Worths.{earned, free_price, most_worth, price_with};
 
 use crate::worths::{MOST_WORTH, Worths};
 use arrayvec::ArrayVec;
-use roster_best::request_cost;
+use roster_offers::{MOST_CHOICES, Offer, request_cost};
 use roster_rules::{Case, Choice, Roster, Shift, Skill, choice_on, is_able};
-use roster_search::{MOST_CHOICES, Offer};
 
 /// What a nurse's floor is reckoned by: a case, what its places pay, a roster of which the days before week `from` stay, and what a
 /// day off costs besides, in points.

@@ -13,7 +13,7 @@ use crate::worths::Worths;
 use arrayvec::ArrayVec;
 use roster_best::{BestFault, Workspace};
 use roster_case::Case;
-use roster_search::DayOffers;
+use roster_offers::DayOffers;
 use std::alloc::Global;
 
 /// What the searches for the nurses' cheapest rows write into: the workspace of a search, the offers of a nurse, how many of these

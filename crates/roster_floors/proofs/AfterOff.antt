@@ -12,9 +12,9 @@ use Rattle.roster_instance.specs.RunLaw.{day_violations}
 use Rattle.roster_instance.specs.Sizes.{cap}
 use Rattle.roster_rules.specs.Prefix.{Summary}
 use Rattle.roster_rules.specs.Weights.{free_run_weight, shift_run_weight, working_run_weight}
-use Rattle.roster_search.specs.declared.offer.Offer.{Offer}
-use Rattle.roster_search.specs.Tables.{IsOfferOf}
-use Rattle.roster_search.proofs.LabelLaws.{shift_of_case}
+use Rattle.roster_offers.specs.declared.offer.Offer.{Offer}
+use Rattle.roster_offers.specs.Lists.{IsOfferOf}
+use Rattle.roster_offers.proofs.OfferLaws.{shift_of_case}
 use Rattle.roster_state.specs.Codes.{sizes_of}
 use Rattle.roster_state.specs.Step.{next_of}
 use Rattle.roster_state.proofs.ShiftLaw.{shifts_by_two}

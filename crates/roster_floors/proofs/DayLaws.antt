@@ -5,7 +5,7 @@ use Rattle.std.proofs.lemmas.List.Elements.{All-from_get_or, All-get_or}
 use Rattle.std.proofs.Math.Nat.{suc-mul}
 use Rattle.std.proofs.lemmas.Nat.{mul-le}
 use Rattle.roster_instance.specs.Meaning.{day_count, forbids}
-use Rattle.roster_search.specs.declared.offer.Offer.{Offer}
+use Rattle.roster_offers.specs.declared.offer.Offer.{Offer}
 use Rattle.roster_state.specs.Codes.{Sizes}
 use Rattle.roster_floors.specs.declared.rates.Rates.{Rates}
 use Rattle.roster_floors.specs.Floors.{AreFloors, floor_at, floor_count, floor_place, rated}
@@ -13,8 +13,8 @@ use borrow.Rule.Slice.PartMut.{post_of}
 use Rattle.roster_instance.specs.Choices.{shift_of}
 use Rattle.roster_instance.specs.Meaning.{Meaning}
 use Rattle.roster_rules.specs.Prefix.{Summary}
-use Rattle.roster_search.specs.Tables.{IsOfferOf}
-use Rattle.roster_search.proofs.LabelLaws.{shift_of_case}
+use Rattle.roster_offers.specs.Lists.{IsOfferOf}
+use Rattle.roster_offers.proofs.OfferLaws.{shift_of_case}
 use Rattle.roster_state.specs.Codes.{fits_sizes, sizes_of}
 use Rattle.roster_state.specs.Step.{next_of}
 use Rattle.roster_state.proofs.RangeLemmas.{next_fits}

@@ -12,14 +12,14 @@ use Rattle.roster_state.specs.Step.{next_of, step_cost, total_more, weekend_more
 use Rattle.roster_state.proofs.CodeLemmas.{fits-all}
 use Rattle.roster_state.proofs.RangeLemmas.{next_fits}
 use Rattle.roster_state.proofs.SumLaw.{weekends_at_most}
-use Rattle.roster_search.specs.declared.offer.Offer.{Offer}
-use Rattle.roster_search.specs.ByStates.{best_after}
-use Rattle.roster_search.specs.Cheapest.{Priced, raised}
-use Rattle.roster_search.specs.Offers.{best_of_offers, dearer, offer_step}
-use Rattle.roster_search.specs.Tables.{IsOfferOf}
-use Rattle.roster_search.proofs.Cheapest.{cost_or, thing_or}
-use Rattle.roster_search.proofs.LabelLaws.{shift_of_case}
-use Rattle.roster_search.proofs.RiseLaws.{chosen}
+use Rattle.roster_offers.specs.declared.offer.Offer.{Offer}
+use Rattle.roster_offers.specs.ByStates.{best_after}
+use Rattle.roster_offers.specs.Cheapest.{Priced, raised}
+use Rattle.roster_offers.specs.Offers.{best_of_offers, dearer, offer_step}
+use Rattle.roster_offers.specs.Lists.{IsOfferOf}
+use Rattle.roster_offers.proofs.Cheapest.{cost_or, thing_or}
+use Rattle.roster_offers.proofs.OfferLaws.{shift_of_case}
+use Rattle.roster_offers.proofs.RiseLaws.{chosen}
 use Rattle.roster_floors.specs.Later.{days_to_work, total_later, weekends_later, weekends_to_work}
 use Rattle.roster_floors.specs.declared.rates.Rates.{Rates}
 use Rattle.roster_floors.specs.Floors.{AreFloors, cost_beside, floor_at, rated}

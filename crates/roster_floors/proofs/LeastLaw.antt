@@ -6,9 +6,9 @@ use Rattle.roster_instance.specs.Sizes.{cap}
 use Rattle.roster_rules.specs.Prefix.{Summary}
 use Rattle.roster_rules.specs.Weights.{assignment_weight}
 use Rattle.roster_state.specs.Codes.{fits_sizes, sizes_of}
-use Rattle.roster_search.specs.declared.offer.Offer.{Offer}
-use Rattle.roster_search.specs.Offers.{best_of_offers}
-use Rattle.roster_search.specs.Tables.{IsOfferOf}
+use Rattle.roster_offers.specs.declared.offer.Offer.{Offer}
+use Rattle.roster_offers.specs.Offers.{best_of_offers}
+use Rattle.roster_offers.specs.Lists.{IsOfferOf}
 use Rattle.roster_floors.specs.Later.{days_to_work, weekends_to_work}
 use Rattle.roster_floors.specs.declared.rates.Rates.{Rates}
 use Rattle.roster_floors.specs.Floors.{AreFloors, AreSmall, floor_at}

@@ -8,7 +8,7 @@ use Rattle.roster_instance.specs.RunLaw.{day_violations}
 use Rattle.roster_instance.specs.Sizes.{cap}
 use Rattle.roster_rules.specs.Prefix.{Summary}
 use Rattle.roster_rules.specs.Weights.{shift_run_weight, working_run_weight}
-use Rattle.roster_search.specs.Tables.{IsOfferOf}
+use Rattle.roster_offers.specs.Lists.{IsOfferOf}
 use Rattle.roster_state.specs.Codes.{shift_digit, sizes_of}
 use Rattle.roster_floors.specs.declared.day.FloorDay.{FloorDay}
 use Rattle.roster_floors.specs.declared.shift.AfterShift.{AfterShift}

@@ -7,8 +7,8 @@ use Rattle.roster_instance.specs.Counting.{one_if}
 use Rattle.roster_instance.specs.Meaning.{Meaning, day_count, week_count}
 use Rattle.roster_state.proofs.SumLaw.{one_at_most}
 use Rattle.roster_rules.specs.Prefix.{Summary}
-use Rattle.roster_search.specs.Offers.{best_of_offers}
-use Rattle.roster_search.specs.declared.offer.Offer.{Offer}
+use Rattle.roster_offers.specs.Offers.{best_of_offers}
+use Rattle.roster_offers.specs.declared.offer.Offer.{Offer}
 use Rattle.roster_floors.specs.Later.{AreToCome, ToCome, days_to_work, weekends_to_work}
 use Rattle.roster_floors.proofs.ToCome.{day_before_has, nothing_more}
 

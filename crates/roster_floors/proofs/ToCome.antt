@@ -9,12 +9,12 @@ use Rattle.roster_rules.specs.Prefix.{Summary}
 use Rattle.roster_state.specs.declared.area.Span.{Span}
 use Rattle.roster_state.specs.Areas.{InSpan}
 use Rattle.roster_state.specs.Step.{next_of, step_cost}
-use Rattle.roster_search.specs.declared.offer.Offer.{Offer}
-use Rattle.roster_search.specs.ByStates.{best_after}
-use Rattle.roster_search.specs.Cheapest.{Priced, raised}
-use Rattle.roster_search.specs.Offers.{best_of_offers, dearer, offer_step}
-use Rattle.roster_search.proofs.Cheapest.{thing_or}
-use Rattle.roster_search.proofs.RiseLaws.{chosen}
+use Rattle.roster_offers.specs.declared.offer.Offer.{Offer}
+use Rattle.roster_offers.specs.ByStates.{best_after}
+use Rattle.roster_offers.specs.Cheapest.{Priced, raised}
+use Rattle.roster_offers.specs.Offers.{best_of_offers, dearer, offer_step}
+use Rattle.roster_offers.proofs.Cheapest.{thing_or}
+use Rattle.roster_offers.proofs.RiseLaws.{chosen}
 use Rattle.roster_floors.specs.Later.{AreToCome, HasMore, HasOffer, HasOffers, ToCome, days_to_work, nothing_to_come, weekends_to_work}
 
 -- ---- in the end

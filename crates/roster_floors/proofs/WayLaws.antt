@@ -3,7 +3,7 @@ use Rattle.std.proofs.Common.{⊎_elim, ◌≡◌, ◌≢◌, ◌+◌, ◌<◌, 
 use Rattle.std.proofs.lemmas.Bool.{cases_eq}
 use Rattle.roster_instance.specs.declared.choice.Shift.{Shift}
 use Rattle.roster_instance.specs.Meaning.{Meaning}
-use Rattle.roster_search.specs.declared.offer.Offer.{Offer}
+use Rattle.roster_offers.specs.declared.offer.Offer.{Offer}
 use Rattle.roster_state.specs.Codes.{shift_digit, sizes_of}
 use Rattle.roster_floors.specs.declared.rates.Rates.{Rates}
 use Rattle.roster_floors.specs.declared.ways.Onward.{Onward}

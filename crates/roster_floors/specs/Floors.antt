@@ -9,7 +9,7 @@ use Rattle.roster_rules.specs.Prefix.{Summary}
 use Rattle.roster_rules.specs.Weights.{assignment_weight, weekend_weight}
 use Rattle.roster_state.specs.Codes.{Sizes, fits_sizes, shift_digit, sizes_of}
 use Rattle.roster_state.specs.Step.{free_more, next_of, shifts_more, split_more, working_more}
-use Rattle.roster_search.specs.declared.offer.Offer.{Offer}
+use Rattle.roster_offers.specs.declared.offer.Offer.{Offer}
 use Rattle.roster_floors.specs.declared.rates.Rates.{Rates}
 
 -- no more than what one assignment or weekend too many costs

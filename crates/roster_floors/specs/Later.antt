@@ -11,8 +11,8 @@ use Rattle.roster_rules.specs.Prefix.{Summary}
 use Rattle.roster_rules.specs.Weights.{assignment_weight, weekend_weight}
 use Rattle.roster_state.specs.declared.area.Span.{Span}
 use Rattle.roster_state.specs.Areas.{InSpan}
-use Rattle.roster_search.specs.declared.offer.Offer.{Offer}
-use Rattle.roster_search.specs.Offers.{best_of_offers}
+use Rattle.roster_offers.specs.declared.offer.Offer.{Offer}
+use Rattle.roster_offers.specs.Offers.{best_of_offers}
 
 -- ---- how many are to come
 

@@ -3,7 +3,7 @@ use Rattle.std.specs.Prelude.{◌≡◌, ℕ, ◌+◌, ◌-◌, ◌*◌, ◌/◌
 use Rattle.roster_instance.specs.Meaning.{Meaning, contract_of, day_count, nurse_count}
 use Rattle.roster_instance.specs.Sizes.{cap}
 use Rattle.roster_rules.specs.Weights.{assignment_weight}
-use Rattle.roster_search.specs.Search.{AreOffers, offers_on}
+use Rattle.roster_offers.specs.Lists.{AreOffers, offers_on}
 use Rattle.roster_state.specs.Codes.{sizes_of}
 use Rattle.roster_floors.specs.Floors.{AreFloors, AreSmall, floor_count}
 use Rattle.roster_floors.specs.declared.least.Beside.{Beside}

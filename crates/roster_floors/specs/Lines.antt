@@ -11,8 +11,8 @@ use Rattle.roster_instance.specs.Sizes.{cap}
 use Rattle.roster_rules.specs.DayLaw.{splits_more, weekends_more}
 use Rattle.roster_rules.specs.Prefix.{Summary}
 use Rattle.roster_rules.specs.Weights.{shift_run_weight, split_weight}
-use Rattle.roster_search.specs.declared.offer.Offer.{Offer}
-use Rattle.roster_search.specs.Tables.{IsOfferOf}
+use Rattle.roster_offers.specs.declared.offer.Offer.{Offer}
+use Rattle.roster_offers.specs.Lists.{IsOfferOf}
 use Rattle.roster_state.specs.Codes.{Sizes, shift_digit, sizes_of, fits_sizes}
 use Rattle.roster_state.specs.Step.{next_of}
 use Rattle.roster_floors.specs.declared.day.FloorDay.{FloorDay}

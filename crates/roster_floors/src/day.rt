@@ -10,8 +10,8 @@ use crate::off::set_after_off;
 use crate::rates::Rates;
 use crate::shift::set_after_shift;
 use crate::ways::{Onward, onwards};
+use roster_offers::{MOST_OFFERS, Offer};
 use roster_rules::{Case, ContractRules, Shift};
-use roster_search::{MOST_OFFERS, Offer};
 
 /// A day whose floors are to be set: the nurse and the nurse's rules, what is offered, and how many values the last shift and the runs
 /// have.

@@ -3,9 +3,9 @@
 ghost use Rattle.std.specs.Prelude.{◌≡◌, ◌+◌, ◌*◌, ◌<◌, ◌≤◌, ℕ, All, List, Some, true};
 ghost use Rattle.roster_instance.specs.Meaning.{Meaning, contract_of, day_count};
 ghost use Rattle.roster_rules.specs.Prefix.{Summary};
-ghost use Rattle.roster_search.specs.Offers.{best_of_offers};
-ghost use Rattle.roster_search.specs.Tables.{IsOfferOf};
-ghost use Rattle.roster_search.specs.declared.offer.Offer.{Offer};
+ghost use Rattle.roster_offers.specs.Offers.{best_of_offers};
+ghost use Rattle.roster_offers.specs.Lists.{IsOfferOf};
+ghost use Rattle.roster_offers.specs.declared.offer.Offer.{Offer};
 ghost use Rattle.roster_state.specs.Codes.{fits_sizes, sizes_of};
 ghost use Rattle.roster_floors.specs.Later.{days_to_work, total_later, weekends_later, weekends_to_work};
 ghost use Rattle.roster_floors.specs.Floors.{AreFloors, floor_at};

@@ -2,16 +2,16 @@
 
 ghost use Rattle.std.specs.Prelude.{◌≡◌, ◌+◌, ◌-◌, ◌*◌, ◌<◌, ◌≤◌, ℕ, List, Some, length, true};
 ghost use Rattle.roster_instance.specs.Meaning.{day_count, nurse_count};
-ghost use Rattle.roster_search.specs.Offers.{best_of_offers};
-ghost use Rattle.roster_search.specs.Search.{AreOffers, offers_on};
-ghost use Rattle.roster_search.specs.declared.offer.Offer.{Offer};
+ghost use Rattle.roster_offers.specs.Offers.{best_of_offers};
+ghost use Rattle.roster_offers.specs.Lists.{AreOffers, offers_on};
+ghost use Rattle.roster_offers.specs.declared.offer.Offer.{Offer};
 ghost use Rattle.roster_state.specs.Codes.{fits_sizes, sizes_of};
 ghost use Rattle.roster_floors.specs.Floors.{AreFloors, AreSmall, floor_place, floor_count};
 ghost use Rattle.roster_floors.specs.Least.{AreReady, IsBeside};
 
 use crate::rates::Rates;
+use roster_offers::RowSearch;
 use roster_rules::weights::ASSIGNMENT;
-use roster_search::RowSearch;
 use roster_state::{Ranges, State};
 
 /// The floors of a search, at their rates, with what is looked up once: how many days there are, the ranges, and the least total.

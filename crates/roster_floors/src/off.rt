@@ -6,16 +6,16 @@ ghost use Rattle.roster_instance.specs.Meaning.{contract_of, run_of_shift, shift
 ghost use Rattle.roster_instance.specs.RunLaw.{day_violations};
 ghost use Rattle.roster_instance.specs.Sizes.{cap};
 ghost use Rattle.roster_rules.specs.Weights.{free_run_weight, shift_run_weight, working_run_weight};
-ghost use Rattle.roster_search.specs.Tables.{IsOfferOf};
+ghost use Rattle.roster_offers.specs.Lists.{IsOfferOf};
 ghost use Rattle.roster_state.specs.Codes.{sizes_of};
 ghost use Rattle.roster_floors.specs.Lines.{AreLow, AreNext, IsEntry, IsFloorDay, UnderCell, apart_of, begun_place, line_place, longer, most_leave, offer_at};
 
 use crate::day::FloorDay;
 use crate::line::set_all;
 use crate::ways::{MOST_LEAVE, apart, way_to};
+use roster_offers::Offer;
 use roster_rules::Shift;
 use roster_rules::weights::{FREE_RUN, WORKING_RUN};
-use roster_search::Offer;
 use std::cmp::min;
 
 /// What follows a day off: the least that a shift costs that begins, with the floor after it, and the least that another day off costs.

@@ -3,7 +3,7 @@
 ghost use Rattle.std.specs.Prelude.{◌≡◌, ◌↔◌, ◌+◌, ◌*◌, ◌<◌, ◌≤◌, ℕ, All, length, slice_index_or, suc, true};
 ghost use Rattle.roster_instance.specs.Meaning.{day_count, nurse_count};
 ghost use Rattle.roster_rules.specs.Prefix.{Summary};
-ghost use Rattle.roster_search.specs.Search.{AreOffers, offers_on};
+ghost use Rattle.roster_offers.specs.Lists.{AreOffers, offers_on};
 ghost use Rattle.roster_state.specs.Codes.{fits_sizes, sizes_of};
 ghost use Rattle.roster_floors.specs.Floors.{AreFloors, AreSmall, floor_count};
 ghost use Rattle.roster_floors.specs.Lines.{IsFloorDay, IsSetDay, most_floor};
@@ -11,8 +11,8 @@ ghost use Rattle.roster_floors.specs.Lines.{IsFloorDay, IsSetDay, most_floor};
 use crate::day::{FloorDay, set_day};
 use crate::line::set_all;
 use crate::rates::Rates;
+use roster_offers::RowSearch;
 use roster_rules::Case;
-use roster_search::RowSearch;
 use roster_state::Ranges;
 
 /// Sets the floors of all days at these rates, from the last day to the first. The answer is whether there is room: a floor for each

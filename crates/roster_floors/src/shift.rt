@@ -10,9 +10,9 @@ ghost use Rattle.roster_floors.specs.Lines.{AreLow, AreNext, AreOnward, IsAfterS
 use crate::day::FloorDay;
 use crate::line::{LineCosts, set_all, set_line};
 use crate::ways::{MOST_LEAVE, Onward, Ways, least_way, ways_after};
+use roster_offers::MOST_OFFERS;
 use roster_rules::Shift;
 use roster_rules::weights::{FREE_RUN, WORKING_RUN};
-use roster_search::MOST_OFFERS;
 use std::cmp::min;
 
 /// What follows a last shift: the ways on, what a day off costs with the floor after it, and the next day's floors.

@@ -4,14 +4,14 @@ ghost use Rattle.std.specs.Prelude.{◌≡◌, ◌≢◌, ◌+◌, ◌*◌, ◌<
 ghost use Rattle.roster_instance.specs.Choices.{shift_of};
 ghost use Rattle.roster_instance.specs.Meaning.{shift_count};
 ghost use Rattle.roster_rules.specs.DayLaw.{splits_more, weekends_more};
-ghost use Rattle.roster_search.specs.Tables.{IsOfferOf, most_price};
+ghost use Rattle.roster_offers.specs.Lists.{IsOfferOf, most_price};
 ghost use Rattle.roster_state.specs.Codes.{sizes_of};
 ghost use Rattle.roster_floors.specs.Lines.{AreLow, AreOnward, IsFloorDay, IsOnward, IsOpenWay, IsWayOf, IsWayOn, apart_of, most_leave, offer_at, way_at};
 
 use crate::day::FloorDay;
+use roster_offers::{MOST_OFFERS, Offer};
 use roster_rules::Shift;
 use roster_rules::weights::{SHIFT_RUN, SPLIT};
-use roster_search::{MOST_OFFERS, Offer};
 use std::cmp::min;
 
 /// What a day costs at most whatever comes after it, 2^30.

@@ -4,11 +4,11 @@ use Rattle.std.specs.List.{All}
 use Rattle.std.proofs.lemmas.Nat.{mul-le}
 use Rattle.std.proofs.lemmas.List.{get_or_default, get_or-drop, get_or-take, length-drop, length-take-le}
 use Rattle.roster_instance.specs.Meaning.{day_count}
-use Rattle.roster_search.specs.declared.offer.Offer.{Offer}
-use Rattle.roster_search.specs.ByStates.{best_after}
-use Rattle.roster_search.specs.Cheapest.{Priced, cheaper, cheapest, raised}
-use Rattle.roster_search.specs.Offers.{best_of_offers, offer_step}
-use Rattle.roster_search.proofs.Cheapest.{cheaper_none, cheapest_raised, grouped}
+use Rattle.roster_offers.specs.declared.offer.Offer.{Offer}
+use Rattle.roster_offers.specs.ByStates.{best_after}
+use Rattle.roster_offers.specs.Cheapest.{Priced, cheaper, cheapest, raised}
+use Rattle.roster_offers.specs.Offers.{best_of_offers, offer_step}
+use Rattle.roster_offers.proofs.Cheapest.{cheaper_none, cheapest_raised, grouped}
 use Rattle.roster_partial.specs.declared.day.LimitedSearch.{LimitedSearch}
 use Rattle.roster_partial.specs.declared.rows.Entry.{Entry}
 use Rattle.roster_partial.specs.Rows.{Days, IsEntryOf, IsLinked, best_by, best_of, entry_numbered, offer_numbered, offers_to, within}

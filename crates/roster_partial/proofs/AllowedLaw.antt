@@ -9,14 +9,14 @@ use Rattle.std.proofs.lemmas.List.Elements.{All-append}
 use Rattle.roster_instance.specs.declared.choice.Shift.{Shift}
 use Rattle.roster_instance.specs.Choices.{shift_of}
 use Rattle.roster_instance.specs.Meaning.{Meaning, forbids}
-use Rattle.roster_search.specs.Cheapest.{Priced, cheaper, cheapest}
-use Rattle.roster_search.specs.declared.offer.Offer.{Offer}
-use Rattle.roster_search.proofs.Cheapest.{cheaper_none, cheapest_more}
+use Rattle.roster_offers.specs.Cheapest.{Priced, cheaper, cheapest}
+use Rattle.roster_offers.specs.declared.offer.Offer.{Offer}
+use Rattle.roster_offers.proofs.Cheapest.{cheaper_none, cheapest_more}
 use Rattle.roster_state.specs.Codes.{shift_digit}
 use Rattle.roster_state.proofs.AreaLaw.{last_of_digit}
 use Rattle.roster_partial.specs.Allowed.{IsAllowed, no_places}
 use Rattle.roster_state.specs.Step.{next_of, step_cost}
-use Rattle.roster_search.specs.Offers.{dearer}
+use Rattle.roster_offers.specs.Offers.{dearer}
 use Rattle.roster_partial.specs.declared.rows.Entry.{Entry}
 use Rattle.roster_partial.specs.Rows.{Days, best_by, offer_numbered}
 use Rattle.roster_partial.proofs.StepLaws.{by_forbidden}

@@ -7,11 +7,11 @@ use Rattle.roster_instance.specs.Meaning.{day_count}
 use Rattle.roster_instance.specs.Rosters.{Row}
 use Rattle.roster_rules.specs.Prefix.{summary_of}
 use Rattle.roster_state.specs.Step.{end_cost_of}
-use Rattle.roster_search.specs.declared.offer.Offer.{Offer}
-use Rattle.roster_search.specs.Cheapest.{Priced, cheaper, cheapest, raised}
-use Rattle.roster_search.specs.Offers.{best_of_offers, choices_of}
-use Rattle.roster_search.specs.Search.{best_over, offers_on}
-use Rattle.roster_search.proofs.Cheapest.{cheaper_none, cheapest_more, keeps_first, takes_second}
+use Rattle.roster_offers.specs.declared.offer.Offer.{Offer}
+use Rattle.roster_offers.specs.Cheapest.{Priced, cheaper, cheapest, raised}
+use Rattle.roster_offers.specs.Offers.{best_of_offers, choices_of}
+use Rattle.roster_offers.specs.Lists.{best_over, offers_on}
+use Rattle.roster_offers.proofs.Cheapest.{cheaper_none, cheapest_more, keeps_first, takes_second}
 use Rattle.roster_partial.specs.declared.day.LimitedSearch.{LimitedSearch}
 use Rattle.roster_partial.specs.declared.rows.Entry.{Entry}
 use Rattle.roster_partial.specs.Rows.{IsLinked, best_of, entry_numbered, offer_numbered, offers_to, within}

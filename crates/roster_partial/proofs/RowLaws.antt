@@ -9,10 +9,10 @@ use Rattle.std.proofs.Math.Seq.{drop-append_seam, take-append_seam, take-length}
 use Rattle.std.proofs.lemmas.Bool.{cases_lt, lt-ltb, le-ltb}
 use Rattle.roster_state.specs.Codes.{code_of, fits_sizes, sizes_of, state_at}
 use Rattle.roster_state.proofs.CodeLemmas.{numbered-back}
-use Rattle.roster_search.specs.declared.offer.Offer.{Offer}
-use Rattle.roster_search.specs.Cheapest.{Priced, cheaper, cheapest, raised}
-use Rattle.roster_search.specs.Offers.{best_of_offers}
-use Rattle.roster_search.proofs.Cheapest.{cheaper_none, cheapest_both, cost_or, keeps_first, takes_second}
+use Rattle.roster_offers.specs.declared.offer.Offer.{Offer}
+use Rattle.roster_offers.specs.Cheapest.{Priced, cheaper, cheapest, raised}
+use Rattle.roster_offers.specs.Offers.{best_of_offers}
+use Rattle.roster_offers.proofs.Cheapest.{cheaper_none, cheapest_both, cost_or, keeps_first, takes_second}
 use Rattle.roster_partial.specs.declared.rows.Entry.{Entry}
 use Rattle.std.proofs.Math.Path.{transport}
 use Rattle.roster_partial.specs.Rows.{Days, IsEntryOf, IsLinked, best_of, entry_numbered, row_of, within}

@@ -4,7 +4,7 @@ use Rattle.std.proofs.lemmas.Nat.{mul-le}
 use Rattle.roster_instance.specs.Meaning.{Meaning, contract_of, day_count, shift_count}
 use Rattle.roster_instance.specs.Sizes.{cap, choice_count, greatest_of, state_count}
 use Rattle.roster_laws.specs.Greatest.{extension_count}
-use Rattle.roster_search.specs.declared.offer.Offer.{Offer}
+use Rattle.roster_offers.specs.declared.offer.Offer.{Offer}
 use Rattle.roster_search.specs.Search.{CountsStates}
 use Rattle.roster_partial.specs.Counts.{CountsSearch}
 

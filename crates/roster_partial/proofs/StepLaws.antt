@@ -2,11 +2,11 @@
 use Rattle.std.proofs.Common.{◌≡◌, ◌∙◌, ◌+◌, ◌<◌, ◌≤◌, ℕ, suc, ap, arith, append_assoc, length, List, [], ◌∷◌, ◌++◌, None, Some, refl, slice_index_or, sym, take}
 use Rattle.std.proofs.lemmas.List.{get_or-take, get_or_default}
 use Rattle.roster_rules.specs.Prefix.{Summary}
-use Rattle.roster_search.specs.declared.offer.Offer.{Offer}
-use Rattle.roster_search.specs.ByStates.{best_after}
-use Rattle.roster_search.specs.Cheapest.{Priced, raised}
-use Rattle.roster_search.specs.Offers.{best_of_offers, offer_step}
-use Rattle.roster_search.specs.Search.{offers_on}
+use Rattle.roster_offers.specs.declared.offer.Offer.{Offer}
+use Rattle.roster_offers.specs.ByStates.{best_after}
+use Rattle.roster_offers.specs.Cheapest.{Priced, raised}
+use Rattle.roster_offers.specs.Offers.{best_of_offers, offer_step}
+use Rattle.roster_offers.specs.Lists.{offers_on}
 use Rattle.arrayvec.specs.ArrayVec.{ArrayVec}
 use Rattle.roster_partial.specs.declared.rows.Entry.{Entry}
 use Rattle.roster_partial.specs.Rows.{Days, best_by, best_of, entry_numbered, offer_numbered, offers_to, within}

@@ -4,8 +4,8 @@ use Rattle.arrayvec.specs.ArrayVec.{ArrayVec}
 use Rattle.roster_instance.specs.declared.choice.Shift.{Shift}
 use Rattle.roster_instance.specs.Choices.{shift_of}
 use Rattle.roster_instance.specs.Meaning.{Meaning, forbids}
-use Rattle.roster_search.specs.Cheapest.{Priced, cheapest}
-use Rattle.roster_search.specs.declared.offer.Offer.{Offer}
+use Rattle.roster_offers.specs.Cheapest.{Priced, cheapest}
+use Rattle.roster_offers.specs.declared.offer.Offer.{Offer}
 use Rattle.roster_partial.specs.Rows.{offer_numbered}
 
 -- these are places of offers, and where no row goes on by a forbidden offer the cheapest is by one of them

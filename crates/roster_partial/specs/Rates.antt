@@ -2,7 +2,7 @@
 use Rattle.std.specs.Prelude.{ℕ, ◌+◌, ◌*◌, ◌≤◌, List, length}
 use Rattle.roster_instance.specs.Meaning.{Meaning, day_count}
 use Rattle.roster_state.specs.Codes.{sizes_of}
-use Rattle.roster_search.specs.declared.offer.Offer.{Offer}
+use Rattle.roster_offers.specs.declared.offer.Offer.{Offer}
 use Rattle.roster_floors.specs.Floors.{AreFloors, AreSmall, floor_count}
 use Rattle.roster_partial.specs.declared.rates.Tried.{Tried}
 

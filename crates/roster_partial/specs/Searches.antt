@@ -1,8 +1,7 @@
 -- What a search by partial rows goes over (our own).
 use Rattle.std.specs.Prelude.{◌≡◌, ℕ, ◌+◌, ◌-◌, ◌<◌, ◌≤◌, List}
 use Rattle.roster_instance.specs.Meaning.{contract_of, day_count}
-use Rattle.roster_search.specs.Search.{offers_on}
-use Rattle.roster_search.specs.Tables.{no_row}
+use Rattle.roster_offers.specs.Lists.{no_row, offers_on}
 use Rattle.roster_rules.specs.Prefix.{Summary}
 use Rattle.roster_state.specs.Worked.{IsWorkedDay}
 use Rattle.roster_floors.specs.Least.{AreReady, IsBeside}

@@ -3,8 +3,8 @@
 ghost use Rattle.std.specs.Prelude.{◌≡◌, ◌+◌, ◌-◌, ◌*◌, ◌<◌, ◌≤◌, suc, All, drop, length, take, true};
 ghost use Rattle.roster_bundle.specs.Limits.{greatest_u64};
 ghost use Rattle.roster_instance.specs.Meaning.{day_count};
-ghost use Rattle.roster_search.specs.Cheapest.{cheaper, cheapest};
-ghost use Rattle.roster_search.specs.Search.{offers_on};
+ghost use Rattle.roster_offers.specs.Cheapest.{cheaper, cheapest};
+ghost use Rattle.roster_offers.specs.Lists.{offers_on};
 ghost use Rattle.roster_partial.specs.Allowed.{IsAllowed};
 ghost use Rattle.roster_partial.specs.Rows.{IsEntryOf, best_of, entry_numbered};
 ghost use Rattle.roster_partial.specs.Searches.{IsSearch, days_on};
@@ -12,7 +12,7 @@ ghost use Rattle.roster_partial.specs.Searches.{IsSearch, days_on};
 use crate::allowed::allowed_on;
 use crate::day::{Going, LimitedSearch, Link, RowsDay, ahead_of, go_on};
 use crate::rows::{Entry, Seen};
-use roster_search::RowSearch;
+use roster_offers::RowSearch;
 use roster_state::Meter;
 
 /// Goes on with each partial row of a day, which stand from a place on, by each of the day's offers. The answer is whether there was

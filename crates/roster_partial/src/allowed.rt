@@ -7,8 +7,8 @@ ghost use Rattle.roster_partial.specs.Allowed.{IsAllowed, no_places};
 ghost use Rattle.roster_partial.specs.Rates.{most_offers};
 
 use arrayvec::ArrayVec;
+use roster_offers::{MOST_OFFERS, Offer};
 use roster_rules::{Case, Shift};
-use roster_search::{MOST_OFFERS, Offer};
 use roster_state::AREAS;
 
 /// Places of offers among those of a day.

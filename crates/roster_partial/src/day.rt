@@ -3,11 +3,10 @@
 ghost use Rattle.std.specs.Prelude.{◌≡◌, ◌+◌, ◌-◌, ◌*◌, ◌<◌, ◌≤◌, ℕ, suc, [], ◌∷◌, ◌++◌, All, List, Some, drop, length, take, true, false, is_some};
 ghost use Rattle.roster_bundle.specs.Limits.{greatest_u64};
 ghost use Rattle.roster_instance.specs.Meaning.{day_count, nurse_count};
-ghost use Rattle.roster_search.specs.Cheapest.{Priced, cheaper, cheapest};
-ghost use Rattle.roster_search.specs.declared.offer.Offer.{Offer};
-ghost use Rattle.roster_search.specs.Offers.{best_of_offers};
-ghost use Rattle.roster_search.specs.Search.{AreOffers, offers_on};
-ghost use Rattle.roster_search.specs.Tables.{no_row};
+ghost use Rattle.roster_offers.specs.Cheapest.{Priced, cheaper, cheapest};
+ghost use Rattle.roster_offers.specs.declared.offer.Offer.{Offer};
+ghost use Rattle.roster_offers.specs.Offers.{best_of_offers};
+ghost use Rattle.roster_offers.specs.Lists.{AreOffers, no_row, offers_on};
 ghost use Rattle.roster_state.specs.Codes.{fits_sizes, sizes_of};
 ghost use Rattle.roster_floors.specs.Floors.{AreFloors, AreSmall};
 ghost use Rattle.roster_floors.specs.Least.{IsBeside};
@@ -16,8 +15,8 @@ ghost use Rattle.roster_partial.specs.Searches.{IsAhead, IsSearch, days_on};
 
 use crate::rows::{Entry, SEEN, Seen, leave_out};
 use roster_floors::{Beside, Floors, at_least_beside, beside_floor};
+use roster_offers::RowSearch;
 use roster_rules::{ContractRules, Shift};
-use roster_search::RowSearch;
 use roster_state::{Meter, NurseDays, State, WorkedDay, extend_ahead, worked_day};
 
 /// What partial rows are searched for: a nurse's rows of at most so many penalty points, with floors under what the rest of a row costs.

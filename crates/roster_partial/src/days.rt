@@ -2,10 +2,9 @@
 
 ghost use Rattle.std.specs.Prelude.{◌≡◌, ◌+◌, ◌<◌, ◌≤◌, ℕ, [], All, IfSome, List, drop, length, option_map, take, true};
 ghost use Rattle.roster_instance.specs.Meaning.{day_count};
-ghost use Rattle.roster_search.specs.Cheapest.{cheapest};
-ghost use Rattle.roster_search.specs.Offers.{choices_of};
-ghost use Rattle.roster_search.specs.Search.{AreOffers, IsFound, best_over, offers_on};
-ghost use Rattle.roster_search.specs.Tables.{no_row};
+ghost use Rattle.roster_offers.specs.Cheapest.{cheapest};
+ghost use Rattle.roster_offers.specs.Offers.{choices_of};
+ghost use Rattle.roster_offers.specs.Lists.{AreOffers, IsFound, best_over, no_row, offers_on};
 ghost use Rattle.roster_state.specs.Codes.{fits_sizes, sizes_of};
 ghost use Rattle.roster_partial.specs.Rows.{IsEntryOf, IsLinked, best_of, entry_numbered, offers_to, within};
 ghost use Rattle.roster_partial.specs.Searches.{IsSearch, days_on};
@@ -14,8 +13,8 @@ ghost use Rattle.roster_partial.specs.declared.days.Within.TheVariants.{Found};
 use crate::add::add_day;
 use crate::day::LimitedSearch;
 use crate::rows::{Entry, Seen};
+use roster_offers::RowSearch;
 use roster_rules::Choice;
-use roster_search::RowSearch;
 use roster_state::{Meter, end_cost, start};
 
 /// What the partial rows within a limit tell.

@@ -3,7 +3,7 @@
 //! Only time depends on it: whichever rates and limits a search begins with, it finds the same row.
 
 use crate::rates::{Aim, Guess};
-use roster_search::RowSearch;
+use roster_offers::RowSearch;
 
 /// The greatest number of nurses, `most_nurses` of the limits of an instance.
 const MOST_NURSES: usize = 400;

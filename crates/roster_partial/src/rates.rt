@@ -3,15 +3,15 @@
 ghost use Rattle.std.specs.Prelude.{◌≡◌, ◌+◌, ◌*◌, ◌<◌, ◌≤◌, IfSome, length, true};
 ghost use Rattle.roster_bundle.specs.Limits.{greatest_u64};
 ghost use Rattle.roster_instance.specs.Meaning.{day_count, nurse_count};
-ghost use Rattle.roster_search.specs.Search.{AreOffers, offers_on};
+ghost use Rattle.roster_offers.specs.Lists.{AreOffers, offers_on};
 ghost use Rattle.roster_state.specs.Codes.{fits_sizes, sizes_of};
 ghost use Rattle.roster_floors.specs.Floors.{AreFloors, AreSmall, floor_count};
 ghost use Rattle.roster_floors.specs.Least.{AreReady};
 ghost use Rattle.roster_partial.specs.Rates.{IsTried, most_offers};
 
 use roster_floors::{Floors, Rates, at_least, set_floors};
+use roster_offers::{MOST_OFFERS, RowSearch};
 use roster_rules::weights::{ASSIGNMENT, WEEKEND};
-use roster_search::{MOST_OFFERS, RowSearch};
 use roster_state::{Meter, NurseDays, State, end_cost, extend_by, start};
 use std::cmp::min;
 

@@ -22,15 +22,14 @@ use Rattle.roster_laws.proofs.Allowed.{kept_is_member, kept_passes, member_is_ke
 use Rattle.roster_laws.proofs.AllRows.{choice_is_member, member_is_choice, member_is_row, row_is_member}
 use Rattle.roster_laws.proofs.Below.{all_elim, all_true}
 use Rattle.roster_laws.proofs.Keeps.{allowed-with_row, keeps_hard-with_row}
-use Rattle.roster_search.specs.declared.offer.Offer.{Offer}
-use Rattle.roster_search.specs.Cheapest.{Priced}
-use Rattle.roster_search.specs.Offers.{choices_of, offer_at, offer_of, offered_row_by, offered_rows, offers_by, offers_of}
-use Rattle.roster_search.specs.Search.{AreDayOffers, AreOffers, IsFound, best_over, offers_on}
-use Rattle.roster_search.specs.Tables.{IsOfferOf}
-use Rattle.roster_search.proofs.ByOffers.{offered_least, offered_some}
-use Rattle.roster_search.proofs.ByShift.{by_shift_all, by_shift_fewer, by_shift_some}
-use Rattle.roster_search.proofs.OfferLaws.{offers_few_of, offers_of_case, present_of_case}
-use Rattle.roster_search.proofs.SearchLaws.{best_over_same}
+use Rattle.roster_offers.specs.declared.offer.Offer.{Offer}
+use Rattle.roster_offers.specs.Cheapest.{Priced}
+use Rattle.roster_offers.specs.Offers.{choices_of, offer_at, offer_of, offered_row_by, offered_rows, offers_by, offers_of}
+use Rattle.roster_offers.specs.Lists.{AreDayOffers, AreOffers, IsFound, IsOfferOf, best_over, offers_on}
+use Rattle.roster_offers.proofs.ByOffers.{offered_least, offered_some}
+use Rattle.roster_offers.proofs.ByShift.{by_shift_all, by_shift_fewer, by_shift_some}
+use Rattle.roster_offers.proofs.OfferLaws.{offers_few_of, offers_of_case, present_of_case}
+use Rattle.roster_offers.proofs.ListLaws.{best_over_same}
 use Rattle.roster_polish.specs.Kicks.{AreKickOffers, from_on, kick_offered, kick_offers, kick_price, price_from}
 use Rattle.roster_polish.specs.declared.offers.Kick.{Kick}
 

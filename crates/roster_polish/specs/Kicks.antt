@@ -6,10 +6,9 @@ use Rattle.roster_instance.specs.declared.choice.Choice.TheVariants.{Off, Work}
 use Rattle.roster_instance.specs.Meaning.{Meaning, day_count}
 use Rattle.roster_instance.specs.Rosters.{Rows}
 use Rattle.roster_laws.specs.OneRow.{is_offered, price}
-use Rattle.roster_search.specs.declared.offer.Offer.{Offer}
-use Rattle.roster_search.specs.Offers.{cheapest_by_shift, offers_by}
-use Rattle.roster_search.specs.Search.{offers_on}
-use Rattle.roster_search.specs.Tables.{most_price}
+use Rattle.roster_offers.specs.declared.offer.Offer.{Offer}
+use Rattle.roster_offers.specs.Offers.{cheapest_by_shift, offers_by}
+use Rattle.roster_offers.specs.Lists.{most_price, offers_on}
 use Rattle.roster_bound.specs.Tables.{worths_of}
 use Rattle.roster_bound.specs.Worths.{price_by}
 use Rattle.roster_polish.specs.declared.offers.Kick.{Kick}

@@ -18,7 +18,7 @@ use crate::settle::{Aim, settle_in};
 use crate::space::PolishSpace;
 use roster_best::Workspace;
 use roster_case::Held;
-use roster_search::RowSearch;
+use roster_offers::RowSearch;
 use roster_state::Meter;
 
 /// What kicks take: searches, and random numbers.

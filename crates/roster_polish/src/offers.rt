@@ -4,16 +4,16 @@ ghost use Rattle.std.specs.Prelude.{◌≡◌, ◌+◌, ◌*◌, ◌<◌, ◌≤
 ghost use Rattle.roster_instance.specs.Choices.{shift_of};
 ghost use Rattle.roster_instance.specs.Meaning.{day_count, nurse_count};
 ghost use Rattle.roster_instance.specs.Rosters.{is_choice_of};
-ghost use Rattle.roster_search.specs.Tables.{IsOfferOf, most_price};
+ghost use Rattle.roster_offers.specs.Lists.{IsOfferOf, most_price};
 ghost use Rattle.roster_bound.specs.Tables.{worths_of};
 ghost use Rattle.roster_bound.specs.Worths.{most_worth, price_by};
 ghost use Rattle.roster_polish.specs.Kicks.{AreKickOffers, FitsKick, from_on, kick_offers, price_from, shift_place};
 
 use arrayvec::ArrayVec;
-use roster_best::{choices, request_cost};
+use roster_best::choices;
 use roster_bound::{MOST_WORTH, Worths};
 use roster_case::{Case, Choice, Held};
-use roster_search::{MOST_CHOICES, MOST_DAYS, MOST_OFFERS, Offer, cheapest_by_shift};
+use roster_offers::{MOST_CHOICES, MOST_DAYS, MOST_OFFERS, Offer, cheapest_by_shift, request_cost};
 
 /// How a kick prices what is offered, and in which weeks it offers more than the present row.
 #[derive(Clone, Copy)]

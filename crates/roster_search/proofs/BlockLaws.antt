@@ -2,8 +2,9 @@
 use Rattle.std.proofs.Common.{◌≡◌, ◌∙◌, ◌+◌, ◌*◌, ◌<◌, ◌≤◌, ◌⊎◌, ℕ, Bool, suc, inl, inr, ap, arith, mul-pos, mul_assoc, mul_comm, mul_right_comm, subst, sym, List, length, min, nat_lt, if◌then◌else◌, slice_index_or, take}
 use Rattle.std.proofs.Math.Nat.{suc-mul}
 use Rattle.std.proofs.lemmas.Bool.{cases_lt, le-ltb, lt-ltb}
-use Rattle.roster_search.specs.Cheapest.{Priced, cheapest}
-use Rattle.roster_search.specs.Tables.{AreOfLeast, label_of, no_row}
+use Rattle.roster_offers.specs.Cheapest.{Priced, cheapest}
+use Rattle.roster_offers.specs.Lists.{no_row}
+use Rattle.roster_search.specs.Tables.{AreOfLeast, label_of}
 use Rattle.roster_search.proofs.LabelLaws.{label_within, taken_kept, taken_lower}
 
 -- ---- a place by one offer more

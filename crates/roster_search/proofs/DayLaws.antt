@@ -12,8 +12,8 @@ use Rattle.roster_state.specs.Codes.{Sizes, code_of, fits_sizes, product, shift_
 use Rattle.roster_state.proofs.AreaLaw.{last_of_digit}
 use Rattle.roster_state.proofs.CodeLemmas.{Fits, all-fit, fits-all, shift_digit-shift_numbered}
 use Rattle.roster_lanes.specs.Lanes.{SameOutside}
+use Rattle.roster_offers.specs.declared.offer.Offer.{Offer}
 use Rattle.roster_search.specs.declared.day.SearchDay.{SearchDay}
-use Rattle.roster_search.specs.declared.offer.Offer.{Offer}
 use Rattle.roster_search.specs.Counts.{group_of}
 use Rattle.roster_search.specs.Tables.{Around, CellsOf, LabelsOf, PointersOf, Stands, StandsLike, best_on}
 use Rattle.roster_search.proofs.GroupLaws.{weekends_before}

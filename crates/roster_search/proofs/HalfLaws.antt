@@ -3,8 +3,8 @@ use Rattle.std.proofs.Common.{◌≡◌, ◌∙◌, ◌+◌, ◌-◌, ◌<◌, �
 use Rattle.std.proofs.lemmas.Bool.{cases_eq, cases_lt}
 use Rattle.std.proofs.lemmas.List.{ext_get_or, get_or-append_right, get_or-drop, get_or-map, get_or-set_other, get_or-set_same, get_or-take, get_or_append_left, get_or_past, length-append, length-drop, length-map, length-set, length-take, map-append, take-append-drop}
 use borrow.Rule.Slice.PartMut.{mid_of, post_of, put_mid}
+use Rattle.roster_offers.proofs.PartLaws.{part_before, part_after, part_inside, part_length}
 use Rattle.roster_search.specs.Halves.{IsWritten, halves, high, low}
-use Rattle.roster_search.proofs.PartLaws.{part_before, part_after, part_inside, part_length}
 
 -- ---- a half of all bytes
 

@@ -1,24 +1,22 @@
 -- The label of a state by one offer, and by one offer more.
-use Rattle.std.proofs.Common.{◌≡◌, ◌∙◌, ◌+◌, ◌<◌, ◌≤◌, ◌⊎◌, ℕ, suc, true, inl, inr, ap, append_assoc, arith, refl, sym, List, [], ◌∷◌, ◌++◌, length, min, nat_lt, subst, slice_index_or, take, Option, Some, None, IfSome}
+use Rattle.std.proofs.Common.{◌≡◌, ◌∙◌, ◌+◌, ◌<◌, ◌≤◌, ◌⊎◌, ℕ, suc, inl, inr, ap, append_assoc, arith, refl, sym, List, [], ◌∷◌, ◌++◌, length, min, subst, slice_index_or, take, Option, Some, None}
 use Rattle.std.proofs.Math.Seq.{take-suc}
-use Rattle.std.proofs.lemmas.Bool.{and_parts, cases_lt, ltb-true}
+use Rattle.std.proofs.lemmas.Bool.{cases_lt}
 use Rattle.std.proofs.lemmas.List.{length-take-le}
-use Rattle.roster_instance.specs.declared.choice.Choice.{Choice}
-use Rattle.roster_instance.specs.declared.choice.Choice.TheVariants.{Off, Work}
 use Rattle.roster_instance.specs.Choices.{shift_of}
-use Rattle.roster_instance.specs.Meaning.{Meaning, shift_count, skill_count}
+use Rattle.roster_instance.specs.Meaning.{Meaning}
 use Rattle.roster_rules.specs.Prefix.{Summary}
-use Rattle.roster_instance.specs.Rosters.{is_choice_of}
 use Rattle.roster_state.specs.declared.area.Area.{Area}
 use Rattle.roster_state.specs.Codes.{code_of}
 use Rattle.roster_state.specs.Step.{step_of}
+use Rattle.roster_offers.specs.declared.offer.Offer.{Offer}
+use Rattle.roster_offers.specs.ByStates.{best_after}
+use Rattle.roster_offers.specs.Cheapest.{Priced, cheaper, cheapest, raised}
+use Rattle.roster_offers.specs.Offers.{dearer}
+use Rattle.roster_offers.specs.Lists.{no_row}
+use Rattle.roster_offers.proofs.Cheapest.{cheapest_more, keeps_first, takes_second}
 use Rattle.roster_search.specs.declared.day.SearchDay.{SearchDay}
-use Rattle.roster_search.specs.declared.offer.Offer.{Offer}
-use Rattle.roster_search.specs.ByStates.{best_after}
-use Rattle.roster_search.specs.Cheapest.{Priced, cheaper, cheapest, raised}
-use Rattle.roster_search.specs.Offers.{dearer}
-use Rattle.roster_search.specs.Tables.{AreLabels, AreOfLeast, BestOnward, IsDayOf, PointsToBest, Stands, best_by, label_of, no_row}
-use Rattle.roster_search.proofs.Cheapest.{cheapest_more, keeps_first, takes_second}
+use Rattle.roster_search.specs.Tables.{AreLabels, AreOfLeast, BestOnward, IsDayOf, PointsToBest, Stands, best_by, label_of}
 
 pub label_within : {X : Type 0} (p : Priced X) → label_of p ≤ no_row
 label_within None = omega arith
@@ -27,10 +25,6 @@ label_within (Some p) = omega arith
 label-raised : {Z X : Type 0} (k : ℕ) (g : Z → X) (p : Priced Z) → label_of (raised k g p) ≡ min (k + label_of p) no_row
 label-raised k g None = omega arith
 label-raised k g (Some p) = omega arith
-
-pub shift_of_case : (c : Meaning) (x : Choice) → is_choice_of c x ≡ true → IfSome (shift_of x) (λ s. s.0 < shift_count c)
-shift_of_case c Off e = tt
-shift_of_case c (Work s k) e = ltb-true s.0 (shift_count c) (and_parts (nat_lt s.0 (shift_count c)) (nat_lt k.0 (skill_count c)) e).0
 
 -- ---- by one offer
 

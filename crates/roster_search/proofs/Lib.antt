@@ -1,14 +1,7 @@
-pub mod Cheapest
-pub mod RowsByStates
-pub mod RowCosts
-pub mod ByOffers
-pub mod Best
 pub mod LabelLaws
 pub mod CellLaws
 pub mod BlockLaws
 pub mod ReadLaws
-pub mod OfferLaws
-pub mod ByShift
 pub mod PartLaws
 pub mod HalfLaws
 pub mod StandLaws
@@ -17,6 +10,4 @@ pub mod DayLaws
 pub mod StretchLaws
 pub mod CountLaws
 pub mod SearchLaws
-pub mod LowRows
-pub mod RiseLaws
 pub mod SpareLaws

@@ -9,13 +9,15 @@ use Rattle.roster_rules.specs.Prefix.{Summary}
 use Rattle.roster_state.specs.declared.area.Area.{Area}
 use Rattle.roster_state.specs.Codes.{code_of}
 use Rattle.roster_state.specs.Step.{next_of, step_cost, step_of}
+use Rattle.roster_offers.specs.declared.offer.Offer.{Offer}
+use Rattle.roster_offers.specs.ByStates.{best_after}
+use Rattle.roster_offers.specs.Cheapest.{Priced, raised}
+use Rattle.roster_offers.specs.Offers.{dearer}
+use Rattle.roster_offers.specs.Lists.{no_row}
+use Rattle.roster_offers.proofs.Cheapest.{cost_or, thing_or}
+use Rattle.roster_offers.proofs.LowRows.{LowRow}
 use Rattle.roster_search.specs.declared.day.SearchDay.{SearchDay}
-use Rattle.roster_search.specs.declared.offer.Offer.{Offer}
-use Rattle.roster_search.specs.ByStates.{best_after}
-use Rattle.roster_search.specs.Cheapest.{Priced, raised}
-use Rattle.roster_search.specs.Offers.{dearer}
-use Rattle.roster_search.specs.Tables.{ArePointers, BeginsWith, BestOnward, IsDayOf, LeadsOn, PointsToBest, Stands, best_by, best_on, no_row}
-use Rattle.roster_search.proofs.Cheapest.{cost_or, thing_or}
+use Rattle.roster_search.specs.Tables.{ArePointers, BeginsWith, BestOnward, IsDayOf, LeadsOn, PointsToBest, Stands, best_by, best_on}
 
 -- the state after a step, if it is allowed
 abbrev following : {S : Type 0} → Bool → S → Option S
@@ -49,11 +51,6 @@ module _ (later : BestOnward) (offer : Offer) (row : ℕ × List Offer) (reached
   goes_on false best is = absurd cc
 
 -- ---- where the pointer leads
-
-pub record LowRow {X : Type 0} (p : Priced X) : Type 0 where
-  pub row : ℕ × X
-  pub is : p ≡ Some row
-  pub low : row.0 < no_row
 
 pub low_row : {X : Type 0} (p : Priced X) → IsSome p → IfSome p (λ row. row.0 < no_row) → LowRow p
 low_row None some low = elim (true≢false (sym some)) [ ]

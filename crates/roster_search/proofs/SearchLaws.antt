@@ -1,7 +1,6 @@
 -- The days of a search over a table of offers, one after another: the tables from the last day to the first, and the row from the first to the last.
 use Rattle.std.proofs.Common.{◌≡◌, ◌∙◌, ◌+◌, ◌-◌, All, Vec, is_some, ◌*◌, ◌<◌, ◌≤◌, ◌⊎◌, ◌≢◌, ℕ, zero, suc, get_or-set_other, Option, None, inl, inr, ap, append_assoc, arith, mul_assoc, mul_comm, refl, subst, sym, List, [], ◌∷◌, ◌++◌, length, slice_index_or, slice_set, take, Some, IfSome, IsSome}
 use Rattle.std.proofs.Math.Path.{transport}
-use Rattle.arrayvec.specs.ArrayVec.{ArrayVec}
 use Rattle.std.proofs.lemmas.Bool.{cases_lt, true≢false}
 use Rattle.std.proofs.lemmas.Grind.{get_or-set_at}
 use Rattle.std.proofs.lemmas.List.Elements.{All-head, All-tail}
@@ -18,14 +17,15 @@ use Rattle.roster_instance.specs.Choices.{shift_of}
 use Rattle.roster_state.specs.declared.area.Area.{Area}
 use Rattle.roster_state.specs.Codes.{Sizes, code_of, product, sizes_of}
 use Rattle.roster_state.specs.Step.{step_of}
-use Rattle.roster_search.specs.declared.offer.Offer.{Offer}
-use Rattle.roster_search.specs.ByStates.{best_after}
-use Rattle.roster_search.specs.Cheapest.{Priced, cheaper, cheapest, raised}
-use Rattle.roster_search.proofs.Cheapest.{thing_or}
-use Rattle.roster_search.specs.Offers.{best_of_offers, choices_of, dearer, offer_step}
+use Rattle.roster_offers.specs.declared.offer.Offer.{Offer}
+use Rattle.roster_offers.specs.ByStates.{best_after}
+use Rattle.roster_offers.specs.Cheapest.{Priced, cheaper, cheapest, raised}
+use Rattle.roster_offers.proofs.Cheapest.{thing_or}
+use Rattle.roster_offers.specs.Offers.{best_of_offers, choices_of, dearer, offer_step}
+use Rattle.roster_offers.specs.Lists.{best_over, no_row}
 use Rattle.roster_lanes.specs.Lanes.{SameOutside}
-use Rattle.roster_search.specs.Tables.{AreLabels, ArePointers, BeginsWith, BestOnward, LeadsOn, PointsWhereBest, Stands, best_at_end, best_by, best_on, label_of, no_row}
-use Rattle.roster_search.specs.Search.{AreOffers, AreasLead, CountsStates, PointersFrom, areas_on, best_over, offers_on, onward, search_day, steps_on}
+use Rattle.roster_search.specs.Tables.{AreLabels, ArePointers, BeginsWith, BestOnward, LeadsOn, PointsWhereBest, Stands, best_at_end, best_by, best_on, label_of}
+use Rattle.roster_search.specs.Search.{AreasLead, CountsStates, PointersFrom, areas_on, onward, search_day, steps_on}
 use Rattle.roster_search.specs.Counts.{states_on}
 use Rattle.roster_rules.proofs.RunSums.{sum_same}
 
@@ -80,17 +80,7 @@ module _ (c : Meaning) (n : ℕ) (offers : ℕ → List Offer) where
 
 -- ---- offers that agree on each day
 
-best_of_same : (c : Meaning) (n : ℕ) (f g : ℕ → List Offer) (m d : ℕ) (s : Summary) → ((k : ℕ) → d ≤ k → k < d + m → f k ≡ g k) → best_of_offers c n f m d s ≡ best_of_offers c n g m d s
-best_of_same c n f g zero d s same = refl
-best_of_same c n f g (suc m) d s same =
-    let here : f d ≡ g d = same d (omega arith) (omega arith) in
-    let later : (t : Summary) → best_of_offers c n f m (suc d) t ≡ best_of_offers c n g m (suc d) t = λ t. best_of_same c n f g m (suc d) t (λ k low high. same k (omega (arith, low)) (omega (arith, high))) in
-    (λ i. cheapest (λ x. best_after x (offer_step c n d s x) (λ t. later t i)) (here i))
-
 module _ (c : Meaning) (n : ℕ) (f g : ℕ → List Offer) (same : (day : ℕ) → day < day_count c → f day ≡ g day) where
-  pub best_over_same : best_over c n f ≡ best_over c n g
-  best_over_same = best_of_same c n f g (day_count c) 0 (summary_of c n []) (λ day low high. same day (omega (arith, high)))
-
   pub counts_same : (before after : ℕ) → CountsStates c n f before after → CountsStates c n g before after
   counts_same before after counts = record {
     areas = counts.areas;
@@ -239,11 +229,6 @@ extensions_are c n z is = extension_is c n ∙ ap (λ (y : Sizes). day_count c *
 -- the areas of a day, as they are read from the table
 pub areas_read : (areas : List (List Area)) (day : ℕ) (d : List Area) → day < length areas → slice_index_or areas day d ≡ areas_on areas day
 areas_read areas day d inside = get_or_default areas day d [] inside
-
--- a day's offers, as they are read from the table
-pub offers_read : (c : Meaning) (n : ℕ) (offers : List (ArrayVec Offer)) → AreOffers c n offers → (day : ℕ) → day < day_count c → (read d : ArrayVec Offer) → read ≡ slice_index_or offers day d → read.items ≡ offers_on offers day
-offers_read c n offers are day within read d is =
-    ap (λ (v : ArrayVec Offer). v.items) (is ∙ get_or_default offers day d (record { items = [] }) (omega (arith, within, are.days)))
 
 -- the first label is the cost of the best row
 pub first_label : (c : Meaning) (n : ℕ) (offers : ℕ → List Offer) (s : Summary) (label cost : ℕ) (best : List Offer) → s ≡ summary_of c n [] → label ≡ label_of (onward c n offers 0 s) → best_over c n offers ≡ Some (cost, best) → cost < no_row → label ≡ cost

@@ -15,7 +15,7 @@ use Rattle.roster_state.specs.declared.area.Span.{Span}
 use Rattle.roster_state.specs.Areas.{area_at, nowhere, one_state}
 use Rattle.roster_state.specs.Codes.{Sizes, product, shift_digit, sizes_of}
 use Rattle.roster_state.specs.Standing.{can_be}
-use Rattle.roster_search.specs.declared.offer.Offer.{Offer}
+use Rattle.roster_offers.specs.declared.offer.Offer.{Offer}
 use Rattle.roster_search.specs.Counts.{group_of, numbers_in, states_of_last, states_of_run, states_on, states_with, sum_over}
 use Rattle.roster_search.specs.Search.{areas_on, steps_on}
 use Rattle.roster_search.proofs.DayLaws.{group_digit}

@@ -1,7 +1,6 @@
 -- Which states stand after a day, by one offer more.
 use Rattle.std.proofs.Common.{◌≡◌, ◌+◌, ◌<◌, ℕ, Bool, true, false, subst, sym, List, if◌then◌else◌, Option, Some, None, IfSome}
 use Rattle.std.specs.List.{All}
-use Rattle.roster_instance.specs.declared.choice.Choice.TheVariants.{Off}
 use Rattle.roster_instance.specs.declared.choice.Shift.{Shift}
 use Rattle.roster_instance.specs.Choices.{shift_of}
 use Rattle.roster_instance.specs.Meaning.{Meaning, forbids, shift_count}
@@ -13,12 +12,9 @@ use Rattle.roster_state.specs.Step.{next_of, step_cost, step_of}
 use Rattle.roster_state.proofs.CodeLemmas.{fits-all}
 use Rattle.roster_state.proofs.RangeLemmas.{next_fits}
 use Rattle.roster_state.proofs.Standing.{next_can_be}
+use Rattle.roster_offers.specs.declared.offer.Offer.{Offer}
 use Rattle.roster_search.specs.declared.day.SearchDay.{SearchDay}
-use Rattle.roster_search.specs.declared.offer.Offer.{Offer}
 use Rattle.roster_search.specs.Tables.{LeadsOn, Stands}
-
-abbrev pub no_offer : Offer
-no_offer = record { choice = Off; price = 0 }
 
 next_last : (c : Meaning) (n day : ℕ) (s : Summary) (shift : Option Shift) → (next_of c n day s shift).last ≡ shift
 unfolding next_of

@@ -15,9 +15,10 @@ use Rattle.roster_state.specs.Step.{step_of, with_assignments, with_weekends}
 use Rattle.roster_state.specs.Stretches.{moved_on, stretch_state}
 use Rattle.roster_state.proofs.CodeLemmas.{all-fit, fits-all, numbered-within}
 use Rattle.roster_lanes.specs.Lanes.{SameOutside, pointer_by, raised}
+use Rattle.roster_offers.specs.declared.offer.Offer.{Offer}
+use Rattle.roster_offers.specs.Lists.{most_price, no_row}
 use Rattle.roster_search.specs.declared.day.SearchDay.{SearchDay}
-use Rattle.roster_search.specs.declared.offer.Offer.{Offer}
-use Rattle.roster_search.specs.Tables.{AreLabels, AreOfLeast, Around, BestOnward, IsReady, IsStretchOf, LeadsOn, LeastFrom, PlacesKept, RunCells, Stands, StretchCells, best_by, label_of, most_places, most_price, no_row}
+use Rattle.roster_search.specs.Tables.{AreLabels, AreOfLeast, Around, BestOnward, IsReady, IsStretchOf, LeadsOn, LeastFrom, PlacesKept, RunCells, Stands, StretchCells, best_by, label_of, most_places}
 use Rattle.roster_search.proofs.BlockLaws.{place_kept, place_lowered, place_set}
 use Rattle.roster_search.proofs.LabelLaws.{label_at-is, label_refused, step_low}
 

@@ -1,36 +1,16 @@
--- A search over a table of offers: what it takes, what it finds, and how many states it goes over (our own).
-use Rattle.std.specs.Prelude.{◌≡◌, ℕ, ◌+◌, ◌-◌, ◌*◌, ◌<◌, ◌≤◌, All, List, [], Some, length, slice_index_or}
-use Rattle.arrayvec.specs.ArrayVec.{ArrayVec}
+-- A search over a table of offers: the room that it takes, its days, and how many states it goes over (our own).
+use Rattle.std.specs.Prelude.{◌≡◌, ℕ, ◌+◌, ◌-◌, ◌*◌, ◌<◌, ◌≤◌, All, List, [], length, slice_index_or}
 use Rattle.roster_instance.specs.Meaning.{Meaning, day_count}
-use Rattle.roster_instance.specs.Rosters.{Row}
-use Rattle.roster_instance.specs.Sizes.{choice_count, state_count}
+use Rattle.roster_instance.specs.Sizes.{state_count}
 use Rattle.roster_instance.specs.Counting.{sum_below}
 use Rattle.roster_rules.specs.Prefix.{Summary, summary_of}
 use Rattle.roster_state.specs.declared.area.Area.{Area}
 use Rattle.roster_state.specs.Codes.{product, sizes_of}
+use Rattle.roster_offers.specs.declared.offer.Offer.{Offer}
+use Rattle.roster_offers.specs.Offers.{best_of_offers}
 use Rattle.roster_search.specs.declared.day.SearchDay.{SearchDay}
-use Rattle.roster_search.specs.declared.offer.Offer.{Offer}
-use Rattle.roster_search.specs.Cheapest.{Priced}
 use Rattle.roster_search.specs.Counts.{states_on}
-use Rattle.roster_search.specs.Offers.{best_of_offers, choices_of}
-use Rattle.roster_search.specs.Tables.{ArePointers, BestOnward, IsOfferOf, LeadsOn, Stands}
-
--- ---- the offers
-
--- a day's list in a table with a list for each day
-abbrev pub offers_on : List (ArrayVec Offer) → ℕ → List Offer
-offers_on offers day = (slice_index_or offers day (record { items = [] })).items
-
--- a day's offers: one at least, no more than the nurse has choices, each a choice of the case at a price within range
-pub record AreDayOffers (c : Meaning) (n : ℕ) (offers : List Offer) : Type 0 where
-  pub of_case : All (IsOfferOf c) offers
-  pub some : 0 < length offers
-  pub few : length offers ≤ choice_count c n
-
--- a list for each day
-pub record AreOffers (c : Meaning) (n : ℕ) (offers : List (ArrayVec Offer)) : Type 0 where
-  pub days : day_count c ≤ length offers
-  pub each : (day : ℕ) → day < day_count c → AreDayOffers c n (offers_on offers day)
+use Rattle.roster_search.specs.Tables.{ArePointers, BestOnward, LeadsOn, Stands}
 
 -- ---- the room
 
@@ -43,18 +23,6 @@ pub record TableRoom : Type 0 where
 pub record HasTables (c : Meaning) (n : ℕ) (t : TableRoom) : Type 0 where
   pub labels : 2 * state_count c n ≤ t.labels
   pub pointers : day_count c * state_count c n ≤ t.pointers
-
--- ---- what is found
-
--- the best row over all days of these offers, with its cost
-abbrev pub best_over : Meaning → ℕ → (ℕ → List Offer) → Priced (List Offer)
-best_over c n offers = best_of_offers c n offers (day_count c) 0 (summary_of c n [])
-
--- the cost and the choices of a best row
-pub record IsFound (best : Priced (List Offer)) (cost : ℕ) (row : Row) : Type 0 where
-  pub offers : List Offer
-  pub is : best ≡ Some (cost, offers)
-  pub row_is : row ≡ choices_of offers
 
 -- ---- the days of a search
 

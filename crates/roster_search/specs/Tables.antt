@@ -3,11 +3,8 @@
 use Rattle.std.specs.Prelude.{◌≡◌, ◌+◌, ◌-◌, ◌*◌, ◌<◌, ◌≤◌, ℕ, All, true, List, [], ◌∷◌, ◌++◌, length, min, Some, None, slice_index_or}
 use Rattle.roster_instance.specs.declared.choice.Choice.{Choice}
 use Rattle.roster_instance.specs.Choices.{shift_of}
-use Rattle.roster_instance.specs.Limits.{most_shifts, most_skills, most_small}
 use Rattle.roster_instance.specs.Meaning.{Meaning, contract_of, day_count, nurse_count}
 use Rattle.roster_rules.specs.Prefix.{Summary}
-use Rattle.roster_instance.specs.Rosters.{is_choice_of}
-use Rattle.roster_rules.specs.Weights.{off_request_weight, staffing_weight, wish_weight}
 use Rattle.roster_state.specs.declared.area.Area.{Area}
 use Rattle.roster_state.specs.declared.stretch.Stretch.{Stretch}
 use Rattle.roster_state.specs.Areas.{InArea, area_at}
@@ -16,20 +13,13 @@ use Rattle.roster_state.specs.Standing.{can_be}
 use Rattle.roster_state.specs.Stretches.{stretch_state}
 use Rattle.roster_state.specs.Worked.{IsWorkedDay}
 use Rattle.roster_state.specs.Step.{end_cost_of, step_of, with_assignments, with_weekends}
+use Rattle.roster_offers.specs.declared.offer.Offer.{Offer}
+use Rattle.roster_offers.specs.ByStates.{best_after}
+use Rattle.roster_offers.specs.Cheapest.{Priced, cheapest}
+use Rattle.roster_offers.specs.Lists.{IsOfferOf, no_row}
+use Rattle.roster_offers.specs.Offers.{offer_step}
 use Rattle.roster_search.specs.declared.day.SearchDay.{SearchDay}
 use Rattle.roster_search.specs.declared.labels.StretchDay.{StretchDay}
-use Rattle.roster_search.specs.declared.offer.Offer.{Offer}
-use Rattle.roster_search.specs.ByStates.{best_after}
-use Rattle.roster_search.specs.Cheapest.{Priced, cheapest}
-use Rattle.roster_search.specs.Offers.{offer_step}
-
--- what an offer costs at most: 1,918,100
-abbrev pub most_price : ℕ
-most_price = most_shifts * most_skills * staffing_weight * most_small + off_request_weight + wish_weight
-
--- the label of a state from which no row goes on, 2^30: each row costs less
-abbrev pub no_row : ℕ
-no_row = 1073741824
 
 -- the label that a best row gives
 abbrev pub label_of : {X : Type 0} → Priced X → ℕ
@@ -47,11 +37,6 @@ pub record IsDayOf (c : Meaning) (at : SearchDay) : Type 0 where
   pub nurse : at.nurse < nurse_count c
   pub day : at.day < day_count c
   pub ranges : at.ranges ≡ sizes_of c at.nurse
-
--- its choice is one of the case's, and it costs no more than an offer can
-pub record IsOfferOf (c : Meaning) (offer : Offer) : Type 0 where
-  pub choice : is_choice_of c offer.choice ≡ true
-  pub price : offer.price ≤ most_price
 
 -- the best row from a state on that begins with an offer, where these are the best rows from the next day on
 abbrev pub best_by : Meaning → SearchDay → BestOnward → Summary → Offer → Priced (List Offer)

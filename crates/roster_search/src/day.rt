@@ -1,6 +1,6 @@
 //! A day of a search.
 
-use crate::offer::Offer;
+use roster_offers::Offer;
 use roster_rules::Case;
 use roster_state::{AREAS, Area, Ranges};
 

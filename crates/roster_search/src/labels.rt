@@ -12,9 +12,10 @@ ghost use Rattle.roster_state.specs.Codes.{code_of, fits_sizes, product, shift_d
 ghost use Rattle.roster_state.specs.Step.{with_assignments};
 ghost use Rattle.roster_state.specs.Stretches.{IsAlike};
 ghost use Rattle.roster_lanes.specs.Lanes.{SameOutside};
+ghost use Rattle.roster_offers.specs.Lists.{no_row};
 ghost use Rattle.roster_search.specs.Halves.{IsWritten};
 ghost use Rattle.roster_search.specs.Counts.{states_on, states_with};
-ghost use Rattle.roster_search.specs.Tables.{AreLabels, ArePointers, Around, IsReady, IsStretchDay, IsStretchOf, LabelsOf, PointersOf, PlacesKept, RunCells, Stands, StandsLike, StretchCells, best_at_end, best_on, label_of, most_places, no_row};
+ghost use Rattle.roster_search.specs.Tables.{AreLabels, ArePointers, Around, IsReady, IsStretchDay, IsStretchOf, LabelsOf, PointersOf, PlacesKept, RunCells, Stands, StandsLike, StretchCells, best_at_end, best_on, label_of, most_places};
 
 use crate::day::OpenDay;
 use crate::pointers::Pointers;

@@ -2,12 +2,13 @@
 
 ghost use Rattle.std.specs.Prelude.{◌≡◌, ◌+◌, ◌<◌, ◌≤◌, ℕ, All, IfSome, IsSome, List, Some, length};
 ghost use Rattle.roster_state.specs.Codes.{product};
-ghost use Rattle.roster_search.specs.Tables.{ArePointers, Around, BeginsWith, IsDayOf, IsOfferOf, LeadsOn, Stands, best_on, no_row};
-ghost use Rattle.roster_search.specs.declared.offer.Offer.{Offer};
+ghost use Rattle.roster_offers.specs.Lists.{IsOfferOf, no_row};
+ghost use Rattle.roster_offers.specs.declared.offer.Offer.{Offer};
+ghost use Rattle.roster_search.specs.Tables.{ArePointers, Around, BeginsWith, IsDayOf, LeadsOn, Stands, best_on};
 
 use crate::day::SearchDay;
-use crate::offer::Offer;
 use crate::pointers::Pointers;
+use roster_offers::Offer;
 use roster_rules::{Case, Choice};
 use roster_state::{State, after};
 

@@ -9,37 +9,24 @@ ghost use Rattle.roster_instance.specs.Counting.{sum_below};
 ghost use Rattle.roster_rules.specs.Prefix.{summary_of};
 ghost use Rattle.roster_state.specs.Codes.{product, sizes_of};
 ghost use Rattle.roster_lanes.specs.Lanes.{SameOutside};
+ghost use Rattle.roster_offers.specs.Offers.{choices_of};
+ghost use Rattle.roster_offers.specs.Lists.{AreOffers, IsFound, best_over, no_row, offers_on};
+ghost use Rattle.roster_offers.specs.declared.offer.Offer.{Offer};
 ghost use Rattle.roster_search.specs.Counts.{states_on};
-ghost use Rattle.roster_search.specs.Offers.{choices_of};
-ghost use Rattle.roster_search.specs.Search.{AreOffers, AreasLead, CountsStates, HasTables, IsFound, PointersFrom, SomeStands, areas_on, best_over, offers_on, onward, steps_on};
-ghost use Rattle.roster_search.specs.Tables.{AreLabels, ArePointers, Around, BeginsWith, IsDayOf, LeadsOn, Stands, best_on, no_row};
-ghost use Rattle.roster_search.specs.declared.offer.Offer.{Offer};
+ghost use Rattle.roster_search.specs.Search.{AreasLead, CountsStates, HasTables, PointersFrom, SomeStands, areas_on, onward, steps_on};
+ghost use Rattle.roster_search.specs.Tables.{AreLabels, ArePointers, Around, BeginsWith, IsDayOf, LeadsOn, Stands, best_on};
 
 use crate::day::{OpenDay, SearchDay};
 use crate::labels::{StretchRoom, label_day, label_end};
-use crate::offer::{MOST_OFFERS, Offer};
 use crate::pointers::Pointers;
 use crate::read::read_day;
 use crate::stand::areas_after;
 use crate::tables::Tables;
 use arrayvec::ArrayVec;
+use roster_offers::{MOST_OFFERS, Offer, RowSearch};
 use roster_rules::{Case, Choice};
 use roster_state::{AREAS, Area, Meter, Ranges, State, areas_of, start};
 use std::mem;
-
-/// The greatest number of days of a case, `most_days` of the limits of an instance.
-pub const MOST_DAYS: usize = 364;
-
-/// A table of offers, with room for a list for each day of any case. It is long, so that who searches often keeps one.
-pub type DayOffers = ArrayVec<ArrayVec<Offer, MOST_OFFERS>, MOST_DAYS>;
-
-/// What a search goes over: a nurse of a case, and for each day what the nurse is offered.
-#[derive(Clone, Copy)]
-pub struct RowSearch<'a> {
-    pub case: &'a Case,
-    pub nurse: usize,
-    pub offers: &'a [ArrayVec<Offer, MOST_OFFERS>],
-}
 
 /// Searches the best row over a table of offers, wherever these come from. `row` then begins with its choices, one for each day, and the
 /// answer is its cost: its prices, and what the nurse's own rules cost along it beside what the start owes. It takes no memory. The

@@ -1,11 +1,11 @@
 //! Which states stand after a day.
 
 ghost use Rattle.std.specs.Prelude.{◌≡◌, ◌<◌, ◌≤◌, All, length};
-ghost use Rattle.roster_search.specs.Tables.{IsDayOf, IsOfferOf, LeadsOn};
+ghost use Rattle.roster_offers.specs.Lists.{IsOfferOf};
+ghost use Rattle.roster_search.specs.Tables.{IsDayOf, LeadsOn};
 
 use crate::day::SearchDay;
-use crate::offer::Offer;
-use crate::search::MOST_DAYS;
+use roster_offers::{MOST_DAYS, Offer};
 use roster_rules::Case;
 use roster_state::{AREAS, Area, NOWHERE, widen};
 

@@ -2,7 +2,7 @@ use Rattle.std.proofs.Common.{◌≡◌, ◌≢◌, ◌∙◌, ◌<◌, ℕ, ap,
 use Rattle.std.specs.Ordering.{ord_max}
 use Rattle.std.proofs.lemmas.Grind.{common_steps}
 use Rattle.std.proofs.lemmas.List.{get_or_default}
-use Rattle.roster_search.specs.declared.offer.Offer.{Offer}
+use Rattle.roster_offers.specs.declared.offer.Offer.{Offer}
 use Rattle.roster_instance.specs.Choices.{shift_of}
 use Rattle.roster_best.specs.Known.{not_offered, price_place}
 use Rattle.roster_best.proofs.KnownLaws.{dearer_more}

@@ -1,7 +1,7 @@
 use Rattle.std.proofs.Common.{◌∙◌, arith}
 use Rattle.std.proofs.lemmas.List.{length-set}
 use Rattle.roster_instance.specs.declared.choice.Choice.TheVariants.{Off}
-use Rattle.roster_search.specs.declared.offer.Offer.{Offer}
+use Rattle.roster_offers.specs.declared.offer.Offer.{Offer}
 use Rattle.roster_best.proofs.KnownLaws.{price_put}
 use Rattle.roster_best.proofs.last.prices_by_shift.Goals as goal
 

@@ -1,6 +1,6 @@
 use Rattle.std.proofs.Common.{◌∙◌, ◌/◌, sym}
 use Rattle.std.proofs.lemmas.Bool.{lt-ltb}
-use Rattle.roster_search.proofs.OfferLaws.{offers_frozen}
+use Rattle.roster_offers.proofs.OfferLaws.{offers_frozen}
 use Rattle.roster_best.proofs.offer.choices.Goals as goal
 
 pub returns-then-day-from-clause-offers : goal.returns-then-day-from-clause-offers

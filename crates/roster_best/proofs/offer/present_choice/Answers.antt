@@ -7,7 +7,7 @@ use Rattle.roster_instance.specs.Meaning.{nurse_at}
 use Rattle.roster_rules.specs.HardRules.{is_able}
 use Rattle.roster_laws.specs.OneRow.{others}
 use Rattle.roster_laws.specs.Staffing.{meets, with_choice}
-use Rattle.roster_search.proofs.OfferLaws.{present_open}
+use Rattle.roster_offers.proofs.OfferLaws.{present_open}
 use Rattle.roster_best.proofs.OfferLemmas.{offer_alone}
 use Rattle.roster_best.proofs.offer.present_choice.Goals as goal
 

@@ -1,6 +1,6 @@
 use Rattle.std.proofs.Common.{◌≡◌, ◌<◌, ℕ, length}
-use Rattle.roster_search.specs.Offers.{shift_offers}
-use Rattle.roster_search.specs.Search.{offers_on}
+use Rattle.roster_offers.specs.Offers.{shift_offers}
+use Rattle.roster_offers.specs.Lists.{offers_on}
 use Rattle.roster_best.proofs.search.offers_of_days.Given as goal
 
 abbrev pub invariant-loop-day : goal.invariant-loop-day

@@ -2,7 +2,7 @@ use Rattle.std.proofs.Common.{◌≡◌, ◌∙◌, ◌+◌, ◌<◌, [], ap, ar
 use Rattle.roster_instance.specs.Meaning.{Meaning}
 use Rattle.roster_rules.specs.Prefix.{due}
 use Rattle.roster_rules.specs.Room.{penalty_room}
-use Rattle.roster_search.specs.Search.{AreOffers, IsFound, best_over, offers_on}
+use Rattle.roster_offers.specs.Lists.{AreOffers, IsFound, best_over, offers_on}
 use Rattle.roster_partial.specs.Counts.{CountsSearch}
 use Rattle.std.proofs.Common.{IsSome}
 use Rattle.roster_best.proofs.BestLaws.{KeepsLimits, found_is, sum_within}

@@ -1,7 +1,7 @@
 use Rattle.std.proofs.Common.{◌∙◌, ◌+◌, ◌≤◌, ap, arith, length}
 use Rattle.roster_instance.specs.Limits.{most_shifts}
-use Rattle.roster_search.specs.Offers.{cheapest_by_shift}
-use Rattle.roster_search.proofs.ByShift.{by_shift_few_of}
+use Rattle.roster_offers.specs.Offers.{cheapest_by_shift}
+use Rattle.roster_offers.proofs.ByShift.{by_shift_few_of}
 use Rattle.roster_bound.specs.Days.{can_do, offers_by_worth}
 use Rattle.roster_bound.specs.Tables.{worths_of}
 use Rattle.roster_bound.specs.Worths.{price_with}

@@ -1,5 +1,5 @@
 use Rattle.std.proofs.Common.{◌≡◌, ◌<◌, ℕ, length}
-use Rattle.roster_search.specs.Search.{offers_on}
+use Rattle.roster_offers.specs.Lists.{offers_on}
 use Rattle.roster_bound.specs.Days.{shift_offers_by_worth}
 use Rattle.roster_bound.specs.Tables.{worths_of}
 use Rattle.roster_bound.proofs.floors.offers_of_days.Given as goal

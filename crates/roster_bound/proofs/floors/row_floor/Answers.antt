@@ -1,7 +1,7 @@
 use Rattle.std.proofs.Common.{◌∙◌, ◌+◌, List, ap, subst, sym, IsSome}
 use Rattle.arrayvec.specs.ArrayVec.{ArrayVec}
-use Rattle.roster_search.specs.declared.offer.Offer.{Offer}
-use Rattle.roster_search.specs.Search.{AreOffers, IsFound, best_over, offers_on}
+use Rattle.roster_offers.specs.declared.offer.Offer.{Offer}
+use Rattle.roster_offers.specs.Lists.{AreOffers, IsFound, best_over, offers_on}
 use Rattle.roster_bound.specs.Tables.{worths_of}
 use Rattle.roster_bound.proofs.RowFloors.{can_search, floor_is, floor_row_is, some_found}
 use Rattle.roster_bound.proofs.floors.row_floor.Goals as goal

@@ -2,8 +2,8 @@ use Rattle.std.proofs.Common.{◌≡◌, ◌∙◌, ◌++◌, Bool, ap, arith, l
 use Rattle.std.specs.Option.{option_to_list}
 use Rattle.roster_instance.specs.declared.choice.Choice.{Choice}
 use Rattle.roster_instance.specs.Meaning.{shift_count, skill_count}
-use Rattle.roster_search.specs.declared.offer.Offer.{Offer}
-use Rattle.roster_search.specs.Offers.{offer_at}
+use Rattle.roster_offers.specs.declared.offer.Offer.{Offer}
+use Rattle.roster_offers.specs.Offers.{offer_at}
 use Rattle.roster_bound.specs.Days.{can_do}
 use Rattle.roster_bound.specs.Worths.{price_with}
 use Rattle.roster_bound.specs.Tables.{worths_of}

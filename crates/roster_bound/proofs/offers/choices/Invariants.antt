@@ -1,5 +1,5 @@
 use Rattle.std.proofs.Common.{◌≡◌, ◌*◌, ◌+◌, ◌≤◌, ◌++◌, length}
-use Rattle.roster_search.specs.Offers.{offer_at}
+use Rattle.roster_offers.specs.Offers.{offer_at}
 use Rattle.roster_bound.specs.Days.{can_do}
 use Rattle.roster_bound.specs.Worths.{price_with}
 use Rattle.roster_bound.specs.Tables.{worths_of}

@@ -1,7 +1,7 @@
 use Rattle.std.proofs.Common.{◌∙◌, slice_index_or, ◌≡◌, ◌+◌, ◌-◌, ◌≤◌, ap, arith, refl}
 use Rattle.roster_instance.specs.Meaning.{day_count}
 use Rattle.roster_state.specs.Codes.{sizes_of}
-use Rattle.roster_search.specs.Search.{offers_on}
+use Rattle.roster_offers.specs.Lists.{offers_on}
 use Rattle.roster_floors.specs.Floors.{floor_at, floor_place}
 use Rattle.roster_floors.specs.Least.{days_to_come, weekends_to_come}
 use Rattle.roster_floors.proofs.LeastLaw.{least_is_low}

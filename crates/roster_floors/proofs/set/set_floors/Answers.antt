@@ -3,7 +3,7 @@ use Rattle.std.proofs.Math.Path.{transport}
 use Rattle.std.proofs.lemmas.Bool.{cases_lt}
 use Rattle.std.proofs.lemmas.Nat.{mul-le}
 use Rattle.roster_instance.specs.Meaning.{day_count}
-use Rattle.roster_search.specs.Search.{offers_on}
+use Rattle.roster_offers.specs.Lists.{offers_on}
 use Rattle.roster_state.specs.Codes.{sizes_of}
 use Rattle.roster_floors.specs.Floors.{floor_count}
 use Rattle.roster_floors.specs.Lines.{IsSetBy, IsSetOn, most_floor}

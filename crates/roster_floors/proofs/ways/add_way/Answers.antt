@@ -2,7 +2,7 @@ use Rattle.std.proofs.Common.{◌≡◌, ◌≢◌, ◌∙◌, ◌<◌, Some, ap
 use Rattle.std.proofs.lemmas.List.{get_or_default}
 use Rattle.roster_instance.specs.Choices.{shift_of}
 use Rattle.roster_state.specs.Codes.{sizes_of}
-use Rattle.roster_search.specs.declared.offer.Offer.{Offer}
+use Rattle.roster_offers.specs.declared.offer.Offer.{Offer}
 use Rattle.roster_floors.specs.declared.ways.Onward.{Onward}
 use Rattle.roster_floors.specs.declared.ways.Way.{Way}
 use Rattle.roster_floors.specs.Lines.{IsOnward, IsOpenWay, no_onward, no_way, nothing, offer_at}

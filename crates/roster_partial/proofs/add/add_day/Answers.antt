@@ -5,8 +5,8 @@ use Rattle.arrayvec.specs.ArrayVec.{ArrayVec}
 use Rattle.std.proofs.lemmas.List.{drop_all, get_or_default, length-drop, take_all}
 use Rattle.std.proofs.Math.Seq.{take-length}
 use Rattle.roster_bundle.specs.Limits.{greatest_u64}
-use Rattle.roster_search.specs.Cheapest.{cheaper, cheapest}
-use Rattle.roster_search.specs.Search.{offers_on}
+use Rattle.roster_offers.specs.Cheapest.{cheaper, cheapest}
+use Rattle.roster_offers.specs.Lists.{offers_on}
 use Rattle.roster_partial.specs.Rows.{IsEntryOf, best_of, entry_numbered}
 use Rattle.roster_partial.specs.Searches.{days_on}
 use Rattle.roster_state.specs.Codes.{Sizes, fits_sizes, shift_digit, sizes_of}

@@ -1,7 +1,7 @@
 use Rattle.std.proofs.Common.{◌≡◌, ◌+◌, ◌-◌, ◌*◌, ◌≤◌, drop, length, suc, take}
 use Rattle.std.specs.List.{All}
-use Rattle.roster_search.specs.Cheapest.{cheapest}
-use Rattle.roster_search.specs.Search.{offers_on}
+use Rattle.roster_offers.specs.Cheapest.{cheapest}
+use Rattle.roster_offers.specs.Lists.{offers_on}
 use Rattle.roster_partial.specs.Rows.{IsEntryOf, best_of}
 use Rattle.roster_partial.specs.Searches.{days_on}
 use Rattle.roster_partial.proofs.add.add_day.Given as goal

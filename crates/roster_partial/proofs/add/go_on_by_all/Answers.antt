@@ -2,11 +2,10 @@ use Rattle.std.proofs.Common.{◌≡◌, ◌∙◌, ◌<◌, ap, arith, drop, le
 use Rattle.std.specs.List.{All}
 use Rattle.std.proofs.lemmas.List.{get_or-map, length-map}
 use Rattle.roster_instance.specs.declared.choice.Choice.TheVariants.{Off}
-use Rattle.roster_search.specs.declared.offer.Offer.{Offer}
-use Rattle.roster_search.specs.Cheapest.{cheaper, cheapest}
-use Rattle.roster_search.specs.Search.{offers_on}
-use Rattle.roster_search.specs.Tables.{no_row}
-use Rattle.roster_search.proofs.Cheapest.{cheaper_none}
+use Rattle.roster_offers.specs.declared.offer.Offer.{Offer}
+use Rattle.roster_offers.specs.Cheapest.{cheaper, cheapest}
+use Rattle.roster_offers.specs.Lists.{no_row, offers_on}
+use Rattle.roster_offers.proofs.Cheapest.{cheaper_none}
 use Rattle.roster_partial.specs.declared.rows.Entry.{Entry}
 use Rattle.roster_partial.specs.Rows.{IsEntryOf, best_by, best_of, entry_numbered, offer_numbered}
 use Rattle.roster_partial.specs.Searches.{IsAhead, days_on}

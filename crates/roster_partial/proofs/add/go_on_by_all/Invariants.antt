@@ -1,7 +1,7 @@
 use Rattle.std.proofs.Common.{◌≡◌, ◌+◌, ◌≤◌, drop, length, map, suc, take}
 use Rattle.std.specs.List.{All}
-use Rattle.roster_search.specs.Cheapest.{cheaper, cheapest}
-use Rattle.roster_search.specs.Search.{offers_on}
+use Rattle.roster_offers.specs.Cheapest.{cheaper, cheapest}
+use Rattle.roster_offers.specs.Lists.{offers_on}
 use Rattle.roster_partial.specs.Rows.{IsEntryOf, best_by, best_of, entry_numbered, offer_numbered}
 use Rattle.roster_partial.specs.Searches.{days_on}
 use Rattle.roster_partial.proofs.add.go_on_by_all.Given as goal

@@ -3,15 +3,14 @@ use Rattle.roster_instance.specs.declared.choice.Choice.TheVariants.{Off}
 use Rattle.roster_instance.specs.Meaning.{day_count}
 use Rattle.roster_state.specs.Codes.{fits_sizes, sizes_of}
 use Rattle.roster_state.specs.Step.{step_of}
-use Rattle.roster_search.specs.Search.{offers_on}
-use Rattle.roster_search.specs.Offers.{best_of_offers, dearer, offer_step}
-use Rattle.roster_search.specs.Cheapest.{cheaper, cheapest}
-use Rattle.roster_search.specs.declared.offer.Offer.{Offer}
-use Rattle.roster_search.proofs.Cheapest.{cheaper_none}
+use Rattle.roster_offers.specs.Lists.{IsOfferOf, most_price, offers_on}
+use Rattle.roster_offers.specs.Offers.{best_of_offers, dearer, offer_step}
+use Rattle.roster_offers.specs.Cheapest.{cheaper, cheapest}
+use Rattle.roster_offers.specs.declared.offer.Offer.{Offer}
+use Rattle.roster_offers.proofs.Cheapest.{cheaper_none}
 use Rattle.std.proofs.lemmas.List.{length-take-le}
 use Rattle.std.proofs.lemmas.List.Elements.{All-get_or}
 use Rattle.roster_state.specs.Worked.{IsWorkedDay}
-use Rattle.roster_search.specs.Tables.{IsOfferOf, most_price}
 use Rattle.roster_floors.specs.Least.{IsBeside}
 use Rattle.roster_partial.specs.declared.rows.Entry.{Entry}
 use Rattle.roster_partial.specs.Rows.{Days, IsLinked, best_by, best_of, entry_numbered, offer_numbered}

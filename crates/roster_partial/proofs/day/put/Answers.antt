@@ -4,8 +4,8 @@ use Rattle.std.proofs.lemmas.Bool.{false≢true}
 use Rattle.std.proofs.lemmas.List.{length-drop, length-take-le}
 use Rattle.std.proofs.lemmas.List.Elements.{All-push}
 use Rattle.roster_state.specs.Codes.{Sizes, code_of, fits_sizes, sizes_of}
-use Rattle.roster_search.specs.Cheapest.{cheaper, cheapest}
-use Rattle.roster_search.proofs.Cheapest.{cheapest_more}
+use Rattle.roster_offers.specs.Cheapest.{cheaper, cheapest}
+use Rattle.roster_offers.proofs.Cheapest.{cheapest_more}
 use Rattle.roster_partial.specs.declared.rows.Entry.{Entry}
 use Rattle.roster_partial.specs.Rows.{Days, IsEntryOf, IsLinked, best_of}
 use Rattle.roster_partial.proofs.RowLaws.{front_alone, front_and_one, length_alone, length_and_one, no_more, one_more, part_alone, part_and_one, part_is}

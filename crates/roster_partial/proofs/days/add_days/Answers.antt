@@ -3,9 +3,9 @@ use Rattle.std.specs.List.{All}
 use Rattle.std.proofs.Math.Path.{transport}
 use Rattle.std.proofs.lemmas.Bool.{cases_lt}
 use Rattle.roster_instance.specs.Meaning.{day_count}
-use Rattle.roster_search.specs.Cheapest.{cheapest}
-use Rattle.roster_search.specs.Search.{offers_on}
-use Rattle.roster_search.proofs.SearchLaws.{offers_read}
+use Rattle.roster_offers.specs.Cheapest.{cheapest}
+use Rattle.roster_offers.specs.Lists.{offers_on}
+use Rattle.roster_offers.proofs.ListLaws.{offers_read}
 use Rattle.roster_partial.specs.Rows.{IsEntryOf, best_of}
 use Rattle.roster_partial.specs.Searches.{days_on}
 use Rattle.roster_partial.proofs.days.add_days.Goals as goal

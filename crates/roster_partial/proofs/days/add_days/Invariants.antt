@@ -1,6 +1,6 @@
 use Rattle.std.proofs.Common.{◌≡◌, ◌+◌, ◌<◌, ◌≤◌, [], drop, length, take}
 use Rattle.std.specs.List.{All}
-use Rattle.roster_search.specs.Cheapest.{cheapest}
+use Rattle.roster_offers.specs.Cheapest.{cheapest}
 use Rattle.roster_partial.specs.Rows.{IsEntryOf, best_of}
 use Rattle.roster_partial.specs.Searches.{days_on}
 use Rattle.roster_partial.proofs.days.add_days.Given as goal

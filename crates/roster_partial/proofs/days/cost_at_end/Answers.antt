@@ -1,6 +1,6 @@
 use Rattle.std.proofs.Common.{◌∙◌, ◌+◌, ap, arith, Some, sym}
 use Rattle.roster_instance.specs.Meaning.{day_count}
-use Rattle.roster_search.specs.Search.{offers_on}
+use Rattle.roster_offers.specs.Lists.{offers_on}
 use Rattle.roster_partial.specs.Rows.{offers_to}
 use Rattle.roster_partial.specs.Searches.{days_on}
 use Rattle.roster_partial.proofs.DaysLaws.{best_at_last}

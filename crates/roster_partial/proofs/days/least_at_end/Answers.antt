@@ -1,8 +1,8 @@
 use Rattle.std.proofs.Common.{◌∙◌, ◌<◌, ℕ, IfSome, List, Option, ap, length, subst, sym}
 use Rattle.roster_instance.specs.Meaning.{day_count}
-use Rattle.roster_search.specs.declared.offer.Offer.{Offer}
-use Rattle.roster_search.specs.Cheapest.{Priced}
-use Rattle.roster_search.specs.Search.{offers_on}
+use Rattle.roster_offers.specs.declared.offer.Offer.{Offer}
+use Rattle.roster_offers.specs.Cheapest.{Priced}
+use Rattle.roster_offers.specs.Lists.{offers_on}
 use Rattle.roster_partial.specs.declared.day.LimitedSearch.{LimitedSearch}
 use Rattle.roster_partial.specs.declared.rows.Entry.{Entry}
 use Rattle.roster_partial.specs.Rows.{best_of, offers_to}

@@ -1,8 +1,8 @@
 use Rattle.std.proofs.Common.{◌≡◌, ◌<◌, IfSome, List, length, take}
 use Rattle.std.specs.Prelude.{option_map}
 use Rattle.roster_instance.specs.Meaning.{day_count}
-use Rattle.roster_search.specs.Cheapest.{cheapest}
-use Rattle.roster_search.specs.Search.{offers_on}
+use Rattle.roster_offers.specs.Cheapest.{cheapest}
+use Rattle.roster_offers.specs.Lists.{offers_on}
 use Rattle.roster_partial.specs.declared.rows.Entry.{Entry}
 use Rattle.roster_partial.specs.Rows.{best_of, entry_numbered, offers_to}
 use Rattle.roster_partial.specs.Searches.{days_on}

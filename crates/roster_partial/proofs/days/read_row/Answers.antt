@@ -2,8 +2,8 @@ use Rattle.std.proofs.Common.{◌≡◌, ◌∙◌, ◌-◌, ◌<◌, ◌≤◌,
 use Rattle.std.proofs.Math.Path.{transport}
 use Rattle.std.proofs.lemmas.List.{get_or_default, length-set}
 use Rattle.roster_instance.specs.Meaning.{day_count}
-use Rattle.roster_search.specs.Search.{offers_on}
-use Rattle.roster_search.proofs.SearchLaws.{offers_read}
+use Rattle.roster_offers.specs.Lists.{offers_on}
+use Rattle.roster_offers.proofs.ListLaws.{offers_read}
 use Rattle.roster_partial.specs.Rows.{entry_numbered, offer_numbered}
 use Rattle.roster_partial.proofs.DaysLaws.{IsReadFrom, read_before}
 use Rattle.roster_partial.proofs.days.read_row.Goals as goal

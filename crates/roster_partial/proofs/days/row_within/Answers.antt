@@ -5,11 +5,10 @@ use Rattle.std.proofs.lemmas.List.{get_or_default, length-drop}
 use Rattle.std.proofs.lemmas.List.Elements.{All-push}
 use Rattle.roster_instance.specs.Meaning.{day_count}
 use Rattle.roster_state.specs.Codes.{fits_sizes, sizes_of}
-use Rattle.roster_search.specs.Cheapest.{Priced, cheapest}
-use Rattle.roster_search.specs.Search.{IsFound, best_over, offers_on}
-use Rattle.roster_search.specs.Tables.{no_row}
-use Rattle.roster_search.specs.declared.offer.Offer.{Offer}
-use Rattle.roster_search.proofs.Cheapest.{cheaper_none}
+use Rattle.roster_offers.specs.Cheapest.{Priced, cheapest}
+use Rattle.roster_offers.specs.Lists.{IsFound, best_over, no_row, offers_on}
+use Rattle.roster_offers.specs.declared.offer.Offer.{Offer}
+use Rattle.roster_offers.proofs.Cheapest.{cheaper_none}
 use Rattle.roster_partial.specs.declared.days.Within.TheVariants.{Dearer, Found, Full}
 use Rattle.roster_partial.specs.declared.rows.Entry.{Entry}
 use Rattle.roster_partial.specs.Rows.{IsEntryOf, IsLinked, best_of, entry_numbered, offers_to, within}

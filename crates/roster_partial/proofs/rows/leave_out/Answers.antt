@@ -1,6 +1,6 @@
 use Rattle.std.proofs.Common.{◌<◌, arith, refl, sym, subst, length}
 use Rattle.std.proofs.lemmas.List.Elements.{All-set}
-use Rattle.roster_search.specs.Tables.{no_row}
+use Rattle.roster_offers.specs.Lists.{no_row}
 use Rattle.roster_partial.specs.declared.rows.Entry.{Entry}
 use Rattle.roster_partial.specs.Rows.{IsEntryOf, best_of}
 use Rattle.roster_partial.proofs.RowLaws.{Beats, dear_is_none, marked_entry, new_left_out, old_left_out, one_state, same_beats}

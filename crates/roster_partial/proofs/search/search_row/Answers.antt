@@ -1,7 +1,7 @@
 use Rattle.std.proofs.Common.{◌≡◌, ◌-◌, ◌*◌, arith}
 use Rattle.roster_instance.specs.Meaning.{day_count}
 use Rattle.roster_instance.specs.Sizes.{choice_count, state_count}
-use Rattle.roster_search.specs.Search.{offers_on}
+use Rattle.roster_offers.specs.Lists.{offers_on}
 use Rattle.roster_partial.proofs.SearchLaws.{counts_partial, counts_tables, extension_is, some_states, spare_within}
 use Rattle.roster_partial.proofs.search.search_row.Goals as goal
 use Rattle.roster_partial.proofs.search.search_row.Goals.{After-days, then-room-spare+then-not-waits+in_default, else-room-spare}

@@ -1,7 +1,7 @@
 use Rattle.std.proofs.Common.{◌≡◌, ◌∙◌, ◌+◌, ◌≤◌, ap, arith, subst, sym, take, ℕ}
 use Rattle.roster_instance.specs.Meaning.{contract_of, day_count}
-use Rattle.roster_search.specs.Search.{IsFound, best_over, offers_on}
-use Rattle.roster_search.specs.declared.search.RowSearch.{RowSearch}
+use Rattle.roster_offers.specs.Lists.{IsFound, best_over, offers_on}
+use Rattle.roster_offers.specs.declared.lists.RowSearch.{RowSearch}
 use Rattle.roster_partial.specs.declared.days.Within.TheVariants.{Found}
 use Rattle.roster_partial.proofs.search.search_within.Goals as goal
 

@@ -6,8 +6,8 @@ use Rattle.roster_rules.specs.AllowedRows.{row_keeps}
 use Rattle.roster_laws.specs.FrozenDays.{FrozenDaysStay}
 use Rattle.roster_laws.proofs.Frozen.{row_stays}
 use Rattle.roster_case.specs.Held.{HeldRoster}
-use Rattle.roster_search.specs.declared.offer.Offer.{Offer}
-use Rattle.roster_search.specs.Search.{AreOffers, IsFound, best_over, offers_on}
+use Rattle.roster_offers.specs.declared.offer.Offer.{Offer}
+use Rattle.roster_offers.specs.Lists.{AreOffers, IsFound, best_over, offers_on}
 use Rattle.roster_polish.proofs.KickRows.{can_search, found_keeps, found_stays, some_found}
 use Rattle.roster_polish.proofs.kick.kick_nurse.Goals as goal
 use Rattle.roster_polish.proofs.kick.kick_nurse.Goals.{After-row}

@@ -5,9 +5,9 @@ use Rattle.roster_instance.specs.Meaning.{Meaning, shift_count, skill_count}
 use Rattle.roster_instance.specs.Rosters.{is_choice_of}
 use Rattle.roster_instance.specs.Small.{HasSmallNumbers}
 use Rattle.roster_instance.specs.declared.choice.Choice.TheVariants.{Off}
-use Rattle.roster_search.specs.declared.offer.Offer.{Offer}
-use Rattle.roster_search.specs.Offers.{cheapest_by_shift, offers_by, offers_of}
-use Rattle.roster_search.proofs.ByShift.{by_shift_few_of}
+use Rattle.roster_offers.specs.declared.offer.Offer.{Offer}
+use Rattle.roster_offers.specs.Offers.{cheapest_by_shift, offers_by, offers_of}
+use Rattle.roster_offers.proofs.ByShift.{by_shift_few_of}
 use Rattle.roster_polish.specs.Kicks.{kick_offered, kick_price}
 use Rattle.roster_polish.proofs.KickRows.{open_of_case, priced_all, priced_in}
 use Rattle.roster_polish.proofs.offers.offers_of_day.Goals as goal

@@ -1,5 +1,5 @@
 use Rattle.std.proofs.Common.{◌≡◌, ◌<◌, ℕ, length}
-use Rattle.roster_search.specs.Search.{offers_on}
+use Rattle.roster_offers.specs.Lists.{offers_on}
 use Rattle.roster_polish.specs.Kicks.{kick_offers}
 use Rattle.roster_polish.proofs.offers.offers_of_days.Given as goal
 

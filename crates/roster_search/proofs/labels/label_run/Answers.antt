@@ -2,7 +2,8 @@ use Rattle.std.proofs.Common.{◌≡◌, ◌∙◌, ◌-◌, ◌*◌, ◌+◌, �
 use Rattle.std.proofs.lemmas.List.{get_or-replicate, take_all}
 use Rattle.roster_state.specs.Stretches.{stretch_state}
 use Rattle.std.proofs.Math.Path.{transport}
-use Rattle.roster_search.specs.Tables.{AreOfLeast, IsStretchDay, best_by, no_row, RunCells}
+use Rattle.roster_offers.specs.Lists.{no_row}
+use Rattle.roster_search.specs.Tables.{AreOfLeast, IsStretchDay, best_by, RunCells}
 use Rattle.roster_search.proofs.LabelLaws.{least_of_none}
 use Rattle.roster_search.proofs.StretchLaws.{in_stretch}
 use Rattle.roster_search.proofs.CellLaws.{room_for_more}

@@ -1,5 +1,6 @@
 use Rattle.std.proofs.Common.{◌≡◌, ◌+◌, ◌-◌, ◌*◌, ◌<◌, ℕ, true, false, length, replicate, slice_index_or, take}
-use Rattle.roster_search.specs.Tables.{RunCells, no_row}
+use Rattle.roster_offers.specs.Lists.{no_row}
+use Rattle.roster_search.specs.Tables.{RunCells}
 use Rattle.roster_search.proofs.labels.label_run.Given as goal
 
 abbrev pub ghost-lower_run : goal.ghost-lower_run

@@ -4,8 +4,9 @@ use Rattle.std.proofs.lemmas.List.Edits.{length-between}
 use borrow.Rule.Slice.PartMut.{put_mid}
 use Rattle.roster_state.specs.Codes.{code_of}
 use Rattle.roster_lanes.specs.Lanes.{SameOutside}
+use Rattle.roster_offers.proofs.PartLaws.{part_inside, part_length}
 use Rattle.roster_search.proofs.CellLaws.{outside_wider}
-use Rattle.roster_search.proofs.PartLaws.{front_length, part_inside, part_length, part_outside}
+use Rattle.roster_search.proofs.PartLaws.{front_length, part_outside}
 use Rattle.roster_search.proofs.StretchLaws.{count_short, count_within, rows_in_table, stretch_moved}
 use Rattle.roster_search.proofs.labels.label_stretch.Goals as goal
 

@@ -5,9 +5,10 @@ use Rattle.std.proofs.lemmas.List.Elements.{All-get_or}
 use Rattle.roster_state.specs.Codes.{product, Sizes, fits_sizes}
 use Rattle.roster_instance.specs.declared.choice.Shift.{Shift}
 use Rattle.roster_instance.specs.Meaning.{shift_count}
-use Rattle.roster_search.proofs.LabelLaws.{shift_of_case}
-use Rattle.roster_search.specs.Tables.{IsOfferOf, LeadsOn, no_row}
-use Rattle.roster_search.proofs.StandLaws.{no_offer}
+use Rattle.roster_offers.proofs.OfferLaws.{shift_of_case}
+use Rattle.roster_offers.specs.Lists.{IsOfferOf, no_row}
+use Rattle.roster_offers.proofs.ListLaws.{no_offer}
+use Rattle.roster_search.specs.Tables.{LeadsOn}
 use Rattle.roster_search.proofs.StretchLaws.{stretch_same, stretch_set, stretch_within}
 use Rattle.roster_search.proofs.labels.set_run.Goals as goal
 use Rattle.roster_search.proofs.labels.set_run.Goals.{After-code-after}

@@ -3,10 +3,11 @@ use Rattle.std.proofs.lemmas.List.Elements.{All-get_or}
 use Rattle.roster_instance.specs.declared.choice.Shift.{Shift}
 use Rattle.roster_instance.specs.Meaning.{shift_count}
 use Rattle.roster_state.specs.Codes.{Sizes, fits_sizes}
-use Rattle.roster_search.proofs.LabelLaws.{shift_of_case}
-use Rattle.roster_search.specs.Tables.{LeadsOn, PointsToBest, best_by, best_on, IsOfferOf}
+use Rattle.roster_offers.proofs.OfferLaws.{shift_of_case}
+use Rattle.roster_offers.specs.Lists.{IsOfferOf}
+use Rattle.roster_offers.proofs.ListLaws.{no_offer}
+use Rattle.roster_search.specs.Tables.{LeadsOn, PointsToBest, best_by, best_on}
 use Rattle.roster_search.proofs.ReadLaws.{after_stands, low_of, low_row, pointer_within, points_at, read_begins, read_goes_on}
-use Rattle.roster_search.proofs.StandLaws.{no_offer}
 use Rattle.roster_search.proofs.read.read_day.Goals as goal
 
 pub bounds-offers-pointer : goal.bounds-offers-pointer

@@ -6,10 +6,11 @@ use Rattle.roster_instance.specs.Meaning.{day_count}
 use Rattle.roster_instance.specs.Sizes.{choice_count}
 use Rattle.roster_state.specs.Codes.{product}
 use Rattle.roster_lanes.specs.Lanes.{SameOutside}
+use Rattle.roster_offers.specs.Lists.{IsOfferOf, offers_on}
+use Rattle.roster_offers.proofs.ListLaws.{offers_read}
 use Rattle.roster_search.specs.Counts.{states_on}
-use Rattle.roster_search.specs.Search.{offers_on}
-use Rattle.roster_search.specs.Tables.{AreLabels, ArePointers, IsOfferOf, IsReady, LeadsOn, best_on}
-use Rattle.roster_search.proofs.SearchLaws.{areas_read, offers_read}
+use Rattle.roster_search.specs.Tables.{AreLabels, ArePointers, IsReady, LeadsOn, best_on}
+use Rattle.roster_search.proofs.SearchLaws.{areas_read}
 use Rattle.roster_search.proofs.search.label_before.Goals as goal
 use Rattle.roster_search.proofs.search.label_before.Goals.{After-as_slice-offers}
 

@@ -7,8 +7,9 @@ use Rattle.roster_instance.specs.Sizes.{choice_count}
 use Rattle.roster_instance.specs.Counting.{sum_below}
 use Rattle.roster_state.specs.Codes.{Sizes, product}
 use Rattle.roster_lanes.specs.Lanes.{SameOutside}
+use Rattle.roster_offers.specs.Lists.{offers_on}
 use Rattle.roster_search.specs.Tables.{AreLabels, best_at_end}
-use Rattle.roster_search.specs.Search.{PointersFrom, areas_on, offers_on, onward, steps_on}
+use Rattle.roster_search.specs.Search.{PointersFrom, areas_on, onward, steps_on}
 use Rattle.roster_search.proofs.SearchLaws.{areas_read, extensions_are, labels_before, length_after, onward-last, pointers_before, table_after}
 use Rattle.roster_search.proofs.search.label_days.Goals as goal
 

@@ -3,8 +3,9 @@ use Rattle.roster_instance.specs.Meaning.{day_count}
 use Rattle.roster_instance.specs.Sizes.{choice_count}
 use Rattle.roster_instance.specs.Counting.{sum_below}
 use Rattle.roster_state.specs.Codes.{product}
+use Rattle.roster_offers.specs.Lists.{offers_on}
 use Rattle.roster_search.specs.Tables.{AreLabels}
-use Rattle.roster_search.specs.Search.{PointersFrom, areas_on, offers_on, onward, steps_on}
+use Rattle.roster_search.specs.Search.{PointersFrom, areas_on, onward, steps_on}
 use Rattle.roster_search.proofs.search.label_days.Given as goal
 
 abbrev pub ghost-label_end : goal.ghost-label_end

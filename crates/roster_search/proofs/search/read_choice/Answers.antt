@@ -4,9 +4,10 @@ use Rattle.std.proofs.lemmas.Nat.{mul-le}
 use Rattle.std.specs.List.{All}
 use Rattle.roster_instance.specs.Meaning.{day_count}
 use Rattle.roster_state.specs.Codes.{product}
-use Rattle.roster_search.specs.declared.offer.Offer.{Offer}
-use Rattle.roster_search.specs.Tables.{ArePointers, IsOfferOf, LeadsOn, best_on, no_row}
-use Rattle.roster_search.proofs.SearchLaws.{offers_read}
+use Rattle.roster_offers.specs.declared.offer.Offer.{Offer}
+use Rattle.roster_offers.specs.Lists.{IsOfferOf, no_row}
+use Rattle.roster_offers.proofs.ListLaws.{offers_read}
+use Rattle.roster_search.specs.Tables.{ArePointers, LeadsOn, best_on}
 use Rattle.roster_search.proofs.search.read_choice.Goals as goal
 
 pub read_day-requires : goal.read_day-requires

@@ -2,9 +2,10 @@ use Rattle.std.proofs.Common.{◌≡◌, ◌∙◌, ◌+◌, ◌*◌, ◌<◌, a
 use Rattle.std.proofs.lemmas.List.{length-set}
 use Rattle.roster_instance.specs.Meaning.{day_count}
 use Rattle.roster_state.specs.Codes.{Sizes, product}
+use Rattle.roster_offers.specs.Lists.{best_over, offers_on}
 use Rattle.roster_search.specs.Tables.{ArePointers, BestOnward, Stands}
 use Rattle.roster_search.proofs.ReadLaws.{low_of, low_row}
-use Rattle.roster_search.specs.Search.{areas_on, best_over, offers_on, onward, search_day}
+use Rattle.roster_search.specs.Search.{areas_on, onward, search_day}
 use Rattle.roster_search.proofs.SearchLaws.{IsReadTo, onward-day, read_first, read_last, read_on, reads_low, reads_some}
 use Rattle.roster_search.proofs.search.read_row.Goals as goal
 

@@ -1,7 +1,8 @@
 use Rattle.std.proofs.Common.{◌≡◌, ◌+◌, ℕ, List, Some, length}
-use Rattle.roster_search.specs.declared.offer.Offer.{Offer}
+use Rattle.roster_offers.specs.declared.offer.Offer.{Offer}
+use Rattle.roster_offers.specs.Lists.{best_over, offers_on}
 use Rattle.roster_search.specs.Tables.{Stands}
-use Rattle.roster_search.specs.Search.{areas_on, best_over, offers_on, onward}
+use Rattle.roster_search.specs.Search.{areas_on, onward}
 use Rattle.roster_search.proofs.SearchLaws.{IsReadTo}
 use Rattle.roster_search.proofs.search.read_row.Given as goal
 

@@ -2,12 +2,12 @@ use Rattle.std.proofs.Common.{◌≡◌, ◌∙◌, ◌*◌, ◌<◌, ◌≤◌,
 use Rattle.std.proofs.lemmas.List.{get_or_read_under}
 use Rattle.roster_instance.specs.Meaning.{day_count}
 use Rattle.roster_state.specs.Codes.{code_of, product, sizes_of, Sizes, fits_sizes}
-use Rattle.roster_search.specs.declared.offer.Offer.{Offer}
-use Rattle.roster_search.specs.Cheapest.{Priced}
-use Rattle.roster_search.specs.Search.{TableRoom, areas_on, best_over, offers_on}
-use Rattle.roster_search.specs.Tables.{Stands, no_row}
-use Rattle.roster_search.proofs.LowRows.{low_over}
-use Rattle.roster_search.proofs.ReadLaws.{LowRow}
+use Rattle.roster_offers.specs.declared.offer.Offer.{Offer}
+use Rattle.roster_offers.specs.Cheapest.{Priced}
+use Rattle.roster_offers.specs.Lists.{best_over, no_row, offers_on}
+use Rattle.roster_offers.proofs.LowRows.{LowRow, low_over}
+use Rattle.roster_search.specs.Search.{TableRoom, areas_on}
+use Rattle.roster_search.specs.Tables.{Stands}
 use Rattle.roster_search.proofs.SearchLaws.{first_label, goes_on}
 use Rattle.roster_search.proofs.SpareLaws.{spare_over}
 use Rattle.roster_search.proofs.search.search_row.Goals as goal

@@ -8,10 +8,12 @@ use Rattle.roster_rules.specs.Prefix.{summary_of}
 use Rattle.roster_state.specs.declared.area.Area.{Area}
 use Rattle.roster_state.specs.Codes.{shift_digit, sizes_of}
 use Rattle.roster_state.proofs.CodeLemmas.{fits-all}
+use Rattle.roster_offers.specs.Lists.{IsOfferOf, offers_on}
+use Rattle.roster_offers.proofs.ListLaws.{offers_read}
 use Rattle.roster_search.specs.Counts.{states_on}
-use Rattle.roster_search.specs.Search.{areas_on, offers_on}
-use Rattle.roster_search.specs.Tables.{IsOfferOf, LeadsOn, Stands}
-use Rattle.roster_search.proofs.SearchLaws.{areas_read, day_kept, lead_more, offers_read}
+use Rattle.roster_search.specs.Search.{areas_on}
+use Rattle.roster_search.specs.Tables.{LeadsOn, Stands}
+use Rattle.roster_search.proofs.SearchLaws.{areas_read, day_kept, lead_more}
 use Rattle.roster_search.proofs.SpareLaws.{one_stands}
 use Rattle.roster_search.proofs.search.stand_days.Goals as goal
 use Rattle.roster_search.proofs.search.stand_days.Goals.{After-as_slice-day_offers}

@@ -1,9 +1,10 @@
 use Rattle.std.proofs.Common.{◌≡◌, ◌+◌, ◌<◌, ◌≤◌, ℕ, [], length}
 use Rattle.std.specs.List.{All}
 use Rattle.roster_rules.specs.Prefix.{summary_of}
+use Rattle.roster_offers.specs.Lists.{offers_on}
 use Rattle.roster_search.specs.Counts.{states_on}
 use Rattle.roster_search.specs.Tables.{LeadsOn, Stands}
-use Rattle.roster_search.specs.Search.{areas_on, offers_on, search_day}
+use Rattle.roster_search.specs.Search.{areas_on, search_day}
 use Rattle.roster_search.proofs.search.stand_days.Given as goal
 
 abbrev pub invariant-loop-day : goal.invariant-loop-day

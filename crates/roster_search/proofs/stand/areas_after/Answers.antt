@@ -4,9 +4,11 @@ use Rattle.std.proofs.lemmas.List.Elements.{All-get_or, All-more}
 use Rattle.std.specs.List.{All}
 use Rattle.roster_instance.specs.declared.choice.Shift.{Shift}
 use Rattle.roster_instance.specs.Meaning.{shift_count}
-use Rattle.roster_search.specs.Tables.{IsOfferOf, LeadsOn}
-use Rattle.roster_search.proofs.LabelLaws.{shift_of_case}
-use Rattle.roster_search.proofs.StandLaws.{leads_by, leads_kept, no_offer}
+use Rattle.roster_offers.specs.Lists.{IsOfferOf}
+use Rattle.roster_offers.proofs.OfferLaws.{shift_of_case}
+use Rattle.roster_offers.proofs.ListLaws.{no_offer}
+use Rattle.roster_search.specs.Tables.{LeadsOn}
+use Rattle.roster_search.proofs.StandLaws.{leads_by, leads_kept}
 use Rattle.roster_search.proofs.stand.areas_after.Goals as goal
 
 pub loop-place-preserved : goal.loop-place-preserved

@@ -9,8 +9,8 @@ use Rattle.roster_rules.specs.Penalties.{penalty}
 use Rattle.roster_rules.specs.Prefix.{due}
 use Rattle.roster_rules.specs.Room.{penalty_room}
 use Rattle.roster_laws.specs.OneRow.{rest_of}
-use Rattle.roster_search.specs.Search.{AreOffers, offers_on}
-use Rattle.roster_search.proofs.SearchLaws.{offers_read}
+use Rattle.roster_offers.specs.Lists.{AreOffers, offers_on}
+use Rattle.roster_offers.proofs.ListLaws.{offers_read}
 use Rattle.roster_best.specs.Known.{IsDearer, WasSearched, price_place, prices_on}
 use Rattle.roster_instance.specs.Choices.{shift_of}
 use Rattle.roster_best.proofs.BestLaws.{KeepsLimits, base_within}

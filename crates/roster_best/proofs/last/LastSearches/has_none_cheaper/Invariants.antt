@@ -1,4 +1,4 @@
-use Rattle.roster_search.specs.Search.{offers_on}
+use Rattle.roster_offers.specs.Lists.{offers_on}
 use Rattle.roster_best.proofs.KnownLaws.{SoFar}
 use Rattle.roster_best.proofs.last.LastSearches.has_none_cheaper.Given as goal
 

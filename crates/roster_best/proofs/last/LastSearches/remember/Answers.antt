@@ -6,8 +6,8 @@ use Rattle.std.proofs.lemmas.Nat.{mul-add-lt, mul-le}
 use Rattle.roster_instance.specs.Choices.{shift_of}
 use Rattle.roster_instance.specs.Limits.{most_days, most_nurses, most_shifts}
 use Rattle.roster_instance.specs.Meaning.{day_count, nurse_count}
-use Rattle.roster_search.specs.Search.{AreOffers, offers_on}
-use Rattle.roster_search.proofs.SearchLaws.{offers_read}
+use Rattle.roster_offers.specs.Lists.{AreOffers, offers_on}
+use Rattle.roster_offers.proofs.ListLaws.{offers_read}
 use Rattle.roster_best.specs.Known.{ArePrices, price_place}
 use Rattle.roster_best.proofs.BestLaws.{KeepsLimits}
 use Rattle.roster_best.proofs.SearchLaws.{can_search}

@@ -1,6 +1,6 @@
 use Rattle.std.proofs.Common.{◌≡◌, ◌+◌, ◌*◌, ◌<◌, ℕ, [], length, slice_index_or}
 use Rattle.roster_instance.specs.Meaning.{day_count}
-use Rattle.roster_search.specs.Search.{offers_on}
+use Rattle.roster_offers.specs.Lists.{offers_on}
 use Rattle.roster_best.specs.Known.{ArePrices}
 use Rattle.roster_best.proofs.KnownLaws.{Outside}
 use Rattle.roster_best.proofs.last.LastSearches.remember.Given as goal

@@ -6,7 +6,8 @@ use Rattle.std.specs.Vec.{with_items}
 use Rattle.roster_instance.specs.Meaning.{day_count}
 use Rattle.roster_instance.specs.Sizes.{state_count}
 use Rattle.roster_laws.specs.Greatest.{greatest_state_count}
-use Rattle.roster_search.specs.Search.{IsFound, TableRoom, best_over, offers_on}
+use Rattle.roster_offers.specs.Lists.{IsFound, best_over, offers_on}
+use Rattle.roster_search.specs.Search.{TableRoom}
 use Rattle.roster_best.specs.Workspaces.{Space}
 use Rattle.roster_best.proofs.BestLaws.{room_of, states_within}
 use Rattle.roster_best.proofs.workspace.SearchSpace.search.Goals as goal

@@ -1,0 +1,11 @@
+pub mod Cheapest
+pub mod RowsByStates
+pub mod RowCosts
+pub mod ByOffers
+pub mod Best
+pub mod OfferLaws
+pub mod ByShift
+pub mod ListLaws
+pub mod LowRows
+pub mod RiseLaws
+pub mod PartLaws

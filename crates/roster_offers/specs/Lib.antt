@@ -1,0 +1,5 @@
+pub mod Cheapest
+pub mod ByStates
+pub mod Offers
+pub mod Lists
+pub mod Rises

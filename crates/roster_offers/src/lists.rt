@@ -1,0 +1,19 @@
+//! The lists of offers that a search goes over.
+
+use crate::offer::{MOST_OFFERS, Offer};
+use arrayvec::ArrayVec;
+use roster_rules::Case;
+
+/// The greatest number of days of a case, `most_days` of the limits of an instance.
+pub const MOST_DAYS: usize = 364;
+
+/// A table of offers, with room for a list for each day of any case. It is long, so that who searches often keeps one.
+pub type DayOffers = ArrayVec<ArrayVec<Offer, MOST_OFFERS>, MOST_DAYS>;
+
+/// What a search goes over: a nurse of a case, and for each day what the nurse is offered.
+#[derive(Clone, Copy)]
+pub struct RowSearch<'a> {
+    pub case: &'a Case,
+    pub nurse: usize,
+    pub offers: &'a [ArrayVec<Offer, MOST_OFFERS>],
+}

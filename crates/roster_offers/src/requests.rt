@@ -1,0 +1,72 @@
+//! What a nurse's own requests cost on a day.
+
+ghost use Rattle.std.specs.Prelude.{◌≡◌, ◌+◌, ◌<◌, ◌≤◌, false, Option};
+ghost use Rattle.roster_instance.specs.declared.choice.Shift.{Shift};
+ghost use Rattle.roster_instance.specs.Meaning.{nurse_count};
+ghost use Rattle.roster_rules.specs.Penalties.{off_request_cost_on, request_cost_on, wish_cost_on};
+ghost use Rattle.roster_rules.specs.Weights.{off_request_weight, wish_weight};
+
+use roster_rules::weights::{OFF_REQUEST, WISH};
+use roster_rules::{Case, Shift, meets_wishes};
+
+/// What the requests of a day cost, where it is known whether there is some wish to work: mostly there is none.
+pub fn cost_of_requests(
+    case: &Case,
+    nurse: usize,
+    day: u16,
+    shift: Option<Shift>,
+    wished: bool,
+) -> u32
+    requires nurse { nurse < nurse_count case.now }
+    requires wished { wished ≡ false → wish_cost_on case.now nurse day shift ≡ 0 }
+    ensures cost { result ≡ request_cost_on case.now nurse day shift }
+    ensures within { result ≤ off_request_weight + wish_weight }
+{
+    if wished {
+        return request_cost(case, nurse, day, shift);
+    }
+    off_request_cost(case, nurse, day, shift)
+}
+
+/// Whether the nurse has a wish to work on the day. Without one, no wish costs anything there.
+pub fn has_some_wish(case: &Case, nurse: usize, day: u16) -> bool
+    requires { nurse < nurse_count case.now }
+    ensures { (shift : Option Shift) → result ≡ false → wish_cost_on case.now nurse day shift ≡ 0 }
+{
+    let wishes = case.wishes(nurse, day);
+    let mut some = wishes.any;
+    for number in 0..case.shifts() {
+        some = some || wishes.names(Shift(number));
+    }
+    some
+}
+
+/// The points for the nurse's requests of a day, by the shift that is worked then, if one is.
+pub fn request_cost(case: &Case, nurse: usize, day: u16, shift: Option<Shift>) -> u32
+    requires { nurse < nurse_count case.now }
+    ensures cost { result ≡ request_cost_on case.now nurse day shift }
+    ensures within { result ≤ off_request_weight + wish_weight }
+{
+    off_request_cost(case, nurse, day, shift) + wish_cost(case, nurse, day, shift)
+}
+
+/// S4. The points for an off request against the shift of a day, if one is worked.
+fn off_request_cost(case: &Case, nurse: usize, day: u16, shift: Option<Shift>) -> u32
+    requires { nurse < nurse_count case.now }
+    ensures cost { result ≡ off_request_cost_on case.now nurse day shift }
+    ensures within { result ≤ off_request_weight }
+{
+    match shift {
+        Some(shift) => OFF_REQUEST * case.has_off_request(nurse, day, shift) as u32,
+        None => 0,
+    }
+}
+
+/// S8. The points for a wish to work that isn't met, also by a day off.
+fn wish_cost(case: &Case, nurse: usize, day: u16, shift: Option<Shift>) -> u32
+    requires { nurse < nurse_count case.now }
+    ensures cost { result ≡ wish_cost_on case.now nurse day shift }
+    ensures within { result ≤ wish_weight }
+{
+    WISH * !meets_wishes(case, nurse, day, shift) as u32
+}

@@ -1,5 +1,0 @@
-use Rattle.roster_search.proofs.RiseLaws.{cost_has_risen}
-use Rattle.roster_search.proofs.laws.cost_rises_with_prices.Goals as goal
-
-pub returns : goal.returns
-returns c = cost_has_risen
