@@ -1,12 +1,11 @@
--- The best row in a workspace: what the room is, that the row is low and allowed, and what its label says.
-use Rattle.std.proofs.Common.{◌≡◌, ◌∙◌, ◌+◌, ◌*◌, ◌<◌, ◌≤◌, ◌&&◌, ◌==◌, ℕ, true, ap, arith, refl, subst, sym, List, [], ◌∷◌, nat_le, Contains, IsSome, None, Some}
-use Rattle.std.proofs.lemmas.Bool.{and_parts, eqb-true, leb-true, true≢false}
+-- The best row in a workspace: that the row is low and allowed, and what its label says.
+use Rattle.std.proofs.Common.{◌≡◌, ◌∙◌, ◌+◌, ◌<◌, ◌≤◌, ℕ, true, ap, arith, refl, subst, sym, List, [], ◌∷◌, Contains, IsSome, None, Some}
+use Rattle.std.proofs.lemmas.Bool.{and_parts, true≢false}
 use Rattle.std.proofs.lemmas.List.Elements.{Contains-append_right}
 use Rattle.arrayvec.specs.ArrayVec.{ArrayVec}
 use Rattle.roster_instance.specs.Limits.{most_nurses, most_shifts, most_skills, most_weeks}
-use Rattle.roster_instance.specs.Meaning.{Meaning, day_count, nurse_count, shift_count, skill_count, week_count}
+use Rattle.roster_instance.specs.Meaning.{Meaning, nurse_count, shift_count, skill_count, week_count}
 use Rattle.roster_instance.specs.Rosters.{Row, Rows, fits_case, is_row_of, with_row}
-use Rattle.roster_instance.specs.Sizes.{state_count}
 use Rattle.roster_instance.specs.Small.{HasSmallNumbers}
 use Rattle.roster_rules.specs.AllowedRows.{IsBestRow, penalty_with, row_keeps}
 use Rattle.roster_rules.specs.HardRules.{keeps_hard}
@@ -16,32 +15,14 @@ use Rattle.roster_rules.specs.Room.{penalty_room}
 use Rattle.roster_rules.proofs.Bounds.{penalty-within}
 use Rattle.roster_rules.proofs.RowFits.{fits-with_row}
 use Rattle.roster_laws.specs.OneRow.{rest_of}
-use Rattle.roster_laws.specs.Greatest.{greatest_state_count}
 use Rattle.roster_laws.proofs.Allowed.{allowed_keeps}
-use Rattle.roster_laws.proofs.GreatestLemmas.{greatest_states}
 use Rattle.roster_offers.specs.declared.offer.Offer.{Offer}
 use Rattle.roster_offers.specs.Cheapest.{Priced}
 use Rattle.roster_offers.specs.Offers.{best_by_states, choices_of}
 use Rattle.roster_offers.specs.Lists.{IsFound, best_over, offers_on}
 use Rattle.roster_offers.proofs.Best.{best_some, is_best, penalty_is}
-use Rattle.roster_best.specs.Workspaces.{AreShiftOffers, Space, fits_space}
+use Rattle.roster_best.specs.Searches.{AreShiftOffers}
 use Rattle.roster_best.proofs.SearchLaws.{best_is}
-
--- ---- the room of a workspace that fits
-
-pub record HasRoom (c : Meaning) (w : Space) : Type 0 where
-  pub labels : w.labels ≡ 2 * greatest_state_count c
-  pub pointers : w.pointers ≡ greatest_state_count c * day_count c
-  pub row : day_count c ≤ w.room
-
-pub room_of : (c : Meaning) (w : Space) → fits_space c w ≡ true → HasRoom c w
-room_of c w fits =
-    let both = and_parts ((w.labels == 2 * greatest_state_count c) && (w.pointers == greatest_state_count c * day_count c)) (nat_le (day_count c) w.room) fits in
-    let lengths = and_parts (w.labels == 2 * greatest_state_count c) (w.pointers == greatest_state_count c * day_count c) both.0 in
-    record { labels = eqb-true _ _ lengths.0; pointers = eqb-true _ _ lengths.1; row = leb-true _ _ both.1 }
-
-pub states_within : (c : Meaning) (n : ℕ) → n < nurse_count c → state_count c n ≤ greatest_state_count c
-states_within c n inside = (greatest_states c (omega (arith, inside))).above n inside
 
 -- ---- the best row
 

@@ -33,7 +33,7 @@ use Rattle.roster_offers.proofs.Best.{best_some, is_best, penalty_is}
 use Rattle.roster_offers.proofs.RiseLaws.{cost_has_risen}
 use Rattle.roster_best.specs.declared.last.LastSearches.{LastSearches}
 use Rattle.roster_best.specs.Known.{ArePrices, IsDearer, IsKnown, IsPriceOf, WasSearched, fits_last, not_offered, price_place, prices_on}
-use Rattle.roster_best.specs.Workspaces.{AreShiftOffers}
+use Rattle.roster_best.specs.Searches.{AreShiftOffers}
 use Rattle.roster_best.proofs.SearchLaws.{best_is}
 
 -- ---- the prices of a day

@@ -1,18 +1,12 @@
--- The offers of a search for a best row, its count, and the greatest number of states.
-use Rattle.std.proofs.Common.{◌≡◌, ◌⊎◌, ◌∙◌, ◌+◌, ◌<◌, ◌≤◌, ℕ, true, IsSome, List, [], ◌∷◌, ap, arith, inl, inr, map, max, subst, sym}
-use Rattle.std.specs.List.{range_with_len}
-use Rattle.std.proofs.lemmas.List.{map-append}
+-- The offers of a search for a best row, and its count.
+use Rattle.std.proofs.Common.{◌≡◌, ◌⊎◌, ◌∙◌, ◌+◌, ◌<◌, ◌≤◌, ℕ, true, IsSome, List, [], arith, inl, inr, subst, sym}
 use Rattle.arrayvec.specs.ArrayVec.{ArrayVec}
-use Rattle.roster_bundle.proofs.Ranges.{range_with_len_more}
 use Rattle.roster_instance.specs.Limits.{most_shifts, most_skills}
 use Rattle.roster_instance.specs.Meaning.{Meaning, day_count, nurse_count, shift_count, skill_count}
 use Rattle.roster_instance.specs.Rosters.{Rows, fits_case}
-use Rattle.roster_instance.specs.Sizes.{greatest_of, state_count}
 use Rattle.roster_instance.specs.Small.{HasSmallNumbers}
-use Rattle.roster_instance.proofs.SizeLemmas.{greatest_of-push}
 use Rattle.roster_rules.specs.HardRules.{keeps_hard}
 use Rattle.roster_rules.specs.Prefix.{summary_of}
-use Rattle.roster_laws.specs.Greatest.{greatest_state_count}
 use Rattle.roster_offers.specs.declared.offer.Offer.{Offer}
 use Rattle.roster_offers.specs.Offers.{best_by_states, offers_of, shift_offers}
 use Rattle.roster_offers.specs.Lists.{AreDayOffers, AreOffers, IsOfferOf, best_over, offers_on}
@@ -24,7 +18,7 @@ use Rattle.roster_offers.proofs.ListLaws.{best_over_same}
 use Rattle.roster_search.specs.Search.{CountsStates}
 use Rattle.roster_search.proofs.SearchLaws.{counts_same}
 use Rattle.roster_partial.specs.Counts.{CountsSearch}
-use Rattle.roster_best.specs.Workspaces.{AreShiftOffers, CountsStanding}
+use Rattle.roster_best.specs.Searches.{AreShiftOffers, CountsStanding}
 
 -- ---- the table of offers
 
@@ -57,16 +51,3 @@ module _ (c : Meaning) (from : ℕ) (r : Rows) (n : ℕ) (offers : List (ArrayVe
       go : (after ≡ from_there) ⊎ CountsStates c n (offers_on offers) from_there after → (after ≡ from_there) ⊎ CountsStates c n (shift_offers c from r n) from_there after
       go (inl none) = inl none
       go (inr states) = inr (counts_same c n (offers_on offers) (shift_offers c from r n) are.each from_there after states)
-
--- ---- the greatest number of states, one nurse more
-
-pub greatest_more : (size : ℕ → ℕ) (n so_far more new : ℕ) → so_far ≡ greatest_of (map size (range_with_len 0 n)) → more ≡ size n → new ≡ max so_far more → new ≡ greatest_of (map size (range_with_len 0 (n + 1)))
-greatest_more size n so_far more new is more_is new_is =
-    new_is
-    ∙ (λ i. max (is i) (more_is i))
-    ∙ sym (greatest_of-push (map size (range_with_len 0 n)) (size n))
-    ∙ ap greatest_of (sym (map-append size (range_with_len 0 n) (n ∷ [])) ∙ ap (map size) (sym (range_with_len_more n)))
-
-pub all_nurses : (c : Meaning) (greatest n : ℕ) → greatest ≡ greatest_of (map (state_count c) (range_with_len 0 n)) → n ≡ nurse_count c → greatest ≡ greatest_state_count c
-unfolding greatest_state_count
-all_nurses c greatest n is all = is ∙ ap (λ m. greatest_of (map (state_count c) (range_with_len 0 m))) all

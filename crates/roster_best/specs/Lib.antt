@@ -1,3 +1,3 @@
 pub mod Offers
-pub mod Workspaces
+pub mod Searches
 pub mod Known

@@ -9,12 +9,12 @@ ghost use Rattle.roster_rules.specs.AllowedRows.{best_row};
 ghost use Rattle.roster_rules.specs.Improver.{step};
 ghost use Rattle.roster_offers.specs.Lists.{IsFound, best_over, offers_on};
 ghost use Rattle.roster_best.specs.Known.{ArePrices, IsDearer, IsKnown, fits_last, price_place};
-ghost use Rattle.roster_best.specs.Workspaces.{AreOffersOf, AreShiftOffers};
+ghost use Rattle.roster_best.specs.Searches.{AreOffersOf, AreShiftOffers};
 
-use crate::workspace::BestFault;
 use arrayvec::ArrayVec;
 use roster_case::{Case, Choice, Held};
 use roster_offers::{MOST_OFFERS, Offer};
+use roster_partial::BestFault;
 use roster_state::start;
 use std::alloc::Global;
 

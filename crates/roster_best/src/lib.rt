@@ -1,8 +1,8 @@
 //! The best row of a nurse, and what a nurse may do on each day while the others' rows stay.
 //!
 //! Which choices are offered at which price is defined below (`is_offered` and `price` of `roster_laws`, `offers_of` of
-//! `roster_offers`), rows of which each choice is offered in `specs/Offers.antt`, and what a workspace has room for in
-//! `specs/Workspaces.antt`. `choices` promises the offers of a day in the order of the choices, and
+//! `roster_offers`), rows of which each choice is offered in `specs/Offers.antt`, and what a search goes over in
+//! `specs/Searches.antt`. `choices` promises the offers of a day in the order of the choices, and
 //! `offers_tell_the_allowed_rows` that they tell a nurse's allowed rows and the prices of these. `best_row` promises that the
 //! workspace then shows the nurse's best row, within the stated numbers of labels, pointers and steps. It goes over one offer
 //! for each shift alone, the first of the cheapest. `cheaper_row` promises the same, or that no row is cheaper than the present one:
@@ -14,12 +14,11 @@ mod last;
 mod laws;
 mod offer;
 mod search;
-mod workspace;
 
 pub use last::LastSearches;
 pub use laws::offers_tell_the_allowed_rows;
 pub use offer::choices;
 pub use roster_lanes::lower16;
 pub use roster_offers::Offer;
+pub use roster_partial::{BestFault, Workspace, greatest_states, most_steps};
 pub use search::{Best, best_row, cheaper_row};
-pub use workspace::{BestFault, Workspace, greatest_states, most_steps};

@@ -10,15 +10,16 @@ ghost use Rattle.roster_laws.specs.Greatest.{extension_count};
 ghost use Rattle.roster_laws.specs.OneRow.{rest_of};
 ghost use Rattle.roster_offers.specs.Lists.{IsFound, best_over, offers_on};
 ghost use Rattle.roster_partial.specs.Counts.{CountsSearch};
+ghost use Rattle.roster_partial.specs.Workspaces.{SameRoom, fits_space};
 ghost use Rattle.roster_best.specs.Known.{IsKnown};
-ghost use Rattle.roster_best.specs.Workspaces.{AreOffersOf, AreShiftOffers, CountsStanding, SameRoom, fits_space};
+ghost use Rattle.roster_best.specs.Searches.{AreOffersOf, AreShiftOffers, CountsStanding};
 
 use crate::by_shift::choices_by_shift;
 use crate::last::LastSearches;
-use crate::workspace::{SearchSpace, Workspace};
 use arrayvec::ArrayVec;
 use roster_case::Held;
 use roster_offers::{DayOffers, MOST_OFFERS, Offer, RowSearch};
+use roster_partial::{SearchSpace, Workspace};
 use roster_state::{Meter, start};
 
 /// What the search for a nurse's best row gives beside the row.

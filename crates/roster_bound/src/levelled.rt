@@ -8,8 +8,8 @@ ghost use Rattle.roster_instance.specs.Small.{AreSmall};
 ghost use Rattle.roster_rules.specs.HardRules.{keeps_hard};
 ghost use Rattle.roster_rules.specs.Penalties.{penalty};
 
-use roster_best::BestFault;
 use roster_case::{Case, Held, Roster};
+use roster_partial::BestFault;
 use roster_rules::{ContractRules, Limits};
 use std::alloc::Global;
 use std::marker::Model;

@@ -11,9 +11,9 @@ use crate::pays::Pays;
 use crate::rounds::FIRST;
 use crate::worths::Worths;
 use arrayvec::ArrayVec;
-use roster_best::{BestFault, Workspace};
 use roster_case::Case;
 use roster_offers::DayOffers;
+use roster_partial::{BestFault, Workspace};
 use std::alloc::Global;
 
 /// What the searches for the nurses' cheapest rows write into: the workspace of a search, the offers of a nurse, how many of these

@@ -11,7 +11,7 @@ ghost use Rattle.roster_instance.specs.Rosters.{fits_case};
 ghost use Rattle.roster_commands.specs.Answer.{Ends, LeavesLog, StopsSearch, best_report, outcome_of, output_of, with_best};
 ghost use Rattle.roster_commands.specs.Lines.{best_log};
 ghost use Rattle.roster_laws.specs.Greatest.{extension_count};
-ghost use Rattle.roster_best.specs.Workspaces.{fits_space};
+ghost use Rattle.roster_partial.specs.Workspaces.{fits_space};
 
 use crate::fault::Fault;
 use crate::held::hold;

@@ -4,3 +4,4 @@ mod RowLaws
 mod SearchLaws
 mod StepLaws
 pub mod AllowedLaw
+pub mod WorkspaceLaws

@@ -3,3 +3,4 @@ pub mod Rates
 pub mod Rows
 pub mod Searches
 pub mod Allowed
+pub mod Workspaces

@@ -3,7 +3,7 @@
 //! What a list of them stands for is defined in `specs/Rows.antt`: the best row that begins as one of them, if it costs no more than a
 //! limit. `put` and `leave_out` keep that, `add_day` keeps it from one day to the next, and `row_within` reads the row in the end.
 //! `set_best_floors` sets the floors by which partial rows are left out. `search_row` tries one limit after another, and then the tables
-//! of `roster_search`.
+//! of `roster_search`. A `Workspace` is what a search writes into: what it has room for is defined in `specs/Workspaces.antt`.
 #![tactic(auto)]
 
 mod add;
@@ -14,5 +14,7 @@ mod guesses;
 mod rates;
 mod rows;
 mod search;
+mod workspace;
 
 pub use search::{PartialRoom, search_row};
+pub use workspace::{BestFault, SearchSpace, Workspace, greatest_states, most_steps};

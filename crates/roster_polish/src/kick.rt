@@ -6,7 +6,7 @@ ghost use Rattle.roster_instance.specs.Meaning.{day_count, nurse_count};
 ghost use Rattle.roster_rules.specs.Penalties.{penalty};
 ghost use Rattle.roster_laws.specs.FrozenDays.{FrozenDaysStay};
 ghost use Rattle.roster_laws.specs.Greatest.{extension_count};
-ghost use Rattle.roster_best.specs.Workspaces.{fits_space};
+ghost use Rattle.roster_partial.specs.Workspaces.{fits_space};
 ghost use Rattle.roster_polish.specs.Kicks.{FitsKick};
 ghost use Rattle.roster_polish.specs.Polished.{FitsPolish};
 ghost use Rattle.roster_polish.specs.Settled.{IsSettled, Spends, extensions_of};

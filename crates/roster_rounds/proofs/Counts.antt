@@ -9,8 +9,8 @@ use Rattle.roster_instance.specs.Meaning.{Meaning, day_count, nurse_count, week_
 use Rattle.roster_instance.specs.Sizes.{choice_count, greatest_of, state_count}
 use Rattle.roster_laws.specs.Greatest.{extension_count, extensions_in, greatest_extension_count}
 use Rattle.roster_laws.proofs.GreatestLemmas.{greatest_extensions}
+use Rattle.roster_partial.specs.Workspaces.{SameRoom, Space, fits_space}
 use Rattle.roster_best.specs.Known.{IsKnown}
-use Rattle.roster_best.specs.Workspaces.{SameRoom, Space, fits_space}
 use Rattle.roster_rounds.specs.Spaces.{fits_run}
 use Rattle.roster_rounds.specs.declared.space.RunSpace.{RunSpace}
 

@@ -1,8 +1,8 @@
 -- What a run has room for.
 use Rattle.std.specs.Prelude.{◌&&◌, Bool}
 use Rattle.roster_instance.specs.Meaning.{Meaning}
+use Rattle.roster_partial.specs.Workspaces.{fits_space}
 use Rattle.roster_best.specs.Known.{fits_last}
-use Rattle.roster_best.specs.Workspaces.{fits_space}
 use Rattle.roster_rounds.specs.declared.space.RunSpace.{RunSpace}
 
 -- for the search of each nurse, and for what the last one tells

@@ -8,8 +8,8 @@ ghost use Rattle.roster_rules.specs.Improver.{same_rows, step};
 ghost use Rattle.roster_rules.specs.Penalties.{penalty};
 ghost use Rattle.roster_laws.specs.FrozenDays.{FrozenDaysStay};
 ghost use Rattle.roster_laws.specs.Greatest.{extension_count};
+ghost use Rattle.roster_partial.specs.Workspaces.{SameRoom, fits_space};
 ghost use Rattle.roster_best.specs.Known.{IsKnown};
-ghost use Rattle.roster_best.specs.Workspaces.{SameRoom, fits_space};
 
 use crate::outcome::Step;
 use roster_best::{Best, LastSearches, Workspace, best_row, cheaper_row};

@@ -7,7 +7,7 @@ ghost use Rattle.roster_rules.specs.AllowedRows.{best_row};
 ghost use Rattle.roster_rules.specs.Improver.{round_log};
 ghost use Rattle.roster_laws.specs.FrozenDays.{FrozenDaysStay};
 ghost use Rattle.roster_laws.specs.Greatest.{extensions_in, greatest_extension_count};
-ghost use Rattle.roster_best.specs.Workspaces.{SameRoom, fits_space};
+ghost use Rattle.roster_partial.specs.Workspaces.{SameRoom, fits_space};
 ghost use Rattle.roster_best.specs.Known.{IsKnown};
 ghost use Rattle.roster_rounds.specs.Spaces.{fits_run};
 ghost use Rattle.roster_rounds.specs.RunLogs.{BreaksAmong, LogStops, Ran, RoundMade};

@@ -1,5 +1,5 @@
 use Rattle.std.proofs.Common.{◌∙◌, subst, sym}
-use Rattle.roster_best.specs.Workspaces.{AreShiftOffers}
+use Rattle.roster_best.specs.Searches.{AreShiftOffers}
 use Rattle.roster_best.proofs.BestLaws.{best_keeps, found_best, found_penalty}
 use Rattle.roster_best.proofs.SearchLaws.{counted_is}
 use Rattle.roster_best.proofs.search.best_row.Goals as goal

@@ -1,8 +1,8 @@
 use Rattle.std.proofs.Common.{◌≡◌, ◌∙◌, arith, refl, rules, subst, sym, true}
 use Rattle.std.proofs.lemmas.Bool.{true≢false}
 use Rattle.roster_instance.specs.Meaning.{Meaning}
+use Rattle.roster_partial.specs.Workspaces.{fits_space}
 use Rattle.roster_best.specs.Known.{IsKnown}
-use Rattle.roster_best.specs.Workspaces.{fits_space}
 use Rattle.roster_laws.specs.FrozenDays.{FrozenDaysStay}
 use Rattle.roster_laws.proofs.Frozen.{stays_on, stays_self}
 use Rattle.roster_polish.specs.declared.settle.Pass.TheVariants.{Unchanged}

@@ -1,7 +1,7 @@
 use Rattle.std.proofs.Common.{◌≡◌, true}
 use Rattle.roster_laws.specs.FrozenDays.{FrozenDaysStay}
+use Rattle.roster_partial.specs.Workspaces.{fits_space}
 use Rattle.roster_best.specs.Known.{IsKnown}
-use Rattle.roster_best.specs.Workspaces.{fits_space}
 use Rattle.roster_polish.specs.Settled.{Spends}
 use Rattle.roster_polish.proofs.settle.settle.Given as goal
 

@@ -1,7 +1,7 @@
 use Rattle.std.proofs.Common.{◌≡◌, ◌∙◌, ◌+◌, ◌≤◌, ap, arith, refl, subst, sym, true}
 use Rattle.roster_instance.specs.Meaning.{Meaning, nurse_count}
+use Rattle.roster_partial.specs.Workspaces.{fits_space}
 use Rattle.roster_best.specs.Known.{IsKnown}
-use Rattle.roster_best.specs.Workspaces.{fits_space}
 use Rattle.roster_rules.specs.AllowedRows.{best_row}
 use Rattle.roster_rules.specs.Improver.{Run, round, same_rows}
 use Rattle.roster_polish.specs.Polished.{first_run, first_searches, most_rounds}

@@ -8,8 +8,8 @@ use Rattle.roster_rules.specs.Improver.{round_log}
 use Rattle.roster_rules.specs.Penalties.{penalty}
 use Rattle.roster_laws.specs.FrozenDays.{FrozenDaysStay}
 use Rattle.roster_laws.proofs.Frozen.{stays_on, stays_self}
+use Rattle.roster_partial.specs.Workspaces.{fits_space}
 use Rattle.roster_best.specs.Known.{IsKnown, fits_last}
-use Rattle.roster_best.specs.Workspaces.{fits_space}
 use Rattle.roster_best.proofs.KnownLaws.{forgotten}
 use Rattle.roster_rounds.specs.RunLogs.{BreaksAmong, RoundMade}
 use Rattle.roster_rounds.proofs.Counts.{counted_within, fits_still, round_counted, round_room, round_within, room_stays}

@@ -2,8 +2,8 @@
 use Rattle.std.proofs.Common.{◌≡◌, ◌+◌, ◌≤◌, true}
 use Rattle.roster_rules.specs.AllowedRows.{best_row}
 use Rattle.roster_laws.specs.FrozenDays.{FrozenDaysStay}
+use Rattle.roster_partial.specs.Workspaces.{SameRoom, fits_space}
 use Rattle.roster_best.specs.Known.{IsKnown}
-use Rattle.roster_best.specs.Workspaces.{SameRoom, fits_space}
 use Rattle.roster_laws.specs.Greatest.{extensions_in}
 use Rattle.roster_rounds.proofs.RunSteps.{Going}
 use Rattle.roster_rounds.proofs.rounds.improve.Given as goal

@@ -1,7 +1,7 @@
 use Rattle.std.proofs.Common.{arith}
 use Rattle.roster_instance.specs.Sizes.{state_count}
-use Rattle.roster_best.proofs.SearchLaws.{all_nurses, greatest_more}
-use Rattle.roster_best.proofs.workspace.greatest_states.Goals as goal
+use Rattle.roster_partial.proofs.WorkspaceLaws.{all_nurses, greatest_more}
+use Rattle.roster_partial.proofs.workspace.greatest_states.Goals as goal
 
 pub loop-nurse-preserved : goal.loop-nurse-preserved
 loop-nurse-preserved c = record {

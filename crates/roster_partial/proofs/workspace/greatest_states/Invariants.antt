@@ -2,7 +2,7 @@ use Rattle.std.proofs.Common.{◌≡◌, ◌≤◌, map}
 use Rattle.std.specs.List.{range_with_len}
 use Rattle.roster_instance.specs.Limits.{most_states}
 use Rattle.roster_instance.specs.Sizes.{greatest_of, state_count}
-use Rattle.roster_best.proofs.workspace.greatest_states.Given as goal
+use Rattle.roster_partial.proofs.workspace.greatest_states.Given as goal
 
 abbrev pub invariant-loop-nurse : goal.invariant-loop-nurse
 invariant-loop-nurse l = record {

@@ -7,12 +7,12 @@ ghost use Rattle.roster_instance.specs.Meaning.{day_count, nurse_count};
 ghost use Rattle.roster_laws.specs.Greatest.{extension_count, greatest_state_count};
 ghost use Rattle.roster_offers.specs.Lists.{AreOffers, IsFound, best_over, no_row, offers_on};
 ghost use Rattle.roster_partial.specs.Counts.{CountsSearch};
-ghost use Rattle.roster_best.specs.Workspaces.{SameRoom, fits_space};
+ghost use Rattle.roster_partial.specs.Workspaces.{SameRoom, fits_space};
 
+use crate::search::{PartialRoom, search_row};
 use arrayvec::ArrayVec;
-use roster_case::{Case, Choice};
 use roster_offers::{DayOffers, RowSearch};
-use roster_partial::{PartialRoom, search_row};
+use roster_rules::{Case, Choice};
 use roster_search::Tables;
 use roster_state::Meter;
 use std::alloc::{AllocError, Global};
@@ -23,17 +23,18 @@ use thiserror::Error;
 /// workspace serves all nurses of a case, one after another.
 pub struct Workspace {
     /// For each day those of the last nurse whose best row was searched.
-    pub(crate) offers: DayOffers,
-    pub(crate) space: SearchSpace,
+    pub offers: DayOffers,
+    /// Room for a search, whichever offers it goes over.
+    pub space: SearchSpace,
 }
 
 /// What a search over offers writes into, wherever these come from.
-pub(crate) struct SearchSpace {
-    pub(crate) partial: PartialRoom,
-    pub(crate) tables: Tables,
-    pub(crate) choices: Vec<Choice>,
+pub struct SearchSpace {
+    partial: PartialRoom,
+    tables: Tables,
+    choices: Vec<Choice>,
     /// How many of the choices are those of the last best row: none before the first.
-    pub(crate) filled: usize,
+    filled: usize,
 }
 
 // Both by hand, so that who drops a workspace has one call to prove.
@@ -58,7 +59,7 @@ impl Drop for SearchSpace {
 }
 
 impl Model for Workspace {
-    ghost use Rattle.roster_best.specs.Workspaces.{Space};
+    ghost use Rattle.roster_partial.specs.Workspaces.{Space};
 
     ghost Value = { Space };
 
@@ -67,7 +68,7 @@ impl Model for Workspace {
 
 impl Model for SearchSpace {
     ghost use Rattle.std.specs.Prelude.{◌≤◌, length, take};
-    ghost use Rattle.roster_best.specs.Workspaces.{Space};
+    ghost use Rattle.roster_partial.specs.Workspaces.{Space};
 
     ghost Value = { Space };
 
@@ -85,7 +86,7 @@ pub enum BestFault {
 }
 
 impl From<AllocError> for BestFault {
-    ghost use Rattle.roster_best.specs.declared.workspace.BestFault.TheVariants.{Memory};
+    ghost use Rattle.roster_partial.specs.declared.workspace.BestFault.TheVariants.{Memory};
 
     ghost from_gives = { λ _ e. e ≡ Memory };
 
@@ -177,7 +178,7 @@ impl Workspace {
 
 impl SearchSpace {
     /// What `Workspace::search` does, beside the offers that a workspace may lend it.
-    pub(crate) fn search(&mut self, search: &RowSearch<'_>, meter: &mut Meter) -> u32
+    pub fn search(&mut self, search: &RowSearch<'_>, meter: &mut Meter) -> u32
         requires nurse { search.now.nurse < nurse_count search.now.case.now }
         requires offers { AreOffers search.now.case.now search.now.nurse search.now.offers.now }
         requires some { IsSome (best_over search.now.case.now search.now.nurse (offers_on search.now.offers.now)) }

@@ -8,10 +8,10 @@ use Rattle.roster_instance.specs.Sizes.{state_count}
 use Rattle.roster_laws.specs.Greatest.{greatest_state_count}
 use Rattle.roster_offers.specs.Lists.{IsFound, best_over, offers_on}
 use Rattle.roster_search.specs.Search.{TableRoom}
-use Rattle.roster_best.specs.Workspaces.{Space}
-use Rattle.roster_best.proofs.BestLaws.{room_of, states_within}
-use Rattle.roster_best.proofs.workspace.SearchSpace.search.Goals as goal
-use Rattle.roster_best.proofs.workspace.SearchSpace.search.Goals.{After-search_row-cost}
+use Rattle.roster_partial.specs.Workspaces.{Space}
+use Rattle.roster_partial.proofs.WorkspaceLaws.{room_of, states_within}
+use Rattle.roster_partial.proofs.workspace.SearchSpace.search.Goals as goal
+use Rattle.roster_partial.proofs.workspace.SearchSpace.search.Goals.{After-search_row-cost}
 
 pub search_row-cost-requires-clause-tables : goal.search_row-cost-requires-clause-tables
 search_row-cost-requires-clause-tables c =

@@ -1,0 +1,24 @@
+-- What a workspace has room for (our own).
+use Rattle.std.specs.Prelude.{◌≡◌, ℕ, ◌*◌, ◌==◌, ◌&&◌, Bool, nat_le}
+use Rattle.roster_instance.specs.Meaning.{Meaning, day_count}
+use Rattle.roster_instance.specs.Rosters.{Row}
+use Rattle.roster_laws.specs.Greatest.{greatest_state_count}
+
+-- how many labels its two tables have together, how many pointers and choices it has room for, and the row of the last search,
+-- which is empty before the first
+pub record Space : Type 0 where
+  pub labels : ℕ
+  pub pointers : ℕ
+  pub room : ℕ
+  pub row : Row
+
+-- the lengths are those of the case: twice the greatest number of states, and that number for each day; and there is room for a
+-- choice for each day
+abbrev pub fits_space : Meaning → Space → Bool
+fits_space c w = (w.labels == 2 * greatest_state_count c) && (w.pointers == greatest_state_count c * day_count c) && nat_le (day_count c) w.room
+
+-- the same room, whatever the row
+pub record SameRoom (old new : Space) : Type 0 where
+  pub labels : new.labels ≡ old.labels
+  pub pointers : new.pointers ≡ old.pointers
+  pub room : new.room ≡ old.room
