@@ -1,5 +1,5 @@
-"""The crates of the repository, and how the kit's compiler is called on one of them: it proves from nothing, over the libraries
-below as they stand in crates/NAME/out/rlib.
+"""The crates of the repository, and how the kit's compiler is called on one of them: it proves the crate from nothing, over the
+libraries below as they stand in crates/NAME/out/rlib.
 
 A library is built as its statements alone, as rt ci builds it: what a crate above can cite. rt builds its own libraries, with
 their proofs, and takes none of these.
@@ -69,6 +69,11 @@ def version():
     """What tells this kit from others."""
     with open(f"{kit()}/KIT-ID", encoding="utf-8") as file:
         return file.read()
+
+
+def since():
+    """When this kit was put here."""
+    return os.stat(f"{kit()}/KIT-ID").st_ctime
 
 
 def crates():

@@ -77,11 +77,11 @@ pub(crate) fn program<'a>(alloc: Global) -> Result<Command<'a>, AllocError>
     let with_show = with_files_command(alloc, Ok(bare(alloc)), "show", SHOW, SHOW_HELP);
     let with_cost = with_files_command(alloc, with_show, "cost", COST, COST_HELP);
     let with_sizes = with_files_command(alloc, with_cost, "sizes", SIZES, SIZES_HELP);
-    with_searches(alloc, with_sizes)
+    with_search_commands(alloc, with_sizes)
 }
 
 /// A program with the commands that search, after those that it has.
-fn with_searches<'a>(alloc: Global, program: Made<'a>) -> Made<'a>
+fn with_search_commands<'a>(alloc: Global, program: Made<'a>) -> Made<'a>
     ensures { IfOk result (λ c. IsOkAnd program.entry (λ p. app_of c ≡ fold with_subcommand (app_of p) (drop 3 commands))) }
 {
     let with_best = with_command(program, best_command(alloc));

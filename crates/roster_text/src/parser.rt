@@ -301,6 +301,7 @@ impl<'a> Parser<'a> {
             }
             items.push(T::parse(self)?)?;
         }
+        // (not reached, since each line took a token)
         Err(Stop::Refused(Refusal::Due(What::Name)))
     }
 }

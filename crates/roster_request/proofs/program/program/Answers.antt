@@ -17,4 +17,4 @@ returns c =
     let with_show = made_by (step (codes "show")) bare (Ok c.bare.result) show.result c.bare.ensures show.ensures in
     let with_cost = made_by (step (codes "cost")) (step (codes "show") bare) show.result cost.result with_show cost.ensures in
     let with_sizes = made_by (step (codes "sizes")) (step (codes "cost") (step (codes "show") bare)) cost.result sizes.result with_cost sizes.ensures in
-    made_by (λ p. fold with_subcommand p (drop 3 commands)) (step (codes "sizes") (step (codes "cost") (step (codes "show") bare))) sizes.result c.with_searches.result with_sizes c.with_searches.ensures
+    made_by (λ p. fold with_subcommand p (drop 3 commands)) (step (codes "sizes") (step (codes "cost") (step (codes "show") bare))) sizes.result c.with_search_commands.result with_sizes c.with_search_commands.ensures

@@ -2,7 +2,7 @@ use Rattle.std.proofs.Common.{[], ◌∷◌, codes, refl}
 use Rattle.clap.specs.Words.{App, Text, with_subcommand}
 use Rattle.roster_request.specs.CommandLine.{from_rule, nurse_rule, own_command_of, rounds_rule, searches_rule, seed_rule}
 use Rattle.roster_request.proofs.CommandLineLemmas.{adds_known, made_by_both}
-use Rattle.roster_request.proofs.program.with_searches.Goals as goal
+use Rattle.roster_request.proofs.program.with_search_commands.Goals as goal
 
 abbrev best : App
 best = own_command_of (nurse_rule ∷ from_rule ∷ []) (codes "best")
