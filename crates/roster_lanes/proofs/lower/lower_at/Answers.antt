@@ -1,9 +1,28 @@
 use Rattle.std.proofs.Common.{◌≡◌, ◌+◌, ◌-◌, ◌<◌, ap, ◌∙◌, arith, take, drop, slice_index_or}
+use Rattle.std.proofs.lemmas.Grind.{common_steps, elements}
 use Rattle.std.proofs.lemmas.Simd.{get_or-chunk}
 use Rattle.roster_lanes.specs.declared.lower.TheConstants.{LANES}
 use Rattle.roster_lanes.specs.Lanes.{raised}
 use Rattle.roster_lanes.proofs.LaneLemmas.{stays}
 use Rattle.roster_lanes.proofs.lower.lower_at.Goals as goal
+
+pub returns-then-lower_labels-ne0-clause-labels : goal.returns-then-lower_labels-ne0-clause-labels
+returns-then-lower_labels-ne0-clause-labels c = grind (arith, elements) steps 2000000
+
+pub returns-then-lower_labels-ne0-clause-pointers : goal.returns-then-lower_labels-ne0-clause-pointers
+returns-then-lower_labels-ne0-clause-pointers c = grind (arith, elements) steps 2000000
+
+pub returns-then-lower_labels-ne0-clause-labels_others : goal.returns-then-lower_labels-ne0-clause-labels_others
+returns-then-lower_labels-ne0-clause-labels_others c = grind (arith, common_steps) steps 2000000
+
+pub returns-then-lower_labels-ne0-clause-pointers_others : goal.returns-then-lower_labels-ne0-clause-pointers_others
+returns-then-lower_labels-ne0-clause-pointers_others c = grind (arith, common_steps) steps 2000000
+
+pub returns-else-lower_labels-ne0-clause-labels : goal.returns-else-lower_labels-ne0-clause-labels
+returns-else-lower_labels-ne0-clause-labels c = grind (arith, elements) steps 2000000
+
+pub returns-else-lower_labels-ne0-clause-labels_others : goal.returns-else-lower_labels-ne0-clause-labels_others
+returns-else-lower_labels-ne0-clause-labels_others c = grind (arith, common_steps) steps 2000000
 
 pub returns-else-lower_labels-ne0-clause-pointers : goal.returns-else-lower_labels-ne0-clause-pointers
 returns-else-lower_labels-ne0-clause-pointers c i from to =
