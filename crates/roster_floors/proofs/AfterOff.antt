@@ -1,5 +1,5 @@
 -- What a day costs after a day off, by what follows: another one, or a shift.
-use Rattle.std.proofs.Common.{◌≡◌, ◌∙◌, ◌+◌, ◌*◌, ◌<◌, ◌≤◌, ℕ, List, Option, None, Some, ap, arith, false, length, min, nat_cmp, slice_index_or, true}
+use Rattle.std.proofs.Common.{◌≡◌, ◌∙◌, ◌+◌, ◌*◌, ◌<◌, ◌≤◌, ℕ, List, Option, None, Some, ap, arith, false, length, min, slice_index_or, true}
 use Rattle.std.proofs.lemmas.List.Elements.{All-get_or}
 use Rattle.roster_instance.specs.declared.choice.Choice.{Choice}
 use Rattle.roster_instance.specs.declared.choice.Choice.TheVariants.{Off, Work}
@@ -22,9 +22,7 @@ use Rattle.roster_floors.specs.declared.day.FloorDay.{FloorDay}
 use Rattle.roster_floors.specs.declared.rates.Rates.{Rates}
 use Rattle.roster_floors.specs.Floors.{floor_count, rated}
 use Rattle.roster_floors.specs.Lines.{IsEntry, IsFloorDay, IsUnder, UnderCell, apart_of, begun_place, cell_place, line_place, longer, nothing, offer_at}
-use Rattle.std.specs.Ordering.{ord_min}
 use Rattle.roster_instance.specs.declared.rules.ContractRules.{ContractRules}
-use Rattle.roster_floors.proofs.Cells.{lesser}
 use Rattle.roster_floors.proofs.Places.{begun_moved, place_below}
 use Rattle.roster_floors.proofs.LineLaws.{by_off, state_of}
 
@@ -79,10 +77,10 @@ module _ (c : Meaning) (day : FloorDay) (is : IsFloorDay c day) (next : List ℕ
 
 -- ---- places
 
-module _ (c : Meaning) (day : FloorDay) (is : IsFloorDay c day) (run to most : ℕ) (to_is : to ≡ ord_min nat_cmp (run + 1) most) (most_is : most ≡ cap day.rules.free) where
+module _ (c : Meaning) (day : FloorDay) (is : IsFloorDay c day) (run to most : ℕ) (to_is : to ≡ min (run + 1) most) (most_is : most ≡ cap day.rules.free) where
   to_longer : to ≡ longer run (contract_of c day.nurse).free
   to_longer =
-      to_is ∙ lesser (run + 1) most ∙ ap (λ m. min (run + 1) m) (most_is ∙ ap (λ (r : ContractRules). cap r.free) is.rules)
+      to_is ∙ ap (λ m. min (run + 1) m) (most_is ∙ ap (λ (r : ContractRules). cap r.free) is.rules)
 
   pub off_place : to * day.shift_runs ≡ line_place (sizes_of c day.nurse) 0 (longer run (contract_of c day.nurse).free)
   off_place = ap (λ q. to * q) is.shift_runs ∙ ap (λ m. m * (sizes_of c day.nurse).shift_run) to_longer ∙ omega arith
@@ -93,7 +91,7 @@ module _ (c : Meaning) (day : FloorDay) (is : IsFloorDay c day) (run to most : �
       let inside = place_below z.last z.run z.shift_run 0 (longer run (contract_of c day.nurse).free) 0 (omega arith) (omega arith) (omega arith) in
       omega (arith, inside, off_place)
 
-pub entry_place : (c : Meaning) (day : FloorDay) (is : IsFloorDay c day) (u : Shift) (place to most : ℕ) → u.0 < shift_count c → place ≡ begun_place c day.nurse u 0 → to ≡ ord_min nat_cmp 1 most → most ≡ cap day.rules.working → place + to * day.shift_runs ≡ begun_place c day.nurse u (min 1 (cap (contract_of c day.nurse).working))
+pub entry_place : (c : Meaning) (day : FloorDay) (is : IsFloorDay c day) (u : Shift) (place to most : ℕ) → u.0 < shift_count c → place ≡ begun_place c day.nurse u 0 → to ≡ min most 1 → most ≡ cap day.rules.working → place + to * day.shift_runs ≡ begun_place c day.nurse u (min 1 (cap (contract_of c day.nurse).working))
 entry_place c day is u place to most known at to_is most_is =
-    let once = to_is ∙ lesser 1 most ∙ ap (λ m. min 1 m) (most_is ∙ ap (λ (r : ContractRules). cap r.working) is.rules) in
+    let once : to ≡ min 1 (cap (contract_of c day.nurse).working) = omega (arith, to_is, most_is, ap (λ (r : ContractRules). cap r.working) is.rules) in
     ap (λ q. place + to * q) is.shift_runs ∙ ap (λ m. place + m * (sizes_of c day.nurse).shift_run) once ∙ begun_moved c day.nurse u known place (min 1 (cap (contract_of c day.nurse).working)) at

@@ -5,10 +5,8 @@ use Rattle.std.proofs.lemmas.Nat.{mul-add-lt, mul-le}
 use Rattle.std.proofs.lemmas.List.Edits.{get_or-between, length-between}
 use Rattle.std.specs.List.{between}
 use Rattle.roster_offers.proofs.PartLaws.{part_before, part_inside, part_length}
-use Rattle.std.proofs.Common.{⊎_elim, ◌∙◌, ◌≤◌, ◌*◌, ◌-◌, ◌≡◌, ◌≢◌, ◌+◌, ◌<◌, ℕ, List, arith, below_more, get_or, get_or-set_other, get_or-set_same, length, min, nat_cmp, set, subst, sym}
+use Rattle.std.proofs.Common.{⊎_elim, ◌∙◌, ◌≤◌, ◌*◌, ◌-◌, ◌≡◌, ◌≢◌, ◌+◌, ◌<◌, ℕ, List, arith, below_more, get_or, get_or-set_other, get_or-set_same, length, set, subst, sym}
 use Rattle.std.proofs.lemmas.List.{get_or_past}
-use Rattle.std.proofs.lemmas.Grind.{common_steps}
-use Rattle.std.specs.Ordering.{ord_min}
 
 module _ (P : (place cell : ℕ) → Type 0) (cells : List ℕ) (place cell : ℕ) (inside : place < length cells) where
   pub each_more : ((k : ℕ) → k < place → P k (get_or cells k 0)) → P place cell → (k : ℕ) → k < place + 1 → P k (get_or (set cells place cell) k 0)
@@ -16,10 +14,6 @@ module _ (P : (place cell : ℕ) → Type 0) (cells : List ℕ) (place cell : �
       below_more (λ k. P k (get_or (set cells place cell) k 0)) place
       (λ k l. let other : k ≢ place = omega arith in subst (P k) (sym (get_or-set_other cells place k cell 0 other)) (below k l))
       (subst (P place) (sym (get_or-set_same cells place cell 0 inside)) here)
-
--- the lesser of two numbers
-pub lesser : (x y : ℕ) → ord_min nat_cmp x y ≡ min x y
-lesser x y = grind (arith, common_steps)
 
 -- a part of a list is written anew, of as many cells
 module _ (cells part : List ℕ) (first width : ℕ) (long : length part ≡ width) (inside : first + width ≤ length cells) where

@@ -1,5 +1,5 @@
 -- A line lies under all offers of the day.
-use Rattle.std.proofs.Common.{◌≡◌, ◌∙◌, ◌+◌, ◌-◌, ◌*◌, ◌<◌, ◌≤◌, ℕ, List, Option, None, Some, ap, arith, false, length, lt-ltb, min, nat_cmp, refl, slice_index_or, subst, sym, true}
+use Rattle.std.proofs.Common.{◌≡◌, ◌∙◌, ◌+◌, ◌-◌, ◌*◌, ◌<◌, ◌≤◌, ℕ, List, Option, None, Some, ap, arith, false, length, lt-ltb, min, refl, slice_index_or, subst, sym, true}
 use Rattle.std.proofs.lemmas.List.Elements.{All-get_or}
 use Rattle.roster_instance.specs.declared.choice.Shift.{Shift}
 use Rattle.roster_instance.specs.declared.rules.Limits.{Limits}
@@ -14,10 +14,8 @@ use Rattle.roster_floors.specs.declared.day.FloorDay.{FloorDay}
 use Rattle.roster_floors.specs.declared.shift.AfterShift.{AfterShift}
 use Rattle.roster_floors.specs.Floors.{floor_count}
 use Rattle.roster_floors.specs.Lines.{IsAfterShift, IsFloorDay, IsState, IsUnder, UnderCell, line_place, longer, nothing, offer_at, way_at}
-use Rattle.std.specs.Ordering.{ord_min}
 use Rattle.std.proofs.lemmas.Nat.{mul-le}
 use Rattle.roster_instance.specs.declared.rules.ContractRules.{ContractRules}
-use Rattle.roster_floors.proofs.Cells.{lesser}
 use Rattle.roster_floors.proofs.Places.{cap_within, line_below}
 use Rattle.roster_floors.proofs.AfterShift.{under_shift}
 
@@ -88,10 +86,10 @@ count_small c day is =
     let all : z.last * (z.run * z.shift_run) ≤ 9 * (1000 * 1000) = mul-le z.last (z.run * z.shift_run) 9 (1000 * 1000) (omega (arith, is.lasts, is.few_lasts)) area in
     omega (arith, all)
 
-module _ (c : Meaning) (day : FloorDay) (is : IsFloorDay c day) (after : AfterShift) (follows : IsAfterShift c day after) (run to most : ℕ) (to_is : to ≡ ord_min nat_cmp (run + 1) most) (most_is : most ≡ cap day.rules.working) where
+module _ (c : Meaning) (day : FloorDay) (is : IsFloorDay c day) (after : AfterShift) (follows : IsAfterShift c day after) (run to most : ℕ) (to_is : to ≡ min (run + 1) most) (most_is : most ≡ cap day.rules.working) where
   pub to_longer : to ≡ longer run (contract_of c day.nurse).working
   to_longer =
-      to_is ∙ lesser (run + 1) most ∙ ap (λ m. min (run + 1) m) (most_is ∙ ap (λ (r : ContractRules). cap r.working) is.rules)
+      to_is ∙ ap (λ m. min (run + 1) m) (most_is ∙ ap (λ (r : ContractRules). cap r.working) is.rules)
 
   pub first_is : ((after.last.0 + 1) * day.runs + to) * day.shift_runs ≡ line_place (sizes_of c day.nurse) (after.last.0 + 1) (longer run (contract_of c day.nurse).working)
   first_is =

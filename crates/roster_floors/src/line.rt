@@ -8,7 +8,6 @@ ghost use Rattle.roster_floors.specs.Lines.{AreLow, most_floor, most_leave};
 
 use roster_rules::Limits;
 use roster_rules::weights::SHIFT_RUN;
-use std::cmp::min;
 
 /// What a line takes: the limits of the last shift's run, what it costs at least to leave the shift, and what to stay; and how many
 /// of its cells are reckoned.
@@ -40,20 +39,20 @@ pub(crate) fn set_line(costs: LineCosts, after: &[u32], here: &mut [u32])
         count,
     } = costs;
     let cap = run.cap() as usize;
-    let open = min(cap, count);
+    let open = cap.min(count);
     // A shift that was worked last has a run of a day at least, so no row comes to the first cell: 0 lies under everything.
     here[0] = 0;
     'open: for place in 1..open {
         let missing = SHIFT_RUN * (run.least as u32).saturating_sub(place as u32);
         let extra = SHIFT_RUN * run.day_violations(place as u32, true);
-        here[place] = min(leave + missing, stay + extra + after[place + 1]);
+        here[place] = (leave + missing).min(stay + extra + after[place + 1]);
     }
 
     // From its cap on a run misses nothing, and each further day is an extra one. No row comes to the cells that aren't reckoned.
     let floor = if count <= cap {
         0
     } else {
-        min(leave, stay + SHIFT_RUN + after[cap])
+        leave.min(stay + SHIFT_RUN + after[cap])
     };
     'full: for place in open..here.len() {
         here[place] = floor;

@@ -16,7 +16,6 @@ use crate::ways::{MOST_LEAVE, apart, way_to};
 use roster_offers::Offer;
 use roster_rules::Shift;
 use roster_rules::weights::{FREE_RUN, WORKING_RUN};
-use std::cmp::min;
 
 /// What follows a day off: the least that a shift costs that begins, with the floor after it, and the least that another day off costs.
 #[derive(Clone, Copy)]
@@ -69,8 +68,8 @@ fn add_entry(after: &mut AfterOff, day: &FloorDay<'_>, next: &[u32], place: usiz
 {
     let offer = day.offers[place];
     match offer.choice.shift() {
-        None => after.off = min(after.off, apart(day, false, offer)),
-        Some(shift) => after.enter = min(after.enter, entry(day, next, offer, shift)),
+        None => after.off = after.off.min(apart(day, false, offer)),
+        Some(shift) => after.enter = after.enter.min(entry(day, next, offer, shift)),
     }
 }
 
@@ -84,7 +83,7 @@ fn entry(day: &FloorDay<'_>, next: &[u32], offer: Offer, shift: Shift) -> u32
 {
     let working = day.rules.working;
     let way = way_to(day, false, offer, shift);
-    let to = min(1, working.cap() as usize) * day.shift_runs;
+    let to = (working.cap() as usize).min(1) * day.shift_runs;
     way.price + WORKING_RUN * working.day_violations(0, true) + next[way.place as usize + to]
 }
 
@@ -99,9 +98,9 @@ fn off_floor(day: &FloorDay<'_>, after: &AfterOff, run: usize, next: &[u32]) -> 
     ensures within { result ≤ most_leave }
 {
     let free = day.rules.free;
-    let to = min(run + 1, free.cap() as usize) * day.shift_runs;
+    let to = (run + 1).min(free.cap() as usize) * day.shift_runs;
     let more = FREE_RUN * free.day_violations(run as u32, true);
     let ended = FREE_RUN * free.day_violations(run as u32, false);
-    let enter = min(MOST_LEAVE, after.enter + ended);
-    min(enter, after.off + more + next[to])
+    let enter = (after.enter + ended).min(MOST_LEAVE);
+    enter.min(after.off + more + next[to])
 }

@@ -13,7 +13,6 @@ use crate::ways::{MOST_LEAVE, Onward, Ways, least_way, ways_after};
 use roster_offers::MOST_OFFERS;
 use roster_rules::Shift;
 use roster_rules::weights::{FREE_RUN, WORKING_RUN};
-use std::cmp::min;
 
 /// What follows a last shift: the ways on, what a day off costs with the floor after it, and the next day's floors.
 #[derive(Clone, Copy)]
@@ -66,7 +65,7 @@ fn after_shift<'a>(
 {
     let ways = ways_after(day, onwards, last);
     let free = day.rules.free;
-    let first = min(1, free.cap() as usize) * day.shift_runs;
+    let first = (free.cap() as usize).min(1) * day.shift_runs;
     AfterShift {
         last,
         ways,
@@ -94,7 +93,7 @@ fn set_run(day: &FloorDay<'_>, after: &AfterShift<'_>, run: usize, here: &mut [u
         return;
     }
     let costs = run_costs(day, after, run);
-    let to = min(run + 1, most);
+    let to = (run + 1).min(most);
     let first = ((after.last.0 as usize + 1) * day.runs + to) * day.shift_runs;
     set_line(costs, &after.next[first..first + day.shift_runs], here);
 }
@@ -113,7 +112,7 @@ fn run_costs(day: &FloorDay<'_>, after: &AfterShift<'_>, run: usize) -> LineCost
 {
     let working = day.rules.working;
     let most = working.cap() as usize;
-    let to = min(run + 1, most) * day.shift_runs;
+    let to = (run + 1).min(most) * day.shift_runs;
     let more = WORKING_RUN * working.day_violations(run as u32, true);
     let ended = WORKING_RUN * working.day_violations(run as u32, false);
     let others = least_way(&after.ways, to, after.next);
@@ -121,7 +120,7 @@ fn run_costs(day: &FloorDay<'_>, after: &AfterShift<'_>, run: usize) -> LineCost
     let count = if run < most { run + 1 } else { day.shift_runs };
     LineCosts {
         run: day.case.run_of_shift(after.last),
-        leave: min(MOST_LEAVE, min(others + more, after.off + ended)),
+        leave: (others + more).min(after.off + ended).min(MOST_LEAVE),
         stay: after.ways.stay + more,
         count,
     }

@@ -12,7 +12,6 @@ use crate::day::FloorDay;
 use roster_offers::{MOST_OFFERS, Offer};
 use roster_rules::Shift;
 use roster_rules::weights::{SHIFT_RUN, SPLIT};
-use std::cmp::min;
 
 /// What a day costs at most whatever comes after it, 2^30.
 pub(crate) const MOST_LEAVE: u32 = 1_073_741_824;
@@ -128,9 +127,9 @@ fn add_way(
 {
     let onward = onwards[place];
     match day.offers[place].choice.shift() {
-        None => ways.off = min(ways.off, onward.apart),
+        None => ways.off = ways.off.min(onward.apart),
         Some(shift) if day.case.forbids(last, shift) => {}
-        Some(shift) if last.0 == shift.0 => ways.stay = min(ways.stay, onward.apart),
+        Some(shift) if last.0 == shift.0 => ways.stay = ways.stay.min(onward.apart),
         Some(_) => {
             ways.others[ways.count] = onward.way;
             ways.count += 1;
@@ -148,7 +147,7 @@ pub(crate) fn way_to(day: &FloorDay<'_>, before: bool, offer: Offer, shift: Shif
     ensures open { IsOpenWay (sizes_of day.now.case.now day.now.nurse) result }
 {
     let run = day.case.run_of_shift(shift);
-    let place = (shift.0 as usize + 1) * day.runs * day.shift_runs + min(1, run.cap() as usize);
+    let place = (shift.0 as usize + 1) * day.runs * day.shift_runs + (run.cap() as usize).min(1);
     Way {
         price: apart(day, before, offer) + SHIFT_RUN * run.day_violations(0, true),
         place: place as u32,
@@ -187,7 +186,7 @@ pub(crate) fn least_way(ways: &Ways, more: usize, next: &[u32]) -> u32
     let mut least = MOST_LEAVE;
     for place in 0..ways.count {
         let way = ways.others[place];
-        least = min(least, way.price + next[way.place as usize + more]);
+        least = least.min(way.price + next[way.place as usize + more]);
     }
     least
 }

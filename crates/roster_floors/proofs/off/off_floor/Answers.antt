@@ -1,9 +1,7 @@
-use Rattle.std.proofs.Common.{ap, arith, slice_index_or}
-use Rattle.std.proofs.Common.{◌∙◌, ◌+◌, ◌*◌, true}
+use Rattle.std.proofs.Common.{ap, arith, slice_index_or, true}
 use Rattle.roster_instance.specs.declared.rules.ContractRules.{ContractRules}
 use Rattle.roster_instance.specs.RunLaw.{day_violations}
 use Rattle.roster_floors.proofs.AfterOff.{off_inside, off_place}
-use Rattle.roster_floors.proofs.Cells.{lesser}
 use Rattle.roster_floors.proofs.off.off_floor.Goals as goal
 
 pub bounds-next-to : goal.bounds-next-to
@@ -14,5 +12,4 @@ returns-clause-off c =
     let at = off_place c.args.day.now.case.now c.args.day.now c.requires.day c.args.run c.min.result c.cap.result c.min.ensures c.cap.ensures in
     let next = ap (λ k. slice_index_or c.args.next.now k 0) at in
     let rules = ap (λ (r : ContractRules). day_violations r.free c.args.run true) c.requires.day.rules in
-    let least = c.min-2.ensures ∙ lesser c.min-enter.result (c.args.after.now.off + 30 * c.day_violations-more.result + slice_index_or c.args.next.now (c.min.result * c.args.day.now.shift_runs) 0) in
-    omega (arith, least, next, rules, c.day_violations-more.ensures.violations)
+    omega (arith, c.min-2.ensures, next, rules, c.day_violations-more.ensures.violations)

@@ -3,7 +3,6 @@ use Rattle.roster_instance.specs.declared.rules.ContractRules.{ContractRules}
 use Rattle.roster_instance.specs.RunLaw.{day_violations}
 use Rattle.roster_state.specs.Codes.{sizes_of}
 use Rattle.roster_floors.specs.Lines.{way_at}
-use Rattle.roster_floors.proofs.Cells.{lesser}
 use Rattle.roster_floors.proofs.LineLaws.{to_longer}
 use Rattle.roster_floors.proofs.shift.run_costs.Goals as goal
 
@@ -16,6 +15,4 @@ returns-clause-others c k l =
     let at = ap (λ q. way.place + c.min.result * q) c.requires.day.shift_runs ∙ ap (λ m. way.place + m * (sizes_of day.case.now day.nurse).shift_run) to in
     let cell = ap (λ p. slice_index_or after.next.now p 0) at in
     let rules = ap (λ (r : ContractRules). day_violations r.working c.args.run true) c.requires.day.rules in
-    let leave = c.min-3.ensures ∙ lesser 1073741824 c.min-2.result in
-    let least = c.min-2.ensures ∙ lesser (c.least_way-others.result + 30 * c.day_violations-more.result) (after.off + 30 * c.day_violations-ended.result) in
-    omega (arith, leave, least, c.least_way-others.ensures.least k l, cell, rules, c.day_violations-more.ensures.violations)
+    omega (arith, c.min-3.ensures, c.min-2.ensures, c.least_way-others.ensures.least k l, cell, rules, c.day_violations-more.ensures.violations)
