@@ -1,5 +1,5 @@
 -- A line lies under all offers of the day.
-use Rattle.std.proofs.Common.{◌≡◌, ◌∙◌, ◌+◌, ◌-◌, ◌*◌, ◌<◌, ◌≤◌, ℕ, List, Option, None, Some, ap, arith, false, length, lt-ltb, min, refl, slice_index_or, subst, sym, true}
+use Rattle.std.proofs.Common.{◌≡◌, ◌∙◌, ◌+◌, ◌-◌, ◌*◌, ◌<◌, ◌≤◌, ℕ, List, Option, None, Some, ap, arith, false, length, lt-ltb, min, nat_lt, refl, slice_index_or, subst, sym, true}
 use Rattle.std.proofs.lemmas.List.Elements.{All-get_or}
 use Rattle.roster_instance.specs.declared.choice.Shift.{Shift}
 use Rattle.roster_instance.specs.declared.rules.Limits.{Limits}
@@ -7,13 +7,14 @@ use Rattle.roster_instance.specs.Meaning.{Meaning, contract_of, run_of_shift}
 use Rattle.roster_instance.specs.RunLaw.{day_violations}
 use Rattle.roster_instance.specs.Sizes.{cap}
 use Rattle.roster_rules.specs.Prefix.{Summary}
-use Rattle.roster_rules.specs.Weights.{shift_run_weight, working_run_weight}
+use Rattle.roster_rules.specs.Weights.{free_run_weight, shift_run_weight, working_run_weight}
 use Rattle.roster_offers.specs.Lists.{IsOfferOf}
 use Rattle.roster_state.specs.Codes.{shift_digit, sizes_of}
+use Rattle.roster_state.proofs.SumLaw.{one_at_most}
 use Rattle.roster_floors.specs.declared.day.FloorDay.{FloorDay}
 use Rattle.roster_floors.specs.declared.shift.AfterShift.{AfterShift}
 use Rattle.roster_floors.specs.Floors.{floor_count}
-use Rattle.roster_floors.specs.Lines.{IsAfterShift, IsFloorDay, IsState, IsUnder, UnderCell, line_place, longer, nothing, offer_at, way_at}
+use Rattle.roster_floors.specs.Lines.{IsAfterShift, IsFloorDay, IsState, IsUnder, UnderCell, line_place, longer, most_floor, most_leave, nothing, offer_at, way_at}
 use Rattle.std.proofs.lemmas.Nat.{mul-le}
 use Rattle.roster_instance.specs.declared.rules.ContractRules.{ContractRules}
 use Rattle.roster_floors.proofs.Places.{cap_within, line_below}
@@ -76,6 +77,15 @@ module _ (c : Meaning) (day : FloorDay) (is : IsFloorDay c day) (after : AfterSh
 -- a run of a day or more misses what it is short of
 pub missed_from : (limits : Limits) (q missing : ℕ) → 1 ≤ q → missing ≡ limits.least - q → missing ≡ day_violations limits q false
 missed_from limits q missing some is = rw (lt-ltb 0 q (omega (arith, some))) is
+
+-- ---- after a day off
+
+one_more : (limits : Limits) (run : ℕ) → day_violations limits run true ≤ 1
+one_more limits run = one_at_most (nat_lt limits.greatest (run + 1))
+
+pub off_small : (c : Meaning) (day : FloorDay) (after : AfterShift) → IsAfterShift c day after → after.off ≤ most_leave + free_run_weight + most_floor
+off_small c day after follows =
+    omega (arith, follows.off_within, follows.next.low (line_place (sizes_of c day.nurse) 0 (min 1 (cap (contract_of c day.nurse).free))), one_more (contract_of c day.nurse).free 0)
 
 -- ---- the room of a line
 
