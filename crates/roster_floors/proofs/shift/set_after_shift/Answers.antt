@@ -1,9 +1,10 @@
 use Rattle.std.proofs.Common.{◌≡◌, ◌∙◌, ◌+◌, ◌-◌, ◌*◌, ◌≤◌, ℕ, List, get_or, ap, arith, length, subst}
 use Rattle.std.proofs.lemmas.List.Edits.{length-between}
+use Rattle.std.proofs.lemmas.Nat.{mul-le}
 use Rattle.roster_instance.specs.declared.choice.Shift.{Shift}
 use Rattle.roster_state.specs.Codes.{sizes_of}
 use Rattle.roster_floors.specs.Lines.{UnderCell, most_floor}
-use Rattle.roster_floors.proofs.Cells.{low_more, row_inside, rows_length, rows_more}
+use Rattle.roster_floors.proofs.Cells.{all_low, low_more, row_inside, rows_length, rows_more}
 use Rattle.roster_floors.proofs.shift.set_after_shift.Goals as goal
 
 pub slice_bounds-set_run-end : goal.slice_bounds-set_run-end
@@ -41,3 +42,9 @@ pub returns-clause-under : goal.returns-clause-under
 returns-clause-under c run q l m =
     let is = c.requires.day.runs in
     c.loop-run.invariant.under run q (omega (arith, l, is, c.loop-run-test.false)) m
+
+pub returns-clause-low : goal.returns-clause-low
+returns-clause-low c =
+    let z = sizes_of c.args.day.now.case.now c.args.day.now.nurse in
+    let all : z.run * z.shift_run ≤ c.loop-run.run * z.shift_run = mul-le z.run z.shift_run c.loop-run.run z.shift_run (omega (arith, c.requires.day.runs, c.loop-run-test.false)) (omega arith) in
+    all_low most_floor c.loop-run.here (z.run * z.shift_run) (c.loop-run.invariant.long ∙ c.requires.room) (λ k l. c.loop-run.invariant.low k (omega (arith, l, all)))
