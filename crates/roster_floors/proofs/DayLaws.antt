@@ -20,6 +20,7 @@ use Rattle.roster_state.specs.Step.{next_of}
 use Rattle.roster_state.proofs.RangeLemmas.{next_fits}
 use Rattle.roster_floors.specs.declared.day.FloorDay.{FloorDay}
 use Rattle.roster_floors.specs.Lines.{IsFloorDay, IsSetDay, IsSetOn, IsUnderAll, cell_at, cell_place, nothing, offer_at}
+use Rattle.roster_floors.proofs.Cells.{row_inside}
 use Rattle.roster_floors.proofs.Places.{cell_below}
 
 -- the part that is set, where the list was split after it
@@ -41,6 +42,17 @@ module _ (c : Meaning) (day : FloorDay) (is : IsFloorDay c day) (first count : �
       let at = here_is (cell_place z s) (omega (arith, cell_below z s fit, count_is)) in
       let there = ap (λ m. get_or floors (first + m + cell_place z to) 0) (sym count_is) ∙ next_is (cell_place z to) (omega (arith, cell_below z to fits, count_is)) in
       omega (arith, under s fit k l allowed, at, there)
+
+-- ---- a last shift's floors
+
+module _ (c : Meaning) (day : FloorDay) (is : IsFloorDay c day) where
+  pub area_is : day.runs * day.shift_runs ≡ (sizes_of c day.nurse).run * (sizes_of c day.nurse).shift_run
+  area_is = ap (λ r. r * day.shift_runs) is.runs ∙ ap (λ q. (sizes_of c day.nurse).run * q) is.shift_runs
+
+  pub area_inside : (digit : ℕ) → digit < day.lasts → digit * (day.runs * day.shift_runs) + day.runs * day.shift_runs ≤ floor_count (sizes_of c day.nurse)
+  area_inside digit l =
+      let z = sizes_of c day.nurse in
+      omega (arith, row_inside digit z.last (z.run * z.shift_run) (omega (arith, l, is.lasts)), ap (λ a. digit * a + a) area_is)
 
 -- ---- all days
 

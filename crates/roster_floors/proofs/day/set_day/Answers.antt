@@ -4,7 +4,8 @@ use Rattle.std.proofs.lemmas.Nat.{mul-add-lt}
 use Rattle.roster_state.specs.Codes.{shift_digit, sizes_of}
 use Rattle.roster_state.proofs.CodeLemmas.{fits-all}
 use Rattle.roster_floors.specs.Lines.{IsUnderAll, UnderCell, UnderPlace, cell_place, most_floor}
-use Rattle.roster_floors.proofs.Cells.{low_more, row_inside, rows_length, rows_more}
+use Rattle.roster_floors.proofs.Cells.{low_more, rows_length, rows_more}
+use Rattle.roster_floors.proofs.DayLaws.{area_inside, area_is}
 use Rattle.roster_floors.proofs.day.set_day.Goals as goal
 
 pub loop-digit-preserved : goal.loop-digit-preserved
@@ -20,11 +21,10 @@ loop-digit-preserved c =
     let area = day.runs * day.shift_runs in
     let first = digit * area in
     let width = first + area - first in
-    let area_is : area ≡ size = ap (λ r. r * day.shift_runs) c.requires.day.runs ∙ ap (λ q. z.run * q) c.requires.day.shift_runs in
-    let at : first ≡ digit * size = ap (λ a. digit * a) area_is in
-    let is : width ≡ size = omega (arith, area_is) in
-    let known = row_inside digit z.last size (omega (arith, c.requires.day.lasts, c.loop-digit-test.true)) in
-    let inside : digit * size + size ≤ length here = omega (arith, known, c.loop-digit.invariant.long, c.requires.room) in
+    let same = area_is k day c.requires.day in
+    let at : first ≡ digit * size = ap (λ a. digit * a) same in
+    let is : width ≡ size = omega (arith, same) in
+    let inside : digit * size + size ≤ length here = omega (arith, area_inside k day c.requires.day digit c.loop-digit-test.true, at, same, c.loop-digit.invariant.long, c.requires.room) in
     let long : length part ≡ size = c.set_after.ensures.length ∙ length-between here first (first + area) (omega (arith, inside, at, is)) ∙ is in
     record {
       under = rows_more here part digit size first width at is long inside (λ d p x. UnderPlace k day next d p x) c.loop-digit.invariant.under
@@ -46,3 +46,16 @@ returns-clause-under c s fit =
     let is = c.requires.day.lasts in
     subst (λ (i : ℕ). IsUnderAll k day c.args.next.now s (get_or c.loop-digit.here i 0)) at
     (c.loop-digit.invariant.under digit place (omega (arith, f.last, is, c.loop-digit-test.false)) below s.run s.shift_run f.run f.shift_run refl s (record { last = refl; run = refl; shift_run = refl }))
+
+pub slice_bounds-set_after-end : goal.slice_bounds-set_after-end
+slice_bounds-set_after-end c =
+    omega (arith, area_inside c.args.day.now.case.now c.args.day.now c.requires.day c.loop-digit.digit c.loop-digit-test.true, c.loop-digit.invariant.long, c.requires.room)
+
+pub set_after-requires-clause-room : goal.set_after-requires-clause-room
+set_after-requires-clause-room c =
+    let k = c.args.day.now.case.now in
+    let day = c.args.day.now in
+    let area = day.runs * day.shift_runs in
+    let first = c.loop-digit.digit * area in
+    let inside = area_inside k day c.requires.day c.loop-digit.digit c.loop-digit-test.true in
+    omega (arith, length-between c.loop-digit.here first (first + area) (omega (arith, inside, c.loop-digit.invariant.long, c.requires.room)), area_is k day c.requires.day)
