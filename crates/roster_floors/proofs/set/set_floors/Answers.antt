@@ -1,14 +1,38 @@
-use Rattle.std.proofs.Common.{◌≡◌, ◌∙◌, ◌+◌, ◌-◌, ◌*◌, ◌≤◌, ap, arith, get_or, subst, sym, ⊎_elim}
+use borrow.Rule.Slice.PartMut.{put_mid}
+use Rattle.std.proofs.Common.{◌≡◌, ◌∙◌, ◌+◌, ◌-◌, ◌*◌, ◌<◌, ◌≤◌, ℕ, ap, arith, get_or, length, subst, sym, ⊎_elim}
 use Rattle.std.proofs.Math.Path.{transport}
 use Rattle.std.proofs.lemmas.Bool.{cases_lt}
+use Rattle.std.proofs.lemmas.List.Edits.{length-between}
 use Rattle.std.proofs.lemmas.Nat.{mul-le}
 use Rattle.roster_instance.specs.Meaning.{day_count}
 use Rattle.roster_offers.specs.Lists.{offers_on}
 use Rattle.roster_state.specs.Codes.{sizes_of}
 use Rattle.roster_floors.specs.Floors.{floor_count}
 use Rattle.roster_floors.specs.Lines.{IsSetBy, IsSetOn, most_floor}
+use Rattle.roster_floors.proofs.Cells.{put_inside, put_length}
 use Rattle.roster_floors.proofs.DayLaws.{all_set, one_before, set_kept}
 use Rattle.roster_floors.proofs.set.set_floors.Goals as goal
+
+pub loop-day-init : goal.loop-day-init
+loop-day-init c =
+    let z = sizes_of c.args.search.now.case.now c.args.search.now.nurse in
+    let old = c.args.floors.now in
+    let part = c.set_all.new.here in
+    let count = c.floor_count-count.result in
+    let first = c.days-days.result * count in
+    let width = first + count - first in
+    let count_is : count ≡ floor_count z = c.floor_count-count.ensures.count ∙ ap floor_count c.of-ranges.ensures.sizes in
+    let at : first ≡ c.days-days.result * floor_count z = ap (λ m. c.days-days.result * m) count_is in
+    let inside : first + width ≤ length old = omega (arith, c.if-floors-days.false) in
+    let long : length part ≡ width = c.set_all.ensures.length ∙ length-between old first (first + count) (omega (arith, inside)) in
+    let none : (k : ℕ) → k < floor_count z → get_or (put_mid first width old part) (c.days-days.result * floor_count z + k) 0 ≡ 0 =
+    λ k l. ap (λ i. get_or (put_mid first width old part) (i + k) 0) (sym at) ∙ put_inside old part first width long inside k (omega (arith, l, count_is)) ∙ c.set_all.ensures.all k (omega (arith, l, count_is, long)) in
+    record {
+      set = λ d from below. absurd (omega (arith, from, below, c.days-days.ensures.count));
+      end = λ k l. ap (λ d. get_or (put_mid first width old part) (d * floor_count z + k) 0) (sym c.days-days.ensures.count) ∙ none k l;
+      low = λ k l. omega (arith, none k l);
+      long = put_length old part first width long inside;
+    }
 
 pub set_before-requires-clause-low : goal.set_before-requires-clause-low
 set_before-requires-clause-low c k l =
