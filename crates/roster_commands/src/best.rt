@@ -1,14 +1,13 @@
 //! The command `best`: the best row of a nurse, put in.
 
-ghost use Rattle.std.specs.Prelude.{◌≡◌, ◌++◌, codes, ◌<◌, ◌≤◌, true, OnOk, IfErr};
+ghost use Rattle.std.specs.Prelude.{◌≡◌, ◌++◌, codes, ◌<◌, ◌≤◌, true, OnErr, OnOk};
 ghost use Rattle.roster_bundle.specs.Limits.{greatest_u64};
-ghost use Rattle.roster_text.specs.Io.{Writes};
-ghost use Rattle.roster_text.specs.Pieces.{pieces_text};
+ghost use Rattle.roster_text.specs.Io.{Stops, Writes};
 ghost use Rattle.roster_instance.specs.Meaning.{nurse_count};
 ghost use Rattle.roster_rules.specs.Improver.{line};
 ghost use Rattle.roster_rules.specs.Penalties.{penalty};
 ghost use Rattle.roster_instance.specs.Rosters.{fits_case};
-ghost use Rattle.roster_commands.specs.Answer.{Ends, LeavesLog, StopsSearch, best_report, outcome_of, output_of, with_best};
+ghost use Rattle.roster_commands.specs.Answer.{Ends, LeavesLog, best_report, outcome_of, output_of, with_best};
 ghost use Rattle.roster_commands.specs.Lines.{best_log};
 ghost use Rattle.roster_laws.specs.Greatest.{extension_count};
 ghost use Rattle.roster_partial.specs.Workspaces.{fits_space};
@@ -21,7 +20,7 @@ use roster_best::{Workspace, best_row};
 use roster_case::Held;
 use roster_rounds::search_has_room;
 use roster_state::Meter;
-use roster_text::{Piece, Watch, write_pieces};
+use roster_text::{Piece, Watch, WriteFault, write_pieces};
 use std::alloc::Global;
 use std::io::Write;
 
@@ -49,7 +48,7 @@ pub(crate) fn report_best<'a, Out: Write, Log: Write>(
         return Err(Fault::Memory);
     };
     search_has_room(held.case(), nurse);
-    put_best_row(
+    match put_best_row(
         &mut held,
         name,
         nurse,
@@ -57,13 +56,15 @@ pub(crate) fn report_best<'a, Out: Write, Log: Write>(
         &mut workspace,
         &mut meter,
         log,
-    )?;
-    show_weeks(held.case(), held.roster(), output)
+    ) {
+        Ok(()) => show_weeks(held.case(), held.roster(), output),
+        Err(_) => Err(Fault::Log),
+    }
 }
 
 /// Puts the best row of a nurse from a week on in. What the roster costs is logged before the search begins, and what it costs with
-/// the row after it.
-fn put_best_row<'a, Log: Write>(
+/// the row after it. The fault is the log's.
+fn put_best_row<Log: Write>(
     held: &mut Held,
     name: &[u8],
     nurse: usize,
@@ -71,14 +72,14 @@ fn put_best_row<'a, Log: Write>(
     workspace: &mut Workspace,
     meter: &mut Meter,
     log: &mut Watch<Log>,
-) -> Result<(), Fault<'a>>
+) -> Result<(), WriteFault>
     requires nurse { nurse < nurse_count held.old.case }
     requires fits { fits_space held.old.case workspace.old ≡ true }
     requires none { meter.old ≡ 0 }
     requires room { extension_count held.old.case nurse ≤ greatest_u64 }
     ensures put { OnOk result (held.new ≡ record { case = held.old.case; roster = with_best held.old.case from held.old.roster nurse }) }
     ensures ok { OnOk result (Writes Log.contents log.old log.new (best_log (penalty held.old.case held.old.roster) name.now (penalty held.old.case (with_best held.old.case from held.old.roster nurse)))) }
-    ensures err { IfErr result (StopsSearch Log.contents log.old log.new (best_log (penalty held.old.case held.old.roster) name.now (penalty held.old.case (with_best held.old.case from held.old.roster nurse)))) }
+    ensures err { OnErr result (Stops Log.contents log.old log.new (best_log (penalty held.old.case held.old.roster) name.now (penalty held.old.case (with_best held.old.case from held.old.roster nurse)))) }
 {
     write_start(held.total(), log)?;
     let best = best_row(held, nurse, from, workspace, meter);
@@ -88,30 +89,27 @@ fn put_best_row<'a, Log: Write>(
 }
 
 /// Writes what the roster costs before the search.
-fn write_start<'a, Log: Write>(total: u64, log: &mut Watch<Log>) -> Result<(), Fault<'a>>
+fn write_start<Log: Write>(total: u64, log: &mut Watch<Log>) -> Result<(), WriteFault>
     ensures ok { OnOk result (Writes Log.contents log.old log.new (line (codes "start") total)) }
-    ensures err { IfErr result (StopsSearch Log.contents log.old log.new (line (codes "start") total)) }
+    ensures err { OnErr result (Stops Log.contents log.old log.new (line (codes "start") total)) }
 {
-    log_line(
+    write_pieces(
+        log,
         &[
             Piece::Bytes(b"start "),
             Piece::Number(total),
             Piece::Bytes(b"\n"),
         ],
-        log,
     )
 }
 
 /// Writes what it costs with the best row of the nurse of this name.
-fn write_best<'a, Log: Write>(
-    name: &[u8],
-    total: u64,
-    log: &mut Watch<Log>,
-) -> Result<(), Fault<'a>>
+fn write_best<Log: Write>(name: &[u8], total: u64, log: &mut Watch<Log>) -> Result<(), WriteFault>
     ensures ok { OnOk result (Writes Log.contents log.old log.new (line (codes "best " ++ name.now) total)) }
-    ensures err { IfErr result (StopsSearch Log.contents log.old log.new (line (codes "best " ++ name.now) total)) }
+    ensures err { OnErr result (Stops Log.contents log.old log.new (line (codes "best " ++ name.now) total)) }
 {
-    log_line(
+    write_pieces(
+        log,
         &[
             Piece::Bytes(b"best "),
             Piece::Bytes(name),
@@ -119,17 +117,5 @@ fn write_best<'a, Log: Write>(
             Piece::Number(total),
             Piece::Bytes(b"\n"),
         ],
-        log,
     )
-}
-
-/// Writes a line of what a command tells of its work.
-fn log_line<'a, Log: Write>(pieces: &[Piece<'_>], log: &mut Watch<Log>) -> Result<(), Fault<'a>>
-    ensures ok { OnOk result (Writes Log.contents log.old log.new (pieces_text pieces.now)) }
-    ensures err { IfErr result (StopsSearch Log.contents log.old log.new (pieces_text pieces.now)) }
-{
-    match write_pieces(log, pieces) {
-        Ok(()) => Ok(()),
-        Err(_) => Err(Fault::Log),
-    }
 }
