@@ -7,9 +7,11 @@ use Rattle.roster_rules.specs.HardRules.{hard_faults}
 use Rattle.roster_instance.specs.Meaning.{Meaning}
 use Rattle.roster_instance.specs.Rosters.{Rows}
 use Rattle.roster_case.specs.Shown.{weeks_text}
-use Rattle.roster_polish.specs.Polished.{IsPolishing}
+use Rattle.roster_log.specs.declared.fault.LogFault.{LogFault}
+use Rattle.roster_polish.specs.Polished.{IsPolishing, PolishLogStops, Polishes}
+use Rattle.roster_polish.specs.declared.run.Polished.{Polished}
 use Rattle.roster_polish.proofs.KickLogs.{unkicked_text}
-use Rattle.roster_commands.specs.Answer.{IsPolishReport, IsUnheld, Kicks, Output, Reports, StopsKicks, StopsOutput, Untouched, outcome_of, polish_report}
+use Rattle.roster_commands.specs.Answer.{IsPolishReport, IsUnheld, Output, Reports, StopsOutput, Untouched, outcome_of, polish_report}
 use Rattle.roster_commands.specs.Lines.{Text}
 use Rattle.roster_commands.specs.declared.fault.Fault.{Fault}
 use Rattle.roster_commands.specs.declared.fault.Fault.TheVariants as fault
@@ -43,41 +45,35 @@ module _ (searches from : ℕ) (c : Meaning) (r : Rows) where
     }
 
     -- the log failed inside the run
-    pub polish_stops : (few : ℕ) → few ≤ searches → (f : Fault) → hard_faults c r ≡ [] → StopsKicks log.contents c from r few log.before log.after f → Untouched output
-        → Reports output log (IsPolishReport searches from c r) source b (Some f)
-    polish_stops few fewer (fault.Text f) kept h o = absurd h
-    polish_stops few fewer (fault.Case f nurse) kept h o = absurd h
-    polish_stops few fewer (fault.Hard f names) kept h o = absurd h
-    polish_stops few fewer (fault.Nurse name) kept h o = absurd h
-    polish_stops few fewer fault.Memory kept h o = absurd h
-    polish_stops few fewer fault.Output kept h o = absurd h
-    polish_stops few fewer fault.Log kept h o = record {
-      report = polish_report h.last h.told c r;
-      is = of_run few fewer h.settled h.last h.told h.run;
+    pub polish_stops : (few : ℕ) → few ≤ searches → (f : LogFault) → hard_faults c r ≡ [] → PolishLogStops log.contents c from r few log.before log.after f → Untouched output
+        → Reports output log (IsPolishReport searches from c r) source b (Some fault.Log)
+    polish_stops few fewer f kept h o = record {
+      report = polish_report h.last h.text c r;
+      is = of_run few fewer h.settled h.last h.text h.run;
       ends = record { ends = (record { kept = kept; known = refl }, refl); left = o };
-      logged = h.stops;
+      logged = record { sent = h.sent; stops = h.stops };
     }
 
     -- the run was made, and its roster written or not
-    pub polish_ends : {X : Type 0} (few : ℕ) → few ≤ searches → (last : Rows) (result : Result X Fault) → hard_faults c r ≡ [] → Kicks log.contents c from r few last log.before log.after
+    pub polish_ends : {X : Type 0} (few : ℕ) → few ≤ searches → (last : Rows) (told : Polished) (result : Result X Fault) → hard_faults c r ≡ [] → Polishes log.contents c from r few last log.before log.after told
         → OnOk result (Writes output.contents output.before output.after (weeks_text c last))
         → IfErr result (StopsOutput output.contents output.before output.after (weeks_text c last))
         → Reports output log (IsPolishReport searches from c r) source b (outcome_of result)
-    polish_ends few fewer last (Ok x) kept h ok err = record {
-      report = polish_report last h.told c r;
-      is = of_run few fewer h.settled last h.told h.run;
+    polish_ends few fewer last told (Ok x) kept h ok err = record {
+      report = polish_report last h.text c r;
+      is = of_run few fewer told.settled last h.text h.run;
       ends = record { ends = record { kept = kept; known = refl }; left = ok };
       logged = h.writes;
     }
-    polish_ends few fewer last (Err (fault.Text f)) kept h ok err = absurd err
-    polish_ends few fewer last (Err (fault.Case f nurse)) kept h ok err = absurd err
-    polish_ends few fewer last (Err (fault.Hard f names)) kept h ok err = absurd err
-    polish_ends few fewer last (Err (fault.Nurse name)) kept h ok err = absurd err
-    polish_ends few fewer last (Err fault.Memory) kept h ok err = absurd err
-    polish_ends few fewer last (Err fault.Log) kept h ok err = absurd err
-    polish_ends few fewer last (Err fault.Output) kept h ok err = record {
-      report = polish_report last h.told c r;
-      is = of_run few fewer h.settled last h.told h.run;
+    polish_ends few fewer last told (Err (fault.Text f)) kept h ok err = absurd err
+    polish_ends few fewer last told (Err (fault.Case f nurse)) kept h ok err = absurd err
+    polish_ends few fewer last told (Err (fault.Hard f names)) kept h ok err = absurd err
+    polish_ends few fewer last told (Err (fault.Nurse name)) kept h ok err = absurd err
+    polish_ends few fewer last told (Err fault.Memory) kept h ok err = absurd err
+    polish_ends few fewer last told (Err fault.Log) kept h ok err = absurd err
+    polish_ends few fewer last told (Err fault.Output) kept h ok err = record {
+      report = polish_report last h.text c r;
+      is = of_run few fewer told.settled last h.text h.run;
       ends = record { ends = record { kept = kept; known = refl }; left = err };
       logged = h.writes;
     }

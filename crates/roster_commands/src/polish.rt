@@ -1,18 +1,15 @@
 //! The command `polish`: a roster that is settled again and again, after kicks.
 
-ghost use Rattle.std.specs.Prelude.{◌≡◌, ◌+◌, ◌≤◌, min, true, IfErr, OnOk};
-ghost use Rattle.roster_bundle.specs.Limits.{greatest_u64};
+ghost use Rattle.std.specs.Prelude.{◌≡◌, min, true};
 ghost use Rattle.roster_instance.specs.Rosters.{fits_case};
-ghost use Rattle.roster_polish.specs.Polished.{FitsPolish, first_searches, most_searches};
-ghost use Rattle.roster_polish.specs.Settled.{extensions_of};
-ghost use Rattle.roster_commands.specs.Answer.{IsPolishReport, Kicks, Reports, StopsKicks, outcome_of, output_of};
+ghost use Rattle.roster_polish.specs.Polished.{most_searches};
+ghost use Rattle.roster_commands.specs.Answer.{IsPolishReport, Reports, outcome_of, output_of};
 
 use crate::fault::Fault;
 use crate::held::hold;
 use crate::reading::Instance;
 use crate::weeks::show_weeks;
-use roster_case::Held;
-use roster_polish::{Course, MOST_SEARCHES, PolishSpace, searches_have_room};
+use roster_polish::{Course, MOST_SEARCHES, PolishSpace, polish, searches_have_room};
 use roster_rounds::LogFault;
 use roster_state::Meter;
 use roster_text::Watch;
@@ -38,8 +35,10 @@ pub(crate) fn report_polish<'a, Out: Write, Log: Write>(
     };
     let course = within_room(course);
     searches_have_room(held.case(), course.searches);
-    make_kicks(&mut held, &course, &mut space, &mut meter, log)?;
-    show_weeks(held.case(), held.roster(), output)
+    match polish(&mut held, &course, &mut space, &mut meter, log) {
+        Ok(_) => show_weeks(held.case(), held.roster(), output),
+        Err(LogFault::LogFailed { .. }) => Err(Fault::Log),
+    }
 }
 
 /// A course with as many searches as a new meter surely has room for, where more are asked. The command line allows no more.
@@ -49,26 +48,5 @@ fn within_room(course: &Course) -> Course
     Course {
         searches: course.searches.min(MOST_SEARCHES),
         ..*course
-    }
-}
-
-/// Makes the run. Where its log fails, that is the fault.
-fn make_kicks<'a, Log: Write>(
-    held: &mut Held,
-    course: &Course,
-    space: &mut PolishSpace,
-    meter: &mut Meter,
-    log: &mut Watch<Log>,
-) -> Result<(), Fault<'a>>
-    requires fits { FitsPolish held.old.case space.old }
-    requires none { meter.old ≡ 0 }
-    requires room { extensions_of held.old.case (course.now.searches + first_searches held.old.case) ≤ greatest_u64 }
-    ensures case { held.new.case ≡ held.old.case }
-    ensures ok { OnOk result (Kicks Log.contents held.old.case course.now.from held.old.roster course.now.searches held.new.roster log.old log.new) }
-    ensures err { IfErr result (StopsKicks Log.contents held.old.case course.now.from held.old.roster course.now.searches log.old log.new) }
-{
-    match roster_polish::polish(held, course, space, meter, log) {
-        Ok(_) => Ok(()),
-        Err(LogFault::LogFailed { .. }) => Err(Fault::Log),
     }
 }

@@ -6,9 +6,9 @@ use Rattle.roster_case.specs.Held.{HeldRoster}
 use Rattle.roster_case.specs.Shown.{weeks_text}
 use Rattle.roster_rules.specs.HardRules.{hard_faults}
 use Rattle.roster_instance.specs.Meaning.{Meaning}
-use Rattle.roster_polish.specs.Polished.{most_searches}
+use Rattle.roster_polish.specs.Polished.{PolishLogStops, Polishes, most_searches}
 use Rattle.roster_polish.specs.declared.run.Course.{Course}
-use Rattle.roster_commands.specs.Answer.{IsUnheld, Kicks, Output, StopsKicks, StopsOutput}
+use Rattle.roster_commands.specs.Answer.{IsUnheld, Output, StopsOutput}
 use Rattle.roster_commands.specs.declared.fault.Fault.TheVariants as fault
 use Rattle.roster_commands.proofs.PolishLemmas.{polish_ends, polish_stops, polish_unheld}
 use Rattle.roster_commands.proofs.polish.report_polish.Goals as goal
@@ -26,31 +26,31 @@ returns-in_default g c =
     let log : Output g.row.Log.Denot = record { contents = g.Log.Write.contents; before = c.args.log.now; after = c.args.log.now } in
     polish_unheld c.args.course.now.searches c.args.course.now.from c.args.instance.case c.args.instance.roster output log c.args.source.now c.args.instance.bundle fault.Memory (subst (λ (m : Meaning). hard_faults m c.args.instance.roster ≡ []) c.new-meter.ensures.same c.in_ok-held.ensures.kept) refl refl
 
-pub returns-in_err-make_kicks : goal.returns-in_err-make_kicks
-returns-in_err-make_kicks g c =
-    let output : Output g.row.Out.Denot = record { contents = g.Out.Write.contents; before = c.args.output.now; after = c.args.output.now } in
-    let log : Output g.row.Log.Denot = record { contents = g.Log.Write.contents; before = c.args.log.now; after = c.make_kicks.new.log } in
+pub returns-in-Ok-polish : goal.returns-in-Ok-polish
+returns-in-Ok-polish g c =
+    let output : Output g.row.Out.Denot = record { contents = g.Out.Write.contents; before = c.args.output.now; after = c.show_weeks.new.output } in
+    let log : Output g.row.Log.Denot = record { contents = g.Log.Write.contents; before = c.args.log.now; after = c.polish.new.log } in
     let of_case : Meaning → HeldRoster = λ m. record { case = m; roster = c.args.instance.roster } in
     let held = c.in_ok-held.ensures.held ∙ ap of_case c.new-meter.ensures.same in
     let kept = subst (λ (m : Meaning). hard_faults m c.args.instance.roster ≡ []) c.new-meter.ensures.same c.in_ok-held.ensures.kept in
-    let f = c.in_err-make_kicks.field-0.0 in
-    let stops_then = subst (λ (k : Course). StopsKicks g.Log.Write.contents c.in_ok-held.held.case k.from c.in_ok-held.held.roster k.searches c.args.log.now c.make_kicks.new.log f) c.within_room-course.ensures c.in_err-make_kicks.ensures.err in
-    let stops = subst (λ (h : HeldRoster). StopsKicks g.Log.Write.contents h.case c.args.course.now.from h.roster (min c.args.course.now.searches most_searches) c.args.log.now c.make_kicks.new.log f) held stops_then in
-    let p = err_from_is_err_and c.from_residual-in_err-make_kicks.result c.from_residual-in_err-make_kicks.ensures.1 in
-    rw (p.1, p.2) (polish_stops c.args.course.now.searches c.args.course.now.from c.args.instance.case c.args.instance.roster output log c.args.source.now c.args.instance.bundle (min c.args.course.now.searches most_searches) (omega arith) f kept stops refl)
+    let last = c.polish.new.held.roster in
+    let told = c.in-Ok-polish.field-0 in
+    let made = subst (λ (k : Course). Polishes g.Log.Write.contents c.in_ok-held.held.case k.from c.in_ok-held.held.roster k.searches last c.args.log.now c.polish.new.log told) c.within_room-course.ensures c.in-Ok-polish.ensures.ok in
+    let polishes = subst (λ (h : HeldRoster). Polishes g.Log.Write.contents h.case c.args.course.now.from h.roster (min c.args.course.now.searches most_searches) last c.args.log.now c.polish.new.log told) held made in
+    let case_is = c.case-in-Ok-polish.ensures ∙ c.polish.ensures.case ∙ ap (λ (h : HeldRoster). h.case) held in
+    let shown = c.show_weeks.result in
+    let writes = subst (λ (m : Meaning). OnOk shown (Writes g.Out.Write.contents c.args.output.now c.show_weeks.new.output (weeks_text m last))) case_is (subst (λ r. OnOk shown (Writes g.Out.Write.contents c.args.output.now c.show_weeks.new.output (weeks_text c.case-in-Ok-polish.result.now r))) c.roster.ensures.roster c.show_weeks.ensures.ok) in
+    let stops = subst (λ (m : Meaning). IfErr shown (StopsOutput g.Out.Write.contents c.args.output.now c.show_weeks.new.output (weeks_text m last))) case_is (subst (λ r. IfErr shown (StopsOutput g.Out.Write.contents c.args.output.now c.show_weeks.new.output (weeks_text c.case-in-Ok-polish.result.now r))) c.roster.ensures.roster c.show_weeks.ensures.err) in
+    polish_ends c.args.course.now.searches c.args.course.now.from c.args.instance.case c.args.instance.roster output log c.args.source.now c.args.instance.bundle (min c.args.course.now.searches most_searches) (omega arith) last told shown kept polishes writes stops
 
 pub returns : goal.returns
 returns g c =
-    let output : Output g.row.Out.Denot = record { contents = g.Out.Write.contents; before = c.args.output.now; after = c.show_weeks.new.output } in
-    let log : Output g.row.Log.Denot = record { contents = g.Log.Write.contents; before = c.args.log.now; after = c.make_kicks.new.log } in
+    let output : Output g.row.Out.Denot = record { contents = g.Out.Write.contents; before = c.args.output.now; after = c.args.output.now } in
+    let log : Output g.row.Log.Denot = record { contents = g.Log.Write.contents; before = c.args.log.now; after = c.polish.new.log } in
     let of_case : Meaning → HeldRoster = λ m. record { case = m; roster = c.args.instance.roster } in
     let held = c.in_ok-held.ensures.held ∙ ap of_case c.new-meter.ensures.same in
     let kept = subst (λ (m : Meaning). hard_faults m c.args.instance.roster ≡ []) c.new-meter.ensures.same c.in_ok-held.ensures.kept in
-    let last = c.make_kicks.new.held.roster in
-    let made = subst (λ (k : Course). Kicks g.Log.Write.contents c.in_ok-held.held.case k.from c.in_ok-held.held.roster k.searches last c.args.log.now c.make_kicks.new.log) c.within_room-course.ensures c.in_ok-make_kicks.ensures.ok in
-    let kicks = subst (λ (h : HeldRoster). Kicks g.Log.Write.contents h.case c.args.course.now.from h.roster (min c.args.course.now.searches most_searches) last c.args.log.now c.make_kicks.new.log) held made in
-    let case_is = c.case-2.ensures ∙ c.make_kicks.ensures.case ∙ ap (λ (h : HeldRoster). h.case) held in
-    let shown = c.show_weeks.result in
-    let writes = subst (λ (m : Meaning). OnOk shown (Writes g.Out.Write.contents c.args.output.now c.show_weeks.new.output (weeks_text m last))) case_is (subst (λ r. OnOk shown (Writes g.Out.Write.contents c.args.output.now c.show_weeks.new.output (weeks_text c.case-2.result.now r))) c.roster.ensures.roster c.show_weeks.ensures.ok) in
-    let stops = subst (λ (m : Meaning). IfErr shown (StopsOutput g.Out.Write.contents c.args.output.now c.show_weeks.new.output (weeks_text m last))) case_is (subst (λ r. IfErr shown (StopsOutput g.Out.Write.contents c.args.output.now c.show_weeks.new.output (weeks_text c.case-2.result.now r))) c.roster.ensures.roster c.show_weeks.ensures.err) in
-    polish_ends c.args.course.now.searches c.args.course.now.from c.args.instance.case c.args.instance.roster output log c.args.source.now c.args.instance.bundle (min c.args.course.now.searches most_searches) (omega arith) last shown kept kicks writes stops
+    let f = c.in-Err-LogFailed.field-0 in
+    let stops_then = subst (λ (k : Course). PolishLogStops g.Log.Write.contents c.in_ok-held.held.case k.from c.in_ok-held.held.roster k.searches c.args.log.now c.polish.new.log f) c.within_room-course.ensures c.in-Err-LogFailed.ensures.err in
+    let stops = subst (λ (h : HeldRoster). PolishLogStops g.Log.Write.contents h.case c.args.course.now.from h.roster (min c.args.course.now.searches most_searches) c.args.log.now c.polish.new.log f) held stops_then in
+    polish_stops c.args.course.now.searches c.args.course.now.from c.args.instance.case c.args.instance.roster output log c.args.source.now c.args.instance.bundle (min c.args.course.now.searches most_searches) (omega arith) f kept stops refl
