@@ -8,9 +8,10 @@ use Rattle.roster_rules.specs.HardRules.{hard_faults}
 use Rattle.roster_instance.specs.Meaning.{Meaning}
 use Rattle.roster_rules.specs.Penalties.{penalty}
 use Rattle.roster_instance.specs.Rosters.{Rows}
-use Rattle.roster_bound.specs.Floors.{FloorLine, IsFloorLog, RaisesFloor, floor_text, last_line, no_line}
+use Rattle.roster_log.specs.declared.fault.LogFault.{LogFault}
+use Rattle.roster_bound.specs.Floors.{FloorLine, FloorLogStops, IsFloorLog, RaisesFloor, floor_text, last_line, no_line}
 use Rattle.roster_bound.specs.Worths.{IsLowerBound}
-use Rattle.roster_commands.specs.Answer.{IsBoundReport, IsUnheld, Output, Reports, StopsFloors, StopsOutput, Untouched, bound_report, outcome_of}
+use Rattle.roster_commands.specs.Answer.{IsBoundReport, IsUnheld, Output, Reports, StopsOutput, Untouched, bound_report, outcome_of}
 use Rattle.roster_commands.specs.Lines.{Text, bound_text}
 use Rattle.roster_commands.specs.declared.fault.Fault.{Fault}
 use Rattle.roster_commands.specs.declared.fault.Fault.TheVariants as fault
@@ -40,16 +41,14 @@ module _ (rounds from : ℕ) (c : Meaning) (r : Rows) where
     }
 
     -- the log failed inside the floors
-    pub bound_stops : (f : Fault) → hard_faults c r ≡ [] → StopsFloors log.contents c from r rounds log.before log.after f → Untouched output
-        → Reports output log (IsBoundReport rounds from c r) source b (Some f)
-    bound_stops (fault.Text f) kept h o = absurd h
-    bound_stops (fault.Case f nurse) kept h o = absurd h
-    bound_stops (fault.Hard f names) kept h o = absurd h
-    bound_stops (fault.Nurse name) kept h o = absurd h
-    bound_stops fault.Memory kept h o = absurd h
-    bound_stops fault.Output kept h o = absurd h
-    bound_stops fault.Log kept h o =
-        record { report = bound_report h.lines c r; is = of_floors h.lines h.is_log; ends = record { ends = (record { kept = kept; known = refl }, refl); left = o }; logged = h.stops }
+    pub bound_stops : (f : LogFault) → hard_faults c r ≡ [] → FloorLogStops log.contents c from r rounds log.before log.after f → Untouched output
+        → Reports output log (IsBoundReport rounds from c r) source b (Some fault.Log)
+    bound_stops f kept h o = record {
+      report = bound_report h.lines c r;
+      is = of_floors h.lines h.is_log;
+      ends = record { ends = (record { kept = kept; known = refl }, refl); left = o };
+      logged = record { sent = h.sent; stops = h.stops };
+    }
 
     -- all floors were found, and written or not
     pub bound_ends : {X : Type 0} (bound : ℕ) (result : Result X Fault) → hard_faults c r ≡ [] → RaisesFloor log.contents c from r rounds log.before log.after bound

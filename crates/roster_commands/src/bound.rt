@@ -1,11 +1,10 @@
 //! The command `bound`: a number that no roster costs less than.
 
-ghost use Rattle.std.specs.Prelude.{◌≡◌, true, IfErr, IfOk};
+ghost use Rattle.std.specs.Prelude.{◌≡◌, true, IfOk};
 ghost use Rattle.roster_instance.specs.Levels.{levelled};
 ghost use Rattle.roster_instance.specs.Rosters.{fits_case};
-ghost use Rattle.roster_bound.specs.Floors.{RaisesFloor};
 ghost use Rattle.roster_bound.specs.Workspaces.{FitsFloor};
-ghost use Rattle.roster_commands.specs.Answer.{IsBoundReport, Reports, StopsFloors, outcome_of, output_of};
+ghost use Rattle.roster_commands.specs.Answer.{IsBoundReport, Reports, outcome_of, output_of};
 
 use crate::fault::Fault;
 use crate::held::hold;
@@ -39,8 +38,12 @@ pub(crate) fn report_bound<'a, Out: Write, Log: Write>(
     let Ok(mut floor) = Floor::of(alloc, held) else {
         return Err(Fault::Memory);
     };
-    let bound = find_bound(&mut floor, rounds, from, &mut meter, log)?;
-    Ok(write_bound(output, floor.held.total(), bound)?)
+    rounds_have_room(floor.held.case(), rounds);
+    let workspace = &mut floor.workspace;
+    match raise_floor(&floor.held, rounds, from, workspace, &mut meter, log) {
+        Ok(bound) => Ok(write_bound(output, floor.held.total(), bound)?),
+        Err(LogFault::LogFailed { .. }) => Err(Fault::Log),
+    }
 }
 
 /// A roster with its case levelled, and what a run that raises a floor under it writes into.
@@ -59,27 +62,5 @@ impl Floor {
         let held = Levelled::of(alloc, held)?;
         let workspace = FloorWorkspace::for_case(alloc, held.case())?;
         Ok(Floor { held, workspace })
-    }
-}
-
-/// Makes the rounds. Where their log fails, that is the fault.
-fn find_bound<'a, Log: Write>(
-    floor: &mut Floor,
-    rounds: u16,
-    from: u16,
-    meter: &mut Meter,
-    log: &mut Watch<Log>,
-) -> Result<u64, Fault<'a>>
-    requires fits { FitsFloor (levelled floor.old.held.case) floor.old.workspace }
-    requires none { meter.old ≡ 0 }
-    ensures ok { IfOk result (RaisesFloor Log.contents floor.old.held.case from floor.old.held.roster rounds log.old log.new) }
-    ensures err { IfErr result (StopsFloors Log.contents floor.old.held.case from floor.old.held.roster rounds log.old log.new) }
-    ensures held { floor.new.held ≡ floor.old.held }
-{
-    let Floor { held, workspace } = floor;
-    rounds_have_room(held.case(), rounds);
-    match raise_floor(held, rounds, from, workspace, meter, log) {
-        Ok(bound) => Ok(bound),
-        Err(LogFault::LogFailed { .. }) => Err(Fault::Log),
     }
 }
