@@ -19,7 +19,7 @@ use Rattle.roster_instance.specs.declared.fault.CaseFault.{CaseFault}
 use Rattle.roster_instance.specs.declared.fault.CaseFault.TheVariants as case
 use Rattle.roster_case.proofs.Sections.{IsFirst-after}
 use Rattle.roster_rules.specs.declared.fault.HardFault.{HardFault}
-use Rattle.roster_commands.specs.Answer.{Answers, Ends, Input, IsAllowed, IsAnswer, IsBoundReport, IsOutcomeOf, IsPolishReport, IsReportOf, IsUnheld, IsUnread, Leaves, LeavesLog, Logged, Outcome, Output, Report, Reports, SpellsInstance, StopsOutput, StopsReading, StopsSearch, Untouched, best_report, bound_report, cost_report, improve_report, outcome_of, plain, polish_report, roster_of}
+use Rattle.roster_commands.specs.Answer.{Answers, Ends, Input, IsAllowed, IsAnswer, IsBoundReport, IsOutcomeOf, IsPolishReport, IsReportOf, IsUnheld, IsUnread, Leaves, LeavesLog, Logged, Outcome, Output, Report, Reports, SpellsInstance, StopsOutput, StopsReading, Untouched, best_report, bound_report, cost_report, improve_report, outcome_of, plain, polish_report, roster_of}
 use Rattle.roster_commands.specs.Lines.{Text, sizes_text, status_of}
 use Rattle.roster_commands.specs.declared.fault.Fault.{Fault}
 use Rattle.roster_commands.specs.declared.fault.Fault.TheVariants as fault
@@ -183,26 +183,6 @@ written_log output log told text (Err fault.Log) logged err = absurd err
 pub plain_ends : {W X : Type 0} (output : Output W) (text source : Text) (b : Bundle) (result : Result X Fault) → OnOk result (Writes output.contents output.before output.after text)
     → IfErr result (StopsOutput output.contents output.before output.after text) → Ends output (plain text) source b (outcome_of result)
 plain_ends output text source b result ok err = written_ends output (plain text) source b result (record { kept = refl; known = refl }) ok err
-
--- one whose log failed
-pub stopped_ends : {W L : Type 0} (output : Output W) (log : Output L) (p : Report) (told source : Text) (b : Bundle) (f : Fault) → IsAllowed p → p.log ≡ Some told
-    → StopsSearch log.contents log.before log.after told f → Untouched output → Ends output p source b (Some f)
-stopped_ends output log p told source b (fault.Text f) allowed tells h same = absurd h
-stopped_ends output log p told source b (fault.Case f nurse) allowed tells h same = absurd h
-stopped_ends output log p told source b (fault.Hard f names) allowed tells h same = absurd h
-stopped_ends output log p told source b (fault.Nurse name) allowed tells h same = absurd h
-stopped_ends output log p told source b fault.Memory allowed tells h same = absurd h
-stopped_ends output log p told source b fault.Output allowed tells h same = absurd h
-stopped_ends output log p told source b fault.Log allowed tells h same = record { ends = (allowed, ap is_some tells); left = same }
-
-pub stopped_log : {L : Type 0} (log : Output L) (told : Text) (f : Fault) → StopsSearch log.contents log.before log.after told f → LeavesLog log (Some told) (Some f)
-stopped_log log told (fault.Text f) h = absurd h
-stopped_log log told (fault.Case f nurse) h = absurd h
-stopped_log log told (fault.Hard f names) h = absurd h
-stopped_log log told (fault.Nurse name) h = absurd h
-stopped_log log told fault.Memory h = absurd h
-stopped_log log told fault.Output h = absurd h
-stopped_log log told fault.Log h = h
 
 -- one that tells nothing leaves the log as it was
 pub silent_log : {W L : Type 0} (output : Output W) (log : Output L) (p : Report) (source : Text) (b : Bundle) (outcome : Outcome) → p.log ≡ None → Ends output p source b outcome

@@ -264,40 +264,6 @@ abbrev pub StopsOutput : {W : Type 0} → (W → Option (List ℕ)) → Watched 
 StopsOutput contents old new text fault.Output = Stops contents old new text
 StopsOutput contents old new text _ = ⊥
 
--- the same of a search that tells of its work
-abbrev pub StopsSearch : {L : Type 0} → (L → Option (List ℕ)) → Watched L → Watched L → Text → Fault → Type 0
-StopsSearch contents old new told fault.Log = Stops contents old new told
-StopsSearch contents old new told _ = ⊥
-
--- the same of rounds that raise a floor
-pub record StopsAmongFloors {L : Type 0} (contents : L → Option (List ℕ)) (c : Meaning) (from : ℕ) (r : Rows) (rounds : ℕ) (old new : Watched L) : Type 0 where
-  pub lines : List FloorLine
-  pub is_log : IsFloorLog c from r rounds lines
-  pub stops : Stops contents old new (floor_text c r lines)
-
-abbrev pub StopsFloors : {L : Type 0} → (L → Option (List ℕ)) → Meaning → (from : ℕ) → Rows → (rounds : ℕ) → Watched L → Watched L → Fault → Type 0
-StopsFloors contents c from r rounds old new fault.Log = StopsAmongFloors contents c from r rounds old new
-StopsFloors contents c from r rounds old new _ = ⊥
-
--- the same of kicks
-pub record StopsAmongKicks {L : Type 0} (contents : L → Option (List ℕ)) (c : Meaning) (from : ℕ) (r : Rows) (searches : ℕ) (old new : Watched L) : Type 0 where
-  pub settled : Bool
-  pub last : Rows
-  pub told : Text
-  pub run : IsPolishing c from r searches settled last told
-  pub stops : Stops contents old new told
-
-abbrev pub StopsKicks : {L : Type 0} → (L → Option (List ℕ)) → Meaning → (from : ℕ) → Rows → (searches : ℕ) → Watched L → Watched L → Fault → Type 0
-StopsKicks contents c from r searches old new fault.Log = StopsAmongKicks contents c from r searches old new
-StopsKicks contents c from r searches old new _ = ⊥
-
--- a run of kicks led to this roster, and its log went out
-pub record Kicks {L : Type 0} (contents : L → Option (List ℕ)) (c : Meaning) (from : ℕ) (r : Rows) (searches : ℕ) (last : Rows) (old new : Watched L) : Type 0 where
-  pub settled : Bool
-  pub told : Text
-  pub run : IsPolishing c from r searches settled last told
-  pub writes : Writes contents old new told
-
 -- why a roster is not held: for the first of these breaches, or for want of memory where there is none
 abbrev pub IsUnheld : Text → Bundle → List HardFault → Fault → Type 0
 IsUnheld bytes b broken fault.Memory = broken ≡ []
