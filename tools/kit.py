@@ -71,6 +71,13 @@ def version():
         return file.read()
 
 
+def put_mark(folder, since):
+    """Notes beside a library which kit built it, and since when its sources are the same."""
+    with open(f"{folder}/built", "w", encoding="utf-8") as file:
+        file.write(version())
+    os.utime(f"{folder}/built", (since, since))
+
+
 def since():
     """When this kit was put here."""
     return os.stat(f"{kit()}/KIT-ID").st_ctime
