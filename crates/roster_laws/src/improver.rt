@@ -8,7 +8,7 @@ ghost use Rattle.roster_rules.specs.Penalties.{penalty};
 ghost use Rattle.roster_instance.specs.Rosters.{Row, Rows, fits_case, with_row};
 ghost use Rattle.roster_rules.specs.AllowedRows.{IsBestRow, allowed_rows, best_row, penalty_with};
 ghost use Rattle.roster_laws.specs.FrozenDays.{FrozenDaysStay};
-ghost use Rattle.roster_laws.specs.Logs.{Descends, EndsWith, changes_in, ending, outcome_of, rounds_in};
+ghost use Rattle.roster_laws.specs.Logs.{Descends, EndsWith, ending, outcome_of};
 
 /// Two rosters pass the test for the same rows just where they are one.
 pub fn same_rows_are_equal()

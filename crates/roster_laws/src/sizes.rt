@@ -1,6 +1,6 @@
 //! The greatest sizes of the searches of a case.
 
-ghost use Rattle.std.specs.Prelude.{◌<◌, ℕ};
+ghost use Rattle.std.specs.Prelude.{◌<◌};
 ghost use Rattle.roster_instance.specs.Meaning.{Meaning, nurse_count};
 ghost use Rattle.roster_instance.specs.Sizes.{state_count};
 ghost use Rattle.roster_laws.specs.Greatest.{IsGreatest, extension_count, greatest_extension_count, greatest_state_count};
