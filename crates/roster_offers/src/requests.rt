@@ -1,9 +1,9 @@
 //! What a nurse's own requests cost on a day.
 
-ghost use Rattle.std.specs.Prelude.{◌≡◌, ◌+◌, ◌<◌, ◌≤◌, false, Option};
+ghost use Rattle.std.specs.Prelude.{◌≡◌, ◌+◌, ◌<◌, ◌≤◌, false, not, None, Option};
 ghost use Rattle.roster_instance.specs.declared.choice.Shift.{Shift};
 ghost use Rattle.roster_instance.specs.Meaning.{nurse_count};
-ghost use Rattle.roster_rules.specs.Penalties.{off_request_cost_on, request_cost_on, wish_cost_on};
+ghost use Rattle.roster_rules.specs.Penalties.{meets_wishes, off_request_cost_on, request_cost_on, wish_cost_on};
 ghost use Rattle.roster_rules.specs.Weights.{off_request_weight, wish_weight};
 
 use roster_rules::weights::{OFF_REQUEST, WISH};
@@ -28,10 +28,11 @@ pub fn cost_of_requests(
     off_request_cost(case, nurse, day, shift)
 }
 
-/// Whether the nurse has a wish to work on the day. Without one, no wish costs anything there.
+/// Whether the nurse has a wish to work on the day: one that a day off doesn't meet. Without one, no wish costs anything there.
 pub fn has_some_wish(case: &Case, nurse: usize, day: u16) -> bool
     requires { nurse < nurse_count case.now }
-    ensures { (shift : Option Shift) → result ≡ false → wish_cost_on case.now nurse day shift ≡ 0 }
+    ensures some { result ≡ not (meets_wishes case.now nurse day None) }
+    ensures free { (shift : Option Shift) → result ≡ false → wish_cost_on case.now nurse day shift ≡ 0 }
 {
     let wishes = case.wishes(nurse, day);
     let mut some = wishes.any;
