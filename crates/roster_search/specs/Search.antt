@@ -11,6 +11,7 @@ use Rattle.roster_offers.specs.Offers.{best_of_offers}
 use Rattle.roster_search.specs.declared.day.SearchDay.{SearchDay}
 use Rattle.roster_search.specs.Counts.{states_on}
 use Rattle.roster_search.specs.Tables.{ArePointers, BestOnward, LeadsOn, Stands}
+pub use Rattle.roster_offers.specs.Lists.{AreDayOffers, AreOffers, IsFound, best_over, offers_on}
 
 -- ---- the room
 

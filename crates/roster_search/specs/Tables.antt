@@ -16,10 +16,10 @@ use Rattle.roster_state.specs.Step.{end_cost_of, step_of, with_assignments, with
 use Rattle.roster_offers.specs.declared.offer.Offer.{Offer}
 use Rattle.roster_offers.specs.ByStates.{best_after}
 use Rattle.roster_offers.specs.Cheapest.{Priced, cheapest}
-use Rattle.roster_offers.specs.Lists.{IsOfferOf, no_row}
 use Rattle.roster_offers.specs.Offers.{offer_step}
 use Rattle.roster_search.specs.declared.day.SearchDay.{SearchDay}
 use Rattle.roster_search.specs.declared.labels.StretchDay.{StretchDay}
+pub use Rattle.roster_offers.specs.Lists.{IsOfferOf, most_price, no_row}
 
 -- the label that a best row gives
 abbrev pub label_of : {X : Type 0} → Priced X → ℕ
