@@ -1,3 +1,4 @@
 pub mod Offers
 pub mod Searches
+pub mod Workspaces
 pub mod Known
