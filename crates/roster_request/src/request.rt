@@ -5,7 +5,7 @@ ghost use Rattle.std.specs.Prelude.{◌≡◌};
 use std::alloc::{AllocError, AllocFailed};
 
 /// What the program is to do.
-#[derive(Drop)]
+#[derive(Debug, Drop)]
 pub enum Command {
     /// Writes the solutions that it was given, in canonical form.
     Show,
@@ -28,14 +28,14 @@ pub enum Command {
 }
 
 /// A command with the files that it reads, in order. With none it reads standard input.
-#[derive(Drop)]
+#[derive(Debug, Drop)]
 pub struct Request {
     pub command: Command,
     pub files: Vec<String>,
 }
 
 /// Why words are no request.
-#[derive(Drop)]
+#[derive(Debug, Drop)]
 pub enum CliFault {
     /// A growth was refused.
     Memory,
