@@ -67,7 +67,7 @@ pub(crate) const FROM: NumberOption = NumberOption {
     help: FIRST_WEEK,
 };
 
-/// A command of which each part was made.
+/// A command with the parts that were made so far, or that there was no memory for one of them.
 type Made<'a> = Result<Command<'a>, AllocError>;
 
 /// The command line of the program.
