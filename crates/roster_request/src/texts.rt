@@ -56,8 +56,9 @@ as in 'Ann 1296 2592 9072 27216'. To the owner of a small machine they mean:
   27216  steps of the search at most: one from each state, on each day, by each
          choice of the nurse
 
-The search takes one nurse at a time, in the same memory. So the line with the
-greatest numbers says how much memory a machine must have.
+The search takes one nurse at a time, in the same memory. So for searches a
+machine must have what the line with the greatest numbers says, and some 3 MB
+more that serve any nurse.
 
 The hard rules aren't asked.
 
