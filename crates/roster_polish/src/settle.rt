@@ -5,6 +5,7 @@ ghost use Rattle.roster_bundle.specs.Limits.{greatest_u64};
 ghost use Rattle.roster_instance.specs.Meaning.{nurse_count};
 ghost use Rattle.roster_rules.specs.AllowedRows.{best_row};
 ghost use Rattle.roster_rules.specs.Improver.{round, same_rows, step};
+ghost use Rattle.roster_rules.specs.Penalties.{penalty};
 ghost use Rattle.roster_laws.specs.FrozenDays.{FrozenDaysStay};
 ghost use Rattle.roster_partial.specs.Workspaces.{fits_space};
 ghost use Rattle.roster_best.specs.Known.{IsKnown};
@@ -83,6 +84,7 @@ pub(crate) fn settle_in(
     ensures kept { space.new.kept ≡ space.old.kept }
     ensures settled { result ≡ true → IsSettled held.old.case searches.old.from held.new.roster }
     ensures frozen { FrozenDaysStay held.old.case searches.old.from held.old.roster held.new.roster }
+    ensures no_dearer { penalty held.old.case held.new.roster ≤ penalty held.old.case held.old.roster }
     ensures from { searches.new.from ≡ searches.old.from }
     ensures spends { Spends held.old.case meter.old searches.old.left meter.new searches.new.left }
     ensures fits { FitsPolish held.old.case space.new }
@@ -108,6 +110,7 @@ fn settle(
     ensures case { held.new.case ≡ held.old.case }
     ensures settled { result ≡ true → IsSettled held.old.case searches.old.from held.new.roster }
     ensures frozen { FrozenDaysStay held.old.case searches.old.from held.old.roster held.new.roster }
+    ensures no_dearer { penalty held.old.case held.new.roster ≤ penalty held.old.case held.old.roster }
     ensures from { searches.new.from ≡ searches.old.from }
     ensures spends { Spends held.old.case meter.old searches.old.left meter.new searches.new.left }
     ensures fits { fits_space held.old.case workspace.new ≡ true }
@@ -154,6 +157,7 @@ fn make_pass(
     ensures end { first ≡ 0 → nurse_count held.old.case ≤ searches.old.left → result ≡ (if same_rows held.new.roster held.old.roster then Unchanged else Changed) }
     ensures unchanged { result ≡ Unchanged → (n : ℕ) → first ≤ n → n < nurse_count held.old.case → HasBestRow held.old.case searches.old.from held.new.roster n }
     ensures frozen { FrozenDaysStay held.old.case searches.old.from held.old.roster held.new.roster }
+    ensures no_dearer { penalty held.old.case held.new.roster ≤ penalty held.old.case held.old.roster }
     ensures from { searches.new.from ≡ searches.old.from }
     ensures few { first ≡ 0 → searches.old.left ≤ searches.new.left + nurse_count held.old.case }
     ensures spends { Spends held.old.case meter.old searches.old.left meter.new searches.new.left }

@@ -1,8 +1,9 @@
-use Rattle.std.proofs.Common.{◌≡◌, ◌∙◌, arith, refl, rules, subst, sym, true}
+use Rattle.std.proofs.Common.{◌≡◌, ◌∙◌, ◌≤◌, arith, refl, rules, subst, sym, true}
 use Rattle.std.proofs.lemmas.Bool.{true≢false}
 use Rattle.roster_instance.specs.Meaning.{Meaning}
 use Rattle.roster_partial.specs.Workspaces.{fits_space}
 use Rattle.roster_best.specs.Known.{IsKnown}
+use Rattle.roster_rules.specs.Penalties.{penalty}
 use Rattle.roster_laws.specs.FrozenDays.{FrozenDaysStay}
 use Rattle.roster_laws.proofs.Frozen.{stays_on, stays_self}
 use Rattle.roster_polish.specs.declared.settle.Pass.TheVariants.{Unchanged}
@@ -15,6 +16,7 @@ pub loop-pass-init : goal.loop-pass-init
 loop-pass-init c = record {
   case = refl;
   frozen = stays_self c.args.held.now.case c.args.searches.now.from c.args.held.now.roster;
+  no_dearer = omega arith;
   from = refl;
   spends = spent_none c.args.held.now.case c.args.meter.now c.args.searches.now.left;
   fits = c.requires.fits;
@@ -41,6 +43,14 @@ frozen c =
     let next = c.make_pass-end.new.held.roster in
     stays_on k c.args.searches.now.from c.args.held.now.roster l.held.roster next l.invariant.frozen
     (at_same (λ m from. FrozenDaysStay m from l.held.roster next) l.held.case k l.searches.from c.args.searches.now.from l.invariant.case l.invariant.from c.make_pass-end.ensures.frozen)
+
+no_dearer : (c : After-make_pass-end) → penalty c.args.held.now.case c.make_pass-end.new.held.roster ≤ penalty c.args.held.now.case c.args.held.now.roster
+no_dearer c =
+    let k = c.args.held.now.case in
+    let l = c.loop-pass in
+    let next = c.make_pass-end.new.held.roster in
+    let pass : penalty k next ≤ penalty k l.held.roster = subst (λ (m : Meaning). penalty m next ≤ penalty m l.held.roster) l.invariant.case c.make_pass-end.ensures.no_dearer in
+    omega (arith, l.invariant.no_dearer)
 
 spends : (c : After-make_pass-end) → Spends c.args.held.now.case c.args.meter.now c.args.searches.now.left c.make_pass-end.new.meter c.make_pass-end.new.searches.left
 spends c =
@@ -70,6 +80,7 @@ returns-then-eq c =
           at_same (λ m from. HasBestRow m from next n) l.held.case k l.searches.from c.args.searches.now.from i.case i.from
           (told.unchanged unchanged n (omega (arith, c.if-first-eq0.true)) (rw i.case inside));
       frozen = frozen here;
+      no_dearer = no_dearer here;
       from = told.from ∙ i.from;
       spends = spends here;
       fits = fits here;
@@ -83,6 +94,7 @@ returns-then-eq-2 c =
       case = c.make_pass-end.ensures.case ∙ c.loop-pass.invariant.case;
       settled = λ e. absurd (true≢false (sym e));
       frozen = frozen here;
+      no_dearer = no_dearer here;
       from = c.make_pass-end.ensures.from ∙ c.loop-pass.invariant.from;
       spends = spends here;
       fits = fits here;
@@ -95,6 +107,7 @@ loop-pass-preserved c =
     record {
       case = c.make_pass-end.ensures.case ∙ c.loop-pass.invariant.case;
       frozen = frozen here;
+      no_dearer = no_dearer here;
       from = c.make_pass-end.ensures.from ∙ c.loop-pass.invariant.from;
       spends = spends here;
       fits = fits here;
@@ -104,4 +117,4 @@ loop-pass-preserved c =
 pub returns : goal.returns
 returns c =
     let i = c.loop-pass.invariant in
-    record { case = i.case; settled = λ e. absurd (true≢false (sym e)); frozen = i.frozen; from = i.from; spends = i.spends; fits = i.fits; known = i.known }
+    record { case = i.case; settled = λ e. absurd (true≢false (sym e)); frozen = i.frozen; no_dearer = i.no_dearer; from = i.from; spends = i.spends; fits = i.fits; known = i.known }

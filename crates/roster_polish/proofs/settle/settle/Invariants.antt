@@ -1,4 +1,5 @@
-use Rattle.std.proofs.Common.{◌≡◌, true}
+use Rattle.std.proofs.Common.{◌≡◌, ◌≤◌, true}
+use Rattle.roster_rules.specs.Penalties.{penalty}
 use Rattle.roster_laws.specs.FrozenDays.{FrozenDaysStay}
 use Rattle.roster_partial.specs.Workspaces.{fits_space}
 use Rattle.roster_best.specs.Known.{IsKnown}
@@ -9,6 +10,7 @@ abbrev pub invariant-loop-pass : goal.invariant-loop-pass
 invariant-loop-pass l = record {
   case : l.held.case ≡ l.fn.held.case;
   frozen : FrozenDaysStay l.fn.held.case l.fn.searches.from l.fn.held.roster l.held.roster;
+  no_dearer : penalty l.fn.held.case l.held.roster ≤ penalty l.fn.held.case l.fn.held.roster;
   from : l.searches.from ≡ l.fn.searches.from;
   spends : Spends l.fn.held.case l.fn.meter l.fn.searches.left l.meter l.searches.left;
   fits : fits_space l.fn.held.case l.workspace ≡ true;

@@ -13,6 +13,7 @@ returns c =
       kept = refl;
       settled = told.settled;
       frozen = told.frozen;
+      no_dearer = told.no_dearer;
       from = told.from;
       spends = told.spends;
       fits = record {
