@@ -70,7 +70,7 @@ pub(crate) fn settle_first(
     false
 }
 
-/// Settles a roster in the memory of a run.
+/// What `settle` does, with the workspace of a run's memory and what its last searches tell. The roster that is kept there stays.
 pub(crate) fn settle_in(
     held: &mut Held,
     aim: Aim,
