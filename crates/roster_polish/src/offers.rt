@@ -1,12 +1,10 @@
 //! What a kicked nurse is offered.
 
-ghost use Rattle.std.specs.Prelude.{◌≡◌, ◌+◌, ◌*◌, ◌<◌, ◌≤◌, length, true};
-ghost use Rattle.roster_instance.specs.Choices.{shift_of};
+ghost use Rattle.std.specs.Prelude.{◌≡◌, ◌+◌, ◌*◌, ◌<◌, true};
 ghost use Rattle.roster_instance.specs.Meaning.{day_count, nurse_count};
 ghost use Rattle.roster_instance.specs.Rosters.{is_choice_of};
-ghost use Rattle.roster_offers.specs.Lists.{IsOfferOf, most_price};
 ghost use Rattle.roster_bound.specs.Tables.{worths_of};
-ghost use Rattle.roster_bound.specs.Worths.{most_worth, price_by};
+ghost use Rattle.roster_bound.specs.Worths.{price_by};
 ghost use Rattle.roster_polish.specs.Kicks.{AreKickOffers, FitsKick, from_on, kick_offers, price_from, shift_place};
 
 use arrayvec::ArrayVec;

@@ -1,8 +1,7 @@
-use Rattle.std.proofs.Common.{◌≡◌, ◌∙◌, ◌+◌, ◌++◌, ◌≤◌, ap, arith, codes, decimal, length, map, refl, subst, sym, true}
+use Rattle.std.proofs.Common.{◌≡◌, ◌∙◌, ◌+◌, ◌++◌, ◌≤◌, ap, arith, codes, decimal, refl, subst, sym, true}
 use Rattle.std.proofs.lemmas.Result.{err_from_is_err_and}
 use Rattle.roster_text.specs.Io.{BreaksIn, Sends}
 use Rattle.roster_instance.specs.Meaning.{Meaning}
-use Rattle.roster_instance.specs.Rosters.{Row, Rows, fits_case}
 use Rattle.roster_rules.specs.Penalties.{penalty}
 use Rattle.roster_laws.specs.FrozenDays.{FrozenDaysStay}
 use Rattle.roster_laws.specs.Greatest.{greatest_extension_count}
@@ -10,7 +9,7 @@ use Rattle.roster_laws.proofs.Frozen.{stays_on}
 use Rattle.roster_rules.specs.Improver.{line}
 use Rattle.roster_polish.specs.Polished.{FitsPolish, first_searches, last_line}
 use Rattle.roster_polish.specs.Settled.{IsSettled, extensions_of}
-use Rattle.roster_polish.proofs.Keeping.{reached_by, same_days}
+use Rattle.roster_polish.proofs.Keeping.{reached_by}
 use Rattle.roster_polish.proofs.KickLogs.{cheaper_breaks, end_breaks, ends, first_kept, first_text, start_breaks, underway_cheaper, underway_first, underway_same}
 use Rattle.roster_polish.proofs.Steps.{both_of}
 use Rattle.roster_polish.proofs.run.polish.Goals as goal
