@@ -1,9 +1,7 @@
-use Rattle.std.proofs.Common.{◌≡◌, ◌∙◌, ap, arith, refl, subst, sym, true, false}
+use Rattle.std.proofs.Common.{◌≡◌, ◌∙◌, ap, arith, rules, subst, sym}
 use Rattle.std.proofs.lemmas.Bool.{true≢false}
 use Rattle.roster_instance.specs.Meaning.{Meaning}
-use Rattle.roster_instance.specs.Rosters.{Rows, fits_case}
 use Rattle.roster_case.specs.Held.{HeldRoster}
-use Rattle.roster_rules.specs.HardRules.{keeps_hard}
 use Rattle.roster_rules.specs.Penalties.{penalty}
 use Rattle.roster_laws.specs.FrozenDays.{FrozenDaysStay}
 use Rattle.roster_laws.proofs.Frozen.{stays_on, stays_self}
@@ -66,7 +64,7 @@ returns-then-total-before c =
     let next = last.new.held.roster in
     record {
       case = same here;
-      kept = c.keep.ensures.kept;
+      kept = search rules;
       stayed = λ e. at_same (λ m from. IsSettled m from next) first.new.held.case k first.new.kicking.searches.from week first.ensures.case first.ensures.from (last.ensures.settled c.if-settled.true);
       back = λ e. absurd (true≢false e);
       frozen = stays_on k week c.args.held.now.roster first.new.held.roster next first.ensures.frozen
@@ -74,7 +72,7 @@ returns-then-total-before c =
       no_dearer = omega (arith, c.total.ensures.total, c.total-before.ensures.total, c.if-total-before.true, ap (λ (m : Meaning). penalty m next) (same here));
       from = from here;
       spends = spends here;
-      fits = subst (λ (m : Meaning). FitsPolish m c.keep.new.self) (same here) c.keep.ensures.fits;
+      fits = rw (← (same here)) (search rules);
     }
 
 -- ---- it doesn't
