@@ -26,16 +26,18 @@ use roster_bundle::{Bundle, Contract, Listed, Nurse, Pair, ShiftType, Succession
 use std::alloc::Global;
 use std::marker::Model;
 
-/// The most weeks, skills, shifts, contracts and nurses.
+/// The most weeks, skills and shifts.
 const MAX_WEEKS: usize = 52;
 
 const MAX_SKILLS: usize = 8;
 
 const MAX_SHIFTS: usize = 8;
 
-const MAX_CONTRACTS: usize = 64;
+/// The most contracts of a case.
+pub const MAX_CONTRACTS: usize = 64;
 
-const MAX_NURSES: usize = 400;
+/// The most nurses of a case.
+pub const MAX_NURSES: usize = 400;
 
 /// What a scenario says.
 pub(crate) struct Scenario {

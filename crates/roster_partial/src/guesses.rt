@@ -4,12 +4,7 @@
 
 use crate::rates::{Aim, Guess};
 use roster_offers::RowSearch;
-
-/// The greatest number of nurses, `most_nurses` of the limits of an instance.
-const MOST_NURSES: usize = 400;
-
-/// The greatest number of contracts, `most_contracts` of the limits of an instance.
-const MOST_CONTRACTS: usize = 64;
+use roster_rules::{MAX_CONTRACTS, MAX_NURSES};
 
 /// How often in a row partial rows found nothing for a nurse, and how many searches go to the tables at once for that.
 #[derive(Clone, Copy)]
@@ -27,9 +22,9 @@ const MOST_MISSES: u8 = 3;
 /// For each nurse what her last search tells, and for each contract what the last search for a nurse with it does; nothing before the
 /// first.
 pub(crate) struct Guesses {
-    nurses: [Option<Guess>; MOST_NURSES],
-    contracts: [Option<Guess>; MOST_CONTRACTS],
-    misses: [Misses; MOST_NURSES],
+    nurses: [Option<Guess>; MAX_NURSES],
+    contracts: [Option<Guess>; MAX_CONTRACTS],
+    misses: [Misses; MAX_NURSES],
 }
 
 // By hand, so that who drops the guesses has one call to prove.
@@ -47,9 +42,9 @@ impl Guesses {
     /// Nothing is known of any search.
     pub(crate) fn none() -> Guesses {
         Guesses {
-            nurses: [None; MOST_NURSES],
-            contracts: [None; MOST_CONTRACTS],
-            misses: [NO_MISSES; MOST_NURSES],
+            nurses: [None; MAX_NURSES],
+            contracts: [None; MAX_CONTRACTS],
+            misses: [NO_MISSES; MAX_NURSES],
         }
     }
 
@@ -63,6 +58,11 @@ impl Guesses {
             }
             _ => false,
         }
+    }
+
+    /// Whether partial rows have found a row of the nurse.
+    pub(crate) fn knows(&self, nurse: usize) -> bool {
+        matches!(self.nurses.get(nurse), Some(Some(_)))
     }
 
     /// Partial rows have found nothing for the nurse: after the first time one search goes to the tables at once, after the second in a
