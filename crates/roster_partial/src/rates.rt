@@ -54,11 +54,12 @@ pub struct Aim {
 }
 
 /// Sets the floors of a search at those rates, of some that are tried, at which the start's floor is highest. Rates are raised where the
-/// row that follows the floors has too many assignments or worked weekends, and lowered where it has fewer than it may. None where there
-/// isn't room for the floors or the steps.
+/// row that follows the floors has too many assignments or worked weekends, and lowered where it has fewer than it may. In a nurse's
+/// first search no more pairs are tried than so many walks over all floors. None where there isn't room for the floors or the steps.
 pub fn set_best_floors(
     search: &RowSearch<'_>,
     guess: Option<Guess>,
+    walks: usize,
     most: u64,
     floors: &mut [u32],
     meter: &mut Meter,
@@ -74,7 +75,7 @@ pub fn set_best_floors(
     if most - meter.count() < 2 * steps_to_follow(search) {
         return None;
     }
-    let plan = plan_by(search, guess, most, meter);
+    let plan = plan_by(search, guess, walks, most, meter);
     if !set_floors(search, plan.rates, floors) {
         return None;
     }
@@ -111,8 +112,15 @@ struct Plan {
     most: u64,
 }
 
-/// How rates are tried after an earlier search; where there was none, the first ones are those by the row of the cheapest steps.
-fn plan_by(search: &RowSearch<'_>, guess: Option<Guess>, most: u64, meter: &mut Meter) -> Plan
+/// How rates are tried after an earlier search; where there was none, the first ones are those by the row of the cheapest steps. Where it
+/// wasn't for the same nurse, no more are tried than walks are worth.
+fn plan_by(
+    search: &RowSearch<'_>,
+    guess: Option<Guess>,
+    walks: usize,
+    most: u64,
+    meter: &mut Meter,
+) -> Plan
     requires nurse { search.now.nurse < nurse_count search.now.case.now }
     requires offers { AreOffers search.now.case.now search.now.nurse search.now.offers.now }
     requires room { meter.old + most_offers * day_count search.now.case.now ≤ greatest_u64 }
@@ -121,6 +129,7 @@ fn plan_by(search: &RowSearch<'_>, guess: Option<Guess>, most: u64, meter: &mut 
     ensures counted { (meter.old ≤ meter.new) × (meter.new ≤ meter.old + most_offers * day_count search.now.case.now) }
 {
     let none = Rates { day: 0, weekend: 0 };
+    let more = walks.saturating_sub(1);
     match guess {
         Some(guess) if guess.is_own => Plan {
             rates: within_range(guess.rates),
@@ -132,7 +141,7 @@ fn plan_by(search: &RowSearch<'_>, guess: Option<Guess>, most: u64, meter: &mut 
         Some(guess) => Plan {
             rates: within_range(guess.rates),
             step: NEXT_STEP,
-            trials: MOST_TRIALS_FROM_OTHER,
+            trials: min(MOST_TRIALS_FROM_OTHER, more),
             close: CLOSE,
             most,
         },
@@ -144,7 +153,7 @@ fn plan_by(search: &RowSearch<'_>, guess: Option<Guess>, most: u64, meter: &mut 
                 follow(search, None, meter),
             ),
             step: FIRST_STEP,
-            trials: MOST_TRIALS,
+            trials: min(MOST_TRIALS, more),
             close: CLOSE,
             most,
         },

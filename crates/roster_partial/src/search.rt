@@ -20,7 +20,7 @@ use crate::rows::{Entry, MOST_ROWS, SEEN, Seen};
 use roster_floors::{Floors, Rates};
 use roster_offers::RowSearch;
 use roster_rules::{Case, Choice};
-use roster_search::{NO_ROW, Tables};
+use roster_search::{NO_ROW, Tables, steps_ahead};
 use roster_state::{Meter, Ranges};
 use std::alloc::{AllocError, Global};
 
@@ -29,6 +29,9 @@ const MOST_FLOORS: usize = 262_144;
 
 /// How many limits are tried at most, each higher than the one before.
 const MOST_LIMITS: usize = 24;
+
+/// A step of the tables takes about as long as to set so many floors.
+const FLOORS_OF_A_STEP: u64 = 2;
 
 /// Where partial rows and floors are kept while a row is searched. Both are long, so they don't stand on the stack.
 pub struct PartialRoom {
@@ -78,21 +81,46 @@ impl PartialRoom {
             guesses: Guesses::none(),
         })
     }
+
+    /// How many walks over a nurse's floors take no longer than the tables. None where even one does, as where most weeks are frozen, or
+    /// where earlier searches tell that the nurse's next one goes to the tables; any number where partial rows have found a row of hers.
+    /// Only time depends on it.
+    fn walks_worth(&mut self, search: &RowSearch<'_>, tables: &mut Tables) -> usize
+        requires nurse { search.now.nurse < nurse_count search.now.case.now }
+        requires offers { AreOffers search.now.case.now search.now.nurse search.now.offers.now }
+        ensures { tables.new ≡ tables.old }
+    {
+        if self.guesses.waits(search.nurse) {
+            return 0;
+        }
+        if self.guesses.knows(search.nurse) {
+            return usize::MAX;
+        }
+        let floors = floors_of(search.case, search.nurse).max(1) as u64;
+        let steps = steps_ahead(search, tables);
+        (steps.saturating_mul(FLOORS_OF_A_STEP) / floors) as usize
+    }
 }
 
 /// How many floors the nurse takes who takes the most, of those for whom there may be room.
 fn greatest_floors(case: &Case) -> usize {
     let mut greatest: usize = 0;
     for nurse in 0..case.nurses() {
-        let ranges = Ranges::of(case, nurse);
-        let of_a_day = ranges.last() as usize
-            * (ranges.run() as usize * ranges.shift_run() as usize);
-        let floors = of_a_day.saturating_mul(case.days() as usize + 1);
+        let floors = floors_of(case, nurse);
         if floors <= MOST_FLOORS {
             greatest = greatest.max(floors);
         }
     }
     greatest
+}
+
+/// How many floors a nurse takes: those of all days and of the end.
+fn floors_of(case: &Case, nurse: usize) -> usize
+    requires { nurse < nurse_count case.now }
+{
+    let ranges = Ranges::of(case, nurse);
+    let of_a_day = ranges.last() as usize * (ranges.run() as usize * ranges.shift_run() as usize);
+    of_a_day.saturating_mul(case.days() as usize + 1)
 }
 
 /// Searches the best row over a table of offers, wherever these come from. `row` then begins with its choices, one for each day, and the
@@ -131,9 +159,10 @@ pub fn search_row(
     let all = states * case.days() as u64 * choices;
     // The tables take so much less than each state on each day by each choice: on the first day no state but one stands.
     let spare = (states - 1) * choices;
-    if meter.room() >= spare + all && !room.guesses.waits(nurse) {
+    let walks = room.walks_worth(search, tables);
+    if meter.room() >= spare + all && walks > 0 {
         let most = meter.count() + spare;
-        if let Some(cost) = search_partial(search, room, most, row, meter) {
+        if let Some(cost) = search_partial(search, room, walks, most, row, meter) {
             return cost;
         }
         room.guesses.miss(nurse);
@@ -146,6 +175,7 @@ pub fn search_row(
 fn search_partial(
     search: &RowSearch<'_>,
     room: &mut PartialRoom,
+    walks: usize,
     most: u64,
     row: &mut [Choice],
     meter: &mut Meter,
@@ -167,7 +197,7 @@ fn search_partial(
         guesses,
     } = room;
     let guess = guesses.of(search);
-    let aim = set_best_floors(search, guess, most, floors, meter)?;
+    let aim = set_best_floors(search, guess, walks, most, floors, meter)?;
     let mut limit = aim.low.saturating_add(first_gap(guess));
     let mut more = 10;
     'limits: for _ in 0..MOST_LIMITS {
