@@ -1,9 +1,9 @@
 -- The offers that may follow a last shift, one after another.
-use Rattle.std.proofs.Common.{◌≡◌, ◌∙◌, ◌+◌, ◌<◌, ◌≤◌, ◌⊎◌, inl, inr, subst, ℕ, zero, suc, true, ap, arith, refl, sym, List, [], ◌∷◌, ◌++◌, length, map, slice_index_or, take, Option, None, Some, if◌then◌else◌}
+use Rattle.std.proofs.Common.{◌≡◌, ◌≢◌, ◌∙◌, ◌+◌, ◌<◌, ◌≤◌, ◌⊎◌, inl, inr, subst, ℕ, zero, suc, true, false, ap, arith, refl, sym, List, [], ◌∷◌, ◌++◌, length, map, slice_index_or, slice_set, take, Option, None, Some, IfSome, IsSomeAnd, is_none, if◌then◌else◌}
 use Rattle.std.specs.List.{All}
-use Rattle.std.proofs.lemmas.List.{get_or_append_left, length-append, length-map, map-append, take_all}
-use Rattle.std.proofs.Math.Seq.{get_or-append_seam}
-use Rattle.std.proofs.lemmas.Bool.{cases_lt}
+use Rattle.std.proofs.lemmas.List.{get_or-set_other, length-append, length-map, map-append, take_all}
+use Rattle.std.proofs.lemmas.Grind.{get_or-set_at}
+use Rattle.std.proofs.lemmas.Bool.{cases_lt, false≢true}
 use Rattle.arrayvec.specs.ArrayVec.{ArrayVec}
 use Rattle.std.proofs.lemmas.List.Elements.{All-append}
 use Rattle.roster_instance.specs.declared.choice.Shift.{Shift}
@@ -14,7 +14,7 @@ use Rattle.roster_offers.specs.declared.offer.Offer.{Offer}
 use Rattle.roster_offers.proofs.Cheapest.{cheaper_none, cheapest_more}
 use Rattle.roster_state.specs.Codes.{shift_digit}
 use Rattle.roster_state.proofs.AreaLaw.{last_of_digit}
-use Rattle.roster_partial.specs.Allowed.{IsAllowed, no_places}
+use Rattle.roster_partial.specs.Allowed.{AreTold, IsAllowed, told_after}
 use Rattle.roster_state.specs.Step.{next_of, step_cost}
 use Rattle.roster_offers.specs.Offers.{dearer}
 use Rattle.roster_partial.specs.declared.rows.Entry.{Entry}
@@ -72,20 +72,63 @@ module _ (c : Meaning) (last : Option Shift) (offers : List Offer) where
     all = λ by none. are.all by none ∙ ap (cheapest by) (take_all place offers (omega (arith, is)));
   }
 
--- ---- after each last shift
+-- ---- of each last shift
 
-module _ (c : Meaning) (offers : List Offer) (allowed : List (ArrayVec ℕ)) (digit : ℕ) (last : Option Shift) (places : ArrayVec ℕ) (long : length allowed ≡ digit) (number : shift_digit last ≡ digit) (is : IsAllowed c last offers places.items)
-    (old : (o : Option Shift) → shift_digit o < digit → IsAllowed c o offers (slice_index_or allowed (shift_digit o) no_places).items) where
-  pub each_last : (o : Option Shift) → shift_digit o < digit + 1 → IsAllowed c o offers (slice_index_or (allowed ++ places ∷ []) (shift_digit o) no_places).items
-  each_last o below = go (cases_lt (shift_digit o) digit)
+-- nothing is told
+abbrev NoneTold : List (Option (ArrayVec ℕ)) → Type 0
+NoneTold [] = 0 ≤ 0
+NoneTold (x ∷ xs) = (x ≡ None) × NoneTold xs
+
+none_at : (allowed : List (Option (ArrayVec ℕ))) (k : ℕ) → NoneTold allowed → slice_index_or allowed k None ≡ None
+none_at [] k none = refl
+none_at (x ∷ xs) zero none = none.0
+none_at (x ∷ xs) (suc k) none = none_at xs k none.1
+
+pub none_told : (c : Meaning) (offers : List Offer) (allowed : List (Option (ArrayVec ℕ))) → NoneTold allowed → AreTold c offers allowed
+none_told c offers allowed none last = subst (λ (o : Option (ArrayVec ℕ)). IfSome o (λ places. IsAllowed c last offers places.items)) (sym (none_at allowed (shift_digit last) none)) tt
+
+module _ (c : Meaning) (offers : List Offer) (allowed : List (Option (ArrayVec ℕ))) (last : Option Shift) (old : AreTold c offers allowed) where
+  -- what is told already is of no more places than there are offers
+  pub few_told : (counted size : ℕ) → size ≡ length offers → is_none (told_after allowed last) ≡ false → IsSomeAnd (told_after allowed last) (λ places. counted + length places.items ≤ counted + size)
+  few_told counted size is some = go (told_after allowed last) some (old last)
     where
-      go : (shift_digit o < digit) ⊎ (digit ≤ shift_digit o) → IsAllowed c o offers (slice_index_or (allowed ++ places ∷ []) (shift_digit o) no_places).items
-      go (inl before) = subst (λ (p : ArrayVec ℕ). IsAllowed c o offers p.items) (sym (get_or_append_left allowed (places ∷ []) no_places (shift_digit o) (omega (arith, before, long)))) (old o before)
-      go (inr from) =
-          let there : shift_digit o ≡ digit = omega (arith, below, from) in
-          let same : last ≡ o = last_of_digit last digit number ∙ sym (last_of_digit o digit there) in
-          let at : slice_index_or (allowed ++ places ∷ []) (shift_digit o) no_places ≡ places = ap (λ k. slice_index_or (allowed ++ places ∷ []) k no_places) (there ∙ sym long) ∙ get_or-append_seam allowed places [] no_places in
-          subst (λ (p : ArrayVec ℕ). IsAllowed c o offers p.items) (sym at) (subst (λ (l : Option Shift). IsAllowed c l offers places.items) same is)
+      go : (o : Option (ArrayVec ℕ)) → is_none o ≡ false → IfSome o (λ places. IsAllowed c last offers places.items) → IsSomeAnd o (λ places. counted + length places.items ≤ counted + size)
+      go None is_some told = absurd (false≢true (sym is_some))
+      go (Some places) is_some told = omega (arith, told.few, is)
+
+  module _ (places : ArrayVec ℕ) (inside : shift_digit last < length allowed) (is : IsAllowed c last offers places.items) where
+    there : (o : Option Shift) → shift_digit o ≡ shift_digit last → told_after (slice_set allowed (shift_digit last) (Some places)) o ≡ Some places
+    there o same = get_or-set_at allowed (shift_digit last) (shift_digit o) (Some places) None same inside
+
+    pub one_told : told_after (slice_set allowed (shift_digit last) (Some places)) last ≡ Some places
+    one_told = there last refl
+
+    pub told_more : AreTold c offers (slice_set allowed (shift_digit last) (Some places))
+    told_more o = go (cases_lt (shift_digit o) (shift_digit last)) (cases_lt (shift_digit last) (shift_digit o))
+      where
+        told : Option (ArrayVec ℕ) → Type 0
+        told of = IfSome of (λ (p : ArrayVec ℕ). IsAllowed c o offers p.items)
+
+        other : shift_digit o ≢ shift_digit last → told (told_after (slice_set allowed (shift_digit last) (Some places)) o)
+        other apart = subst told (sym (get_or-set_other allowed (shift_digit last) (shift_digit o) (Some places) None apart)) (old o)
+
+        go : (shift_digit o < shift_digit last) ⊎ (shift_digit last ≤ shift_digit o) → (shift_digit last < shift_digit o) ⊎ (shift_digit o ≤ shift_digit last) → told (told_after (slice_set allowed (shift_digit last) (Some places)) o)
+        go (inl below) _ = other (λ e. omega (arith, below, e))
+        go (inr _) (inl above) = other (λ e. omega (arith, above, e))
+        go (inr least) (inr most) =
+            let same : shift_digit o ≡ shift_digit last = omega (arith, least, most) in
+            let one : last ≡ o = last_of_digit last (shift_digit last) refl ∙ sym (last_of_digit o (shift_digit last) same) in
+            subst told (sym (there o same)) (subst (λ (l : Option Shift). IsAllowed c l offers places.items) one is)
+
+-- what was told, as it is read
+module _ (c : Meaning) (last : Option Shift) (offers : List Offer) (xs : List ℕ) (after before size : ℕ) where
+  pub read_counts : (o : Option (ArrayVec ℕ)) → IsSomeAnd o (λ places. after + length places.items ≤ before + size) → IfSome o (λ places. xs ≡ places.items) → after + length xs ≤ before + size
+  read_counts None counts is = absurd counts
+  read_counts (Some places) counts is = omega (arith, counts, ap length is)
+
+  pub read_allowed : (o : Option (ArrayVec ℕ)) → IsSomeAnd o (λ places. after + length places.items ≤ before + size) → IfSome o (λ places. IsAllowed c last offers places.items) → IfSome o (λ places. xs ≡ places.items) → IsAllowed c last offers xs
+  read_allowed None counts allowed is = absurd counts
+  read_allowed (Some places) counts allowed is = subst (IsAllowed c last offers) (sym is) allowed
 
 -- ---- a partial row
 

@@ -1,5 +1,5 @@
 -- Lists of partial rows: one left out.
-use Rattle.std.proofs.Common.{Bool, if◌then◌else◌, true, false, ◌≡◌, ◌∙◌, ◌+◌, ◌-◌, ◌<◌, ◌≤◌, ◌⊎◌, ℕ, zero, suc, inl, inr, ap, arith, refl, subst, sym, List, [], ◌∷◌, ◌++◌, length, Some, None, append-nil, append_assoc, slice_index_or, slice_set}
+use Rattle.std.proofs.Common.{◌≡◌, ◌∙◌, ◌+◌, ◌-◌, ◌<◌, ◌≤◌, ◌⊎◌, ℕ, zero, suc, inl, inr, ap, arith, refl, subst, sym, List, [], ◌∷◌, ◌++◌, length, Some, None, append-nil, append_assoc, slice_index_or, slice_set}
 use Rattle.std.specs.List.{refill}
 use Rattle.std.proofs.Common.{drop, take}
 use borrow.Rule.Slice.PartMut.{put_mid}
@@ -216,13 +216,6 @@ module _ (n first : ℕ) (old v part : List Entry) (all : n ≡ length old) (ins
 
     pub length_and_one : length new ≡ length old + 1
     length_and_one = omega (arith, size_of (part ++ e ∷ []) new and_one, length-append part (e ∷ []), long, inside, ap length same)
-
--- what a list is after one more was put in or not
-pub one_more : (is_ok : Bool) (old more new : List Entry) → is_ok ≡ true → new ≡ (if is_ok then more else old) → new ≡ more
-one_more is_ok old more new ok is = is ∙ ap (λ (b : Bool). if b then more else old) ok
-
-pub no_more : (is_ok : Bool) (old more new : List Entry) → is_ok ≡ false → new ≡ (if is_ok then more else old) → new ≡ old
-no_more is_ok old more new ok is = is ∙ ap (λ (b : Bool). if b then more else old) ok
 
 -- what stands after a place, as a part
 pub part_is : (first : ℕ) (old v : List Entry) → v ≡ old → take (length v - first) (drop first v) ≡ drop first old

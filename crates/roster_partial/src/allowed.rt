@@ -1,46 +1,71 @@
 //! Which offers of a day may follow a last shift.
 
-ghost use Rattle.std.specs.Prelude.{◌≡◌, ◌<◌, ◌≤◌, Option, length, slice_index_or};
-ghost use Rattle.roster_instance.specs.declared.choice.Shift.{Shift};
-ghost use Rattle.roster_state.specs.Codes.{shift_digit, shift_numbered};
-ghost use Rattle.roster_partial.specs.Allowed.{IsAllowed, no_places};
+ghost use Rattle.std.specs.Prelude.{◌≡◌, ◌+◌, ◌<◌, ◌≤◌, IfSome, IsSome, IsSomeAnd, List, length};
+ghost use Rattle.roster_bundle.specs.Limits.{greatest_u64};
+ghost use Rattle.roster_instance.specs.Meaning.{Meaning};
+ghost use Rattle.roster_offers.specs.declared.offer.Offer.{Offer};
+ghost use Rattle.roster_state.specs.Codes.{shift_digit};
+ghost use Rattle.roster_partial.specs.Allowed.{AreTold, IsAllowed, told_after};
 ghost use Rattle.roster_partial.specs.Rates.{most_offers};
 
 use arrayvec::ArrayVec;
 use roster_offers::{MOST_OFFERS, Offer};
-use roster_rules::{Case, Shift};
-use roster_state::AREAS;
+use roster_rules::Case;
+use roster_state::{AREAS, Meter, State, is_forbidden};
 
 /// Places of offers among those of a day.
 pub type Places = ArrayVec<u8, MOST_OFFERS>;
 
-/// For each last shift by its number, 0 where there is none, the places of the offers that may follow it.
-pub fn allowed_on(case: &Case, lasts: u32, offers: &[Offer]) -> ArrayVec<Places, AREAS>
-    requires lasts { lasts ≤ 9 }
-    requires few { length offers.now ≤ most_offers }
-    ensures long { length result.items ≡ lasts }
-    ensures each { (last : Option Shift) → shift_digit last < lasts → IsAllowed case.now last offers.now (slice_index_or result.items (shift_digit last) no_places).items }
+/// For each last shift by its number, 0 where there is none, the places of the offers that may follow it; none where no partial row with
+/// it has come yet.
+pub type Allowed = [Option<Places>; AREAS];
+
+/// What is told before the first partial row of a day.
+pub fn none_allowed() -> Allowed
+    ensures long { length result ≡ 9 }
+    ensures each { (case : Meaning) (offers : List Offer) → AreTold case offers result }
 {
-    let mut allowed = ArrayVec::new();
-    for digit in 0..lasts {
-        let last = if digit == 0 {
-            None
-        } else {
-            Some(Shift((digit - 1) as u8))
-        };
-        allowed.push(allowed_after(case, last, offers));
-    }
-    allowed
+    [None, None, None, None, None, None, None, None, None]
 }
 
-/// The places of the offers that may follow a last shift.
-fn allowed_after(case: &Case, last: Option<Shift>, offers: &[Offer]) -> Places
+/// Looks which offers may follow the last shift of a state, where no state with it has come before. The meter counts each that may not.
+/// So with each that may there are no more than the offers.
+pub fn allow(case: &Case, state: State, offers: &[Offer], allowed: &mut Allowed, meter: &mut Meter)
+    requires digit { shift_digit state.last < length allowed.old }
     requires few { length offers.now ≤ most_offers }
-    ensures { IsAllowed case.now last offers.now result.items }
+    requires room { meter.old + length offers.now ≤ greatest_u64 }
+    requires each { AreTold case.now offers.now allowed.old }
+    ensures long { length allowed.new ≡ length allowed.old }
+    ensures each { AreTold case.now offers.now allowed.new }
+    ensures told { IsSomeAnd (told_after allowed.new state.last) (λ places. meter.new + length places.items ≤ meter.old + length offers.now) }
+    ensures counted { meter.old ≤ meter.new }
+{
+    let digit = state.last_number() as usize;
+    if allowed[digit].is_none() {
+        allowed[digit] = Some(allowed_after(case, state, offers, meter));
+    }
+}
+
+/// The places of the offers that may follow the last shift of a state, once they are told.
+pub fn places_after(allowed: &Allowed, state: State) -> &[u8]
+    requires digit { shift_digit state.last < length allowed.now }
+    requires told { IsSome (told_after allowed.now state.last) }
+    ensures { IfSome (told_after allowed.now state.last) (λ places. result.now ≡ places.items) }
+{
+    let places = allowed[state.last_number() as usize].as_ref();
+    places.unwrap().as_slice()
+}
+
+/// The places of the offers that may follow the last shift of a state. The meter counts each that may not.
+fn allowed_after(case: &Case, state: State, offers: &[Offer], meter: &mut Meter) -> Places
+    requires few { length offers.now ≤ most_offers }
+    requires room { meter.old + length offers.now ≤ greatest_u64 }
+    ensures allowed { IsAllowed case.now state.last offers.now result.items }
+    ensures counted { meter.new + length result.items ≡ meter.old + length offers.now }
 {
     let mut places = ArrayVec::new();
     for place in 0..offers.len() {
-        if !case.forbids_next(last, offers[place].choice.shift()) {
+        if !is_forbidden(case, state, offers[place].choice.shift(), meter) {
             places.push(place as u8);
         }
     }

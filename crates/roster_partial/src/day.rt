@@ -1,6 +1,6 @@
 //! A day of the search by partial rows.
 
-ghost use Rattle.std.specs.Prelude.{◌≡◌, ◌+◌, ◌-◌, ◌*◌, ◌<◌, ◌≤◌, ℕ, suc, [], ◌∷◌, ◌++◌, All, List, Some, drop, length, take, true, false, is_some};
+ghost use Rattle.std.specs.Prelude.{◌≡◌, ◌+◌, ◌-◌, ◌*◌, ◌<◌, ◌≤◌, ℕ, suc, [], ◌∷◌, ◌++◌, All, List, Some, drop, length, take, true, false, is_some, vec_capacity};
 ghost use Rattle.roster_bundle.specs.Limits.{greatest_u64};
 ghost use Rattle.roster_instance.specs.Meaning.{day_count, nurse_count};
 ghost use Rattle.roster_offers.specs.Cheapest.{Priced, cheaper, cheapest};
@@ -139,11 +139,13 @@ fn put(
     requires offer { link.offer < 256 }
     requires linked { (e : Entry) → e.before ≡ link.before → e.offer ≡ link.offer → IsLinked days.offers days.earlier days.day e }
     requires entries { All (IsEntryOf days) (drop at.end rows.old.items) }
+    requires spare { most_rows ≤ vec_capacity rows.old }
     ensures front { take at.end rows.new.items ≡ take at.end rows.old.items }
     ensures length { at.end ≤ length rows.new.items }
     ensures few { length rows.new.items ≤ length rows.old.items + 1 }
     ensures entries { All (IsEntryOf days) (drop at.end rows.new.items) }
     ensures best { result ≡ true → (p : Priced (List Offer)) → ((e : Entry) → e.state ≡ reached.0 → e.cost ≡ reached.1 → e.before ≡ link.before → e.offer ≡ link.offer → best_of days e ≡ p) → cheapest (best_of days) (drop at.end rows.new.items) ≡ cheaper (cheapest (best_of days) (drop at.end rows.old.items)) p }
+    ensures spare { vec_capacity rows.new ≡ vec_capacity rows.old }
 {
     let Ok(before) = u16::try_from(link.before) else {
         return false;
@@ -164,9 +166,7 @@ fn put(
     if end >= limited.most {
         return false;
     }
-    if rows.push(more).is_err() {
-        return false;
-    }
+    rows.push_reserved(more);
     seen[slot] = (end - at.end) as u16;
     true
 }
@@ -192,12 +192,14 @@ pub fn go_on(
     requires ahead { IsAhead limited.now at.day (entry_numbered (take at.end rows.old.items) going.link.before).state going.ahead }
     requires entries { All (IsEntryOf (days_on limited.now (suc at.day) (take at.end rows.old.items))) (drop at.end rows.old.items) }
     requires room { meter.old < greatest_u64 }
+    requires spare { most_rows ≤ vec_capacity rows.old }
     ensures front { take at.end rows.new.items ≡ take at.end rows.old.items }
     ensures length { at.end ≤ length rows.new.items }
     ensures entries { All (IsEntryOf (days_on limited.now (suc at.day) (take at.end rows.old.items))) (drop at.end rows.new.items) }
     ensures best { result ≡ true → cheapest (best_of (days_on limited.now (suc at.day) (take at.end rows.old.items))) (drop at.end rows.new.items) ≡ cheaper (cheapest (best_of (days_on limited.now (suc at.day) (take at.end rows.old.items))) (drop at.end rows.old.items)) (best_by (days_on limited.now (suc at.day) (take at.end rows.old.items)) at.day (entry_numbered (take at.end rows.old.items) going.link.before) (offer_numbered (offers_on limited.now.floors.search.offers.now at.day) going.link.offer)) }
     ensures counted { meter.new ≡ meter.old + 1 }
     ensures few { length rows.new.items ≤ length rows.old.items + 1 }
+    ensures spare { vec_capacity rows.new ≡ vec_capacity rows.old }
 {
     let RowSearch {
         case,

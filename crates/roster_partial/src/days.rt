@@ -1,12 +1,12 @@
 //! The search by partial rows over all days, within a limit.
 
-ghost use Rattle.std.specs.Prelude.{◌≡◌, ◌+◌, ◌<◌, ◌≤◌, ℕ, [], All, IfSome, List, drop, length, option_map, take, true};
+ghost use Rattle.std.specs.Prelude.{◌≡◌, ◌+◌, ◌<◌, ◌≤◌, ℕ, [], All, IfSome, List, drop, length, option_map, take, true, vec_capacity};
 ghost use Rattle.roster_instance.specs.Meaning.{day_count};
 ghost use Rattle.roster_offers.specs.Cheapest.{cheapest};
 ghost use Rattle.roster_offers.specs.Offers.{choices_of};
 ghost use Rattle.roster_offers.specs.Lists.{AreOffers, IsFound, best_over, no_row, offers_on};
 ghost use Rattle.roster_state.specs.Codes.{fits_sizes, sizes_of};
-ghost use Rattle.roster_partial.specs.Rows.{IsEntryOf, IsLinked, best_of, entry_numbered, offers_to, within};
+ghost use Rattle.roster_partial.specs.Rows.{IsEntryOf, IsLinked, best_of, entry_numbered, most_rows, offers_to, within};
 ghost use Rattle.roster_partial.specs.Searches.{IsSearch, days_on};
 ghost use Rattle.roster_partial.specs.declared.days.Within.TheVariants.{Found};
 
@@ -41,16 +41,16 @@ pub fn row_within(
     requires search { IsSearch limited.now }
     requires row_room { day_count limited.now.floors.search.case.now ≤ length row.old }
     requires room { meter.old ≤ most }
+    requires spare { most_rows ≤ vec_capacity rows.old }
     ensures best { (cost : ℕ) → result ≡ Found cost → IsFound (best_over limited.now.floors.search.case.now limited.now.floors.search.nurse (offers_on limited.now.floors.search.offers.now)) cost (take (day_count limited.now.floors.search.case.now) row.new) }
     ensures below { (cost : ℕ) → result ≡ Found cost → cost < no_row }
     ensures each_day { (cost : ℕ) → result ≡ Found cost → meter.old + day_count limited.now.floors.search.case.now ≤ meter.new }
     ensures counted { (meter.old ≤ meter.new) × (meter.new ≤ most) }
     ensures length { length row.new ≡ length row.old }
+    ensures spare { vec_capacity rows.new ≡ vec_capacity rows.old }
 {
     rows.clear();
-    if rows.push(start_entry(limited)).is_err() {
-        return Within::Full;
-    }
+    rows.push_reserved(start_entry(limited));
     let Some(first) = add_days(limited, most, rows, seen, meter) else {
         return Within::Full;
     };
@@ -91,11 +91,13 @@ fn add_days(
     requires search { IsSearch limited.now }
     requires room { meter.old ≤ most }
     requires entries { All (IsEntryOf (days_on limited.now 0 [])) rows.old.items }
+    requires spare { most_rows ≤ vec_capacity rows.old }
     ensures place { IfSome result (λ first. first ≤ length rows.new.items) }
     ensures entries { IfSome result (λ first. All (IsEntryOf (days_on limited.now (day_count limited.now.floors.search.case.now) (take first rows.new.items))) (drop first rows.new.items)) }
     ensures best { IfSome result (λ first. cheapest (best_of (days_on limited.now (day_count limited.now.floors.search.case.now) (take first rows.new.items))) (drop first rows.new.items) ≡ cheapest (best_of (days_on limited.now 0 [])) rows.old.items) }
     ensures each_day { IfSome result (λ first. first < length rows.new.items → meter.old + day_count limited.now.floors.search.case.now ≤ meter.new) }
     ensures counted { (meter.old ≤ meter.new) × (meter.new ≤ most) }
+    ensures spare { vec_capacity rows.new ≡ vec_capacity rows.old }
 {
     let search = &limited.floors.search;
     let mut first = 0;

@@ -1,6 +1,6 @@
 //! The search over a table of offers, by partial rows first.
 
-ghost use Rattle.std.specs.Prelude.{◌≡◌, ◌+◌, ◌-◌, ◌*◌, ◌<◌, ◌≤◌, ℕ, IfSome, IsSome, length, take};
+ghost use Rattle.std.specs.Prelude.{◌≡◌, ◌+◌, ◌-◌, ◌*◌, ◌<◌, ◌≤◌, ℕ, IfSome, IsSome, length, take, vec_capacity};
 ghost use Rattle.roster_bundle.specs.Limits.{greatest_u64};
 ghost use Rattle.roster_instance.specs.Meaning.{day_count, nurse_count};
 ghost use Rattle.roster_instance.specs.Sizes.{choice_count, state_count};
@@ -10,6 +10,7 @@ ghost use Rattle.roster_search.specs.Search.{HasTables};
 ghost use Rattle.roster_state.specs.Codes.{sizes_of};
 ghost use Rattle.roster_floors.specs.Floors.{AreFloors, AreSmall, floor_count};
 ghost use Rattle.roster_partial.specs.Counts.{CountsSearch};
+ghost use Rattle.roster_partial.specs.Rows.{most_rows};
 ghost use Rattle.roster_partial.specs.declared.days.Within.TheVariants.{Found};
 
 use crate::day::LimitedSearch;
@@ -39,6 +40,8 @@ pub struct PartialRoom {
     rows: Vec<Entry>,
     seen: Seen,
     guesses: Guesses,
+    // A search asks for no memory.
+    ghost spare: { most_rows ≤ vec_capacity rows },
 }
 
 // By hand, so that who drops the room has one call to prove.
@@ -260,11 +263,13 @@ fn search_within(
     requires limit { attempt.now.limit < no_row }
     requires row_room { day_count search.now.case.now ≤ length row.old }
     requires room { meter.old ≤ attempt.now.most }
+    requires spare { most_rows ≤ vec_capacity rows.old }
     ensures best { (cost : ℕ) → result ≡ Found cost → IsFound (best_over search.now.case.now search.now.nurse (offers_on search.now.offers.now)) cost (take (day_count search.now.case.now) row.new) }
     ensures below { (cost : ℕ) → result ≡ Found cost → cost < no_row }
     ensures each_day { (cost : ℕ) → result ≡ Found cost → meter.old + day_count search.now.case.now ≤ meter.new }
     ensures counted { (meter.old ≤ meter.new) × (meter.new ≤ attempt.now.most) }
     ensures length { length row.new ≡ length row.old }
+    ensures spare { vec_capacity rows.new ≡ vec_capacity rows.old }
 {
     let RowSearch {
         case,

@@ -3,6 +3,7 @@
 
 mod area;
 mod block;
+mod look;
 mod meter;
 mod ranges;
 mod row;
@@ -13,6 +14,7 @@ mod worked;
 
 pub use area::{AREAS, Area, NOWHERE, Span, areas_of, widen};
 pub use block::{Block, BlockStep, extend_block};
+pub use look::is_forbidden;
 pub use meter::Meter;
 pub use ranges::Ranges;
 pub use row::row_cost;

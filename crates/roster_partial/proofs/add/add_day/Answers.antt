@@ -1,29 +1,29 @@
-use Rattle.std.proofs.Common.{◌≡◌, ◌∙◌, ◌+◌, ◌-◌, ◌*◌, ◌<◌, ◌≤◌, [], ap, arith, drop, length, refl, slice_index_or, subst, suc, sym, take, true, ℕ}
+use Rattle.std.proofs.Common.{◌≡◌, ◌∙◌, ◌+◌, ◌-◌, ◌*◌, ◌<◌, ◌≤◌, [], ap, arith, drop, length, refl, subst, suc, sym, take, true}
 use Rattle.std.specs.List.{All}
 use Rattle.std.proofs.Math.Path.{transport}
-use Rattle.arrayvec.specs.ArrayVec.{ArrayVec}
-use Rattle.std.proofs.lemmas.List.{drop_all, get_or_default, length-drop, take_all}
+use Rattle.std.proofs.lemmas.List.{drop_all, length-drop, take_all}
 use Rattle.std.proofs.Math.Seq.{take-length}
 use Rattle.roster_bundle.specs.Limits.{greatest_u64}
 use Rattle.roster_offers.specs.Cheapest.{cheaper, cheapest}
 use Rattle.roster_offers.specs.Lists.{offers_on}
 use Rattle.roster_partial.specs.Rows.{IsEntryOf, best_of, entry_numbered}
 use Rattle.roster_partial.specs.Searches.{days_on}
-use Rattle.roster_state.specs.Codes.{Sizes, fits_sizes, shift_digit, sizes_of}
+use Rattle.roster_state.specs.Codes.{fits_sizes, shift_digit, sizes_of}
 use Rattle.roster_state.proofs.CodeLemmas.{fits-all}
 use Rattle.roster_partial.specs.declared.rows.Entry.{Entry}
-use Rattle.roster_partial.specs.Allowed.{IsAllowed, no_places}
+use Rattle.roster_partial.specs.Allowed.{AreTold, IsAllowed, told_after}
 use Rattle.roster_partial.proofs.StepLaws.{read_day}
+use Rattle.roster_partial.proofs.AllowedLaw.{read_allowed, read_counts}
 use Rattle.roster_partial.proofs.AddLaws.{cheapest_of_all, count_more, entry_of_day, next_entry, read_entry, room_left}
 use Rattle.roster_partial.proofs.add.add_day.Goals as goal
-use Rattle.roster_partial.proofs.add.add_day.Goals.{After-index}
+use Rattle.roster_partial.proofs.add.add_day.Goals.{After-index, After-places_after}
 
 -- the partial row as it is read
 read : (c : After-index) → c.index.result.now ≡ entry_numbered (take c.len.result c.befores.rows.items) c.befores.before
 read c = c.index.ensures ∙ read_entry c.befores.rows.items c.befores.rows.items c.len.result c.befores.before c.index.result.now refl (omega (arith, c.befores-test.true)) (omega (arith, c.befores.invariant.long, c.len.ensures ∙ c.args.rows.now.ok.0))
 
 -- its last shift is one of those that are told apart
-told : (c : After-index) → shift_digit c.index.result.now.state.last < c.last-lasts.result
+told : (c : After-index) → shift_digit c.index.result.now.state.last < 9
 told c =
     let limited = c.args.limited.now in
     let search = limited.floors.search in
@@ -33,10 +33,38 @@ told c =
     let from = entry_of_day limited c.args.day c.args.first rows c.requires.first c.befores.before (omega (arith, c.befores.auto.before)) (omega (arith, c.befores-test.true, (c.len.ensures ∙ c.args.rows.now.ok.0))) c.requires.entries in
     let e : entry_numbered rows c.befores.before ≡ c.index.result.now = sym (read c ∙ ap (λ xs. entry_numbered xs c.befores.before) front) in
     let fits : shift_digit c.index.result.now.state.last < z.last = (fits-all z c.index.result.now.state (subst (λ (e : Entry). fits_sizes z e.state ≡ true) e from.fits)).last in
-    omega (arith, fits, c.last-lasts.ensures.last, ap (λ (z : Sizes). z.last) c.requires.search.floors.ranges)
+    omega (arith, fits, c.keeps_limits.ensures.shifts)
 
-pub bounds-deref-last : goal.bounds-deref-last
-bounds-deref-last c = omega (arith, told (goal.at.bounds-deref-last c).After-index, c.last_number-last.ensures.number, c.allowed_on-allowed.ensures.long, ap length c.deref.ensures.0)
+-- the day's offers, as they are read
+offers : (c : After-index) → c.as_slice-offers.result.now ≡ offers_on c.args.limited.now.floors.search.offers.now c.args.day
+offers c = c.as_slice-offers.ensures.value ∙ sym (read_day c.args.limited.now.floors.search.offers.now c.args.day c.index-offers-day.result (omega (arith, c.requires.day, c.requires.search.floors.offers.days)) c.index-offers-day.is)
+
+-- what is counted with the offers that may follow
+counts : (c : After-places_after) → c.as_slice-offers.result.now ≡ offers_on c.args.limited.now.floors.search.offers.now c.args.day → c.allow.new.meter + length c.places_after.result.now ≤ c.befores.meter + length (offers_on c.args.limited.now.floors.search.offers.now c.args.day)
+counts c same =
+    let search = c.args.limited.now.floors.search in
+    let last = c.index.result.now.state.last in
+    omega (arith, ap length same, read_counts search.case.now last c.as_slice-offers.result.now c.places_after.result.now c.allow.new.meter c.befores.meter (length c.as_slice-offers.result.now) (told_after c.allow.new.allowed last) c.allow.ensures.told c.places_after.ensures)
+
+pub allow-requires-clause-digit : goal.allow-requires-clause-digit
+allow-requires-clause-digit c = omega (arith, told (goal.at.allow-requires-clause-digit c).After-index, c.befores.invariant.lasts)
+
+pub allow-requires-clause-each : goal.allow-requires-clause-each
+allow-requires-clause-each c =
+    subst (λ xs. AreTold c.args.limited.now.floors.search.case.now xs c.befores.allowed) (sym (offers (goal.at.allow-requires-clause-each c).After-index)) c.befores.invariant.told
+
+pub allow-requires-clause-room : goal.allow-requires-clause-room
+allow-requires-clause-room c =
+    let size = length (offers_on c.args.limited.now.floors.search.offers.now c.args.day) in
+    omega (
+      arith,
+      ap length (offers (goal.at.allow-requires-clause-room c).After-index),
+      room_left c.args.meter.now c.befores.meter (c.befores.before - c.args.first) (length c.args.rows.now.items - c.args.first) size greatest_u64
+          (omega (arith, c.befores.auto.before, c.befores-test.true, c.len.ensures ∙ c.args.rows.now.ok.0)) c.befores.invariant.counted c.requires.room,
+    )
+
+pub places_after-requires-clause-digit : goal.places_after-requires-clause-digit
+places_after-requires-clause-digit c = omega (arith, told (goal.at.places_after-requires-clause-digit c).After-index, c.befores.invariant.lasts, c.allow.ensures.long)
 
 pub befores-init : goal.befores-init
 befores-init c =
@@ -52,6 +80,9 @@ befores-init c =
       best = ap (cheapest (best_of (days_on limited (suc c.args.day) rows))) none ∙ sym (ap (λ n. cheapest (best_of (days_on limited c.args.day rows)) (take n (drop first rows))) no_days);
       counted = omega arith;
       each = omega arith;
+      spare = refl;
+      lasts = c.none_allowed-allowed.ensures.long;
+      told = c.none_allowed-allowed.ensures.each c.args.limited.now.floors.search.case.now (offers_on c.args.limited.now.floors.search.offers.now c.args.day);
     }
 
 pub go_on_by_all-requires-clause-search : goal.go_on_by_all-requires-clause-search
@@ -59,26 +90,22 @@ go_on_by_all-requires-clause-search c = c.requires.search
 
 pub go_on_by_all-requires-clause-room : goal.go_on_by_all-requires-clause-room
 go_on_by_all-requires-clause-room c =
-    room_left c.args.meter.now c.befores.meter (c.befores.before - c.args.first) (length c.args.rows.now.items - c.args.first) (length (offers_on c.args.limited.now.floors.search.offers.now c.args.day)) greatest_u64
-    (omega (arith, c.befores.auto.before, c.befores-test.true, c.len.ensures ∙ c.args.rows.now.ok.0)) c.befores.invariant.counted c.requires.room
+    omega (
+      arith,
+      counts (goal.at.go_on_by_all-requires-clause-room c).After-places_after (offers (goal.at.go_on_by_all-requires-clause-room c).After-index),
+      room_left c.args.meter.now c.befores.meter (c.befores.before - c.args.first) (length c.args.rows.now.items - c.args.first) (length (offers_on c.args.limited.now.floors.search.offers.now c.args.day)) greatest_u64
+          (omega (arith, c.befores.auto.before, c.befores-test.true, c.len.ensures ∙ c.args.rows.now.ok.0)) c.befores.invariant.counted c.requires.room,
+    )
 
 pub go_on_by_all-requires-clause-allowed : goal.go_on_by_all-requires-clause-allowed
 go_on_by_all-requires-clause-allowed c =
-    let limited = c.args.limited.now in
-    let search = limited.floors.search in
+    let search = c.args.limited.now.floors.search in
     let k = search.case.now in
     let of = (goal.at.go_on_by_all-requires-clause-allowed c).After-index in
-    let s = c.index.result.now.state in
-    let offers : c.as_slice.result.now ≡ offers_on search.offers.now c.args.day = c.as_slice.ensures.value ∙ sym (read_day search.offers.now c.args.day c.index-offers-day.result (omega (arith, c.requires.day, c.requires.search.floors.offers.days)) c.index-offers-day.is) in
-    let digit = shift_digit s.last in
-    let all = c.allowed_on-allowed.result.items in
-    let one = c.index-deref-last.result in
-    let inside : digit < length all = omega (arith, told of, c.allowed_on-allowed.ensures.long) in
-    let at : one ≡ slice_index_or all digit no_places = c.index-deref-last.is ∙ ap (λ xs. slice_index_or xs c.last_number-last.result one) c.deref.ensures.0 ∙ ap (λ d. slice_index_or all d one) c.last_number-last.ensures.number ∙ get_or_default all digit one no_places inside in
-    let places : c.as_slice-in-befores.result.now ≡ (slice_index_or all digit no_places).items = c.as_slice-in-befores.ensures.value ∙ ap (λ (p : ArrayVec ℕ). p.items) at in
-    subst (λ (e : Entry). IsAllowed k e.state.last (offers_on search.offers.now c.args.day) c.as_slice-in-befores.result.now) (read of)
-    (subst (λ xs. IsAllowed k s.last xs c.as_slice-in-befores.result.now) offers
-    (subst (IsAllowed k s.last c.as_slice.result.now) (sym places) (c.allowed_on-allowed.ensures.each s.last (told of))))
+    let last = c.index.result.now.state.last in
+    subst (λ (e : Entry). IsAllowed k e.state.last (offers_on search.offers.now c.args.day) c.places_after.result.now) (read of)
+    (subst (λ xs. IsAllowed k last xs c.places_after.result.now) (offers of)
+    (read_allowed k last c.as_slice-offers.result.now c.places_after.result.now c.allow.new.meter c.befores.meter (length c.as_slice-offers.result.now) (told_after c.allow.new.allowed last) c.allow.ensures.told (c.allow.ensures.each last) c.places_after.ensures))
 
 pub go_on_by_all-requires-clause-entries : goal.go_on_by_all-requires-clause-entries
 go_on_by_all-requires-clause-entries c =
@@ -111,10 +138,10 @@ returns-then-not-go_on_by_all-clause-counted c =
     let size = length (offers_on c.args.limited.now.floors.search.offers.now c.args.day) in
     let more = c.befores.before - c.args.first in
     let all = length c.args.rows.now.items - c.args.first in
-    omega (arith, c.go_on_by_all.ensures.counted, room_left c.args.meter.now c.befores.meter more all size (c.args.meter.now + all * size) (omega (arith, c.befores.auto.before, c.befores-test.true, c.len.ensures ∙ c.args.rows.now.ok.0)) c.befores.invariant.counted (omega arith))
+    omega (arith, c.go_on_by_all.ensures.counted, counts (goal.at.returns-then-not-go_on_by_all-clause-counted c).After-places_after (offers (goal.at.returns-then-not-go_on_by_all-clause-counted c).After-index), room_left c.args.meter.now c.befores.meter more all size (c.args.meter.now + all * size) (omega (arith, c.befores.auto.before, c.befores-test.true, c.len.ensures ∙ c.args.rows.now.ok.0)) c.befores.invariant.counted (omega arith))
 
 pub returns-then-not-go_on_by_all-clause-each : goal.returns-then-not-go_on_by_all-clause-each
-returns-then-not-go_on_by_all-clause-each c = omega (arith, c.befores.invariant.each, c.go_on_by_all.ensures.each)
+returns-then-not-go_on_by_all-clause-each c = omega (arith, c.befores.invariant.each, c.go_on_by_all.ensures.each, c.allow.ensures.counted)
 
 pub befores-preserved : goal.befores-preserved
 befores-preserved c =
@@ -138,8 +165,11 @@ befores-preserved c =
       long = omega (arith, long, c.go_on_by_all.ensures.length);
       entries = transport (λ i. All (IsEntryOf (days_on limited (suc day) (front i))) (drop (long i) now)) c.go_on_by_all.ensures.entries;
       best = next_entry (best_of (days_on limited day rows)) rows first before _ _ from below c.befores.invariant.best next;
-      counted = count_more c.args.meter.now c.befores.meter c.go_on_by_all.new.meter (length (offers_on limited.floors.search.offers.now day)) (before - first) (before + 1 - first) (omega (arith, from)) c.befores.invariant.counted c.go_on_by_all.ensures.counted;
-      each = omega (arith, c.befores.invariant.each, c.go_on_by_all.ensures.each);
+      counted = count_more c.args.meter.now c.befores.meter c.go_on_by_all.new.meter (length (offers_on limited.floors.search.offers.now day)) (before - first) (before + 1 - first) (omega (arith, from)) c.befores.invariant.counted (omega (arith, c.go_on_by_all.ensures.counted, counts (goal.at.befores-preserved c).After-places_after (offers (goal.at.befores-preserved c).After-index)));
+      each = omega (arith, c.befores.invariant.each, c.go_on_by_all.ensures.each, c.allow.ensures.counted);
+      spare = c.go_on_by_all.ensures.spare ∙ c.befores.invariant.spare;
+      lasts = c.allow.ensures.long ∙ c.befores.invariant.lasts;
+      told = subst (λ xs. AreTold limited.floors.search.case.now xs c.allow.new.allowed) (offers (goal.at.befores-preserved c).After-index) c.allow.ensures.each;
     }
 
 pub returns-clause-best : goal.returns-clause-best

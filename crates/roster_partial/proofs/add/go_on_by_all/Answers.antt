@@ -39,6 +39,7 @@ offers-init c = record {
   from = omega arith;
   meter = omega arith;
   each = omega arith;
+  spare = refl;
 }
 
 pub go_on-requires-clause-search : goal.go_on-requires-clause-search
@@ -58,13 +59,13 @@ go_on-requires-clause-low c =
     subst (λ old. (entry_numbered old c.args.onward.now.before).cost < no_row) (sym c.offers.invariant.front) (omega (arith, ap (λ (e : Entry). e.cost) is, c.if-from-limited.false, c.requires.search.limit))
 
 pub go_on-requires-clause-room : goal.go_on-requires-clause-room
-go_on-requires-clause-room c = omega (arith, c.offers.invariant.meter, c.offers-test.true, c.requires.allowed.few, c.requires.room)
+go_on-requires-clause-room c = omega (arith, c.offers.invariant.meter, c.offers-test.true, c.requires.room)
 
 pub returns-then-not-go_on-clause-front : goal.returns-then-not-go_on-clause-front
 returns-then-not-go_on-clause-front c = c.go_on.ensures.front ∙ c.offers.invariant.front
 
 pub returns-then-not-go_on-clause-counted : goal.returns-then-not-go_on-clause-counted
-returns-then-not-go_on-clause-counted c = omega (arith, c.go_on.ensures.counted, c.offers.invariant.meter, c.offers-test.true, c.requires.allowed.few)
+returns-then-not-go_on-clause-counted c = omega (arith, c.go_on.ensures.counted, c.offers.invariant.meter, c.offers-test.true)
 
 pub returns-then-not-go_on-clause-each : goal.returns-then-not-go_on-clause-each
 returns-then-not-go_on-clause-each c = omega (arith, c.go_on.ensures.counted, c.go_on.ensures.few, c.offers.invariant.each)
@@ -76,7 +77,7 @@ pub returns-clause-entries : goal.returns-clause-entries
 returns-clause-entries c = c.offers.invariant.entries
 
 pub returns-clause-counted : goal.returns-clause-counted
-returns-clause-counted c = omega (arith, c.offers.invariant.meter, c.offers.auto.next-end, c.requires.allowed.few)
+returns-clause-counted c = omega (arith, c.offers.invariant.meter, c.offers.auto.next-end)
 
 pub returns-clause-each : goal.returns-clause-each
 returns-clause-each c = c.offers.invariant.each
@@ -123,6 +124,7 @@ offers-preserved c =
       from = omega (arith, c.go_on.ensures.counted, c.offers.invariant.from);
       meter = omega (arith, c.go_on.ensures.counted, c.offers.invariant.meter);
       each = omega (arith, c.go_on.ensures.counted, c.go_on.ensures.few, c.offers.invariant.each);
+      spare = c.go_on.ensures.spare ∙ c.offers.invariant.spare;
     }
 
 pub returns-clause-best : goal.returns-clause-best

@@ -1,4 +1,4 @@
-use Rattle.std.proofs.Common.{◌≡◌, ◌+◌, ◌≤◌, drop, length, map, suc, take}
+use Rattle.std.proofs.Common.{◌≡◌, ◌+◌, ◌≤◌, drop, length, map, suc, take, vec_capacity}
 use Rattle.std.specs.List.{All}
 use Rattle.roster_offers.specs.Cheapest.{cheaper, cheapest}
 use Rattle.roster_offers.specs.Lists.{offers_on}
@@ -16,4 +16,5 @@ invariant-offers l = record {
   from : l.fn.meter ≤ l.meter;
   meter : l.meter ≤ l.fn.meter + l.next;
   each : length l.rows.items + l.fn.meter ≤ length l.fn.rows.items + l.meter;
+  spare : vec_capacity l.rows ≡ vec_capacity l.fn.rows;
 }

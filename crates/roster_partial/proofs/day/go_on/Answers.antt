@@ -134,7 +134,7 @@ put-requires c =
     let small : c.args.going.link.offer < 256 = omega (arith, c.requires.offer, ap length read, c.as_slice-day_offers.ensures.fits) in
     let linked : (e : Entry) → e.before ≡ c.args.going.link.before → e.offer ≡ c.args.going.link.offer → IsLinked offers earlier (suc day) e
     = λ e before offer. (omega (arith, before, c.requires.before, length-take-le c.args.at.end c.args.rows.now.items c.requires.end), omega (arith, offer, c.requires.offer), subst (λ k. IsLinked offers earlier day (entry_numbered earlier k)) (sym before) c.requires.from.linked) in
-    (c.requires.search.floors.ranges, (c.requires.end, (c.requires.search.limit, (c.in-Some.ensures.next_fits, (c.requires.search.most, (small, (linked, c.requires.entries)))))))
+    (c.requires.search.floors.ranges, (c.requires.end, (c.requires.search.limit, (c.in-Some.ensures.next_fits, (c.requires.search.most, (small, (linked, (c.requires.entries, c.requires.spare))))))))
 
 pub returns-in_default-clause-entries : goal.returns-in_default-clause-entries
 returns-in_default-clause-entries c = c.requires.entries

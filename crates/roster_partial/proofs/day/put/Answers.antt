@@ -8,7 +8,7 @@ use Rattle.roster_offers.specs.Cheapest.{cheaper, cheapest}
 use Rattle.roster_offers.proofs.Cheapest.{cheapest_more}
 use Rattle.roster_partial.specs.declared.rows.Entry.{Entry}
 use Rattle.roster_partial.specs.Rows.{Days, IsEntryOf, IsLinked, best_of}
-use Rattle.roster_partial.proofs.RowLaws.{front_alone, front_and_one, length_alone, length_and_one, no_more, one_more, part_alone, part_and_one, part_is}
+use Rattle.roster_partial.proofs.RowLaws.{front_alone, front_and_one, length_alone, length_and_one, part_alone, part_and_one, part_is}
 use Rattle.roster_partial.proofs.day.put.Goals as goal
 
 -- an entry with the code of its state
@@ -24,8 +24,9 @@ returns-in_default g c = record {
   front = refl;
   length = c.requires.1.0;
   few = omega arith;
-  entries = c.requires.1.1.1.1.1.1.1;
+  entries = c.requires.1.1.1.1.1.1.1.0;
   best = λ e. absurd (false≢true e);
+  spare = refl;
 }
 
 pub returns-then-leave_out : goal.returns-then-leave_out
@@ -51,6 +52,7 @@ returns-then-leave_out g c =
           ∙ ap (λ xs. cheapest f (xs ++ e ∷ [])) (part_is end rows v c.as_mut_slice.ensures.value)
           ∙ cheapest_more f (drop end rows) e
           ∙ ap (cheaper (cheapest f (drop end rows))) (is e refl refl before refl);
+      spare = refl;
     }
 
 pub returns-then-end-limited : goal.returns-then-end-limited
@@ -67,24 +69,7 @@ returns-then-end-limited g c =
       few = omega (arith, long);
       entries = subst (All (IsEntryOf g.days)) (sym (part_alone _ end rows v part c.args.rows.now.ok.0 c.requires.1.0 c.as_mut_slice.ensures.value size _ refl)) c.leave_out.ensures.entries;
       best = λ e. absurd (false≢true e);
-    }
-
-pub returns-then-is_err : goal.returns-then-is_err
-returns-then-is_err g c =
-    let rows = c.args.rows.now.items in
-    let v = c.as_mut_slice.result.now in
-    let end = c.args.at.end in
-    let part = c.leave_out.new.list in
-    let new = c.push.new.self.items in
-    let size = c.leave_out.ensures.length ∙ length-take-le (length v - end) (drop end v) (omega (arith, length-drop end v)) in
-    let is = no_more _ _ _ _ c.if-is_err.ensures.negation c.push.ensures.items in
-    let long = length_alone _ end rows v part c.args.rows.now.ok.0 c.requires.1.0 c.as_mut_slice.ensures.value size new is in
-    record {
-      front = front_alone _ end rows v part c.args.rows.now.ok.0 c.requires.1.0 c.as_mut_slice.ensures.value size new is;
-      length = omega (arith, long, c.requires.1.0);
-      few = omega (arith, long);
-      entries = subst (All (IsEntryOf g.days)) (sym (part_alone _ end rows v part c.args.rows.now.ok.0 c.requires.1.0 c.as_mut_slice.ensures.value size new is)) c.leave_out.ensures.entries;
-      best = λ e. absurd (false≢true e);
+      spare = refl;
     }
 
 pub returns : goal.returns
@@ -96,9 +81,9 @@ returns g c =
     let v = c.as_mut_slice.result.now in
     let end = c.args.at.end in
     let part = c.leave_out.new.list in
-    let new = c.push.new.self.items in
+    let new = c.push_reserved.new.self.items in
     let size = c.leave_out.ensures.length ∙ length-take-le (length v - end) (drop end v) (omega (arith, length-drop end v)) in
-    let is = one_more _ _ _ _ c.if-is_err.ensures.negation c.push.ensures.items in
+    let is = c.push_reserved.ensures.items in
     let long = length_and_one _ end rows v part c.args.rows.now.ok.0 c.requires.1.0 c.as_mut_slice.ensures.value size new e is in
     let put = part_and_one _ end rows v part c.args.rows.now.ok.0 c.requires.1.0 c.as_mut_slice.ensures.value size new e is in
     let linked : (x : Entry) → x.before ≡ e.before → x.offer ≡ e.offer → IsLinked g.days.offers g.days.earlier g.days.day x = λ x from by. c.requires.1.1.1.1.1.1.0 x (from ∙ before) by in
@@ -113,4 +98,5 @@ returns g c =
           ∙ ap (λ xs. cheapest f (xs ++ e ∷ [])) (part_is end rows v c.as_mut_slice.ensures.value)
           ∙ cheapest_more f (drop end rows) e
           ∙ ap (cheaper (cheapest f (drop end rows))) (is e refl refl before refl);
+      spare = c.push_reserved.ensures.capacity;
     }

@@ -34,6 +34,7 @@ loop-day-preserved c =
         | inr none ↦ let empty : length old - c.loop-day.first ≡ 0 = omega (arith, none) in omega (arith, more, long, c.add_day.ensures.each, c.add_day.ensures.counted, ap (λ n. n * length (offers_on limited.floors.search.offers.now day)) empty)
       ];
       counted = (omega (arith, long, c.add_day.ensures.each, c.add_day.ensures.length, c.loop-day.invariant.counted.0), omega (arith, steps, c.add_day.ensures.counted, c.if-steps-most.false, c.count.ensures, c.loop-day.invariant.counted.1));
+      spare = c.add_day.ensures.spare ∙ c.loop-day.invariant.spare;
     }
 
 pub returns-clause-entries : goal.returns-clause-entries

@@ -1,4 +1,4 @@
-use Rattle.std.proofs.Common.{◌≡◌, ◌+◌, ◌<◌, ◌≤◌, [], drop, length, take}
+use Rattle.std.proofs.Common.{◌≡◌, ◌+◌, ◌<◌, ◌≤◌, [], drop, length, take, vec_capacity}
 use Rattle.std.specs.List.{All}
 use Rattle.roster_offers.specs.Cheapest.{cheapest}
 use Rattle.roster_partial.specs.Rows.{IsEntryOf, best_of}
@@ -12,4 +12,5 @@ invariant-loop-day l = record {
   best : cheapest (best_of (days_on l.limited l.day (take l.first l.rows.items))) (drop l.first l.rows.items) ≡ cheapest (best_of (days_on l.limited 0 [])) l.fn.rows.items;
   each_day : l.first < length l.rows.items → l.fn.meter + l.day ≤ l.meter;
   counted : (l.fn.meter ≤ l.meter) × (l.meter ≤ l.most);
+  spare : vec_capacity l.rows ≡ vec_capacity l.fn.rows;
 }

@@ -5,15 +5,14 @@ use Rattle.std.proofs.lemmas.List.{get_or_default, length-drop}
 use Rattle.std.proofs.lemmas.List.Elements.{All-push}
 use Rattle.roster_instance.specs.Meaning.{day_count}
 use Rattle.roster_state.specs.Codes.{fits_sizes, sizes_of}
-use Rattle.roster_offers.specs.Cheapest.{Priced, cheapest}
+use Rattle.roster_offers.specs.Cheapest.{cheapest}
 use Rattle.roster_offers.specs.Lists.{IsFound, best_over, no_row, offers_on}
-use Rattle.roster_offers.specs.declared.offer.Offer.{Offer}
 use Rattle.roster_offers.proofs.Cheapest.{cheaper_none}
 use Rattle.roster_partial.specs.declared.days.Within.TheVariants.{Dearer, Found, Full}
 use Rattle.roster_partial.specs.declared.rows.Entry.{Entry}
 use Rattle.roster_partial.specs.Rows.{IsEntryOf, IsLinked, best_of, entry_numbered, offers_to, within}
 use Rattle.roster_partial.specs.Searches.{days_on}
-use Rattle.roster_partial.proofs.RowLaws.{is_within, one_more}
+use Rattle.roster_partial.proofs.RowLaws.{is_within}
 use Rattle.roster_partial.proofs.days.row_within.Goals as goal
 
 -- what is found has one cost
@@ -26,18 +25,9 @@ full_found e = absurd cc
 dearer_found : {x : ℕ} → Dearer ≡ Found x → ⊥
 dearer_found e = absurd cc
 
-pub returns-then-is_err : goal.returns-then-is_err
-returns-then-is_err c = record {
-  best = λ cost e. absurd (full_found e);
-  below = λ cost e. absurd (full_found e);
-  each_day = λ cost e. absurd (full_found e);
-  counted = (omega arith, c.requires.room);
-  length = refl;
-}
-
 pub add_days-requires-clause-entries : goal.add_days-requires-clause-entries
 add_days-requires-clause-entries c =
-    let start = one_more _ _ _ _ c.if-is_err.ensures.negation c.push.ensures.items ∙ ap (λ xs. xs ++ c.start_entry.result ∷ []) c.clear.ensures.items in
+    let start = c.push_reserved.ensures.items ∙ ap (λ xs. xs ++ c.start_entry.result ∷ []) c.clear.ensures.items in
     subst (All (IsEntryOf (days_on c.args.limited.now 0 []))) (sym start) (All-push (IsEntryOf (days_on c.args.limited.now 0 [])) [] c.start_entry.result (λ k d below. absurd (omega (arith, below))) c.start_entry.ensures.entry)
 
 pub returns-in_default : goal.returns-in_default
@@ -47,6 +37,7 @@ returns-in_default c = record {
   each_day = λ cost e. absurd (full_found e);
   counted = c.add_days.ensures.counted;
   length = refl;
+  spare = c.add_days.ensures.spare ∙ c.push_reserved.ensures.capacity ∙ c.clear.ensures.capacity;
 }
 
 pub least_at_end-requires-clause-fit : goal.least_at_end-requires-clause-fit
@@ -62,6 +53,7 @@ returns-in_default-least_at_end c = record {
   each_day = λ cost e. absurd (dearer_found e);
   counted = c.add_days.ensures.counted;
   length = refl;
+  spare = c.add_days.ensures.spare ∙ c.push_reserved.ensures.capacity ∙ c.clear.ensures.capacity;
 }
 
 pub read_row-requires-clause-linked : goal.read_row-requires-clause-linked
@@ -93,7 +85,7 @@ returns c =
     let e = c.index-last-place.result in
     let front : earlier ≡ take first rows = c.split_at.ensures.front ∙ ap (take first) c.as_slice.ensures.value in
     let back : last ≡ drop first rows = c.split_at.ensures.back ∙ ap (drop first) c.as_slice.ensures.value in
-    let start = one_more _ _ _ _ c.if-is_err.ensures.negation c.push.ensures.items ∙ ap (λ xs. xs ++ c.start_entry.result ∷ []) c.clear.ensures.items in
+    let start = c.push_reserved.ensures.items ∙ ap (λ xs. xs ++ c.start_entry.result ∷ []) c.clear.ensures.items in
     let inside : place < length last = c.in-Some-least_at_end.ensures.place in
     let read : entry_numbered last place ≡ e = sym (c.index-last-place.is ∙ get_or_default last place e _ inside) in
     let all : cheapest (best_of (days_on limited days earlier)) last ≡ within limited.limit (best_over search.case.now search.nurse offers)
@@ -108,4 +100,5 @@ returns c =
       each_day = λ cost is. c.in-Some.ensures.each_day (omega (arith, inside, ap length back, length-drop first rows));
       counted = c.add_days.ensures.counted;
       length = c.read_row.ensures.length;
+      spare = c.add_days.ensures.spare ∙ c.push_reserved.ensures.capacity ∙ c.clear.ensures.capacity;
     }

@@ -5,7 +5,7 @@ pub returns-in_err-aim-clause-counted : goal.returns-in_err-aim-clause-counted
 returns-in_err-aim-clause-counted c = c.set_best_floors.ensures.counted
 
 pub limits-init : goal.limits-init
-limits-init c = record { from = c.set_best_floors.ensures.counted.0; most = c.set_best_floors.ensures.counted.1; length = refl }
+limits-init c = record { from = c.set_best_floors.ensures.counted.0; most = c.set_best_floors.ensures.counted.1; length = refl; spare = c.args.room.now.spare }
 
 pub returns-in-Found : goal.returns-in-Found
 returns-in-Found c = record {
@@ -30,6 +30,7 @@ limits-preserved c = record {
   from = omega (arith, c.search_within.ensures.counted.0, c.limits.invariant.from);
   most = c.search_within.ensures.counted.1;
   length = c.search_within.ensures.length ∙ c.limits.invariant.length;
+  spare = omega (arith, c.search_within.ensures.spare, c.limits.invariant.spare);
 }
 
 pub returns : goal.returns

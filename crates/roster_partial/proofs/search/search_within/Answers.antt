@@ -22,4 +22,5 @@ returns c =
       each_day = subst (λ (s : RowSearch). (cost : ℕ) → c.row_within.result ≡ Found cost → c.args.meter.now + day_count s.case.now ≤ c.row_within.new.meter) c.of.ensures.search c.row_within.ensures.each_day;
       counted = c.row_within.ensures.counted;
       length = c.row_within.ensures.length;
+      spare = c.row_within.ensures.spare;
     }
