@@ -16,10 +16,8 @@ ghost use Rattle.roster_best.specs.Searches.{AreOffersOf, AreShiftOffers, Counts
 
 use crate::by_shift::choices_by_shift;
 use crate::last::LastSearches;
-use arrayvec::ArrayVec;
 use roster_case::Held;
-use roster_offers::{DayOffers, MOST_OFFERS, Offer, RowSearch};
-use roster_partial::{SearchSpace, Workspace};
+use roster_partial::Workspace;
 use roster_state::{Meter, start};
 
 /// What the search for a nurse's best row gives beside the row.
@@ -60,9 +58,8 @@ pub fn best_row(
     ensures fits { fits_space held.now.case workspace.new ≡ true }
 {
     held.keeps_rules();
-    let Workspace { offers, space } = workspace;
-    offers_of_days(held, nurse, from, offers);
-    let (_, best) = search_offers(held, nurse, offers.as_slice(), space, meter);
+    offers_of_days(held, nurse, from, workspace);
+    let (_, best) = search_offers(held, nurse, workspace, meter);
     best
 }
 
@@ -95,60 +92,57 @@ pub fn cheaper_row(
     ensures known { IsKnown held.now.case last.new }
 {
     held.keeps_rules();
-    let Workspace { offers, space } = workspace;
-    offers_of_days(held, nurse, from, offers);
-    let offers = offers.as_slice();
-    if last.has_none_cheaper(held, nurse, offers) {
+    offers_of_days(held, nurse, from, workspace);
+    if last.has_none_cheaper(held, nurse, workspace.offers()) {
         return None;
     }
-    let (cost, best) = search_offers(held, nurse, offers, space, meter);
-    last.remember(held, nurse, offers, cost);
+    let (cost, best) = search_offers(held, nurse, workspace, meter);
+    last.remember(held, nurse, workspace.offers(), cost);
     Some(best)
 }
 
-/// Searches over a nurse's offers of all days. Beside the best row's penalty it returns what that row costs beside what the start owes.
+/// Searches over a nurse's offers of all days, which were put into the workspace. Beside the best row's penalty it returns what that row
+/// costs beside what the start owes.
 fn search_offers(
     held: &Held,
     nurse: usize,
-    offers: &[ArrayVec<Offer, MOST_OFFERS>],
-    space: &mut SearchSpace,
+    workspace: &mut Workspace,
     meter: &mut Meter,
 ) -> (u32, Best)
     requires nurse { nurse < nurse_count held.now.case }
-    requires offers { AreOffersOf held.now.case held.now.roster nurse offers.now }
-    requires fits { fits_space held.now.case space.old ≡ true }
+    requires offers { AreOffersOf held.now.case held.now.roster nurse workspace.old.offers }
+    requires fits { fits_space held.now.case workspace.old ≡ true }
     requires room { meter.old + extension_count held.now.case nurse ≤ greatest_u64 }
-    ensures found { IsFound (best_over held.now.case nurse (offers_on offers.now)) result.0 space.new.row }
+    ensures found { IsFound (best_over held.now.case nurse (offers_on workspace.old.offers)) result.0 workspace.new.row }
     ensures total { result.1.total ≡ rest_of held.now.case held.now.roster nurse + due held.now.case nurse [] + result.0 }
     ensures each_day { meter.old + day_count held.now.case ≤ meter.new }
     ensures counted { meter.new ≤ meter.old + extension_count held.now.case nurse }
-    ensures standing { CountsSearch held.now.case nurse (offers_on offers.now) meter.old meter.new }
-    ensures same_room { SameRoom space.old space.new }
-    ensures fits { fits_space held.now.case space.new ≡ true }
+    ensures standing { CountsSearch held.now.case nurse (offers_on workspace.old.offers) meter.old meter.new }
+    ensures same_room { SameRoom workspace.old workspace.new }
+    ensures fits { fits_space held.now.case workspace.new ≡ true }
+    ensures offers { workspace.new.offers ≡ workspace.old.offers }
 {
     // The case has small numbers, and the roster keeps the hard rules: so each day has an offer, and there is a best row.
     held.case().keeps_limits();
     held.keeps_rules();
-    let search = RowSearch {
-        case: held.case(),
-        nurse,
-        offers,
-    };
-    let cost = space.search(&search, meter);
+    let cost = workspace.search_offers(held.case(), nurse, meter);
     let (_, owed) = start(held.case(), nurse);
     let total = held.rest(nurse) + owed as u64 + cost as u64;
     (cost, Best { total })
 }
 
-/// Puts the offers of each day, one for each shift, in the place of others.
-fn offers_of_days(held: &Held, nurse: usize, from: u16, offers: &mut DayOffers)
+/// Puts the offers of each day, one for each shift, into a workspace in the place of others.
+fn offers_of_days(held: &Held, nurse: usize, from: u16, workspace: &mut Workspace)
     requires nurse { nurse < nurse_count held.now.case }
-    ensures offers { AreShiftOffers held.now.case from held.now.roster nurse offers.new.items }
+    requires fits { fits_space held.now.case workspace.old ≡ true }
+    ensures offers { AreShiftOffers held.now.case from held.now.roster nurse workspace.new.offers }
+    ensures same_room { SameRoom workspace.old workspace.new }
+    ensures fits { fits_space held.now.case workspace.new ≡ true }
 {
     let case = held.case();
     case.keeps_limits();
-    offers.clear();
+    workspace.clear_offers();
     for day in 0..case.days() {
-        offers.push(choices_by_shift(held, nurse, day, from));
+        workspace.push_offers(choices_by_shift(held, nurse, day, from));
     }
 }

@@ -1,16 +1,19 @@
 -- What a workspace has room for (our own).
-use Rattle.std.specs.Prelude.{◌≡◌, ℕ, ◌*◌, ◌==◌, ◌&&◌, Bool, nat_le}
+use Rattle.std.specs.Prelude.{◌≡◌, ℕ, ◌*◌, ◌==◌, ◌&&◌, Bool, List, nat_le}
+use Rattle.arrayvec.specs.ArrayVec.{ArrayVec}
 use Rattle.roster_instance.specs.Meaning.{Meaning, day_count}
 use Rattle.roster_instance.specs.Rosters.{Row}
 use Rattle.roster_laws.specs.Greatest.{greatest_state_count}
+use Rattle.roster_offers.specs.declared.offer.Offer.{Offer}
 
--- how many labels its two tables have together, how many pointers and choices it has room for, and the row of the last search,
--- which is empty before the first
+-- how many labels its two tables have together, how many pointers and choices it has room for, the row of the last search, which is
+-- empty before the first, and the offers of the days that were put in
 pub record Space : Type 0 where
   pub labels : ℕ
   pub pointers : ℕ
   pub room : ℕ
   pub row : Row
+  pub offers : List (ArrayVec Offer)
 
 -- the lengths are those of the case: twice the greatest number of states, and that number for each day; and there is room for a
 -- choice for each day

@@ -17,4 +17,4 @@ mod search;
 mod workspace;
 
 pub use search::{PartialRoom, search_row};
-pub use workspace::{BestFault, SearchSpace, Workspace, greatest_states, most_steps};
+pub use workspace::{BestFault, Workspace, greatest_states, most_steps};

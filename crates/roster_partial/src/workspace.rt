@@ -1,6 +1,6 @@
 //! The memory of a search.
 
-ghost use Rattle.std.specs.Prelude.{◌≡◌, ◌+◌, ◌*◌, ◌<◌, ◌≤◌, [], true, IfOk, IsSome, take};
+ghost use Rattle.std.specs.Prelude.{◌≡◌, ◌+◌, ◌*◌, ◌<◌, ◌≤◌, [], ◌∷◌, ◌++◌, true, IfOk, IsSome, length, take};
 ghost use Rattle.roster_bundle.specs.Limits.{greatest_u64};
 ghost use Rattle.roster_instance.specs.Limits.{most_days, most_shifts, most_skills, most_states};
 ghost use Rattle.roster_instance.specs.Meaning.{day_count, nurse_count};
@@ -11,7 +11,7 @@ ghost use Rattle.roster_partial.specs.Workspaces.{SameRoom, fits_space};
 
 use crate::search::{PartialRoom, search_row};
 use arrayvec::ArrayVec;
-use roster_offers::{DayOffers, RowSearch};
+use roster_offers::{DayOffers, MOST_OFFERS, Offer, RowSearch};
 use roster_rules::{Case, Choice};
 use roster_search::Tables;
 use roster_state::Meter;
@@ -22,14 +22,12 @@ use thiserror::Error;
 /// What a search for a best row writes into: the offers of a nurse, room for partial rows, the tables of the search, and one row. One
 /// workspace serves all nurses of a case, one after another.
 pub struct Workspace {
-    /// For each day those of the last nurse whose best row was searched.
-    pub offers: DayOffers,
-    /// Room for a search, whichever offers it goes over.
-    pub space: SearchSpace,
+    offers: DayOffers,
+    space: SearchSpace,
 }
 
 /// What a search over offers writes into, wherever these come from.
-pub struct SearchSpace {
+struct SearchSpace {
     partial: PartialRoom,
     tables: Tables,
     choices: Vec<Choice>,
@@ -63,16 +61,16 @@ impl Model for Workspace {
 
     ghost Value = { Space };
 
-    ghost view = { λ w. w.space };
+    ghost view = { λ w. record w.space { offers = w.offers.items } };
 }
 
 impl Model for SearchSpace {
-    ghost use Rattle.std.specs.Prelude.{◌≤◌, length, take};
+    ghost use Rattle.std.specs.Prelude.{◌≤◌, [], length, take};
     ghost use Rattle.roster_partial.specs.Workspaces.{Space};
 
     ghost Value = { Space };
 
-    ghost view = { λ w. record { labels = w.tables.labels; pointers = w.tables.pointers; room = length w.choices.items; row = take w.filled w.choices.items } };
+    ghost view = { λ w. record { labels = w.tables.labels; pointers = w.tables.pointers; room = length w.choices.items; row = take w.filled w.choices.items; offers = [] } };
 
     ghost invariant = { λ w. w.filled ≤ length w.choices.items };
 }
@@ -96,7 +94,8 @@ impl From<AllocError> for BestFault {
 }
 
 impl Workspace {
-    /// A workspace for the nurses of a case, by at most six growths. Its row is empty.
+    /// A workspace for the nurses of a case, by at most six growths. Its row is empty. It serves any case that it fits; where a nurse of
+    /// another one takes more floors than any of this case does, the tables search at once.
     ///
     /// # Errors
     ///
@@ -168,6 +167,58 @@ impl Workspace {
         self.space.search(search, meter)
     }
 
+    /// Takes out the offers that were put in.
+    pub fn clear_offers(&mut self)
+        ensures offers { self.new.offers ≡ [] }
+        ensures same_room { SameRoom self.old self.new }
+    {
+        self.offers.clear();
+    }
+
+    /// Puts in a day's offers, after those of the days before it.
+    pub fn push_offers(&mut self, offers: ArrayVec<Offer, MOST_OFFERS>)
+        requires { length self.old.offers < most_days }
+        ensures offers { self.new.offers ≡ self.old.offers ++ offers ∷ [] }
+        ensures same_room { SameRoom self.old self.new }
+    {
+        self.offers.push(offers);
+    }
+
+    /// The offers that were put in, for each day.
+    pub fn offers(&self) -> &[ArrayVec<Offer, MOST_OFFERS>]
+        ensures { result.now ≡ self.now.offers }
+    {
+        self.offers.as_slice()
+    }
+
+    /// Searches the best row over the offers that were put in, as `search` does over those of a table.
+    pub fn search_offers(&mut self, case: &Case, nurse: usize, meter: &mut Meter) -> u32
+        requires nurse { nurse < nurse_count case.now }
+        requires offers { AreOffers case.now nurse self.old.offers }
+        requires some { IsSome (best_over case.now nurse (offers_on self.old.offers)) }
+        requires fits { fits_space case.now self.old ≡ true }
+        requires room { meter.old + extension_count case.now nurse ≤ greatest_u64 }
+
+        // The row, and its cost.
+        ensures best { IsFound (best_over case.now nurse (offers_on self.old.offers)) result self.new.row }
+        ensures below { result < no_row }
+
+        // What it takes.
+        ensures each_day { meter.old + day_count case.now ≤ meter.new }
+        ensures counted { meter.new ≤ meter.old + extension_count case.now nurse }
+        ensures standing { CountsSearch case.now nurse (offers_on self.old.offers) meter.old meter.new }
+        ensures same_room { SameRoom self.old self.new }
+        ensures fits { fits_space case.now self.new ≡ true }
+        ensures offers { self.new.offers ≡ self.old.offers }
+    {
+        let search = RowSearch {
+            case,
+            nurse,
+            offers: self.offers.as_slice(),
+        };
+        self.space.search(&search, meter)
+    }
+
     /// The row of the last search, with a choice for each day; empty before the first.
     pub fn row(&self) -> &[Choice]
         ensures { result.now ≡ self.now.row }
@@ -178,7 +229,7 @@ impl Workspace {
 
 impl SearchSpace {
     /// What `Workspace::search` does, beside the offers that a workspace may lend it.
-    pub fn search(&mut self, search: &RowSearch<'_>, meter: &mut Meter) -> u32
+    fn search(&mut self, search: &RowSearch<'_>, meter: &mut Meter) -> u32
         requires nurse { search.now.nurse < nurse_count search.now.case.now }
         requires offers { AreOffers search.now.case.now search.now.nurse search.now.offers.now }
         requires some { IsSome (best_over search.now.case.now search.now.nurse (offers_on search.now.offers.now)) }

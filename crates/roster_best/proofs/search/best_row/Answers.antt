@@ -1,20 +1,15 @@
-use Rattle.std.proofs.Common.{◌∙◌, subst, sym}
-use Rattle.roster_best.specs.Searches.{AreShiftOffers}
+use Rattle.std.proofs.Common.{◌∙◌, sym}
 use Rattle.roster_best.proofs.BestLaws.{best_keeps, found_best, found_penalty}
-use Rattle.roster_best.proofs.SearchLaws.{counted_is}
+use Rattle.roster_best.proofs.SearchLaws.{counted_is, same_after}
 use Rattle.roster_best.proofs.search.best_row.Goals as goal
-use Rattle.roster_best.proofs.search.best_row.Goals.{After-as_slice}
-
-are : (c : After-as_slice) → AreShiftOffers c.args.held.now.case c.args.from c.args.held.now.roster c.args.nurse c.as_slice.result.now
-are c = subst (AreShiftOffers c.args.held.now.case c.args.from c.args.held.now.roster c.args.nurse) (sym c.as_slice.ensures.value) c.offers_of_days.ensures.offers
 
 pub search_offers-requires-clause-offers : goal.search_offers-requires-clause-offers
-search_offers-requires-clause-offers c = (c.args.from, are (goal.at.search_offers-requires-clause-offers c).After-as_slice)
+search_offers-requires-clause-offers c = (c.args.from, c.offers_of_days.ensures.offers)
 
 pub returns-clause-best : goal.returns-clause-best
 returns-clause-best c =
-    found_best c.args.held.now.case c.args.from c.args.held.now.roster c.keeps_rules.ensures.fits c.keeps_rules.ensures.keeps c.args.nurse c.requires.nurse c.as_slice.result.now (are (goal.at.returns-clause-best c).After-as_slice)
-    c.search_offers.result.0 c.search_offers.new.space.row c.search_offers.ensures.found
+    found_best c.args.held.now.case c.args.from c.args.held.now.roster c.keeps_rules.ensures.fits c.keeps_rules.ensures.keeps c.args.nurse c.requires.nurse c.offers_of_days.new.workspace.offers c.offers_of_days.ensures.offers
+    c.search_offers.result.0 c.search_offers.new.workspace.row c.search_offers.ensures.found
 
 pub returns-clause-keeps : goal.returns-clause-keeps
 returns-clause-keeps c = best_keeps c.args.held.now.case c.args.from c.args.held.now.roster c.args.nurse _ (returns-clause-best c)
@@ -22,9 +17,12 @@ returns-clause-keeps c = best_keeps c.args.held.now.case c.args.from c.args.held
 pub returns-clause-total : goal.returns-clause-total
 returns-clause-total c =
     c.search_offers.ensures.total
-    ∙ sym (found_penalty c.args.held.now.case c.args.from c.args.held.now.roster c.keeps_rules.ensures.fits c.keeps_rules.ensures.keeps c.args.nurse c.requires.nurse c.as_slice.result.now (are (goal.at.returns-clause-total c).After-as_slice)
-    c.search_offers.result.0 c.search_offers.new.space.row c.search_offers.ensures.found)
+    ∙ sym (found_penalty c.args.held.now.case c.args.from c.args.held.now.roster c.keeps_rules.ensures.fits c.keeps_rules.ensures.keeps c.args.nurse c.requires.nurse c.offers_of_days.new.workspace.offers c.offers_of_days.ensures.offers
+    c.search_offers.result.0 c.search_offers.new.workspace.row c.search_offers.ensures.found)
 
 pub returns-clause-standing : goal.returns-clause-standing
 returns-clause-standing c =
-    counted_is c.args.held.now.case c.args.from c.args.held.now.roster c.args.nurse c.as_slice.result.now (are (goal.at.returns-clause-standing c).After-as_slice) c.args.meter.now c.search_offers.new.meter c.search_offers.ensures.standing
+    counted_is c.args.held.now.case c.args.from c.args.held.now.roster c.args.nurse c.offers_of_days.new.workspace.offers c.offers_of_days.ensures.offers c.args.meter.now c.search_offers.new.meter c.search_offers.ensures.standing
+
+pub returns-clause-same_room : goal.returns-clause-same_room
+returns-clause-same_room c = same_after _ _ _ c.offers_of_days.ensures.same_room c.search_offers.ensures.same_room

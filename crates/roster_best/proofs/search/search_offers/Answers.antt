@@ -12,42 +12,42 @@ use Rattle.roster_best.proofs.search.search_offers.Goals.{After-rest}
 
 -- ---- the search can be made
 
-pub search-cost-requires-clause-offers : goal.search-cost-requires-clause-offers
-search-cost-requires-clause-offers c =
+pub search_offers-cost-requires-clause-offers : goal.search_offers-cost-requires-clause-offers
+search_offers-cost-requires-clause-offers c =
     let kept = c.keeps_limits.ensures in
     let limits : KeepsLimits c.args.held.now.case = subst KeepsLimits c.case.ensures (record { small = kept.small; weeks = kept.weeks; shifts = kept.shifts; skills = kept.skills; nurses = kept.nurses }) in
-    subst (λ (m : Meaning). AreOffers m c.args.nurse c.args.offers.now) (sym c.case-2.ensures)
-    (can_search c.args.held.now.case c.requires.offers.0 c.args.held.now.roster c.args.nurse c.args.offers.now c.requires.offers.1 limits.small limits.shifts limits.skills c.keeps_rules.ensures.fits c.keeps_rules.ensures.keeps c.requires.nurse)
+    subst (λ (m : Meaning). AreOffers m c.args.nurse c.args.workspace.now.offers) (sym c.case-2.ensures)
+    (can_search c.args.held.now.case c.requires.offers.0 c.args.held.now.roster c.args.nurse c.args.workspace.now.offers c.requires.offers.1 limits.small limits.shifts limits.skills c.keeps_rules.ensures.fits c.keeps_rules.ensures.keeps c.requires.nurse)
 
-pub search-cost-requires-clause-some : goal.search-cost-requires-clause-some
-search-cost-requires-clause-some c =
-    subst (λ (m : Meaning). IsSome (best_over m c.args.nurse (offers_on c.args.offers.now))) (sym c.case-2.ensures)
-    (some_found c.args.held.now.case c.requires.offers.0 c.args.held.now.roster c.args.nurse c.args.offers.now c.requires.offers.1 c.keeps_rules.ensures.fits c.keeps_rules.ensures.keeps c.requires.nurse)
+pub search_offers-cost-requires-clause-some : goal.search_offers-cost-requires-clause-some
+search_offers-cost-requires-clause-some c =
+    subst (λ (m : Meaning). IsSome (best_over m c.args.nurse (offers_on c.args.workspace.now.offers))) (sym c.case-2.ensures)
+    (some_found c.args.held.now.case c.requires.offers.0 c.args.held.now.roster c.args.nurse c.args.workspace.now.offers c.requires.offers.1 c.keeps_rules.ensures.fits c.keeps_rules.ensures.keeps c.requires.nurse)
 
 -- ---- what it finds
 
-found : (c : After-rest) → IsFound (best_over c.args.held.now.case c.args.nurse (offers_on c.args.offers.now)) c.search-cost.result c.search-cost.new.self.row
-found c = subst (λ (m : Meaning). IsFound (best_over m c.args.nurse (offers_on c.args.offers.now)) c.search-cost.result c.search-cost.new.self.row) c.case-2.ensures c.search-cost.ensures.best
+found : (c : After-rest) → IsFound (best_over c.args.held.now.case c.args.nurse (offers_on c.args.workspace.now.offers)) c.search_offers-cost.result c.search_offers-cost.new.self.row
+found c = subst (λ (m : Meaning). IsFound (best_over m c.args.nurse (offers_on c.args.workspace.now.offers)) c.search_offers-cost.result c.search_offers-cost.new.self.row) c.case-2.ensures c.search_offers-cost.ensures.best
 
 pub returns-clause-found : goal.returns-clause-found
 returns-clause-found c = found (goal.at.returns-clause-found c).After-rest
 
 pub returns-clause-standing : goal.returns-clause-standing
-returns-clause-standing c = subst (λ (m : Meaning). CountsSearch m c.args.nurse (offers_on c.args.offers.now) c.args.meter.now c.search-cost.new.meter) c.case-2.ensures c.search-cost.ensures.standing
+returns-clause-standing c = subst (λ (m : Meaning). CountsSearch m c.args.nurse (offers_on c.args.workspace.now.offers) c.args.meter.now c.search_offers-cost.new.meter) c.case-2.ensures c.search_offers-cost.ensures.standing
 
 -- ---- the penalty
 
 owed_is : (c : After-rest) → c.start-owed.result.1 ≡ due c.args.held.now.case c.args.nurse []
 owed_is c = c.start-owed.ensures.cost ∙ ap (λ (m : Meaning). due m c.args.nurse []) c.case-3.ensures
 
-sum_fits : (c : After-rest) → c.rest.result + c.start-owed.result.1 + c.search-cost.result < penalty_room
+sum_fits : (c : After-rest) → c.rest.result + c.start-owed.result.1 + c.search_offers-cost.result < penalty_room
 sum_fits c =
     let kept = c.keeps_limits.ensures in
     let k = c.args.held.now.case in
     let rows = c.args.held.now.roster in
     let limits : KeepsLimits k = subst KeepsLimits c.case.ensures (record { small = kept.small; weeks = kept.weeks; shifts = kept.shifts; skills = kept.skills; nurses = kept.nurses }) in
-    let is = found_is k c.requires.offers.0 rows c.keeps_rules.ensures.fits c.keeps_rules.ensures.keeps c.args.nurse c.requires.nurse c.args.offers.now c.requires.offers.1 c.search-cost.result c.search-cost.new.self.row (found c) in
-    omega (arith, sum_within k c.requires.offers.0 rows limits c.keeps_rules.ensures.fits c.keeps_rules.ensures.keeps c.args.nurse c.requires.nurse c.search-cost.result (found c).offers is, c.rest.ensures, owed_is c)
+    let is = found_is k c.requires.offers.0 rows c.keeps_rules.ensures.fits c.keeps_rules.ensures.keeps c.args.nurse c.requires.nurse c.args.workspace.now.offers c.requires.offers.1 c.search_offers-cost.result c.search_offers-cost.new.self.row (found c) in
+    omega (arith, sum_within k c.requires.offers.0 rows limits c.keeps_rules.ensures.fits c.keeps_rules.ensures.keeps c.args.nurse c.requires.nurse c.search_offers-cost.result (found c).offers is, c.rest.ensures, owed_is c)
 
 pub overflow_add-total : goal.overflow_add-total
 overflow_add-total c = omega (arith, sum_fits c)
