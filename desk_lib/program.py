@@ -103,7 +103,7 @@ def find(path: str | None) -> Program:
         raise DeskError(
             f"'{TOP}/roster --version' ended with status {ran.returncode}; the README says how the program is built", 3
         )
-    return Program(f"{TOP}/crates/roster/out/roster")
+    return Program(f"{TOP}/out/roster")
 
 
 def taken(program: Program, texts: Texts) -> Plan:
