@@ -1,14 +1,13 @@
 //! A day of the search by partial rows.
 
-ghost use Rattle.std.specs.Prelude.{◌≡◌, ◌+◌, ◌-◌, ◌*◌, ◌<◌, ◌≤◌, ℕ, suc, [], ◌∷◌, ◌++◌, All, List, Some, drop, length, take, true, false, is_some, vec_capacity};
+ghost use Rattle.std.specs.Prelude.{◌≡◌, ◌+◌, ◌-◌, ◌<◌, ◌≤◌, ℕ, suc, All, List, Some, drop, length, take, true, false, is_some, vec_capacity};
 ghost use Rattle.roster_bundle.specs.Limits.{greatest_u64};
-ghost use Rattle.roster_instance.specs.Meaning.{day_count, nurse_count};
+ghost use Rattle.roster_instance.specs.Meaning.{day_count};
 ghost use Rattle.roster_offers.specs.Cheapest.{Priced, cheaper, cheapest};
 ghost use Rattle.roster_offers.specs.declared.offer.Offer.{Offer};
 ghost use Rattle.roster_offers.specs.Offers.{best_of_offers};
-ghost use Rattle.roster_offers.specs.Lists.{AreOffers, no_row, offers_on};
+ghost use Rattle.roster_offers.specs.Lists.{no_row, offers_on};
 ghost use Rattle.roster_state.specs.Codes.{fits_sizes, sizes_of};
-ghost use Rattle.roster_floors.specs.Floors.{AreFloors, AreSmall};
 ghost use Rattle.roster_floors.specs.Least.{IsBeside};
 ghost use Rattle.roster_partial.specs.Rows.{Days, IsEntryOf, best_by, best_of, IsLinked, entry_numbered, most_rows, offer_numbered};
 ghost use Rattle.roster_partial.specs.Searches.{IsAhead, IsSearch, days_on};

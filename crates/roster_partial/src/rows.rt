@@ -1,6 +1,6 @@
 //! A list of partial rows.
 
-ghost use Rattle.std.specs.Prelude.{◌≡◌, [], ◌∷◌, ◌++◌, ◌<◌, ◌≤◌, All, length, true, false};
+ghost use Rattle.std.specs.Prelude.{◌≡◌, [], ◌∷◌, ◌++◌, ◌<◌, All, length, true, false};
 ghost use Rattle.roster_offers.specs.Cheapest.{cheapest};
 ghost use Rattle.roster_offers.specs.Lists.{no_row};
 ghost use Rattle.roster_partial.specs.Rows.{Days, IsEntryOf, best_of};
