@@ -60,11 +60,6 @@ impl Guesses {
         }
     }
 
-    /// Whether partial rows have found a row of the nurse.
-    pub(crate) fn knows(&self, nurse: usize) -> bool {
-        matches!(self.nurses.get(nurse), Some(Some(_)))
-    }
-
     /// Partial rows have found nothing for the nurse: after the first time one search goes to the tables at once, after the second in a
     /// row three, and then seven.
     pub(crate) fn miss(&mut self, nurse: usize) {

@@ -11,6 +11,7 @@ ghost use Rattle.roster_partial.specs.Rates.{IsTried, most_offers};
 
 use roster_floors::{Floors, Rates, at_least, set_floors};
 use roster_offers::{MOST_OFFERS, RowSearch};
+use roster_rules::Case;
 use roster_rules::weights::{ASSIGNMENT, WEEKEND};
 use roster_state::{Meter, NurseDays, State, end_cost, extend_by, start};
 use std::cmp::min;
@@ -21,6 +22,9 @@ const MOST_TRIALS: usize = 11;
 const MOST_TRIALS_FROM_SAME: usize = 3;
 
 const MOST_TRIALS_FROM_OTHER: usize = 5;
+
+/// For so many weeks a nurse's first search tries a pair more.
+const WEEKS_OF_A_TRIAL: usize = 4;
 
 /// By how many points rates move at first: from the ends of their ranges, and from rates of an earlier search.
 const FIRST_STEP: u32 = 8;
@@ -54,12 +58,11 @@ pub struct Aim {
 }
 
 /// Sets the floors of a search at those rates, of some that are tried, at which the start's floor is highest. Rates are raised where the
-/// row that follows the floors has too many assignments or worked weekends, and lowered where it has fewer than it may. In a nurse's
-/// first search no more pairs are tried than so many walks over all floors. None where there isn't room for the floors or the steps.
+/// row that follows the floors has too many assignments or worked weekends, and lowered where it has fewer than it may. None where there
+/// isn't room for the floors or the steps.
 pub fn set_best_floors(
     search: &RowSearch<'_>,
     guess: Option<Guess>,
-    walks: usize,
     most: u64,
     floors: &mut [u32],
     meter: &mut Meter,
@@ -75,7 +78,7 @@ pub fn set_best_floors(
     if most - meter.count() < 2 * steps_to_follow(search) {
         return None;
     }
-    let plan = plan_by(search, guess, walks, most, meter);
+    let plan = plan_by(search, guess, most, meter);
     if !set_floors(search, plan.rates, floors) {
         return None;
     }
@@ -112,15 +115,8 @@ struct Plan {
     most: u64,
 }
 
-/// How rates are tried after an earlier search; where there was none, the first ones are those by the row of the cheapest steps. Where it
-/// wasn't for the same nurse, no more are tried than walks are worth.
-fn plan_by(
-    search: &RowSearch<'_>,
-    guess: Option<Guess>,
-    walks: usize,
-    most: u64,
-    meter: &mut Meter,
-) -> Plan
+/// How rates are tried after an earlier search; where there was none, the first ones are those by the row of the cheapest steps.
+fn plan_by(search: &RowSearch<'_>, guess: Option<Guess>, most: u64, meter: &mut Meter) -> Plan
     requires nurse { search.now.nurse < nurse_count search.now.case.now }
     requires offers { AreOffers search.now.case.now search.now.nurse search.now.offers.now }
     requires room { meter.old + most_offers * day_count search.now.case.now ≤ greatest_u64 }
@@ -129,7 +125,7 @@ fn plan_by(
     ensures counted { (meter.old ≤ meter.new) × (meter.new ≤ meter.old + most_offers * day_count search.now.case.now) }
 {
     let none = Rates { day: 0, weekend: 0 };
-    let more = walks.saturating_sub(1);
+    let first = first_trials(search.case);
     match guess {
         Some(guess) if guess.is_own => Plan {
             rates: within_range(guess.rates),
@@ -141,7 +137,7 @@ fn plan_by(
         Some(guess) => Plan {
             rates: within_range(guess.rates),
             step: NEXT_STEP,
-            trials: min(MOST_TRIALS_FROM_OTHER, more),
+            trials: min(MOST_TRIALS_FROM_OTHER, first),
             close: CLOSE,
             most,
         },
@@ -153,11 +149,16 @@ fn plan_by(
                 follow(search, None, meter),
             ),
             step: FIRST_STEP,
-            trials: min(MOST_TRIALS, more),
+            trials: min(MOST_TRIALS, first),
             close: CLOSE,
             most,
         },
     }
+}
+
+/// How many more pairs of rates are tried at most in a nurse's first search: over a few weeks the start's floor is soon near the best row.
+fn first_trials(case: &Case) -> usize {
+    (case.weeks() as usize / WEEKS_OF_A_TRIAL).max(MOST_TRIALS_FROM_SAME)
 }
 
 /// Rates that are no more than what one too many costs.

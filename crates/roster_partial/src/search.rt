@@ -21,7 +21,7 @@ use crate::rows::{Entry, MOST_ROWS, SEEN, Seen};
 use roster_floors::{Floors, Rates};
 use roster_offers::RowSearch;
 use roster_rules::{Case, Choice};
-use roster_search::{NO_ROW, Tables, steps_ahead};
+use roster_search::{NO_ROW, Tables};
 use roster_state::{Meter, Ranges};
 use std::alloc::{AllocError, Global};
 
@@ -30,9 +30,6 @@ const MOST_FLOORS: usize = 262_144;
 
 /// How many limits are tried at most, each higher than the one before.
 const MOST_LIMITS: usize = 24;
-
-/// A step of the tables takes about as long as to set so many floors.
-const FLOORS_OF_A_STEP: u64 = 2;
 
 /// Where partial rows and floors are kept while a row is searched. Both are long, so they don't stand on the stack.
 pub struct PartialRoom {
@@ -85,23 +82,16 @@ impl PartialRoom {
         })
     }
 
-    /// How many walks over a nurse's floors take no longer than the tables. None where even one does, as where most weeks are frozen, or
-    /// where earlier searches tell that the nurse's next one goes to the tables; any number where partial rows have found a row of hers.
-    /// Only time depends on it.
-    fn walks_worth(&mut self, search: &RowSearch<'_>, tables: &mut Tables) -> usize
+    /// Whether the search for a nurse begins with partial rows: where a walk over her floors takes no longer than the tables, which it does
+    /// with most weeks frozen, and where earlier searches don't tell that this one goes to the tables. Only time depends on it.
+    fn begins(&mut self, search: &RowSearch<'_>) -> bool
         requires nurse { search.now.nurse < nurse_count search.now.case.now }
         requires offers { AreOffers search.now.case.now search.now.nurse search.now.offers.now }
-        ensures { tables.new ≡ tables.old }
     {
         if self.guesses.waits(search.nurse) {
-            return 0;
+            return false;
         }
-        if self.guesses.knows(search.nurse) {
-            return usize::MAX;
-        }
-        let floors = floors_of(search.case, search.nurse).max(1) as u64;
-        let steps = steps_ahead(search, tables);
-        (steps.saturating_mul(FLOORS_OF_A_STEP) / floors) as usize
+        floors_of(search.case, search.nurse) as u64 <= likely_steps(search)
     }
 }
 
@@ -124,6 +114,36 @@ fn floors_of(case: &Case, nurse: usize) -> usize
     let ranges = Ranges::of(case, nurse);
     let of_a_day = ranges.last() as usize * (ranges.run() as usize * ranges.shift_run() as usize);
     of_a_day.saturating_mul(case.days() as usize + 1)
+}
+
+/// About how many steps a search by the tables takes at most, told by the days that are open, on which more than one choice is offered.
+fn likely_steps(search: &RowSearch<'_>) -> u64
+    requires nurse { search.now.nurse < nurse_count search.now.case.now }
+    requires offers { AreOffers search.now.case.now search.now.nurse search.now.offers.now }
+{
+    let case = search.case;
+    let ranges = Ranges::of(case, search.nurse);
+    let mut open: u32 = 0;
+    let mut steps: u64 = 0;
+    for day in 0..case.days() as usize {
+        let offers = search.offers[day].len() as u64;
+        steps = steps.saturating_add(offers.saturating_mul(likely_states(&ranges, open)));
+        if offers > 1 {
+            open = open.saturating_add(1);
+        }
+    }
+    steps
+}
+
+/// About how many states stand at most after so many open days: each number has one value, and one more for each of the days, or weeks.
+fn likely_states(ranges: &Ranges, open: u32) -> u64 {
+    let values = open.saturating_add(1);
+    let weekends = ranges.weekends().min(open / 7 + 2);
+    (ranges.last().min(values) as u64)
+        .saturating_mul(ranges.run().min(values) as u64)
+        .saturating_mul(ranges.shift_run().min(values) as u64)
+        .saturating_mul(ranges.assignments().min(values) as u64)
+        .saturating_mul(weekends as u64)
 }
 
 /// Searches the best row over a table of offers, wherever these come from. `row` then begins with its choices, one for each day, and the
@@ -162,10 +182,9 @@ pub fn search_row(
     let all = states * case.days() as u64 * choices;
     // The tables take so much less than each state on each day by each choice: on the first day no state but one stands.
     let spare = (states - 1) * choices;
-    let walks = room.walks_worth(search, tables);
-    if meter.room() >= spare + all && walks > 0 {
+    if meter.room() >= spare + all && room.begins(search) {
         let most = meter.count() + spare;
-        if let Some(cost) = search_partial(search, room, walks, most, row, meter) {
+        if let Some(cost) = search_partial(search, room, most, row, meter) {
             return cost;
         }
         room.guesses.miss(nurse);
@@ -178,7 +197,6 @@ pub fn search_row(
 fn search_partial(
     search: &RowSearch<'_>,
     room: &mut PartialRoom,
-    walks: usize,
     most: u64,
     row: &mut [Choice],
     meter: &mut Meter,
@@ -200,7 +218,7 @@ fn search_partial(
         guesses,
     } = room;
     let guess = guesses.of(search);
-    let aim = set_best_floors(search, guess, walks, most, floors, meter)?;
+    let aim = set_best_floors(search, guess, most, floors, meter)?;
     let mut limit = aim.low.saturating_add(first_gap(guess));
     let mut more = 10;
     'limits: for _ in 0..MOST_LIMITS {

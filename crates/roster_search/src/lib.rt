@@ -5,7 +5,6 @@
 //! (`specs/Search.antt`). What is offered, and the laws that make such a search right, stand in `roster_offers`, and are handed on.
 #![tactic(auto)]
 
-mod ahead;
 mod day;
 mod labels;
 mod pointers;
@@ -14,7 +13,6 @@ mod search;
 mod stand;
 mod tables;
 
-pub use ahead::steps_ahead;
 pub use day::{OpenDay, SearchDay};
 pub use labels::{NO_ROW, StretchRoom, label_day, label_end};
 pub use pointers::Pointers;

@@ -97,7 +97,7 @@ struct Days<'a> {
 }
 
 /// Sets the areas of each day, from the first day to the one after the last. On the first day no state but the start stands.
-pub(crate) fn stand_days(search: &RowSearch<'_>, ranges: &Ranges, areas: &mut [[Area; AREAS]])
+fn stand_days(search: &RowSearch<'_>, ranges: &Ranges, areas: &mut [[Area; AREAS]])
     requires nurse { search.now.nurse < nurse_count search.now.case.now }
     requires ranges { ranges.now ≡ sizes_of search.now.case.now search.now.nurse }
     requires offers { AreOffers search.now.case.now search.now.nurse search.now.offers.now }

@@ -4,7 +4,7 @@ use Rattle.roster_instance.specs.Sizes.{choice_count, state_count}
 use Rattle.roster_offers.specs.Lists.{offers_on}
 use Rattle.roster_partial.proofs.SearchLaws.{counts_partial, counts_tables, extension_is, some_states, spare_within}
 use Rattle.roster_partial.proofs.search.search_row.Goals as goal
-use Rattle.roster_partial.proofs.search.search_row.Goals.{After-days, then-room-spare+then-walks-gt0+in_default, else-room-spare}
+use Rattle.roster_partial.proofs.search.search_row.Goals.{After-days, then-room-spare+then-begins+in_default, else-room-spare}
 
 -- what is spare, as the code has it
 spare_is : (c : After-days) → (c.states-states.result - 1) * c.choice_count-choices.result ≡ (state_count c.args.search.now.case.now c.args.search.now.nurse - 1) * choice_count c.args.search.now.case.now c.args.search.now.nurse
@@ -32,7 +32,7 @@ pub search_row-requires-clause-room : goal.search_row-requires-clause-room
 search_row-requires-clause-room c =
     let days = (goal.at.search_row-requires-clause-room c).After-days in
     elim c.if-room-spare.branch [
-      | then-room-spare+then-walks-gt0+in_default w ↦ omega (arith, w.meter-is, w.if-room-spare.true, w.count.ensures, w.search_partial.ensures.counted.1, c.room.ensures, all_is days, extension_is c.args.search.now.case.now c.args.search.now.nurse)
+      | then-room-spare+then-begins+in_default w ↦ omega (arith, w.meter-is, w.if-room-spare.true, w.count.ensures, w.search_partial.ensures.counted.1, c.room.ensures, all_is days, extension_is c.args.search.now.case.now c.args.search.now.nurse)
       | else-room-spare w ↦ omega (arith, w.meter-is, c.requires.room)
     ]
 
@@ -42,6 +42,6 @@ returns-clause-standing c =
     let days = (goal.at.returns-clause-standing c).After-days in
     let counts = counts_tables search.case.now search.nurse (offers_on search.offers.now) c.args.meter.now c.search_row.new.meter c.if-room-spare.meter in
     elim c.if-room-spare.branch [
-      | then-room-spare+then-walks-gt0+in_default w ↦ counts (omega (arith, w.meter-is, w.search_partial.ensures.counted.0)) (omega (arith, w.meter-is, spare_is days, w.count.ensures, w.search_partial.ensures.counted.1)) c.search_row.ensures.standing
+      | then-room-spare+then-begins+in_default w ↦ counts (omega (arith, w.meter-is, w.search_partial.ensures.counted.0)) (omega (arith, w.meter-is, spare_is days, w.count.ensures, w.search_partial.ensures.counted.1)) c.search_row.ensures.standing
       | else-room-spare w ↦ counts (omega (arith, w.meter-is)) (omega (arith, w.meter-is)) c.search_row.ensures.standing
     ]
