@@ -23,10 +23,8 @@ const MOST_TRIALS_FROM_SAME: usize = 3;
 
 const MOST_TRIALS_FROM_OTHER: usize = 5;
 
-/// How many more a nurse's first search tries at least, and for how many weeks it tries one.
+/// How many more a nurse's first search tries at least, and how many weeks don't ask for one.
 const FEWEST_TRIALS: usize = 2;
-
-const WEEKS_OF_A_TRIAL: usize = 4;
 
 /// By how many points rates move at first: from the ends of their ranges, and from rates of an earlier search.
 const FIRST_STEP: u32 = 8;
@@ -160,7 +158,8 @@ fn plan_by(search: &RowSearch<'_>, guess: Option<Guess>, most: u64, meter: &mut 
 
 /// How many more pairs of rates are tried at most in a nurse's first search: over a few weeks the start's floor is soon near the best row.
 fn first_trials(case: &Case) -> usize {
-    (case.weeks() as usize / WEEKS_OF_A_TRIAL).max(FEWEST_TRIALS)
+    let weeks = case.weeks() as usize;
+    weeks.saturating_sub(FEWEST_TRIALS).max(FEWEST_TRIALS)
 }
 
 /// Rates that are no more than what one too many costs.
