@@ -1,5 +1,5 @@
 -- The offers that may follow a last shift, one after another.
-use Rattle.std.proofs.Common.{◌≡◌, ◌≢◌, ◌∙◌, ◌+◌, ◌<◌, ◌≤◌, ◌⊎◌, inl, inr, subst, ℕ, zero, suc, true, false, ap, arith, refl, sym, List, [], ◌∷◌, ◌++◌, length, map, slice_index_or, slice_set, take, Option, None, Some, IfSome, IsSomeAnd, is_none, if◌then◌else◌}
+use Rattle.std.proofs.Common.{◌≡◌, ◌≢◌, ◌∙◌, ◌+◌, ◌<◌, ◌≤◌, ◌⊎◌, inl, inr, subst, ℕ, zero, suc, true, false, ap, arith, refl, sym, List, [], ◌∷◌, ◌++◌, length, map, slice_index_or, slice_set, take, Option, None, Some, IfSome, IsNone, IsSome, IsSomeAnd, is_none, if◌then◌else◌}
 use Rattle.std.specs.List.{All}
 use Rattle.std.proofs.lemmas.List.{get_or-set_other, length-append, length-map, map-append, take_all}
 use Rattle.std.proofs.lemmas.Grind.{get_or-set_at}
@@ -119,6 +119,23 @@ module _ (c : Meaning) (offers : List Offer) (allowed : List (Option (ArrayVec �
             let same : shift_digit o ≡ shift_digit last = omega (arith, least, most) in
             let one : last ≡ o = last_of_digit last (shift_digit last) refl ∙ sym (last_of_digit o (shift_digit last) same) in
             subst told (sym (there o same)) (subst (λ (l : Option Shift). IsAllowed c l offers places.items) one is)
+
+-- after a look no more is counted with what is told than before it with all offers
+pub look_counts : (c : Meaning) (last : Option Shift) (offers : List Offer) (after before : ℕ) (old new : Option (ArrayVec ℕ)) → IfSome old (λ places. IsAllowed c last offers places.items) → (IsNone old → IsSomeAnd new (λ places. after + length places.items ≡ before + length offers)) → (IsSome old → (new ≡ old) × (after ≡ before)) → IsSomeAnd new (λ places. after + length places.items ≤ before + length offers)
+look_counts c last offers after before None None told looked kept = absurd (looked refl)
+look_counts c last offers after before None (Some places) told looked kept = omega (arith, looked refl)
+look_counts c last offers after before (Some places) new told looked kept =
+    subst (λ (o : Option (ArrayVec ℕ)). IsSomeAnd o (λ p. after + length p.items ≤ before + length offers)) (sym (kept refl).0) (omega (arith, told.few, (kept refl).1))
+
+pub look_some : (after size : ℕ) (o : Option (ArrayVec ℕ)) → IsSomeAnd o (λ places. after + length places.items ≤ size) → IsSome o
+look_some after size None counts = absurd counts
+look_some after size (Some places) counts = refl
+
+-- and no less
+pub look_more : (c : Meaning) (last : Option Shift) (offers : List Offer) (after before : ℕ) (old new : Option (ArrayVec ℕ)) → IfSome new (λ places. IsAllowed c last offers places.items) → (IsNone old → IsSomeAnd new (λ places. after + length places.items ≡ before + length offers)) → (IsSome old → (new ≡ old) × (after ≡ before)) → before ≤ after
+look_more c last offers after before None None told looked kept = absurd (looked refl)
+look_more c last offers after before None (Some places) told looked kept = omega (arith, looked refl, told.few)
+look_more c last offers after before (Some places) new told looked kept = omega (arith, (kept refl).1)
 
 -- what was told, as it is read
 module _ (c : Meaning) (last : Option Shift) (offers : List Offer) (xs : List ℕ) (after before size : ℕ) where

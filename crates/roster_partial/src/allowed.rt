@@ -1,6 +1,6 @@
 //! Which offers of a day may follow a last shift.
 
-ghost use Rattle.std.specs.Prelude.{◌≡◌, ◌+◌, ◌<◌, ◌≤◌, IfSome, IsSome, IsSomeAnd, List, length};
+ghost use Rattle.std.specs.Prelude.{◌≡◌, ◌+◌, ◌<◌, ◌≤◌, IfSome, IsNone, IsSome, IsSomeAnd, List, length};
 ghost use Rattle.roster_bundle.specs.Limits.{greatest_u64};
 ghost use Rattle.roster_instance.specs.Meaning.{Meaning};
 ghost use Rattle.roster_offers.specs.declared.offer.Offer.{Offer};
@@ -28,8 +28,8 @@ pub fn none_allowed() -> Allowed
     [None, None, None, None, None, None, None, None, None]
 }
 
-/// Looks which offers may follow the last shift of a state, where no state with it has come before. The meter counts each that may not.
-/// So with each that may there are no more than the offers.
+/// Looks which offers may follow the last shift of a state, where no state with it has come before. The meter counts each that may not:
+/// with those that may, as many as there are offers.
 pub fn allow(case: &Case, state: State, offers: &[Offer], allowed: &mut Allowed, meter: &mut Meter)
     requires digit { shift_digit state.last < length allowed.old }
     requires few { length offers.now ≤ most_offers }
@@ -37,8 +37,9 @@ pub fn allow(case: &Case, state: State, offers: &[Offer], allowed: &mut Allowed,
     requires each { AreTold case.now offers.now allowed.old }
     ensures long { length allowed.new ≡ length allowed.old }
     ensures each { AreTold case.now offers.now allowed.new }
-    ensures told { IsSomeAnd (told_after allowed.new state.last) (λ places. meter.new + length places.items ≤ meter.old + length offers.now) }
-    ensures counted { meter.old ≤ meter.new }
+    ensures looked { IsNone (told_after allowed.old state.last) → IsSomeAnd (told_after allowed.new state.last)
+        (λ places. meter.new + length places.items ≡ meter.old + length offers.now) }
+    ensures kept { IsSome (told_after allowed.old state.last) → (allowed.new ≡ allowed.old) × (meter.new ≡ meter.old) }
 {
     let digit = state.last_number() as usize;
     if allowed[digit].is_none() {

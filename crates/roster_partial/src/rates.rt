@@ -23,8 +23,10 @@ const MOST_TRIALS_FROM_SAME: usize = 3;
 
 const MOST_TRIALS_FROM_OTHER: usize = 5;
 
-/// How many more a nurse's first search tries at least, and how many weeks don't ask for one.
+/// How many more a nurse's first search tries at least. It tries one for each week but so many.
 const FEWEST_TRIALS: usize = 2;
+
+const WEEKS_WITHOUT_TRIAL: usize = 2;
 
 /// By how many points rates move at first: from the ends of their ranges, and from rates of an earlier search.
 const FIRST_STEP: u32 = 8;
@@ -159,7 +161,7 @@ fn plan_by(search: &RowSearch<'_>, guess: Option<Guess>, most: u64, meter: &mut 
 /// How many more pairs of rates are tried at most in a nurse's first search: over a few weeks the start's floor is soon near the best row.
 fn first_trials(case: &Case) -> usize {
     let weeks = case.weeks() as usize;
-    weeks.saturating_sub(FEWEST_TRIALS).max(FEWEST_TRIALS)
+    weeks.saturating_sub(WEEKS_WITHOUT_TRIAL).max(FEWEST_TRIALS)
 }
 
 /// Rates that are no more than what one too many costs.

@@ -163,14 +163,14 @@ impl Workspace {
         ensures standing { CountsSearch search.now.case.now search.now.nurse (offers_on search.now.offers.now) meter.old meter.new }
         ensures same_room { SameRoom self.old self.new }
         ensures fits { fits_space search.now.case.now self.new ≡ true }
+        ensures offers { self.new.offers ≡ self.old.offers }
     {
         self.space.search(search, meter)
     }
 
     /// Takes out the offers that were put in.
     pub fn clear_offers(&mut self)
-        ensures offers { self.new.offers ≡ [] }
-        ensures same_room { SameRoom self.old self.new }
+        ensures { self.new ≡ record self.old { offers = [] } }
     {
         self.offers.clear();
     }
@@ -178,8 +178,7 @@ impl Workspace {
     /// Puts in a day's offers, after those of the days before it.
     pub fn push_offers(&mut self, offers: ArrayVec<Offer, MOST_OFFERS>)
         requires { length self.old.offers < most_days }
-        ensures offers { self.new.offers ≡ self.old.offers ++ offers ∷ [] }
-        ensures same_room { SameRoom self.old self.new }
+        ensures { self.new ≡ record self.old { offers = self.old.offers ++ offers ∷ [] } }
     {
         self.offers.push(offers);
     }

@@ -1,9 +1,11 @@
-use Rattle.std.proofs.Common.{◌≡◌, ◌∙◌, ◌+◌, ◌-◌, ◌*◌, ◌<◌, ◌≤◌, [], ap, arith, drop, length, refl, subst, suc, sym, take, true}
+use Rattle.std.proofs.Common.{◌≡◌, ◌∙◌, ◌+◌, ◌-◌, ◌*◌, ◌<◌, ◌≤◌, [], IfSome, IsSome, IsSomeAnd, Option, ap, arith, drop, length, refl, subst, suc, sym, take, true}
 use Rattle.std.specs.List.{All}
 use Rattle.std.proofs.Math.Path.{transport}
 use Rattle.std.proofs.lemmas.List.{drop_all, length-drop, take_all}
 use Rattle.std.proofs.Math.Seq.{take-length}
 use Rattle.roster_bundle.specs.Limits.{greatest_u64}
+use Rattle.roster_instance.specs.declared.choice.Shift.{Shift}
+use Rattle.roster_instance.specs.Meaning.{Meaning}
 use Rattle.roster_offers.specs.Cheapest.{cheaper, cheapest}
 use Rattle.roster_offers.specs.Lists.{offers_on}
 use Rattle.roster_partial.specs.Rows.{IsEntryOf, best_of, entry_numbered}
@@ -13,10 +15,10 @@ use Rattle.roster_state.proofs.CodeLemmas.{fits-all}
 use Rattle.roster_partial.specs.declared.rows.Entry.{Entry}
 use Rattle.roster_partial.specs.Allowed.{AreTold, IsAllowed, told_after}
 use Rattle.roster_partial.proofs.StepLaws.{read_day}
-use Rattle.roster_partial.proofs.AllowedLaw.{read_allowed, read_counts}
+use Rattle.roster_partial.proofs.AllowedLaw.{look_counts, look_more, look_some, read_allowed, read_counts}
 use Rattle.roster_partial.proofs.AddLaws.{cheapest_of_all, count_more, entry_of_day, next_entry, read_entry, room_left}
 use Rattle.roster_partial.proofs.add.add_day.Goals as goal
-use Rattle.roster_partial.proofs.add.add_day.Goals.{After-index, After-places_after}
+use Rattle.roster_partial.proofs.add.add_day.Goals.{After-allow, After-index, After-places_after}
 
 -- the partial row as it is read
 read : (c : After-index) → c.index.result.now ≡ entry_numbered (take c.len.result c.befores.rows.items) c.befores.before
@@ -39,12 +41,32 @@ told c =
 offers : (c : After-index) → c.as_slice-offers.result.now ≡ offers_on c.args.limited.now.floors.search.offers.now c.args.day
 offers c = c.as_slice-offers.ensures.value ∙ sym (read_day c.args.limited.now.floors.search.offers.now c.args.day c.index-offers-day.result (omega (arith, c.requires.day, c.requires.search.floors.offers.days)) c.index-offers-day.is)
 
+-- the look at which of them may follow
+module _ (c : After-allow) (same : c.as_slice-offers.result.now ≡ offers_on c.args.limited.now.floors.search.offers.now c.args.day) where
+  abbrev case : Meaning
+  case = c.args.limited.now.floors.search.case.now
+
+  abbrev last : Option Shift
+  last = c.index.result.now.state.last
+
+  told_before : IfSome (told_after c.befores.allowed last) (λ places. IsAllowed case last c.as_slice-offers.result.now places.items)
+  told_before = subst (λ xs. AreTold case xs c.befores.allowed) (sym same) c.befores.invariant.told last
+
+  kept : IsSome (told_after c.befores.allowed last) → (told_after c.allow.new.allowed last ≡ told_after c.befores.allowed last) × (c.allow.new.meter ≡ c.befores.meter)
+  kept some = (ap (λ allowed. told_after allowed last) (c.allow.ensures.kept some).0, (c.allow.ensures.kept some).1)
+
+  look : IsSomeAnd (told_after c.allow.new.allowed last) (λ places. c.allow.new.meter + length places.items ≤ c.befores.meter + length c.as_slice-offers.result.now)
+  look = look_counts case last c.as_slice-offers.result.now c.allow.new.meter c.befores.meter (told_after c.befores.allowed last) (told_after c.allow.new.allowed last) told_before c.allow.ensures.looked kept
+
+  no_fewer : c.befores.meter ≤ c.allow.new.meter
+  no_fewer = look_more case last c.as_slice-offers.result.now c.allow.new.meter c.befores.meter (told_after c.befores.allowed last) (told_after c.allow.new.allowed last) (c.allow.ensures.each last) c.allow.ensures.looked kept
+
 -- what is counted with the offers that may follow
-counts : (c : After-places_after) → c.as_slice-offers.result.now ≡ offers_on c.args.limited.now.floors.search.offers.now c.args.day → c.allow.new.meter + length c.places_after.result.now ≤ c.befores.meter + length (offers_on c.args.limited.now.floors.search.offers.now c.args.day)
-counts c same =
+counts : (c : After-places_after) → c.as_slice-offers.result.now ≡ offers_on c.args.limited.now.floors.search.offers.now c.args.day → IsSomeAnd (told_after c.allow.new.allowed c.index.result.now.state.last) (λ places. c.allow.new.meter + length places.items ≤ c.befores.meter + length c.as_slice-offers.result.now) → c.allow.new.meter + length c.places_after.result.now ≤ c.befores.meter + length (offers_on c.args.limited.now.floors.search.offers.now c.args.day)
+counts c same looked =
     let search = c.args.limited.now.floors.search in
-    let last = c.index.result.now.state.last in
-    omega (arith, ap length same, read_counts search.case.now last c.as_slice-offers.result.now c.places_after.result.now c.allow.new.meter c.befores.meter (length c.as_slice-offers.result.now) (told_after c.allow.new.allowed last) c.allow.ensures.told c.places_after.ensures)
+    let of = c.index.result.now.state.last in
+    omega (arith, ap length same, read_counts search.case.now of c.as_slice-offers.result.now c.places_after.result.now c.allow.new.meter c.befores.meter (length c.as_slice-offers.result.now) (told_after c.allow.new.allowed of) looked c.places_after.ensures)
 
 pub allow-requires-clause-digit : goal.allow-requires-clause-digit
 allow-requires-clause-digit c = omega (arith, told (goal.at.allow-requires-clause-digit c).After-index, c.befores.invariant.lasts)
@@ -62,6 +84,11 @@ allow-requires-clause-room c =
       room_left c.args.meter.now c.befores.meter (c.befores.before - c.args.first) (length c.args.rows.now.items - c.args.first) size greatest_u64
           (omega (arith, c.befores.auto.before, c.befores-test.true, c.len.ensures ∙ c.args.rows.now.ok.0)) c.befores.invariant.counted c.requires.room,
     )
+
+pub places_after-requires-clause-told : goal.places_after-requires-clause-told
+places_after-requires-clause-told c =
+    let g = goal.at.places_after-requires-clause-told c in
+    look_some c.allow.new.meter (c.befores.meter + length c.as_slice-offers.result.now) (told_after c.allow.new.allowed c.index.result.now.state.last) (look g.After-allow (offers g.After-index))
 
 pub places_after-requires-clause-digit : goal.places_after-requires-clause-digit
 places_after-requires-clause-digit c = omega (arith, told (goal.at.places_after-requires-clause-digit c).After-index, c.befores.invariant.lasts, c.allow.ensures.long)
@@ -92,7 +119,7 @@ pub go_on_by_all-requires-clause-room : goal.go_on_by_all-requires-clause-room
 go_on_by_all-requires-clause-room c =
     omega (
       arith,
-      counts (goal.at.go_on_by_all-requires-clause-room c).After-places_after (offers (goal.at.go_on_by_all-requires-clause-room c).After-index),
+      counts (goal.at.go_on_by_all-requires-clause-room c).After-places_after (offers (goal.at.go_on_by_all-requires-clause-room c).After-index) (look (goal.at.go_on_by_all-requires-clause-room c).After-allow (offers (goal.at.go_on_by_all-requires-clause-room c).After-index)),
       room_left c.args.meter.now c.befores.meter (c.befores.before - c.args.first) (length c.args.rows.now.items - c.args.first) (length (offers_on c.args.limited.now.floors.search.offers.now c.args.day)) greatest_u64
           (omega (arith, c.befores.auto.before, c.befores-test.true, c.len.ensures ∙ c.args.rows.now.ok.0)) c.befores.invariant.counted c.requires.room,
     )
@@ -105,7 +132,7 @@ go_on_by_all-requires-clause-allowed c =
     let last = c.index.result.now.state.last in
     subst (λ (e : Entry). IsAllowed k e.state.last (offers_on search.offers.now c.args.day) c.places_after.result.now) (read of)
     (subst (λ xs. IsAllowed k last xs c.places_after.result.now) (offers of)
-    (read_allowed k last c.as_slice-offers.result.now c.places_after.result.now c.allow.new.meter c.befores.meter (length c.as_slice-offers.result.now) (told_after c.allow.new.allowed last) c.allow.ensures.told (c.allow.ensures.each last) c.places_after.ensures))
+    (read_allowed k last c.as_slice-offers.result.now c.places_after.result.now c.allow.new.meter c.befores.meter (length c.as_slice-offers.result.now) (told_after c.allow.new.allowed last) (look (goal.at.go_on_by_all-requires-clause-allowed c).After-allow (offers of)) (c.allow.ensures.each last) c.places_after.ensures))
 
 pub go_on_by_all-requires-clause-entries : goal.go_on_by_all-requires-clause-entries
 go_on_by_all-requires-clause-entries c =
@@ -138,10 +165,12 @@ returns-then-not-go_on_by_all-clause-counted c =
     let size = length (offers_on c.args.limited.now.floors.search.offers.now c.args.day) in
     let more = c.befores.before - c.args.first in
     let all = length c.args.rows.now.items - c.args.first in
-    omega (arith, c.go_on_by_all.ensures.counted, counts (goal.at.returns-then-not-go_on_by_all-clause-counted c).After-places_after (offers (goal.at.returns-then-not-go_on_by_all-clause-counted c).After-index), room_left c.args.meter.now c.befores.meter more all size (c.args.meter.now + all * size) (omega (arith, c.befores.auto.before, c.befores-test.true, c.len.ensures ∙ c.args.rows.now.ok.0)) c.befores.invariant.counted (omega arith))
+    omega (arith, c.go_on_by_all.ensures.counted, counts (goal.at.returns-then-not-go_on_by_all-clause-counted c).After-places_after (offers (goal.at.returns-then-not-go_on_by_all-clause-counted c).After-index) (look (goal.at.returns-then-not-go_on_by_all-clause-counted c).After-allow (offers (goal.at.returns-then-not-go_on_by_all-clause-counted c).After-index)), room_left c.args.meter.now c.befores.meter more all size (c.args.meter.now + all * size) (omega (arith, c.befores.auto.before, c.befores-test.true, c.len.ensures ∙ c.args.rows.now.ok.0)) c.befores.invariant.counted (omega arith))
 
 pub returns-then-not-go_on_by_all-clause-each : goal.returns-then-not-go_on_by_all-clause-each
-returns-then-not-go_on_by_all-clause-each c = omega (arith, c.befores.invariant.each, c.go_on_by_all.ensures.each, c.allow.ensures.counted)
+returns-then-not-go_on_by_all-clause-each c =
+    let g = goal.at.returns-then-not-go_on_by_all-clause-each c in
+    omega (arith, c.befores.invariant.each, c.go_on_by_all.ensures.each, no_fewer g.After-allow (offers g.After-index))
 
 pub befores-preserved : goal.befores-preserved
 befores-preserved c =
@@ -165,8 +194,8 @@ befores-preserved c =
       long = omega (arith, long, c.go_on_by_all.ensures.length);
       entries = transport (λ i. All (IsEntryOf (days_on limited (suc day) (front i))) (drop (long i) now)) c.go_on_by_all.ensures.entries;
       best = next_entry (best_of (days_on limited day rows)) rows first before _ _ from below c.befores.invariant.best next;
-      counted = count_more c.args.meter.now c.befores.meter c.go_on_by_all.new.meter (length (offers_on limited.floors.search.offers.now day)) (before - first) (before + 1 - first) (omega (arith, from)) c.befores.invariant.counted (omega (arith, c.go_on_by_all.ensures.counted, counts (goal.at.befores-preserved c).After-places_after (offers (goal.at.befores-preserved c).After-index)));
-      each = omega (arith, c.befores.invariant.each, c.go_on_by_all.ensures.each, c.allow.ensures.counted);
+      counted = count_more c.args.meter.now c.befores.meter c.go_on_by_all.new.meter (length (offers_on limited.floors.search.offers.now day)) (before - first) (before + 1 - first) (omega (arith, from)) c.befores.invariant.counted (omega (arith, c.go_on_by_all.ensures.counted, counts (goal.at.befores-preserved c).After-places_after (offers (goal.at.befores-preserved c).After-index) (look (goal.at.befores-preserved c).After-allow (offers (goal.at.befores-preserved c).After-index))));
+      each = omega (arith, c.befores.invariant.each, c.go_on_by_all.ensures.each, no_fewer (goal.at.befores-preserved c).After-allow (offers (goal.at.befores-preserved c).After-index));
       spare = c.go_on_by_all.ensures.spare ∙ c.befores.invariant.spare;
       lasts = c.allow.ensures.long ∙ c.befores.invariant.lasts;
       told = subst (λ xs. AreTold limited.floors.search.case.now xs c.allow.new.allowed) (offers (goal.at.befores-preserved c).After-index) c.allow.ensures.each;
