@@ -1,5 +1,5 @@
 -- The offers of a search for a best row, and its count.
-use Rattle.std.proofs.Common.{◌≡◌, ◌⊎◌, ◌∙◌, ◌+◌, ◌*◌, ◌<◌, ◌≤◌, ◌==◌, ◌&&◌, ℕ, true, nat_le, IsSome, List, [], arith, inl, inr, subst, sym}
+use Rattle.std.proofs.Common.{◌≡◌, ◌∙◌, ◌+◌, ◌*◌, ◌<◌, ◌≤◌, ◌==◌, ◌&&◌, ℕ, true, nat_le, IsSome, List, [], arith, subst, sym}
 use Rattle.arrayvec.specs.ArrayVec.{ArrayVec}
 use Rattle.roster_instance.specs.Limits.{most_shifts, most_skills}
 use Rattle.roster_instance.specs.Meaning.{Meaning, day_count, nurse_count, shift_count, skill_count}
@@ -16,9 +16,8 @@ use Rattle.roster_offers.proofs.Best.{best_some}
 use Rattle.roster_offers.proofs.ByShift.{best_by_shift, by_shift_all, by_shift_fewer, by_shift_some}
 use Rattle.roster_offers.proofs.OfferLaws.{offers_few, offers_of_case, offers_some}
 use Rattle.roster_offers.proofs.ListLaws.{best_over_same}
-use Rattle.roster_search.specs.Search.{CountsStates}
-use Rattle.roster_search.proofs.SearchLaws.{counts_same}
 use Rattle.roster_partial.specs.Counts.{CountsSearch}
+use Rattle.roster_partial.proofs.CountLaws.{counts_same}
 use Rattle.roster_partial.specs.Workspaces.{SameRoom, Space, fits_space}
 use Rattle.roster_best.specs.Searches.{AreShiftOffers, CountsStanding}
 
@@ -45,19 +44,9 @@ module _ (c : Meaning) (from : ℕ) (r : Rows) (n : ℕ) (offers : List (ArrayVe
 
   -- what is counted over the table is counted over the nurse's offers
   pub counted_is : (before after : ℕ) → CountsSearch c n (offers_on offers) before after → CountsStanding c from r n before after
-  counted_is before after counts = record { partial = counts.partial; few = counts.few; rest = go counts.rest }
-    where
-      from_there : ℕ
-      from_there = before + counts.partial
-
-      go : (after ≡ from_there) ⊎ CountsStates c n (offers_on offers) from_there after → (after ≡ from_there) ⊎ CountsStates c n (shift_offers c from r n) from_there after
-      go (inl none) = inl none
-      go (inr states) = inr (counts_same c n (offers_on offers) (shift_offers c from r n) are.each from_there after states)
+  counted_is before after counts = counts_same c n (offers_on offers) (shift_offers c from r n) are.each before after counts
 
 -- ---- the room
-
-pub same_after : (a b c : Space) → SameRoom a b → SameRoom b c → SameRoom a c
-same_after a b c one other = record { labels = other.labels ∙ one.labels; pointers = other.pointers ∙ one.pointers; room = other.room ∙ one.room }
 
 pub fits_after : (c : Meaning) (old new : Space) → SameRoom old new → fits_space c old ≡ true → fits_space c new ≡ true
 fits_after c old new same fits =

@@ -17,7 +17,6 @@ pub record AreShiftOffers (c : Meaning) (from : ℕ) (r : Rows) (n : ℕ) (offer
 abbrev pub AreOffersOf : Meaning → Rows → ℕ → List (ArrayVec Offer) → Type 0
 AreOffersOf c r n offers = (from : ℕ) × AreShiftOffers c from r n offers
 
--- so many were counted: at most so many partial rows, and then, where they found nothing, exactly the states that stand over the
--- nurse's offers
+-- so many were counted over the nurse's offers: floors, partial rows, and then, where these found nothing, exactly the states that stand
 abbrev pub CountsStanding : Meaning → ℕ → Rows → ℕ → ℕ → ℕ → Type 0
 CountsStanding c from r n before after = CountsSearch c n (shift_offers c from r n) before after

@@ -60,7 +60,7 @@ impl Drop for FloorWorkspace {
 }
 
 impl RowSpace {
-    /// Room for the nurses of a case, by at most eight growths.
+    /// Room for the nurses of a case, by at most six growths.
     ///
     /// # Errors
     ///
@@ -88,7 +88,7 @@ impl RowSpace {
 }
 
 impl FloorWorkspace {
-    /// Room for a run over a case, by at most twelve growths.
+    /// Room for a run over a case, by at most ten growths.
     ///
     /// # Errors
     ///

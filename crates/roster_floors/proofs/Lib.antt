@@ -8,5 +8,6 @@ pub mod LeastLaw
 pub mod LineLaws
 pub mod MoreToCome
 pub mod Places
+pub mod Steps
 pub mod ToCome
 pub mod WayLaws

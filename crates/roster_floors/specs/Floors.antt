@@ -1,8 +1,8 @@
 -- Floors: numbers under what the rest of a row costs, by the day, the last shift and the runs alone (our own).
-use Rattle.std.specs.Prelude.{◌≡◌, ℕ, suc, ◌+◌, ◌*◌, ◌<◌, ◌≤◌, All, List, true, false, Option, is_some, slice_index_or}
+use Rattle.std.specs.Prelude.{◌≡◌, ℕ, suc, ◌+◌, ◌*◌, ◌<◌, ◌≤◌, All, List, length, true, false, Option, is_some, slice_index_or}
 use Rattle.roster_instance.specs.declared.choice.Shift.{Shift}
 use Rattle.roster_instance.specs.Choices.{shift_of}
-use Rattle.roster_instance.specs.Counting.{one_if}
+use Rattle.roster_instance.specs.Counting.{one_if, sum_below}
 use Rattle.roster_instance.specs.Meaning.{Meaning, day_count, forbids}
 use Rattle.roster_rules.specs.DayLaw.{weekends_more}
 use Rattle.roster_rules.specs.Prefix.{Summary}
@@ -20,6 +20,10 @@ pub record AreSmall (rates : Rates) : Type 0 where
 -- how many floors a day has
 abbrev pub floor_count : Sizes → ℕ
 floor_count z = z.last * (z.run * z.shift_run)
+
+-- how many steps it takes to set the floors of all days once: each floor by each offer of its day
+abbrev pub floor_steps : Meaning → ℕ → (ℕ → List Offer) → ℕ
+floor_steps c n offers = floor_count (sizes_of c n) * sum_below (day_count c) (λ d. length (offers d))
 
 -- the place of a state's floor on a day
 abbrev pub floor_place : Sizes → ℕ → Summary → ℕ

@@ -27,13 +27,13 @@ use Rattle.roster_floors.specs.Floors.{AreSmall, floor_count, rated}
 
 -- ---- how large the numbers are
 
--- what a day costs at most whatever comes after it, 2^30
+-- what a day costs at most whatever comes after it, as floors are reckoned
 abbrev pub most_leave : ℕ
-most_leave = 1073741824
+most_leave = 713655274
 
--- a floor is at most that and what the run of a shift misses
+-- a floor is at most that and what the run of a shift misses: within the bound of labels, as the label of a coarser state
 abbrev pub most_floor : ℕ
-most_floor = 1074790400
+most_floor = 714703850
 
 -- each floor is within its bound
 abbrev pub AreLow : List ℕ → Type 0
@@ -92,6 +92,16 @@ apart_of c n rates d before x =
     x.price
     + (if (contract_of c n).whole_weekends then split_weight * splits_more d before (is_some (shift_of x.choice)) else 0)
     + (rates.day * one_if (is_some (shift_of x.choice)) + rates.weekend * weekends_more d before (is_some (shift_of x.choice)))
+
+-- how many steps it takes to set a line of the day's, the floors after a last shift, and all: each floor by each offer
+abbrev pub line_steps : Meaning → FloorDay → ℕ
+line_steps c day = (sizes_of c day.nurse).shift_run * length day.offers.now
+
+abbrev pub last_steps : Meaning → FloorDay → ℕ
+last_steps c day = (sizes_of c day.nurse).run * (sizes_of c day.nurse).shift_run * length day.offers.now
+
+abbrev pub day_steps : Meaning → FloorDay → ℕ
+day_steps c day = floor_count (sizes_of c day.nurse) * length day.offers.now
 
 -- ---- the ways on from a last shift
 

@@ -1,6 +1,7 @@
 //! The floors after a day off.
 
 ghost use Rattle.std.specs.Prelude.{◌≡◌, ◌+◌, ◌*◌, ◌<◌, ◌≤◌, ℕ, false, length, min, slice_index_or, true};
+ghost use Rattle.roster_bundle.specs.Limits.{greatest_u64};
 ghost use Rattle.roster_instance.specs.Choices.{shift_of};
 ghost use Rattle.roster_instance.specs.Meaning.{contract_of, run_of_shift, shift_count};
 ghost use Rattle.roster_instance.specs.RunLaw.{day_violations};
@@ -8,7 +9,7 @@ ghost use Rattle.roster_instance.specs.Sizes.{cap};
 ghost use Rattle.roster_rules.specs.Weights.{free_run_weight, shift_run_weight, working_run_weight};
 ghost use Rattle.roster_offers.specs.Lists.{IsOfferOf};
 ghost use Rattle.roster_state.specs.Codes.{sizes_of};
-ghost use Rattle.roster_floors.specs.Lines.{AreLow, AreNext, IsEntry, IsFloorDay, UnderCell, apart_of, begun_place, line_place, longer, most_leave, offer_at};
+ghost use Rattle.roster_floors.specs.Lines.{AreLow, AreNext, IsEntry, IsFloorDay, UnderCell, apart_of, begun_place, last_steps, line_place, line_steps, longer, most_floor, most_leave, offer_at};
 
 use crate::day::FloorDay;
 use crate::line::set_all;
@@ -16,6 +17,7 @@ use crate::ways::{MOST_LEAVE, apart, way_to};
 use roster_offers::Offer;
 use roster_rules::Shift;
 use roster_rules::weights::{FREE_RUN, WORKING_RUN};
+use roster_state::Meter;
 
 /// What follows a day off: the least that a shift costs that begins, with the floor after it, and the least that another day off costs.
 #[derive(Clone, Copy)]
@@ -25,20 +27,39 @@ pub(crate) struct AfterOff {
 }
 
 /// Sets the floors after a day off: a line for each run of days off, all of one number.
-pub(crate) fn set_after_off(day: &FloorDay<'_>, next: &[u32], here: &mut [u32])
+pub(crate) fn set_after_off(day: &FloorDay<'_>, next: &[u32], here: &mut [u32], meter: &mut Meter)
     requires day { IsFloorDay day.now.case.now day.now }
     requires next { AreNext (sizes_of day.now.case.now day.now.nurse) next.now }
     requires room { length here.old ≡ (sizes_of day.now.case.now day.now.nurse).run * (sizes_of day.now.case.now day.now.nurse).shift_run }
+    requires steps { meter.old + last_steps day.now.case.now day.now ≤ greatest_u64 }
     ensures under { (run q : ℕ) → run < (sizes_of day.now.case.now day.now.nurse).run → q < (sizes_of day.now.case.now day.now.nurse).shift_run → UnderCell day.now.case.now day.now next.now 0 run q (slice_index_or here.new (run * (sizes_of day.now.case.now day.now.nurse).shift_run + q) 0) }
     ensures low { AreLow here.new }
     ensures length { length here.new ≡ length here.old }
+    ensures counted { meter.new ≡ meter.old + last_steps day.now.case.now day.now }
 {
     let after = after_off(day, next);
     for run in 0..day.runs {
         let first = run * day.shift_runs;
         let floor = off_floor(day, &after, run, next);
-        set_all(floor, &mut here[first..first + day.shift_runs]);
+        set_off(day, floor, &mut here[first..first + day.shift_runs], meter);
     }
+}
+
+/// Sets a line: the floors after a day off with one run of days off. All its floors are counted, also those to which no row comes:
+/// a surplus.
+#[inline(always)]
+fn set_off(day: &FloorDay<'_>, floor: u32, here: &mut [u32], meter: &mut Meter)
+    requires day { IsFloorDay day.now.case.now day.now }
+    requires floor { floor ≤ most_floor }
+    requires room { length here.old ≡ (sizes_of day.now.case.now day.now.nurse).shift_run }
+    requires steps { meter.old + line_steps day.now.case.now day.now ≤ greatest_u64 }
+    ensures all { (q : ℕ) → q < length here.new → slice_index_or here.new q 0 ≡ floor }
+    ensures low { AreLow here.new }
+    ensures length { length here.new ≡ length here.old }
+    ensures counted { meter.new ≡ meter.old + line_steps day.now.case.now day.now }
+{
+    meter.add(here.len() as u64 * day.offers.len() as u64);
+    set_all(floor, here);
 }
 
 /// What follows a day off on a day.

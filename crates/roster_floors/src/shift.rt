@@ -1,11 +1,12 @@
 //! The floors after a worked day.
 
 ghost use Rattle.std.specs.Prelude.{◌≡◌, ◌+◌, ◌*◌, ◌<◌, ◌≤◌, ℕ, false, length, slice_index_or, true};
+ghost use Rattle.roster_bundle.specs.Limits.{greatest_u64};
 ghost use Rattle.roster_instance.specs.Meaning.{contract_of, run_of_shift, shift_count};
 ghost use Rattle.roster_instance.specs.RunLaw.{day_violations};
 ghost use Rattle.roster_rules.specs.Weights.{working_run_weight};
 ghost use Rattle.roster_state.specs.Codes.{sizes_of};
-ghost use Rattle.roster_floors.specs.Lines.{AreLow, AreNext, AreOnward, IsAfterShift, IsFloorDay, UnderCell, longer, most_floor, most_leave, way_at};
+ghost use Rattle.roster_floors.specs.Lines.{AreLow, AreNext, AreOnward, IsAfterShift, IsFloorDay, UnderCell, last_steps, line_steps, longer, most_floor, most_leave, way_at};
 
 use crate::day::FloorDay;
 use crate::line::{LineCosts, set_all, set_line};
@@ -13,6 +14,7 @@ use crate::ways::{MOST_LEAVE, Onward, Ways, least_way, ways_after};
 use roster_offers::MOST_OFFERS;
 use roster_rules::Shift;
 use roster_rules::weights::{FREE_RUN, WORKING_RUN};
+use roster_state::Meter;
 
 /// What follows a last shift: the ways on, what a day off costs with the floor after it, and the next day's floors.
 #[derive(Clone, Copy)]
@@ -30,20 +32,29 @@ pub(crate) fn set_after_shift(
     last: Shift,
     next: &[u32],
     here: &mut [u32],
+    meter: &mut Meter,
 )
     requires day { IsFloorDay day.now.case.now day.now }
     requires onwards { AreOnward day.now.case.now day.now onwards.now }
     requires last { last.0 < shift_count day.now.case.now }
     requires next { AreNext (sizes_of day.now.case.now day.now.nurse) next.now }
     requires room { length here.old ≡ (sizes_of day.now.case.now day.now.nurse).run * (sizes_of day.now.case.now day.now.nurse).shift_run }
+    requires steps { meter.old + last_steps day.now.case.now day.now ≤ greatest_u64 }
     ensures under { (run q : ℕ) → run < (sizes_of day.now.case.now day.now.nurse).run → q < (sizes_of day.now.case.now day.now.nurse).shift_run → UnderCell day.now.case.now day.now next.now (last.0 + 1) run q (slice_index_or here.new (run * (sizes_of day.now.case.now day.now.nurse).shift_run + q) 0) }
     ensures low { AreLow here.new }
     ensures length { length here.new ≡ length here.old }
+    ensures counted { meter.new ≡ meter.old + last_steps day.now.case.now day.now }
 {
     let after = after_shift(day, onwards, last, next);
     for run in 0..day.runs {
         let first = run * day.shift_runs;
-        set_run(day, &after, run, &mut here[first..first + day.shift_runs]);
+        set_run(
+            day,
+            &after,
+            run,
+            &mut here[first..first + day.shift_runs],
+            meter,
+        );
     }
 }
 
@@ -76,15 +87,25 @@ fn after_shift<'a>(
 
 /// Sets a line: the floors after a last shift with one run of working days.
 #[inline(always)]
-fn set_run(day: &FloorDay<'_>, after: &AfterShift<'_>, run: usize, here: &mut [u32])
+fn set_run(
+    day: &FloorDay<'_>,
+    after: &AfterShift<'_>,
+    run: usize,
+    here: &mut [u32],
+    meter: &mut Meter,
+)
     requires day { IsFloorDay day.now.case.now day.now }
     requires after { IsAfterShift day.now.case.now day.now after.now }
     requires run { run < (sizes_of day.now.case.now day.now.nurse).run }
     requires room { length here.old ≡ (sizes_of day.now.case.now day.now.nurse).shift_run }
+    requires steps { meter.old + line_steps day.now.case.now day.now ≤ greatest_u64 }
     ensures under { (q : ℕ) → q < (sizes_of day.now.case.now day.now.nurse).shift_run → UnderCell day.now.case.now day.now after.now.next.now (after.now.last.0 + 1) run q (slice_index_or here.new q 0) }
     ensures low { AreLow here.new }
     ensures length { length here.new ≡ length here.old }
+    ensures counted { meter.new ≡ meter.old + line_steps day.now.case.now day.now }
 {
+    // Each floor of the line by each offer of the day, also where no row comes to the line: a surplus.
+    meter.add(here.len() as u64 * day.offers.len() as u64);
     let most = day.rules.working.cap() as usize;
     // After a worked day the run has a day at least, and it goes no further than its cap. No row comes to the other lines, unless a
     // history has it so: 0 lies under everything.

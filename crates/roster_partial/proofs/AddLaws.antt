@@ -2,7 +2,7 @@
 use Rattle.std.proofs.Common.{◌≡◌, ◌∙◌, ◌+◌, ◌-◌, ◌*◌, ◌<◌, ◌≤◌, ℕ, zero, suc, ap, arith, refl, sym, subst, List, [], ◌∷◌, ◌++◌, length, take, drop, slice_index_or}
 use Rattle.std.specs.List.{All}
 use Rattle.std.proofs.lemmas.Nat.{mul-le}
-use Rattle.std.proofs.lemmas.List.{get_or_default, get_or-drop, get_or-take, length-drop, length-take-le}
+use Rattle.std.proofs.lemmas.List.{get_or-drop, get_or-take, length-drop, length-take-le}
 use Rattle.roster_instance.specs.Meaning.{day_count}
 use Rattle.roster_offers.specs.declared.offer.Offer.{Offer}
 use Rattle.roster_offers.specs.ByStates.{best_after}
@@ -52,11 +52,6 @@ by_offers limited day earlier e before =
     let left : suc (day_count limited.floors.search.case.now - suc day) ≡ day_count limited.floors.search.case.now - day = omega (arith, before) in
     by_each_offer (days_on limited (suc day) earlier) day e ∙ ap (λ n. best_of (record (days_on limited day earlier) { left = n }) e) left
 
--- a partial row as it is read from the list
-pub read_entry : (rows read : List Entry) (end before : ℕ) (d : Entry) → read ≡ rows → before < end → end ≤ length rows → slice_index_or read before d ≡ entry_numbered (take end rows) before
-read_entry rows read end before d same below inside =
-    ap (λ xs. slice_index_or xs before d) same ∙ get_or_default rows before d _ (omega (arith, below, inside)) ∙ sym (get_or-take end rows before _ below)
-
 -- ---- a list with more entries at its end
 
 module _ (offers : ℕ → List Offer) (xs ys : List Entry) (same : (k : ℕ) → k < length xs → entry_numbered xs k ≡ entry_numbered ys k) where
@@ -74,7 +69,7 @@ module _ (days : Days) (ys : List Entry) (same : (k : ℕ) → k < length days.e
   best_further e is = ap (λ before. within days.limit (raised e.cost (λ rest. before ++ rest) (best_of_offers days.case days.nurse days.offers days.left days.day e.state))) (same_offers_to days.offers days.earlier ys same days.day e is.linked)
 
   entry_further : length days.earlier ≤ length ys → (e : Entry) → IsEntryOf days e → IsEntryOf (record days { earlier = ys }) e
-  entry_further longer e is = record { fits = is.fits; code = is.code; linked = linked_further days.offers days.earlier ys same longer days.day e is.linked }
+  entry_further longer e is = record { fits = is.fits; linked = linked_further days.offers days.earlier ys same longer days.day e is.linked }
 
 -- a place of the day, counted from the day's first
 place_after : (first : ℕ) (rows : List Entry) (before : ℕ) (d : Entry) → first ≤ before → slice_index_or (drop first rows) (before - first) d ≡ slice_index_or rows before d
@@ -87,7 +82,7 @@ module _ (limited : LimitedSearch) (day first : ℕ) (rows : List Entry) (inside
   same_front k below = get_or-take first rows k _ (omega (arith, below, length-take-le first rows inside))
 
   -- an entry that names those of the front names those of the whole list
-  entry_of_all : (e : Entry) → IsEntryOf (days_on limited day (take first rows)) e → IsEntryOf (days_on limited day rows) e
+  pub entry_of_all : (e : Entry) → IsEntryOf (days_on limited day (take first rows)) e → IsEntryOf (days_on limited day rows) e
   entry_of_all e is = entry_further (days_on limited day (take first rows)) rows same_front (omega (arith, length-take-le first rows inside, inside)) e is
 
   -- and the cheapest of such entries is the same
@@ -98,6 +93,14 @@ module _ (limited : LimitedSearch) (day first : ℕ) (rows : List Entry) (inside
   pub entry_of_day : (before : ℕ) → first ≤ before → before < length rows → All (IsEntryOf (days_on limited day (take first rows))) (drop first rows) → IsEntryOf (days_on limited day rows) (entry_numbered rows before)
   entry_of_day before from below are =
       entry_of_all (entry_numbered rows before) (subst (IsEntryOf (days_on limited day (take first rows))) (place_after first rows before _ from) (are (before - first) _ (omega (arith, from, below, length-drop first rows))))
+
+-- a partial row of the day, as it is read after others were put at the end
+module _ (limited : LimitedSearch) (day first before : ℕ) (rows now : List Entry) (front : take (length rows) now ≡ rows) (inside : first ≤ length rows) (from : first ≤ before) (below : before < length rows) (are : All (IsEntryOf (days_on limited day (take first rows))) (drop first rows)) where
+  pub same_entry : entry_numbered now before ≡ entry_numbered rows before
+  same_entry = sym (get_or-take (length rows) now before _ below) ∙ ap (λ xs. entry_numbered xs before) front
+
+  pub same_is : IsEntryOf (days_on limited day rows) (entry_numbered rows before)
+  same_is = entry_of_day limited day first rows inside before from below are
 
 -- ---- one partial row after the other
 

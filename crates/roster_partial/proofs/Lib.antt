@@ -1,7 +1,9 @@
 mod AddLaws
 mod DaysLaws
+mod RowCells
 mod RowLaws
 mod SearchLaws
 mod StepLaws
 pub mod AllowedLaw
 pub mod WorkspaceLaws
+pub mod CountLaws

@@ -1,14 +1,7 @@
 -- Lists of partial rows: one left out.
-use Rattle.std.proofs.Common.{◌≡◌, ◌∙◌, ◌+◌, ◌-◌, ◌<◌, ◌≤◌, ◌⊎◌, ℕ, zero, suc, inl, inr, ap, arith, refl, subst, sym, List, [], ◌∷◌, ◌++◌, length, Some, None, append-nil, append_assoc, slice_index_or, slice_set}
-use Rattle.std.specs.List.{refill}
-use Rattle.std.proofs.Common.{drop, take}
-use borrow.Rule.Slice.PartMut.{put_mid}
-use Rattle.std.proofs.lemmas.Grind.{common_steps}
-use Rattle.std.proofs.lemmas.List.{drop_all, length-append, length-drop, length-take-le}
-use Rattle.std.proofs.Math.Seq.{drop-append_seam, take-append_seam, take-length}
+use Rattle.std.proofs.Common.{◌≡◌, ◌∙◌, ◌+◌, ◌<◌, ◌≤◌, ◌⊎◌, ℕ, zero, suc, inl, inr, ap, arith, refl, subst, sym, List, [], ◌∷◌, ◌++◌, length, Some, None, slice_index_or, slice_set}
 use Rattle.std.proofs.lemmas.Bool.{cases_lt, lt-ltb, le-ltb}
-use Rattle.roster_state.specs.Codes.{code_of, fits_sizes, sizes_of, state_at}
-use Rattle.roster_state.proofs.CodeLemmas.{numbered-back}
+use Rattle.roster_state.specs.Codes.{fits_sizes, sizes_of}
 use Rattle.roster_offers.specs.declared.offer.Offer.{Offer}
 use Rattle.roster_offers.specs.Cheapest.{Priced, cheaper, cheapest, raised}
 use Rattle.roster_offers.specs.Offers.{best_of_offers}
@@ -139,85 +132,13 @@ same_beats days more one other same low y is =
         let cost : other.cost + p.0 ≡ y.0 = ap (cost_or 0) found.0 in
         subst Found (sym e) ((one.cost + p.0, (row_of days one).offers ++ p.1), stays_within days.limit (one.cost + p.0, (row_of days one).offers ++ p.1) (omega (arith, cost, low, found.1)), omega (arith, cost, low))
 
--- a code has one state
-pub one_state : (days : Days) (one other : Entry) → IsEntryOf days one → IsEntryOf days other → one.code ≡ other.code → one.state ≡ other.state
-one_state days one other mine its same =
-    let z = sizes_of days.case days.nurse in
-    some_is (sym (numbered-back z one.state mine.fits) ∙ ap (state_at z) (sym mine.code ∙ same ∙ its.code) ∙ numbered-back z other.state its.fits)
-  where
-    some_is : {X : Type 0} {x y : X} → Some x ≡ Some y → x ≡ y
-    some_is e = cc
-
 -- an entry with another cost
 pub linked_by : (days : Days) (d : ℕ) (e out : Entry) → out.before ≡ e.before → out.offer ≡ e.offer → IsLinked days.offers days.earlier d e → IsLinked days.offers days.earlier d out
 linked_by days zero e out before offer is = is
 linked_by days (suc d) e out before offer is = transport (λ i. (sym before i < length days.earlier) × (sym offer i < length (days.offers d)) × IsLinked days.offers days.earlier d (entry_numbered days.earlier (sym before i))) is
 
-pub marked_entry : (days : Days) (e out : Entry) → IsEntryOf days e → out.state ≡ e.state → out.code ≡ e.code → out.before ≡ e.before → out.offer ≡ e.offer → IsEntryOf days out
-marked_entry days e out is state code before offer = record {
+pub marked_entry : (days : Days) (e out : Entry) → IsEntryOf days e → out.state ≡ e.state → out.before ≡ e.before → out.offer ≡ e.offer → IsEntryOf days out
+marked_entry days e out is state before offer = record {
   fits = ap (fits_sizes (sizes_of days.case days.nurse)) state ∙ is.fits;
-  code = code ∙ is.code ∙ ap (code_of (sizes_of days.case days.nurse)) (sym state);
   linked = linked_by days days.day e out before offer is.linked;
 }
-
--- ---- those of one day, after those of the days before
-
--- as many elements in the place of all
-refilled : (n : ℕ) (old new : List Entry) → n ≡ length new → length new ≡ length old → refill n old new ≡ new
-refilled n old new long same = grind (arith, common_steps)
-
--- the part from a place on replaced by as many
-part_length : (first : ℕ) (v part : List Entry) → first ≤ length v → length part ≡ length v - first → length (put_mid first (length v - first) v part) ≡ length v
-part_length first v part inside long = grind (arith, common_steps)
-
-module _ (n first : ℕ) (old v part : List Entry) (all : n ≡ length old) (inside : first ≤ length old) (same : v ≡ old) (long : length part ≡ length v - first) where
-  -- the part is written back to the list
-  written : refill n old (put_mid first (length v - first) v part) ≡ take first old ++ part
-  written =
-      let in_v : first ≤ length v = omega (arith, inside, ap length same) in
-      let size = part_length first v part in_v long in
-      refilled n old (put_mid first (length v - first) v part) (all ∙ sym (size ∙ ap length same)) (size ∙ ap length same)
-      ∙ ap (λ xs. take first v ++ (part ++ xs)) (drop_all (length v - first) (drop first v) (omega (arith, in_v, length-drop first v)))
-      ∙ ap (λ xs. take first v ++ xs) (append-nil part)
-      ∙ ap (λ xs. take first xs ++ part) same
-
-  -- the list with these in the place of those from the first one on
-  module _ (rest new : List Entry) (is : new ≡ take first old ++ rest) where
-    front_of : take first new ≡ take first old
-    front_of = ap (take first) is ∙ ap (λ k. take k (take first old ++ rest)) (sym (length-take-le first old inside)) ∙ take-append_seam (take first old) rest
-
-    rest_of : drop first new ≡ rest
-    rest_of = ap (drop first) is ∙ ap (λ k. drop k (take first old ++ rest)) (sym (length-take-le first old inside)) ∙ drop-append_seam (take first old) rest
-
-    size_of : length new ≡ first + length rest
-    size_of = ap length is ∙ length-append (take first old) rest ∙ ap (λ k. k + length rest) (length-take-le first old inside)
-
-  -- the part replaced, and nothing after it
-  module _ (new : List Entry) (is : new ≡ refill n old (put_mid first (length v - first) v part)) where
-    pub part_alone : drop first new ≡ part
-    part_alone = rest_of part new (is ∙ written)
-
-    pub front_alone : take first new ≡ take first old
-    front_alone = front_of part new (is ∙ written)
-
-    pub length_alone : length new ≡ length old
-    length_alone = omega (arith, size_of part new (is ∙ written), long, inside, ap length same)
-
-  -- and one more after it
-  module _ (new : List Entry) (e : Entry) (is : new ≡ refill n old (put_mid first (length v - first) v part) ++ e ∷ []) where
-    and_one : new ≡ take first old ++ (part ++ e ∷ [])
-    and_one = is ∙ ap (λ xs. xs ++ e ∷ []) written ∙ append_assoc (take first old) part (e ∷ [])
-
-    pub part_and_one : drop first new ≡ part ++ e ∷ []
-    part_and_one = rest_of (part ++ e ∷ []) new and_one
-
-    pub front_and_one : take first new ≡ take first old
-    front_and_one = front_of (part ++ e ∷ []) new and_one
-
-    pub length_and_one : length new ≡ length old + 1
-    length_and_one = omega (arith, size_of (part ++ e ∷ []) new and_one, length-append part (e ∷ []), long, inside, ap length same)
-
--- what stands after a place, as a part
-pub part_is : (first : ℕ) (old v : List Entry) → v ≡ old → take (length v - first) (drop first v) ≡ drop first old
-part_is first old v same =
-    ap (λ n. take n (drop first v)) (sym (length-drop first v)) ∙ take-length (drop first v) ∙ ap (drop first) same

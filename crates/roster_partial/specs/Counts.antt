@@ -1,13 +1,33 @@
--- How many partial rows and states a search takes over a choice (our own).
-use Rattle.std.specs.Prelude.{◌≡◌, ℕ, ◌+◌, ◌-◌, ◌*◌, ◌≤◌, ◌⊎◌, List}
+-- How much a search counts, and for what (our own).
+use Rattle.std.specs.Prelude.{◌≡◌, ℕ, ◌+◌, ◌*◌, ◌≤◌, ◌⊎◌, List}
 use Rattle.roster_instance.specs.Meaning.{Meaning}
-use Rattle.roster_instance.specs.Sizes.{choice_count, state_count}
+use Rattle.roster_state.specs.declared.area.Area.{Area}
 use Rattle.roster_offers.specs.declared.offer.Offer.{Offer}
-use Rattle.roster_search.specs.Search.{CountsStates}
+use Rattle.roster_laws.specs.Greatest.{extension_count}
+use Rattle.roster_search.specs.Search.{AreStanding, standing_steps}
+use Rattle.roster_floors.specs.Floors.{floor_steps}
 
--- so many partial rows were taken over a choice, fewer than there are states by choices; and then, where they found nothing, each state
--- that stands
+-- floors were set so often at most, those of all days each time, each by each offer of its day; and so many partial rows were taken over
+-- an offer
+pub record CountsSets (c : Meaning) (n : ℕ) (offers : ℕ → List Offer) (most before after : ℕ) : Type 0 where
+  pub sets : ℕ
+  pub rows : ℕ
+  pub few : sets ≤ most
+  pub counted : after ≡ before + sets * floor_steps c n offers + rows
+
+-- how often floors are set in a search at most
+abbrev pub most_sets : ℕ
+most_sets = 13
+
+abbrev pub CountsPartial : Meaning → ℕ → (ℕ → List Offer) → ℕ → ℕ → Type 0
+CountsPartial c n offers before after = CountsSets c n offers most_sets before after
+
+-- so much was counted for floors, partial rows and states: of states all that stand, each by each offer of its day, or none, where a
+-- row was found without the tables. Beside floors and partial rows all states that stand were left their steps.
 pub record CountsSearch (c : Meaning) (n : ℕ) (offers : ℕ → List Offer) (before after : ℕ) : Type 0 where
-  pub partial : ℕ
-  pub few : partial ≤ (state_count c n - 1) * choice_count c n
-  pub rest : (after ≡ before + partial) ⊎ CountsStates c n offers (before + partial) after
+  pub areas : List (List Area)
+  pub standing : AreStanding c n offers areas
+  pub between : ℕ
+  pub partial : CountsPartial c n offers before between
+  pub left : between + standing_steps c n offers areas ≤ before + extension_count c n
+  pub states : (after ≡ between) ⊎ (after ≡ between + standing_steps c n offers areas)

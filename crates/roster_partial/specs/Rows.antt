@@ -1,9 +1,9 @@
 -- Partial rows in a list, in the order of rows, those of one day after those of the day before (our own).
-use Rattle.std.specs.Prelude.{◌≡◌, ℕ, zero, suc, ◌<◌, ◌≤◌, List, [], ◌∷◌, ◌++◌, length, nat_lt, slice_index_or, if◌then◌else◌, true, Some, None}
+use Rattle.std.specs.Prelude.{◌≡◌, ℕ, zero, suc, ◌+◌, ◌*◌, ◌/◌, ◌%◌, ◌<◌, ◌≤◌, List, [], ◌∷◌, ◌++◌, length, nat_lt, slice_index_or, if◌then◌else◌, true, Some, None}
 use Rattle.roster_instance.specs.declared.choice.Choice.TheVariants.{Off}
 use Rattle.roster_instance.specs.Meaning.{Meaning}
 use Rattle.roster_rules.specs.Prefix.{Summary}
-use Rattle.roster_state.specs.Codes.{code_of, fits_sizes, sizes_of}
+use Rattle.roster_state.specs.Codes.{fits_sizes, shift_numbered, sizes_of}
 use Rattle.roster_offers.specs.declared.offer.Offer.{Offer}
 use Rattle.roster_offers.specs.ByStates.{best_after}
 use Rattle.roster_offers.specs.Cheapest.{Priced, raised}
@@ -14,6 +14,45 @@ use Rattle.roster_partial.specs.declared.rows.Entry.{Entry}
 abbrev pub most_rows : ℕ
 most_rows = 65536
 
+-- ---- where entries are kept: in the cells of a table of labels, four for each, after one that says how many there are
+
+-- how many there are
+abbrev pub count_in : List ℕ → ℕ
+count_in cells = slice_index_or cells 0 0
+
+-- there are as many cells as they take
+abbrev pub AreKept : List ℕ → Type 0
+AreKept cells = 1 + 4 * count_in cells ≤ length cells
+
+-- the entry of four cells: its cost; the two runs of its state; its assignments and worked weekends; and the place before, the place of
+-- the offer, and the last shift
+abbrev pub entry_of : (cost runs counts link : ℕ) → Entry
+entry_of cost runs counts link = record {
+  state = record {
+    last = shift_numbered (link % 16);
+    run = runs / 65536;
+    shift_run = runs % 65536;
+    assignments = counts / 65536;
+    weekends = counts % 65536;
+  };
+  cost = cost;
+  before = link / 16 / 16;
+  offer = link / 16 % 16;
+}
+
+-- the entry at a place
+abbrev pub entry_in : List ℕ → ℕ → Entry
+entry_in cells place = entry_of (slice_index_or cells (4 * place + 1) 0) (slice_index_or cells (4 * place + 2) 0) (slice_index_or cells (4 * place + 3) 0) (slice_index_or cells (4 * place + 4) 0)
+
+-- the first of them
+abbrev pub rows_to : List ℕ → ℕ → List Entry
+rows_to cells zero = []
+rows_to cells (suc n) = rows_to cells n ++ entry_in cells n ∷ []
+
+-- all of them
+unfoldable pub rows_in : List ℕ → List Entry
+rows_in cells = rows_to cells (count_in cells)
+
 -- ---- what an entry stands for
 
 -- an offer by its place among those of its day
@@ -22,7 +61,7 @@ offer_numbered offers place = slice_index_or offers place (record { choice = Off
 
 -- the entry at a place of a list
 abbrev pub entry_numbered : List Entry → ℕ → Entry
-entry_numbered rows place = slice_index_or rows place (record { state = record { last = None; run = 0; shift_run = 0; assignments = 0; weekends = 0 }; code = 0; cost = 0; before = 0; offer = 0 })
+entry_numbered rows place = slice_index_or rows place (record { state = record { last = None; run = 0; shift_run = 0; assignments = 0; weekends = 0 }; cost = 0; before = 0; offer = 0 })
 
 -- the offers by which an entry of day d was reached, read backward by the places that it and those before it name
 abbrev pub offers_to : (ℕ → List Offer) → List Entry → ℕ → Entry → List Offer
@@ -69,10 +108,9 @@ row_of days e = record { offers = offers_to days.offers days.earlier days.day e;
 unfoldable pub best_of : Days → Entry → Priced (List Offer)
 best_of days e = within days.limit (best_with days.case days.nurse days.offers days.left days.day (row_of days e))
 
--- the state fits and has this code, and what the entry names is there
+-- the state fits, and what the entry names is there
 pub record IsEntryOf (days : Days) (e : Entry) : Type 0 where
   pub fits : fits_sizes (sizes_of days.case days.nurse) e.state ≡ true
-  pub code : e.code ≡ code_of (sizes_of days.case days.nurse) e.state
   pub linked : IsLinked days.offers days.earlier days.day e
 
 -- ---- one day

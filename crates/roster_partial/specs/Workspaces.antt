@@ -6,12 +6,15 @@ use Rattle.roster_instance.specs.Rosters.{Row}
 use Rattle.roster_laws.specs.Greatest.{greatest_state_count}
 use Rattle.roster_offers.specs.declared.offer.Offer.{Offer}
 
--- how many labels its two tables have together, how many pointers and choices it has room for, the row of the last search, which is
--- empty before the first, and the offers of the days that were put in
+-- how many labels its two tables have together, how many pointers and choices it has room for; for how many labels and choices there is
+-- room without a growth; the row of the last search, which is empty before the first, and the offers of the days that were put in
 pub record Space : Type 0 where
   pub labels : ℕ
   pub pointers : ℕ
   pub room : ℕ
+  pub label_capacity : ℕ
+  pub later_capacity : ℕ
+  pub row_capacity : ℕ
   pub row : Row
   pub offers : List (ArrayVec Offer)
 
@@ -25,3 +28,6 @@ pub record SameRoom (old new : Space) : Type 0 where
   pub labels : new.labels ≡ old.labels
   pub pointers : new.pointers ≡ old.pointers
   pub room : new.room ≡ old.room
+  pub label_capacity : new.label_capacity ≡ old.label_capacity
+  pub later_capacity : new.later_capacity ≡ old.later_capacity
+  pub row_capacity : new.row_capacity ≡ old.row_capacity

@@ -1,18 +1,18 @@
 //! A day of the search by partial rows.
 
-ghost use Rattle.std.specs.Prelude.{◌≡◌, ◌+◌, ◌-◌, ◌<◌, ◌≤◌, ℕ, suc, All, List, Some, drop, length, take, true, false, is_some, vec_capacity};
+ghost use Rattle.std.specs.Prelude.{◌≡◌, ◌+◌, ◌-◌, ◌<◌, ◌≤◌, ℕ, suc, All, List, Some, drop, length, take, true, false, is_some};
 ghost use Rattle.roster_bundle.specs.Limits.{greatest_u64};
 ghost use Rattle.roster_instance.specs.Meaning.{day_count};
 ghost use Rattle.roster_offers.specs.Cheapest.{Priced, cheaper, cheapest};
 ghost use Rattle.roster_offers.specs.declared.offer.Offer.{Offer};
 ghost use Rattle.roster_offers.specs.Offers.{best_of_offers};
 ghost use Rattle.roster_offers.specs.Lists.{no_row, offers_on};
-ghost use Rattle.roster_state.specs.Codes.{fits_sizes, sizes_of};
+ghost use Rattle.roster_state.specs.Codes.{fits_sizes, shift_digit, sizes_of};
 ghost use Rattle.roster_floors.specs.Least.{IsBeside};
-ghost use Rattle.roster_partial.specs.Rows.{Days, IsEntryOf, best_by, best_of, IsLinked, entry_numbered, most_rows, offer_numbered};
-ghost use Rattle.roster_partial.specs.Searches.{IsAhead, IsSearch, days_on};
+ghost use Rattle.roster_partial.specs.Rows.{Days, IsEntryOf, best_by, best_of, IsLinked, count_in, entry_numbered, most_rows, offer_numbered, rows_in};
+ghost use Rattle.roster_partial.specs.Searches.{AreHeld, IsAhead, IsSearch, days_on};
 
-use crate::rows::{Entry, SEEN, Seen, leave_out};
+use crate::rows::{Entry, Link, SEEN, Seen, leave_out, push_row, row_count};
 use roster_floors::{Beside, Floors, at_least_beside, beside_floor};
 use roster_offers::RowSearch;
 use roster_rules::{ContractRules, Shift};
@@ -105,16 +105,11 @@ fn is_dear(limited: &LimitedSearch<'_>, day: u16, state: &State, cost: u32, besi
     cost as u64 + least as u64 > limited.limit as u64
 }
 
-/// How a partial row goes on: the place in the list of the one of the day before, and the place of the offer among those of its day.
-#[derive(Clone, Copy)]
-pub struct Link {
-    pub before: usize,
-    pub offer: usize,
-}
-
-/// How a partial row goes on, with what is the same for all shifts.
+/// A partial row that goes on: the state to which it leads, and what its days cost; and how, with what is the same for all shifts.
 #[derive(Clone, Copy)]
 pub struct Going {
+    pub state: State,
+    pub cost: u32,
     pub link: Link,
     pub ahead: Ahead,
 }
@@ -126,46 +121,49 @@ fn put(
     at: RowsDay,
     link: Link,
     reached: (State, u32),
-    rows: &mut Vec<Entry>,
+    rows: &mut [u32],
     seen: &mut Seen,
 ) -> bool
     ghost days: { Days }
     requires ranges { limited.now.floors.ranges ≡ sizes_of days.case days.nurse }
-    requires end { at.end ≤ length rows.old.items }
+    requires end { at.end ≤ length (rows_in rows.old) }
     requires low { days.limit < no_row }
     requires fits { fits_sizes (sizes_of days.case days.nurse) reached.0 ≡ true }
+    requires last { shift_digit reached.0.last < 16 }
     requires most { limited.now.most ≤ most_rows }
-    requires offer { link.offer < 256 }
+    requires before { link.before < most_rows }
+    requires offer { link.offer < 16 }
     requires linked { (e : Entry) → e.before ≡ link.before → e.offer ≡ link.offer → IsLinked days.offers days.earlier days.day e }
-    requires entries { All (IsEntryOf days) (drop at.end rows.old.items) }
-    requires spare { most_rows ≤ vec_capacity rows.old }
-    ensures front { take at.end rows.new.items ≡ take at.end rows.old.items }
-    ensures length { at.end ≤ length rows.new.items }
-    ensures few { length rows.new.items ≤ length rows.old.items + 1 }
-    ensures entries { All (IsEntryOf days) (drop at.end rows.new.items) }
-    ensures best { result ≡ true → (p : Priced (List Offer)) → ((e : Entry) → e.state ≡ reached.0 → e.cost ≡ reached.1 → e.before ≡ link.before → e.offer ≡ link.offer → best_of days e ≡ p) → cheapest (best_of days) (drop at.end rows.new.items) ≡ cheaper (cheapest (best_of days) (drop at.end rows.old.items)) p }
-    ensures spare { vec_capacity rows.new ≡ vec_capacity rows.old }
+    requires entries { All (IsEntryOf days) (drop at.end (rows_in rows.old)) }
+    requires held { AreHeld limited.now rows.old }
+    ensures front { take at.end (rows_in rows.new) ≡ take at.end (rows_in rows.old) }
+    ensures length { at.end ≤ length (rows_in rows.new) }
+    ensures few { length (rows_in rows.new) ≤ length (rows_in rows.old) + 1 }
+    ensures entries { All (IsEntryOf days) (drop at.end (rows_in rows.new)) }
+    ensures best { result ≡ true → (p : Priced (List Offer))
+        → ((e : Entry) → e.state ≡ reached.0 → e.cost ≡ reached.1 → e.before ≡ link.before
+        → e.offer ≡ link.offer → best_of days e ≡ p)
+        → cheapest (best_of days) (drop at.end (rows_in rows.new))
+        ≡ cheaper (cheapest (best_of days) (drop at.end (rows_in rows.old))) p }
+    ensures full { result ≡ false → count_in rows.new ≡ limited.now.most }
+    ensures held { AreHeld limited.now rows.new }
 {
-    let Ok(before) = u16::try_from(link.before) else {
-        return false;
-    };
     let more = Entry {
         state: reached.0,
-        code: reached.0.code(&limited.floors.ranges),
         cost: reached.1,
-        before,
+        before: link.before as u16,
         offer: link.offer as u8,
     };
-    let slot = more.code as usize % SEEN;
+    let slot = more.state.code(&limited.floors.ranges) as usize % SEEN;
     let place = seen[slot] as usize;
-    if leave_out(&mut rows.as_mut_slice()[at.end..], place, &more) {
+    if leave_out(rows, at.end, place, &more) {
         return true;
     }
-    let end = rows.len();
+    let end = row_count(rows);
     if end >= limited.most {
         return false;
     }
-    rows.push_reserved(more);
+    push_row(rows, &more);
     seen[slot] = (end - at.end) as u16;
     true
 }
@@ -177,28 +175,46 @@ pub fn go_on(
     limited: &LimitedSearch<'_>,
     at: RowsDay,
     going: Going,
-    rows: &mut Vec<Entry>,
+    rows: &mut [u32],
     seen: &mut Seen,
     meter: &mut Meter,
 ) -> bool
     requires search { IsSearch limited.now }
     requires day { at.day < day_count limited.now.floors.search.case.now }
-    requires end { at.end ≤ length rows.old.items }
+    requires end { at.end ≤ length (rows_in rows.old) }
     requires before { going.link.before < at.end }
     requires offer { going.link.offer < length (offers_on limited.now.floors.search.offers.now at.day) }
-    requires from { IsEntryOf (days_on limited.now at.day (take at.end rows.old.items)) (entry_numbered (take at.end rows.old.items) going.link.before) }
-    requires low { (entry_numbered (take at.end rows.old.items) going.link.before).cost < no_row }
-    requires ahead { IsAhead limited.now at.day (entry_numbered (take at.end rows.old.items) going.link.before).state going.ahead }
-    requires entries { All (IsEntryOf (days_on limited.now (suc at.day) (take at.end rows.old.items))) (drop at.end rows.old.items) }
+    requires from { IsEntryOf (days_on limited.now at.day (take at.end (rows_in rows.old)))
+        (entry_numbered (take at.end (rows_in rows.old)) going.link.before) }
+    requires state { going.state
+        ≡ (entry_numbered (take at.end (rows_in rows.old)) going.link.before).state }
+    requires cost { going.cost
+        ≡ (entry_numbered (take at.end (rows_in rows.old)) going.link.before).cost }
+    requires low { going.cost < no_row }
+    requires ahead { IsAhead limited.now at.day going.state going.ahead }
+    requires entries { All
+        (IsEntryOf (days_on limited.now (suc at.day) (take at.end (rows_in rows.old))))
+        (drop at.end (rows_in rows.old)) }
     requires room { meter.old < greatest_u64 }
-    requires spare { most_rows ≤ vec_capacity rows.old }
-    ensures front { take at.end rows.new.items ≡ take at.end rows.old.items }
-    ensures length { at.end ≤ length rows.new.items }
-    ensures entries { All (IsEntryOf (days_on limited.now (suc at.day) (take at.end rows.old.items))) (drop at.end rows.new.items) }
-    ensures best { result ≡ true → cheapest (best_of (days_on limited.now (suc at.day) (take at.end rows.old.items))) (drop at.end rows.new.items) ≡ cheaper (cheapest (best_of (days_on limited.now (suc at.day) (take at.end rows.old.items))) (drop at.end rows.old.items)) (best_by (days_on limited.now (suc at.day) (take at.end rows.old.items)) at.day (entry_numbered (take at.end rows.old.items) going.link.before) (offer_numbered (offers_on limited.now.floors.search.offers.now at.day) going.link.offer)) }
+    requires held { AreHeld limited.now rows.old }
+    ensures front { take at.end (rows_in rows.new) ≡ take at.end (rows_in rows.old) }
+    ensures length { at.end ≤ length (rows_in rows.new) }
+    ensures entries { All
+        (IsEntryOf (days_on limited.now (suc at.day) (take at.end (rows_in rows.old))))
+        (drop at.end (rows_in rows.new)) }
+    ensures best { result ≡ true
+        → cheapest (best_of (days_on limited.now (suc at.day) (take at.end (rows_in rows.old))))
+        (drop at.end (rows_in rows.new))
+        ≡ cheaper (cheapest (best_of
+        (days_on limited.now (suc at.day) (take at.end (rows_in rows.old))))
+        (drop at.end (rows_in rows.old)))
+        (best_by (days_on limited.now (suc at.day) (take at.end (rows_in rows.old))) at.day
+        (entry_numbered (take at.end (rows_in rows.old)) going.link.before)
+        (offer_numbered (offers_on limited.now.floors.search.offers.now at.day) going.link.offer)) }
     ensures counted { meter.new ≡ meter.old + 1 }
-    ensures few { length rows.new.items ≤ length rows.old.items + 1 }
-    ensures spare { vec_capacity rows.new ≡ vec_capacity rows.old }
+    ensures few { length (rows_in rows.new) ≤ length (rows_in rows.old) + 1 }
+    ensures full { result ≡ false → count_in rows.new ≡ limited.now.most }
+    ensures held { AreHeld limited.now rows.new }
 {
     let RowSearch {
         case,
@@ -206,7 +222,6 @@ pub fn go_on(
         offers,
     } = limited.floors.search;
     case.keeps_limits();
-    let from = rows[going.link.before];
     let day_offers = offers[at.day as usize].as_slice();
     let offer = day_offers[going.link.offer];
     let shift = offer.choice.shift();
@@ -216,10 +231,10 @@ pub fn go_on(
         rules: limited.rules,
     };
     let worked = &going.ahead.worked;
-    let Some(step) = extend_ahead(&days, at.day, from.state, worked, shift, meter) else {
+    let Some(step) = extend_ahead(&days, at.day, going.state, worked, shift, meter) else {
         return true;
     };
-    let cost = from.cost + offer.price + step.1;
+    let cost = going.cost + offer.price + step.1;
     let beside = beside_after(limited, at.day + 1, &going.ahead, shift, &step.0);
     if is_dear(limited, at.day + 1, &step.0, cost, &beside) {
         return true;

@@ -16,5 +16,5 @@ mod rows;
 mod search;
 mod workspace;
 
-pub use search::{PartialRoom, search_row};
+pub use search::{Hints, search_row};
 pub use workspace::{BestFault, Workspace, greatest_states, most_steps};

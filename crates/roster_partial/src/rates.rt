@@ -1,15 +1,16 @@
 //! The rates at which a search by partial rows has its floors.
 
-ghost use Rattle.std.specs.Prelude.{◌≡◌, ◌+◌, ◌*◌, ◌<◌, ◌≤◌, IfSome, length, true};
+ghost use Rattle.std.specs.Prelude.{◌≡◌, ◌+◌, ◌-◌, ◌*◌, ◌^◌, ◌<◌, ◌≤◌, IfSome, IsNone, length, true};
 ghost use Rattle.roster_bundle.specs.Limits.{greatest_u64};
 ghost use Rattle.roster_instance.specs.Meaning.{day_count, nurse_count};
 ghost use Rattle.roster_offers.specs.Lists.{AreOffers, offers_on};
 ghost use Rattle.roster_state.specs.Codes.{fits_sizes, sizes_of};
-ghost use Rattle.roster_floors.specs.Floors.{AreFloors, AreSmall, floor_count};
+ghost use Rattle.roster_floors.specs.Floors.{AreFloors, AreSmall, floor_count, floor_steps};
 ghost use Rattle.roster_floors.specs.Least.{AreReady};
-ghost use Rattle.roster_partial.specs.Rates.{IsTried, most_offers};
+ghost use Rattle.roster_partial.specs.Counts.{CountsPartial, CountsSets};
+ghost use Rattle.roster_partial.specs.Rates.{IsTried, NoRoom, most_offers, trial_steps};
 
-use roster_floors::{Floors, Rates, at_least, set_floors};
+use roster_floors::{Floors, Rates, at_least, floor_cells, floor_steps, set_floors};
 use roster_offers::{MOST_OFFERS, RowSearch};
 use roster_rules::Case;
 use roster_rules::weights::{ASSIGNMENT, WEEKEND};
@@ -61,7 +62,7 @@ pub struct Aim {
 
 /// Sets the floors of a search at those rates, of some that are tried, at which the start's floor is highest. Rates are raised where the
 /// row that follows the floors has too many assignments or worked weekends, and lowered where it has fewer than it may. None where there
-/// isn't room for the floors or the steps.
+/// isn't room for the floors, or to set them twice and follow two rows.
 pub fn set_best_floors(
     search: &RowSearch<'_>,
     guess: Option<Guess>,
@@ -75,19 +76,23 @@ pub fn set_best_floors(
     ensures small { IfSome result (λ aim. AreSmall aim.rates) }
     ensures floors { IfSome result (λ aim. AreFloors search.now.case.now search.now.nurse aim.rates (offers_on search.now.offers.now) floors.new) }
     ensures inside { IfSome result (λ aim. (day_count search.now.case.now + 1) * floor_count (sizes_of search.now.case.now search.now.nurse) ≤ length floors.new) }
-    ensures counted { (meter.old ≤ meter.new) × (meter.new ≤ most) }
+    ensures counted { CountsPartial search.now.case.now search.now.nurse
+        (offers_on search.now.offers.now) meter.old meter.new }
+    ensures most { meter.new ≤ most }
+    ensures none { IsNone result
+        → NoRoom search.now.case.now search.now.nurse (offers_on search.now.offers.now) floors.old
+        (most - meter.old) }
 {
-    if most - meter.count() < 2 * steps_to_follow(search) {
+    let each = steps_of_trial(search);
+    if floors.len() < floor_cells(search.case, search.nurse) || most - meter.count() < 2 * each {
         return None;
     }
     let plan = plan_by(search, guess, most, meter);
-    if !set_floors(search, plan.rates, floors) {
-        return None;
-    }
+    set_floors(search, plan.rates, floors, meter);
     let first = trial(search, plan.rates, floors, meter);
     let last = try_rates(search, plan, first, floors, meter);
     if !are_same(last.rates, last.set) {
-        set_floors(search, last.rates, floors);
+        set_floors(search, last.rates, floors, meter);
     }
     Some(Aim {
         rates: last.rates,
@@ -96,12 +101,15 @@ pub fn set_best_floors(
     })
 }
 
-/// How many steps it takes at most to follow a row.
-fn steps_to_follow(search: &RowSearch<'_>) -> u64
-    ensures steps { result ≡ most_offers * day_count search.now.case.now }
-    ensures within { result ≤ 3276 }
+/// How many steps it takes at most to set the floors and to follow a row.
+fn steps_of_trial(search: &RowSearch<'_>) -> u64
+    requires nurse { search.now.nurse < nurse_count search.now.case.now }
+    requires offers { AreOffers search.now.case.now search.now.nurse search.now.offers.now }
+    ensures steps { result
+        ≡ trial_steps search.now.case.now search.now.nurse (offers_on search.now.offers.now) }
+    ensures within { result ≤ 2 ^ 40 }
 {
-    MOST_OFFERS as u64 * search.case.days() as u64
+    floor_steps(search) + MOST_OFFERS as u64 * search.case.days() as u64
 }
 
 // ---- rates, one pair after another
@@ -123,6 +131,7 @@ fn plan_by(search: &RowSearch<'_>, guess: Option<Guess>, most: u64, meter: &mut 
     requires offers { AreOffers search.now.case.now search.now.nurse search.now.offers.now }
     requires room { meter.old + most_offers * day_count search.now.case.now ≤ greatest_u64 }
     ensures small { AreSmall result.rates }
+    ensures trials { result.trials ≤ 11 }
     ensures most { result.most ≡ most }
     ensures counted { (meter.old ≤ meter.new) × (meter.new ≤ meter.old + most_offers * day_count search.now.case.now) }
 {
@@ -227,8 +236,8 @@ fn trial(search: &RowSearch<'_>, rates: Rates, floors: &[u32], meter: &mut Meter
     }
 }
 
-/// Tries more rates, one pair after another, as long as others may be better and there is room for the steps. Where they aren't better,
-/// the next ones are half as far from the best ones.
+/// Tries more rates, one pair after another, as long as others may be better and there is room for the steps, those of setting the floors
+/// once more included. Where they aren't better, the next ones are half as far from the best ones.
 fn try_rates(
     search: &RowSearch<'_>,
     plan: Plan,
@@ -239,18 +248,25 @@ fn try_rates(
     requires nurse { search.now.nurse < nurse_count search.now.case.now }
     requires offers { AreOffers search.now.case.now search.now.nurse search.now.offers.now }
     requires tried { IsTried search.now.case.now search.now.nurse (offers_on search.now.offers.now) floors.old first }
-    requires room { meter.old ≤ plan.most }
+    requires room { meter.old
+        + floor_steps search.now.case.now search.now.nurse (offers_on search.now.offers.now)
+        ≤ plan.most }
     ensures tried { IsTried search.now.case.now search.now.nurse (offers_on search.now.offers.now) floors.new result }
-    ensures counted { (meter.old ≤ meter.new) × (meter.new ≤ plan.most) }
+    ensures counted { CountsSets search.now.case.now search.now.nurse
+        (offers_on search.now.offers.now) plan.trials meter.old meter.new }
+    ensures most { meter.new
+        + floor_steps search.now.case.now search.now.nurse (offers_on search.now.offers.now)
+        ≤ plan.most }
 {
+    let each = steps_of_trial(search);
     let mut tried = first;
     let mut step = plan.step;
-    'trials: for _ in 0..plan.trials {
+    'trials: for _trial in 0..plan.trials {
         let rates = rates_after(search, tried.rates, step, tried.followed);
         let is_done = tried.high.saturating_sub(tried.low) <= plan.close
             || are_same(rates, tried.rates)
             || are_same(rates, tried.set);
-        if is_done || plan.most - meter.count() < steps_to_follow(search) {
+        if is_done || plan.most - meter.count() < 2 * each {
             return tried;
         }
         let low = tried.low;
@@ -274,11 +290,16 @@ fn try_more(
     requires offers { AreOffers search.now.case.now search.now.nurse search.now.offers.now }
     requires small { AreSmall rates }
     requires tried { IsTried search.now.case.now search.now.nurse (offers_on search.now.offers.now) floors.old tried }
-    requires room { meter.old + most_offers * day_count search.now.case.now ≤ greatest_u64 }
+    requires room { meter.old
+        + trial_steps search.now.case.now search.now.nurse (offers_on search.now.offers.now)
+        ≤ greatest_u64 }
     ensures tried { IsTried search.now.case.now search.now.nurse (offers_on search.now.offers.now) floors.new result }
-    ensures counted { (meter.old ≤ meter.new) × (meter.new ≤ meter.old + most_offers * day_count search.now.case.now) }
+    ensures counted { CountsSets search.now.case.now search.now.nurse
+        (offers_on search.now.offers.now) 1 meter.old meter.new }
+    ensures few { meter.new ≤ meter.old
+        + trial_steps search.now.case.now search.now.nurse (offers_on search.now.offers.now) }
 {
-    set_floors(search, rates, floors);
+    set_floors(search, rates, floors, meter);
     let other = trial(search, rates, floors, meter);
     let high = min(tried.high, other.high);
     if other.low > tried.low {

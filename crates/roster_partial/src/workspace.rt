@@ -9,18 +9,19 @@ ghost use Rattle.roster_offers.specs.Lists.{AreOffers, IsFound, best_over, no_ro
 ghost use Rattle.roster_partial.specs.Counts.{CountsSearch};
 ghost use Rattle.roster_partial.specs.Workspaces.{SameRoom, fits_space};
 
-use crate::search::{PartialRoom, search_row};
+use crate::search::{Hints, search_row};
 use arrayvec::ArrayVec;
 use roster_offers::{DayOffers, MOST_OFFERS, Offer, RowSearch};
 use roster_rules::{Case, Choice};
-use roster_search::Tables;
+use roster_search::{DayAreas, Tables};
 use roster_state::Meter;
 use std::alloc::{AllocError, Global};
 use std::marker::Model;
 use thiserror::Error;
 
-/// What a search for a best row writes into: the offers of a nurse, room for partial rows, the tables of the search, and one row. One
-/// workspace serves all nurses of a case, one after another.
+/// What a search for a best row writes into: the tables of labels, the pointers, and one row, which grow with the case; and beside them,
+/// of one size for each case, 115 kB: the offers of a nurse (29 kB), the areas of the days (53 kB), hints (28 kB) and room for a stretch
+/// (5 kB). Floors and partial rows stand in the cells of the tables. One workspace serves all nurses of a case, one after another.
 pub struct Workspace {
     offers: DayOffers,
     space: SearchSpace,
@@ -28,7 +29,8 @@ pub struct Workspace {
 
 /// What a search over offers writes into, wherever these come from.
 struct SearchSpace {
-    partial: PartialRoom,
+    hints: Hints,
+    areas: DayAreas,
     tables: Tables,
     choices: Vec<Choice>,
     /// How many of the choices are those of the last best row: none before the first.
@@ -48,7 +50,8 @@ impl Drop for Workspace {
 impl Drop for SearchSpace {
     fn drop(self) {
         let SearchSpace {
-            partial: _,
+            hints: _,
+            areas: _,
             tables: _,
             choices: _,
             filled: _,
@@ -65,12 +68,21 @@ impl Model for Workspace {
 }
 
 impl Model for SearchSpace {
-    ghost use Rattle.std.specs.Prelude.{◌≤◌, [], length, take};
+    ghost use Rattle.std.specs.Prelude.{◌≤◌, [], length, take, vec_capacity};
     ghost use Rattle.roster_partial.specs.Workspaces.{Space};
 
     ghost Value = { Space };
 
-    ghost view = { λ w. record { labels = w.tables.labels; pointers = w.tables.pointers; room = length w.choices.items; row = take w.filled w.choices.items; offers = [] } };
+    ghost view = { λ w. record {
+      labels = w.tables.labels;
+      pointers = w.tables.pointers;
+      room = length w.choices.items;
+      label_capacity = w.tables.label_capacity;
+      later_capacity = w.tables.later_capacity;
+      row_capacity = vec_capacity w.choices;
+      row = take w.filled w.choices.items;
+      offers = [];
+    } };
 
     ghost invariant = { λ w. w.filled ≤ length w.choices.items };
 }
@@ -94,8 +106,8 @@ impl From<AllocError> for BestFault {
 }
 
 impl Workspace {
-    /// A workspace for the nurses of a case, by at most six growths. Its row is empty. It serves any case that it fits; where a nurse of
-    /// another one takes more floors than any of this case does, the tables search at once.
+    /// A workspace for the nurses of a case, by at most four growths: two tables of labels, the pointers, and a row. Its row is empty. It
+    /// serves any case that it fits.
     ///
     /// # Errors
     ///
@@ -111,7 +123,8 @@ impl Workspace {
         Ok(Workspace {
             offers: ArrayVec::new(),
             space: SearchSpace {
-                partial: PartialRoom::for_case(alloc, case)?,
+                hints: Hints::none(),
+                areas: DayAreas::new(),
                 tables: Tables::new(alloc, states, days)?,
                 choices: vec![in alloc; Choice::Off; days]?,
                 filled: 0,
@@ -248,7 +261,8 @@ impl SearchSpace {
     {
         let cost = search_row(
             search,
-            &mut self.partial,
+            &mut self.hints,
+            &mut self.areas,
             &mut self.tables,
             &mut self.choices,
             meter,
@@ -270,8 +284,8 @@ pub fn greatest_states(case: &Case) -> u32
     greatest
 }
 
-/// How many partial rows and states a search for a nurse's best row takes over a choice, at most: as many as each state on each day by
-/// each choice of the nurse.
+/// How many floors, partial rows and states a search for a nurse's best row takes over a choice, at most: as many as each state on each
+/// day by each choice of the nurse.
 #[tactic(auto, unfolding(roster_laws::specs::Greatest::extension_count))]
 pub fn most_steps(case: &Case, nurse: usize) -> u64
     requires { nurse < nurse_count case.now }

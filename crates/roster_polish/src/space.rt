@@ -34,7 +34,7 @@ impl Drop for PolishSpace {
 }
 
 impl PolishSpace {
-    /// Room for runs from rosters of a held one's case, by at most eighteen growths and one for each nurse.
+    /// Room for runs from rosters of a held one's case, by at most sixteen growths and one for each nurse.
     ///
     /// # Errors
     ///

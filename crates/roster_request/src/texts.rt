@@ -56,9 +56,10 @@ as in 'Ann 1296 2592 9072 27216'. To the owner of a small machine they mean:
   27216  steps of the search at most: one from each state, on each day, by each
          choice of the nurse
 
-The search takes one nurse at a time, in the same memory. So for searches a
-machine must have what the line with the greatest numbers says, and some 3 MB
-more that serve any nurse.
+The search takes one nurse at a time, in the same memory. So it holds what the
+line with the greatest numbers says, and some 120 kB more that serve any nurse.
+Beside that a machine must have room for the program, for what it has read, and
+for what a run keeps of each nurse.
 
 The hard rules aren't asked.
 

@@ -1,5 +1,5 @@
--- What the steps of a run count on the meter, and the room that they leave in the workspace.
-use Rattle.std.proofs.Common.{◌≡◌, ◌∙◌, ◌+◌, ◌*◌, ◌<◌, ◌≤◌, ◌&&◌, ℕ, ap, ap₂, arith, length, map, sym, true}
+-- What the steps of a run count on the meter, and that the workspace still fits.
+use Rattle.std.proofs.Common.{◌≡◌, ◌∙◌, ◌+◌, ◌*◌, ◌<◌, ◌≤◌, ◌&&◌, ℕ, ap, ap₂, arith, length, map, true}
 use Rattle.std.proofs.lemmas.Bool.{eq-eqb}
 use Rattle.std.specs.List.{range_with_len}
 use Rattle.std.proofs.lemmas.Nat.{mul-le}
@@ -9,21 +9,17 @@ use Rattle.roster_instance.specs.Meaning.{Meaning, day_count, nurse_count, week_
 use Rattle.roster_instance.specs.Sizes.{choice_count, greatest_of, state_count}
 use Rattle.roster_laws.specs.Greatest.{extension_count, extensions_in, greatest_extension_count}
 use Rattle.roster_laws.proofs.GreatestLemmas.{greatest_extensions}
-use Rattle.roster_partial.specs.Workspaces.{SameRoom, Space, fits_space}
+use Rattle.roster_partial.specs.Workspaces.{fits_space}
 use Rattle.roster_best.specs.Known.{IsKnown}
 use Rattle.roster_rounds.specs.Spaces.{fits_run}
 use Rattle.roster_rounds.specs.declared.space.RunSpace.{RunSpace}
 
-pub room_stays : (a b c : Space) → SameRoom a b → SameRoom b c → SameRoom a c
-room_stays a b c p q = record { labels = q.labels ∙ p.labels; pointers = q.pointers ∙ p.pointers; room = q.room ∙ p.room }
-
--- a workspace and what is known of the last searches fit their case, also by another name
-pub fits_still : (c now : Meaning) → now ≡ c → (space : RunSpace) → fits_space now space.workspace ≡ true → IsKnown now space.last → fits_run c space ≡ true
-fits_still c now same space fits known =
-    let in_space = ap (λ (m : Meaning). fits_space m space.workspace) (sym same) ∙ fits in
-    let nurses = eq-eqb (length space.last.costs.items) (nurse_count c) (known.nurses ∙ ap nurse_count same) in
-    let days = eq-eqb (length space.last.prices.items) (nurse_count c * day_count c) (known.days ∙ ap (λ (m : Meaning). nurse_count m * day_count m) same) in
-    ap₂ ◌&&◌ in_space (ap₂ ◌&&◌ nurses days)
+-- a workspace and what is known of the last searches fit their case
+pub fits_still : (c : Meaning) (space : RunSpace) → fits_space c space.workspace ≡ true → IsKnown c space.last → fits_run c space ≡ true
+fits_still c space fits known =
+    let nurses = eq-eqb (length space.last.costs.items) (nurse_count c) known.nurses in
+    let days = eq-eqb (length space.last.prices.items) (nurse_count c * day_count c) known.days in
+    ap₂ ◌&&◌ fits (ap₂ ◌&&◌ nurses days)
 
 -- ---- the steps of the first nurses of a round; the case is known by an equation
 

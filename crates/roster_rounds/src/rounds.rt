@@ -8,13 +8,13 @@ ghost use Rattle.roster_rules.specs.Improver.{round_log};
 ghost use Rattle.roster_laws.specs.FrozenDays.{FrozenDaysStay};
 ghost use Rattle.roster_laws.specs.Greatest.{extensions_in, greatest_extension_count};
 ghost use Rattle.roster_partial.specs.Workspaces.{SameRoom, fits_space};
-ghost use Rattle.roster_best.specs.Known.{IsKnown};
 ghost use Rattle.roster_rounds.specs.Spaces.{fits_run};
 ghost use Rattle.roster_rounds.specs.RunLogs.{BreaksAmong, LogStops, Ran, RoundMade};
 
-use crate::nurse::step_unless_known;
 use crate::outcome::Outcome;
 use crate::space::RunSpace;
+use crate::steps::Steps;
+use roster_best::Workspace;
 use roster_case::Held;
 use roster_log::{LogFault, log_change, log_round, log_word};
 use roster_state::Meter;
@@ -22,13 +22,41 @@ use roster_text::{Watch, WriteFault};
 use std::io::Write;
 
 /// Makes rounds until one changes nothing, or as many as are given. A round is a step for each nurse, in the order of the case. The
-/// days of the weeks before week `from` stay as they are. Each line of the log goes out as it is made. A nurse whose last search tells
-/// that no row is cheaper isn't searched again; what the space knew before the run is forgotten.
+/// days of the weeks before week `from` stay as they are. Each line of the log goes out as it is made.
 ///
 /// # Errors
 ///
 /// The log failed. The roster is the one to which the first line that didn't wholly go out belongs.
 pub fn improve<W: Write>(
+    held: &mut Held,
+    rounds: u16,
+    from: u16,
+    workspace: &mut Workspace,
+    meter: &mut Meter,
+    log: &mut Watch<W>,
+) -> Result<Outcome, LogFault>
+    requires fits { fits_space held.old.case workspace.old ≡ true }
+    requires room { meter.old + extensions_in held.old.case rounds ≤ greatest_u64 }
+    ensures case { held.new.case ≡ held.old.case }
+    ensures ok { IfOk result (Ran W.contents held.old.case (best_row held.old.case from) rounds
+        held.old.roster held.new.roster log.old log.new) }
+    ensures err { IfErr result (LogStops W.contents held.old.case (best_row held.old.case from)
+        rounds held.old.roster held.new.roster log.old log.new) }
+    ensures frozen { FrozenDaysStay held.old.case from held.old.roster held.new.roster }
+    ensures counted { meter.new ≤ meter.old + extensions_in held.old.case rounds }
+    ensures same_room { SameRoom workspace.old workspace.new }
+    ensures fits { fits_space held.old.case workspace.new ≡ true }
+{
+    make_rounds(held, rounds, from, workspace, meter, log)
+}
+
+/// The run of `improve` in less time: a nurse whose last search tells that no row is cheaper isn't searched again. What the space knew
+/// before the run is forgotten.
+///
+/// # Errors
+///
+/// The log failed, as in `improve`.
+pub fn improve_unless_known<W: Write>(
     held: &mut Held,
     rounds: u16,
     from: u16,
@@ -39,14 +67,40 @@ pub fn improve<W: Write>(
     requires fits { fits_run held.old.case space.old ≡ true }
     requires room { meter.old + extensions_in held.old.case rounds ≤ greatest_u64 }
     ensures case { held.new.case ≡ held.old.case }
-    ensures ok { IfOk result (Ran W.contents held.old.case (best_row held.old.case from) rounds held.old.roster held.new.roster log.old log.new) }
-    ensures err { IfErr result (LogStops W.contents held.old.case (best_row held.old.case from) rounds held.old.roster held.new.roster log.old log.new) }
+    ensures ok { IfOk result (Ran W.contents held.old.case (best_row held.old.case from) rounds
+        held.old.roster held.new.roster log.old log.new) }
+    ensures err { IfErr result (LogStops W.contents held.old.case (best_row held.old.case from)
+        rounds held.old.roster held.new.roster log.old log.new) }
     ensures frozen { FrozenDaysStay held.old.case from held.old.roster held.new.roster }
     ensures counted { meter.new ≤ meter.old + extensions_in held.old.case rounds }
     ensures same_room { SameRoom space.old.workspace space.new.workspace }
     ensures fits { fits_run held.old.case space.new ≡ true }
 {
     space.last.forget();
+    make_rounds(held, rounds, from, space, meter, log)
+}
+
+/// A run by such steps.
+fn make_rounds<W: Write, S: Steps>(
+    held: &mut Held,
+    rounds: u16,
+    from: u16,
+    steps: &mut S,
+    meter: &mut Meter,
+    log: &mut Watch<W>,
+) -> Result<Outcome, LogFault>
+    requires ready { S.IsReady held.old.case steps.old }
+    requires room { meter.old + extensions_in held.old.case rounds ≤ greatest_u64 }
+    ensures case { held.new.case ≡ held.old.case }
+    ensures ok { IfOk result (Ran W.contents held.old.case (best_row held.old.case from) rounds
+        held.old.roster held.new.roster log.old log.new) }
+    ensures err { IfErr result (LogStops W.contents held.old.case (best_row held.old.case from)
+        rounds held.old.roster held.new.roster log.old log.new) }
+    ensures frozen { FrozenDaysStay held.old.case from held.old.roster held.new.roster }
+    ensures counted { meter.new ≤ meter.old + extensions_in held.old.case rounds }
+    ensures same_room { SameRoom (S.space steps.old) (S.space steps.new) }
+    ensures ready { S.IsReady held.old.case steps.new }
+{
     let mut sent = log_word(log, 0, b"start", held.total())?;
     let mut changes = 0;
     for rounds_before in 0..rounds {
@@ -54,7 +108,7 @@ pub fn improve<W: Write>(
             round: rounds_before + 1,
             from,
         };
-        let made = make_round(held, plan, space, meter, log, sent)?;
+        let made = make_round(held, plan, steps, meter, log, sent)?;
         sent = made.sent;
         changes += made.changes;
         if made.changes == 0 {
@@ -93,36 +147,27 @@ struct Round {
 }
 
 /// A step for each nurse, a line for each that changed the roster, and the line of the round.
-fn make_round<W: Write>(
+fn make_round<W: Write, S: Steps>(
     held: &mut Held,
     plan: RoundPlan,
-    space: &mut RunSpace,
+    steps: &mut S,
     meter: &mut Meter,
     log: &mut Watch<W>,
     mut sent: usize,
 ) -> Result<Round, WriteFault>
-    requires fits { fits_space held.old.case space.old.workspace ≡ true }
-    requires known { IsKnown held.old.case space.old.last }
+    requires ready { S.IsReady held.old.case steps.old }
     requires room { meter.old + nurse_count held.old.case * greatest_extension_count held.old.case ≤ greatest_u64 }
     ensures case { held.new.case ≡ held.old.case }
     ensures ok { IfOk result (λ made. RoundMade W.contents held.old.case (best_row held.old.case plan.from) plan.round held.old.roster held.new.roster log.old log.new sent made.sent made.changes) }
     ensures err { IfErr result (BreaksAmong W.contents held.old.case (round_log held.old.case (best_row held.old.case plan.from) plan.round held.old.roster) held.new.roster log.old log.new sent) }
     ensures frozen { FrozenDaysStay held.old.case plan.from held.old.roster held.new.roster }
     ensures counted { meter.new ≤ meter.old + nurse_count held.old.case * greatest_extension_count held.old.case }
-    ensures same_room { SameRoom space.old.workspace space.new.workspace }
-    ensures fits { fits_space held.old.case space.new.workspace ≡ true }
-    ensures known { IsKnown held.old.case space.new.last }
+    ensures same_room { SameRoom (S.space steps.old) (S.space steps.new) }
+    ensures ready { S.IsReady held.old.case steps.new }
 {
     let mut changes = 0;
     for nurse in 0..held.case().nurses() {
-        let step = step_unless_known(
-            held,
-            nurse,
-            plan.from,
-            &mut space.workspace,
-            &mut space.last,
-            meter,
-        );
+        let step = steps.step(held, nurse, plan.from, meter);
         if !step.changed {
             continue;
         }

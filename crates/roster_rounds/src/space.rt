@@ -24,7 +24,8 @@ impl Drop for RunSpace {
 }
 
 impl RunSpace {
-    /// Room for the runs over a case, by at most eight growths.
+    /// Room for the runs over a case, by at most six growths. Beside the workspace it takes 36 bytes for each nurse and day and 8 for
+    /// each nurse: 5,244,800 bytes at most, those of 400 nurses over 52 weeks.
     ///
     /// # Errors
     ///

@@ -1,5 +1,5 @@
 -- A place by one offer more, and blocks that stand one after another.
-use Rattle.std.proofs.Common.{◌≡◌, ◌∙◌, ◌+◌, ◌*◌, ◌<◌, ◌≤◌, ◌⊎◌, ℕ, Bool, suc, inl, inr, ap, arith, mul-pos, mul_assoc, mul_comm, mul_right_comm, subst, sym, List, length, min, nat_lt, if◌then◌else◌, slice_index_or, take}
+use Rattle.std.proofs.Common.{◌≡◌, ◌∙◌, ◌+◌, ◌*◌, ◌<◌, ◌≤◌, ◌⊎◌, ℕ, Bool, suc, inl, inr, ap, arith, mul-pos, subst, sym, List, length, min, nat_lt, if◌then◌else◌, slice_index_or, take}
 use Rattle.std.proofs.Math.Nat.{suc-mul}
 use Rattle.std.proofs.lemmas.Bool.{cases_lt, le-ltb, lt-ltb}
 use Rattle.roster_offers.specs.Cheapest.{Priced, cheapest}
@@ -47,11 +47,6 @@ pub next_block : (number size : ℕ) → number * size + size ≡ (number + 1) *
 next_block number size =
     let next : number + 1 ≡ suc number = omega arith in
     omega (arith, ap (λ k. k * size) next, suc-mul number size)
-
--- so many for each state and each offer, counted by groups
-pub groups_counted : (count weekends size offers all : ℕ) → count * weekends * size ≡ all → count * (weekends * (offers * size)) ≡ all * offers
-groups_counted count weekends size offers all is =
-    sym (mul_assoc count weekends (offers * size)) ∙ mul_comm (count * weekends) (offers * size) ∙ mul_right_comm offers size (count * weekends) ∙ ap (λ k. k * size) (mul_comm offers (count * weekends)) ∙ mul_right_comm (count * weekends) offers size ∙ ap (λ k. k * offers) is
 
 pub product_some : (a b : ℕ) → 0 < a → 0 < b → 0 < a * b
 product_some a b p q = mul-pos p q

@@ -1,5 +1,5 @@
 -- What a table keeps, and how much is counted.
-use Rattle.std.proofs.Common.{◌≡◌, ◌∙◌, ◌+◌, ◌*◌, ◌<◌, ◌≤◌, ℕ, suc, ap, arith, List}
+use Rattle.std.proofs.Common.{◌≡◌, ◌∙◌, ◌+◌, ◌*◌, ◌<◌, ◌≤◌, ℕ, suc, arith, List}
 use Rattle.std.proofs.Math.Nat.{suc-mul}
 use Rattle.std.proofs.lemmas.Nat.{mul-le}
 use Rattle.roster_lanes.specs.Lanes.{SameOutside}
@@ -22,14 +22,3 @@ pub room_for_more : (code total size initial counted most : ℕ) → code < tota
 room_for_more code total size initial counted most below is room =
     let more : suc code * size ≤ total * size = mul-le (suc code) size total size (omega (arith, below)) (omega arith) in
     omega (arith, is, room, suc-mul code size, more)
-
--- the same, where some are left out
-pub room_for_some : (code total size initial counted most : ℕ) → code < total → counted ≤ initial + code * size → initial + total * size ≤ most → counted + size ≤ most
-room_for_some code total size initial counted most below is room =
-    let more : suc code * size ≤ total * size = mul-le (suc code) size total size (omega (arith, below)) (omega arith) in
-    omega (arith, is, room, suc-mul code size, more)
-
-pub some_more_counted : (code size initial counted new : ℕ) → counted ≤ initial + code * size → new ≤ counted + size → new ≤ initial + (code + 1) * size
-some_more_counted code size initial counted new is grown =
-    let next : code + 1 ≡ suc code = omega arith in
-    omega (arith, is, grown, ap (λ k. k * size) next, suc-mul code size)

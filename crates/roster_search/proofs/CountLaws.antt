@@ -1,5 +1,7 @@
 -- How many states stand: of a group, and of the groups so far.
-use Rattle.std.proofs.Common.{◌≡◌, ◌∙◌, ◌+◌, ◌-◌, ◌*◌, ◌≤◌, ℕ, suc, Bool, true, false, ap, arith, sym, List, min, if◌then◌else◌}
+use Rattle.std.proofs.Common.{◌≡◌, ◌∙◌, ◌+◌, ◌-◌, ◌*◌, ◌<◌, ◌≤◌, ◌⊎◌, ℕ, zero, suc, inl, inr, Bool, true, false, ap, arith, sym, List, min, if◌then◌else◌}
+use Rattle.std.proofs.lemmas.Bool.{cases_lt}
+use Rattle.std.proofs.lemmas.Nat.{mul-le}
 use Rattle.roster_instance.specs.Counting.{sum_below}
 use Rattle.roster_instance.specs.Meaning.{Meaning}
 use Rattle.roster_rules.specs.Prefix.{Summary}
@@ -40,7 +42,25 @@ sum_more least x f low =
 pub sum_ended : (span : Span) (size x : ℕ) (f : ℕ → ℕ) → x ≡ min (span.greatest + 1) size → sum_below (x - span.least) (λ i. f (span.least + i)) ≡ sum_over span size f
 sum_ended span size x f is = ap (λ k. sum_below (k - span.least) (λ i. f (span.least + i))) is
 
+-- one of a sum's numbers, with those before it
+pub sum_part : (i m : ℕ) (f : ℕ → ℕ) → i < m → sum_below i f + f i ≤ sum_below m f
+sum_part i zero f below = absurd (omega (arith, below))
+sum_part i (suc m) f below = go (sum_part i m f) (cases_lt i m)
+  where
+    go : (i < m → sum_below i f + f i ≤ sum_below m f) → (i < m) ⊎ (m ≤ i) → sum_below i f + f i ≤ sum_below m f + f m
+    go before (inl low) = omega (arith, before low)
+    go before (inr high) = let is : i ≡ m = omega (arith, high, below) in omega (arith, ap (λ k. sum_below k f + f k) is)
+
+pub over_part : (span : Span) (size x end : ℕ) (f : ℕ → ℕ) → end ≡ min (span.greatest + 1) size → span.least ≤ x → x < end → sum_below (x - span.least) (λ i. f (span.least + i)) + f x ≤ sum_over span size f
+over_part span size x end f is low below =
+    let here : span.least + (x - span.least) ≡ x = omega (arith, low) in
+    omega (arith, sum_part (x - span.least) (numbers_in span size) (λ i. f (span.least + i)) (omega (arith, is, low, below)), ap f here)
+
 -- so many times the offers
+pub room_for_part : (states more all offers initial counted most : ℕ) → counted ≡ initial + states * offers → states + more ≤ all → initial + all * offers ≤ most → counted + more * offers ≤ most
+room_for_part states more all offers initial counted most is part room =
+    omega (arith, is, room, mul-le (states + more) offers all offers part (omega arith))
+
 pub exactly_on : (states more next offers initial counted : ℕ) → counted ≡ initial + states * offers → more ≡ 0 → next ≡ states + more → counted ≡ initial + next * offers
 exactly_on states more next offers initial counted is none sum = let same : states ≡ next = omega (arith, none, sum) in is ∙ ap (λ k. initial + k * offers) same
 

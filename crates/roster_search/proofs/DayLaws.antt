@@ -197,21 +197,3 @@ done_skipped c at rest offers first key next labels pointers_old pointers meter_
   some = λ offered s stands below. old.some offered s stands (none s stands below);
   grown = old.grown;
 }
-
--- ---- how much is counted
-
-pub counted_on : (number next one initial counted : ℕ) → number ≤ next → counted ≤ initial + number * one → counted ≤ initial + next * one
-counted_on number next one initial counted up is = omega (arith, is, mul-le number one next one up (omega arith))
-
-module _ (z : Sizes) (last : ℕ) where
-  pub number_up : (run run_too shift_run shift_run_too : ℕ) → run ≤ run_too → shift_run ≤ shift_run_too → group_number z last run shift_run ≤ group_number z last run_too shift_run_too
-  number_up run run_too shift_run shift_run_too more later = omega (arith, later, mul-le (last * z.run + run) z.shift_run (last * z.run + run_too) z.shift_run (omega (arith, more)) (omega arith))
-
-  pub run_more : (run to : ℕ) → to ≤ z.shift_run → group_number z last run to ≤ group_number z last (run + 1) 0
-  run_more run to up_to = omega (arith, up_to)
-
-  pub last_more : (to : ℕ) → to ≤ z.run → group_number z last to 0 ≤ group_number z (last + 1) 0 0
-  last_more to up_to = omega (arith, mul-le (last * z.run + to) z.shift_run ((last + 1) * z.run) z.shift_run (omega (arith, up_to)) (omega arith))
-
-  pub number_all : last ≤ z.last → group_number z last 0 0 ≤ groups z
-  number_all up_to = omega (arith, mul-le (last * z.run) z.shift_run (z.last * z.run) z.shift_run (mul-le last z.run z.last z.run up_to (omega arith)) (omega arith))

@@ -10,4 +10,4 @@ pub mod DayLaws
 pub mod StretchLaws
 pub mod CountLaws
 pub mod SearchLaws
-pub mod SpareLaws
+pub mod MostLaws

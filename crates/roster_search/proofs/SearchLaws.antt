@@ -1,11 +1,10 @@
 -- The days of a search over a table of offers, one after another: the tables from the last day to the first, and the row from the first to the last.
-use Rattle.std.proofs.Common.{◌≡◌, ◌∙◌, ◌+◌, ◌-◌, All, Vec, is_some, ◌*◌, ◌<◌, ◌≤◌, ◌⊎◌, ◌≢◌, ℕ, zero, suc, get_or-set_other, Option, None, inl, inr, ap, append_assoc, arith, mul_assoc, mul_comm, refl, subst, sym, List, [], ◌∷◌, ◌++◌, length, slice_index_or, slice_set, take, Some, IfSome, IsSome}
+use Rattle.std.proofs.Common.{◌≡◌, ◌∙◌, ◌+◌, ◌-◌, All, is_some, ◌*◌, ◌<◌, ◌≤◌, ◌⊎◌, ◌≢◌, ℕ, zero, suc, get_or-set_other, Option, None, inl, inr, ap, append_assoc, arith, mul_assoc, mul_comm, refl, subst, sym, List, [], ◌∷◌, ◌++◌, length, slice_index_or, slice_set, take, Some, IfSome, IsSome}
 use Rattle.std.proofs.Math.Path.{transport}
 use Rattle.std.proofs.lemmas.Bool.{cases_lt, true≢false}
 use Rattle.std.proofs.lemmas.Grind.{get_or-set_at}
 use Rattle.std.proofs.lemmas.List.Elements.{All-head, All-tail}
-use Rattle.std.specs.Vec.{with_items}
-use Rattle.std.proofs.lemmas.List.{append-nil, get_or_default, take_more_set, with_items_is}
+use Rattle.std.proofs.lemmas.List.{append-nil, get_or_default, take_more_set}
 use Rattle.std.proofs.lemmas.Nat.{mul-le}
 use Rattle.roster_instance.specs.declared.choice.Choice.{Choice}
 use Rattle.roster_instance.specs.Meaning.{Meaning, day_count}
@@ -15,7 +14,7 @@ use Rattle.roster_rules.specs.Prefix.{Summary, summary_of}
 use Rattle.roster_laws.specs.Greatest.{extension_count}
 use Rattle.roster_instance.specs.Choices.{shift_of}
 use Rattle.roster_state.specs.declared.area.Area.{Area}
-use Rattle.roster_state.specs.Codes.{Sizes, code_of, product, sizes_of}
+use Rattle.roster_state.specs.Codes.{code_of, product, sizes_of}
 use Rattle.roster_state.specs.Step.{step_of}
 use Rattle.roster_offers.specs.declared.offer.Offer.{Offer}
 use Rattle.roster_offers.specs.ByStates.{best_after}
@@ -25,9 +24,7 @@ use Rattle.roster_offers.specs.Offers.{best_of_offers, choices_of, dearer, offer
 use Rattle.roster_offers.specs.Lists.{best_over, no_row}
 use Rattle.roster_lanes.specs.Lanes.{SameOutside}
 use Rattle.roster_search.specs.Tables.{AreLabels, ArePointers, BeginsWith, BestOnward, LeadsOn, PointsWhereBest, Stands, best_at_end, best_by, best_on, label_of}
-use Rattle.roster_search.specs.Search.{AreasLead, CountsStates, PointersFrom, areas_on, onward, search_day, steps_on}
-use Rattle.roster_search.specs.Counts.{states_on}
-use Rattle.roster_rules.proofs.RunSums.{sum_same}
+use Rattle.roster_search.specs.Search.{AreasLead, PointersFrom, areas_on, onward, search_day}
 
 module _ (c : Meaning) (n : ℕ) (offers : ℕ → List Offer) where
   -- ---- the best row from a day on
@@ -77,19 +74,6 @@ module _ (c : Meaning) (n : ℕ) (offers : ℕ → List Offer) where
         go (inr this) =
             let same_day : d ≡ day = omega (arith, this, low) in
             subst (λ k. DayPointed new (k * size) k) same_day (subst (λ place. DayPointed new place d) is here)
-
--- ---- offers that agree on each day
-
-module _ (c : Meaning) (n : ℕ) (f g : ℕ → List Offer) (same : (day : ℕ) → day < day_count c → f day ≡ g day) where
-  pub counts_same : (before after : ℕ) → CountsStates c n f before after → CountsStates c n g before after
-  counts_same before after counts = record {
-    areas = counts.areas;
-    start = counts.start;
-    lead = λ day within. subst (All (LeadsOn c (search_day c n day) (areas_on counts.areas day) (areas_on counts.areas (day + 1)))) (same day within) (counts.lead day within);
-    counted =
-        counts.counted
-        ∙ ap (λ k. before + k) (sum_same (day_count c) (steps_on c n f counts.areas) (steps_on c n g counts.areas) (λ day within. ap (λ (xs : List Offer). states_on c n (areas_on counts.areas day) * length xs) (same day within)));
-  }
 
 -- ---- the states that stand on a day: there is one
 
@@ -209,22 +193,11 @@ module _ (c : Meaning) (n : ℕ) (offers : ℕ → List Offer) where
       let nothing_left : [] ≡ read.rest = ap (thing_or []) (sym (ap (λ (f : BestOnward). f s) (onward-last c n offers)) ∙ read.is) in
       sym (read.split ∙ ap (λ rest. take (day_count c) row ++ choices_of rest) (sym nothing_left) ∙ append-nil (take (day_count c) row))
 
--- ---- a table that is written through its slice
-
-pub table_after : {X Z : Type 0} (v w : Vec X Z) (new : List X) → w ≡ with_items v new → length new ≡ v.len → w.items ≡ new
-table_after {X} {Z} v w new is same = ap (λ (u : Vec X Z). u.items) is ∙ with_items_is v new same
-
-pub length_after : {X Z : Type 0} (v w : Vec X Z) → w ≡ v → length w.items ≡ length v.items
-length_after {X} {Z} v w is = ap (λ (u : Vec X Z). length u.items) is
-
 -- ---- how often a label is extended at most
 
 pub extension_is : (c : Meaning) (n : ℕ) → extension_count c n ≡ day_count c * (product (sizes_of c n) * choice_count c n)
 unfolding extension_count state_count
 extension_is c n = ap (λ k. k * choice_count c n) (mul_comm (state_count c n) (day_count c)) ∙ mul_assoc (day_count c) (state_count c n) (choice_count c n)
-
-pub extensions_are : (c : Meaning) (n : ℕ) (z : Sizes) → z ≡ sizes_of c n → extension_count c n ≡ day_count c * (product z * choice_count c n)
-extensions_are c n z is = extension_is c n ∙ ap (λ (y : Sizes). day_count c * (product y * choice_count c n)) (sym is)
 
 -- the areas of a day, as they are read from the table
 pub areas_read : (areas : List (List Area)) (day : ℕ) (d : List Area) → day < length areas → slice_index_or areas day d ≡ areas_on areas day

@@ -305,11 +305,6 @@ module _ (c : Meaning) (at : SearchDay) (later : BestOnward) (block : Summary) (
     pub places_more : StretchCells c at later block offers rows from end code first labels pointers
     places_more i a in_rows low high = place_now i a in_rows low high (cases_lt a middle)
 
--- so many states of a group at most
-pub stretch_counted : (long rows width weekends side : ℕ) → rows ≤ weekends → width ≤ side → long * (rows * width) ≤ weekends * (long * side)
-stretch_counted long rows width weekends side few narrow =
-    omega (arith, mul-le long (rows * width) long (weekends * side) (omega arith) (mul-le rows width weekends side few narrow))
-
 -- so many for each place and each offer, up to a place and from it on
 pub places_counted : (long rows from middle end : ℕ) → from < middle → middle < end → long * (rows * (middle - from)) + long * (rows * (end - middle)) ≡ long * (rows * (end - from))
 places_counted long rows from middle end low high =

@@ -6,7 +6,7 @@ use Rattle.roster_rules.specs.Prefix.{Summary}
 use Rattle.roster_state.specs.declared.area.Area.{Area}
 use Rattle.roster_state.specs.declared.area.Span.{Span}
 use Rattle.roster_state.specs.Areas.{area_at}
-use Rattle.roster_state.specs.Codes.{shift_digit, shift_numbered, sizes_of}
+use Rattle.roster_state.specs.Codes.{Sizes, shift_digit, shift_numbered, sizes_of}
 use Rattle.roster_state.specs.Standing.{can_be}
 
 -- how many numbers of a span are below a size
@@ -40,3 +40,14 @@ states_of_last c n areas last = sum_over (area_at areas last).run (sizes_of c n)
 -- how many stand on a day
 abbrev pub states_on : Meaning → ℕ → List Area → ℕ
 states_on c n areas = sum_below (sizes_of c n).last (states_of_last c n areas)
+
+-- ---- how many there are at most, by the areas alone
+
+-- how many states with one last shift have their other numbers in an area and below these sizes
+abbrev pub states_in : Sizes → Area → ℕ
+states_in z area =
+    numbers_in area.run z.run * (numbers_in area.shift_run z.shift_run * (numbers_in area.weekends z.weekends * numbers_in area.assignments z.assignments))
+
+-- and how many in the areas of a day
+abbrev pub states_in_areas : Sizes → List Area → ℕ
+states_in_areas z areas = sum_below z.last (λ last. states_in z (area_at areas last))

@@ -1,5 +1,5 @@
 -- A search over a table of offers: the room that it takes, its days, and how many states it goes over (our own).
-use Rattle.std.specs.Prelude.{◌≡◌, ℕ, ◌+◌, ◌-◌, ◌*◌, ◌<◌, ◌≤◌, All, List, [], length, slice_index_or}
+use Rattle.std.specs.Prelude.{ℕ, ◌+◌, ◌-◌, ◌*◌, ◌<◌, ◌≤◌, All, List, [], length, slice_index_or}
 use Rattle.roster_instance.specs.Meaning.{Meaning, day_count}
 use Rattle.roster_instance.specs.Sizes.{state_count}
 use Rattle.roster_instance.specs.Counting.{sum_below}
@@ -15,10 +15,13 @@ pub use Rattle.roster_offers.specs.Lists.{AreDayOffers, AreOffers, IsFound, best
 
 -- ---- the room
 
--- how many labels the two tables have together, and how many pointers there are
+-- how many labels the two tables have together, and how many pointers there are; and for how many labels each table has room without
+-- a growth
 pub record TableRoom : Type 0 where
   pub labels : ℕ
   pub pointers : ℕ
+  pub label_capacity : ℕ
+  pub later_capacity : ℕ
 
 -- two labels for each of the nurse's states, and a pointer for each state and day
 pub record HasTables (c : Meaning) (n : ℕ) (t : TableRoom) : Type 0 where
@@ -47,12 +50,16 @@ AreasLead c n offers areas = (day : ℕ) → day < day_count c → All (LeadsOn 
 abbrev pub steps_on : Meaning → ℕ → (ℕ → List Offer) → List (List Area) → ℕ → ℕ
 steps_on c n offers areas day = states_on c n (areas_on areas day) * length (offers day)
 
--- so many were counted: exactly those that stand in areas in which the nurse's rows stay, from the start on
-pub record CountsStates (c : Meaning) (n : ℕ) (offers : ℕ → List Offer) (before after : ℕ) : Type 0 where
-  pub areas : List (List Area)
+-- and on all days
+abbrev pub standing_steps : Meaning → ℕ → (ℕ → List Offer) → List (List Area) → ℕ
+standing_steps c n offers areas = sum_below (day_count c) (steps_on c n offers areas)
+
+-- areas in which the nurse's rows stay, from the start on: on the first day no other state is in them. There is one list more than days.
+pub record AreStanding (c : Meaning) (n : ℕ) (offers : ℕ → List Offer) (areas : List (List Area)) : Type 0 where
   pub start : Stands c n (areas_on areas 0) (summary_of c n [])
+  pub first : states_on c n (areas_on areas 0) ≤ 1
   pub lead : AreasLead c n offers areas
-  pub counted : after ≡ before + sum_below (day_count c) (steps_on c n offers areas)
+  pub long : day_count c < length areas
 
 -- a state that stands in these areas
 pub record SomeStands (c : Meaning) (n : ℕ) (areas : List Area) : Type 0 where

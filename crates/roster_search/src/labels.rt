@@ -115,7 +115,8 @@ pub fn label_day(
     requires here { rest.here ≡ day.now.areas.now }
     requires labels_room { product day.now.at.ranges ≤ length labels.old }
     requires pointers_room { day.now.first + product day.now.at.ranges ≤ length pointers.old }
-    requires room { meter.old + product day.now.at.ranges * length day.now.offers.now ≤ greatest_u64 }
+    requires room { meter.old + states_on day.now.case.now day.now.at.nurse rest.here
+        * length day.now.offers.now ≤ greatest_u64 }
     ensures labels { AreLabels day.now.case.now day.now.at.nurse rest.here (best_on day.now.case.now day.now.at day.now.offers.now rest.best) labels.new }
     ensures pointers { ArePointers day.now.case.now day.now.at rest.here day.now.offers.now rest.best day.now.first pointers.new }
     ensures others { SameOutside day.now.first (day.now.first + product day.now.at.ranges) pointers.old pointers.new }
@@ -185,7 +186,8 @@ fn label_group(
     requires runs { (InSpan (area_at rest.here (shift_digit group.last)).run group.run) × (InSpan (area_at rest.here (shift_digit group.last)).shift_run group.shift_run) }
     requires labels_room { product day.now.at.ranges ≤ length labels.old }
     requires pointers_room { day.now.first + product day.now.at.ranges ≤ length pointers.old }
-    requires room { meter.old + day.now.at.ranges.weekends * (length day.now.offers.now * day.now.at.ranges.assignments) ≤ greatest_u64 }
+    requires room { meter.old + states_with day.now.case.now day.now.at.nurse rest.here group
+        * length day.now.offers.now ≤ greatest_u64 }
     ensures labels { LabelsOf (StandsLike day.now.case.now day.now.at.nurse rest.here group) day.now.case.now day.now.at.nurse (best_on day.now.case.now day.now.at day.now.offers.now rest.best) labels.new }
     ensures pointers { PointersOf (StandsLike day.now.case.now day.now.at.nurse rest.here group) day.now.case.now day.now.at day.now.offers.now rest.best day.now.first pointers.new }
     ensures labels_others { SameOutside (code_of day.now.at.ranges group) (code_of day.now.at.ranges group + day.now.at.ranges.weekends * day.now.at.ranges.assignments) labels.old labels.new }
@@ -193,7 +195,6 @@ fn label_group(
     ensures lengths { (length labels.new ≡ length labels.old) × (length pointers.new ≡ length pointers.old) }
     ensures some { 0 < length day.now.offers.now → (s : Summary) → StandsLike day.now.case.now day.now.at.nurse rest.here group s → meter.old < meter.new }
     ensures exactly { meter.new ≡ meter.old + states_with day.now.case.now day.now.at.nurse rest.here group * length day.now.offers.now }
-    ensures counted { meter.new ≤ meter.old + day.now.at.ranges.weekends * (length day.now.offers.now * day.now.at.ranges.assignments) }
 {
     let at = day.at;
     day.case.keeps_limits();

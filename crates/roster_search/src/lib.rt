@@ -11,6 +11,7 @@ mod pointers;
 mod read;
 mod search;
 mod stand;
+mod steps;
 mod tables;
 
 pub use day::{OpenDay, SearchDay};
@@ -23,5 +24,6 @@ pub use roster_offers::{
     cost_rises_with_prices, offers_are_few, one_offer_for_each_shift_is_enough,
 };
 pub use search::search_row;
-pub use stand::areas_after;
+pub use stand::{DayAreas, areas_after, stand_days};
+pub use steps::steps_at_most;
 pub use tables::Tables;

@@ -3,9 +3,7 @@
 ghost use Rattle.std.specs.Prelude.{◌≡◌, ◌+◌, ◌-◌, ◌*◌, ◌<◌, ◌≤◌, ℕ, [], All, IfSome, IsSome, List, Some, length, take};
 ghost use Rattle.roster_bundle.specs.Limits.{greatest_u64};
 ghost use Rattle.roster_instance.specs.Meaning.{day_count, nurse_count};
-ghost use Rattle.roster_instance.specs.Sizes.{choice_count, state_count};
 ghost use Rattle.roster_laws.specs.Greatest.{extension_count};
-ghost use Rattle.roster_instance.specs.Counting.{sum_below};
 ghost use Rattle.roster_rules.specs.Prefix.{summary_of};
 ghost use Rattle.roster_state.specs.Codes.{product, sizes_of};
 ghost use Rattle.roster_lanes.specs.Lanes.{SameOutside};
@@ -13,27 +11,27 @@ ghost use Rattle.roster_offers.specs.Offers.{choices_of};
 ghost use Rattle.roster_offers.specs.Lists.{AreOffers, IsFound, best_over, no_row, offers_on};
 ghost use Rattle.roster_offers.specs.declared.offer.Offer.{Offer};
 ghost use Rattle.roster_search.specs.Counts.{states_on};
-ghost use Rattle.roster_search.specs.Search.{AreasLead, CountsStates, HasTables, PointersFrom, SomeStands, areas_on, onward, steps_on};
+ghost use Rattle.roster_search.specs.Search.{AreStanding, AreasLead, HasTables, PointersFrom, SomeStands, areas_on, onward, standing_steps};
 ghost use Rattle.roster_search.specs.Tables.{AreLabels, ArePointers, Around, BeginsWith, IsDayOf, LeadsOn, Stands, best_on};
 
 use crate::day::{OpenDay, SearchDay};
 use crate::labels::{StretchRoom, label_day, label_end};
 use crate::pointers::Pointers;
 use crate::read::read_day;
-use crate::stand::areas_after;
+use crate::stand::DayAreas;
 use crate::tables::Tables;
 use arrayvec::ArrayVec;
 use roster_offers::{MOST_OFFERS, Offer, RowSearch};
 use roster_rules::{Case, Choice};
-use roster_state::{AREAS, Area, Meter, Ranges, State, areas_of, start};
-use std::mem;
+use roster_state::{AREAS, Area, Meter, Ranges, State, start};
 
 /// Searches the best row over a table of offers, wherever these come from. `row` then begins with its choices, one for each day, and the
-/// answer is its cost: its prices, and what the nurse's own rules cost along it beside what the start owes. It takes no memory. The
-/// meter counts each state that is taken over a choice: one for each day at least, at most one for each choice of the nurse on the
-/// first day, and at most one for each state and choice on each later day.
+/// answer is its cost: its prices, and what the nurse's own rules cost along it beside what the start owes. It takes no memory. On each
+/// day the states in these areas stand. The meter counts each of them, where a row may lead to it, once for each of the day's offers:
+/// one for each day at least, and no more than one for each of the nurse's states, each day and each choice.
 pub fn search_row(
     search: &RowSearch<'_>,
+    areas: &DayAreas,
     tables: &mut Tables,
     row: &mut [Choice],
     meter: &mut Meter,
@@ -43,7 +41,10 @@ pub fn search_row(
     requires some { IsSome (best_over search.now.case.now search.now.nurse (offers_on search.now.offers.now)) }
     requires tables { HasTables search.now.case.now search.now.nurse tables.old }
     requires row_room { day_count search.now.case.now ≤ length row.old }
-    requires room { meter.old + extension_count search.now.case.now search.now.nurse ≤ greatest_u64 }
+    requires standing { AreStanding search.now.case.now search.now.nurse
+        (offers_on search.now.offers.now) areas.now.days }
+    requires room { meter.old + standing_steps search.now.case.now search.now.nurse
+        (offers_on search.now.offers.now) areas.now.days ≤ greatest_u64 }
 
     // The row, and its cost.
     ensures best { IsFound (best_over search.now.case.now search.now.nurse (offers_on search.now.offers.now)) result (take (day_count search.now.case.now) row.new) }
@@ -53,8 +54,8 @@ pub fn search_row(
     // What it takes.
     ensures each_day { meter.old + day_count search.now.case.now ≤ meter.new }
     ensures counted { meter.new ≤ meter.old + extension_count search.now.case.now search.now.nurse }
-    ensures spare { meter.new + (state_count search.now.case.now search.now.nurse - 1) * choice_count search.now.case.now search.now.nurse ≤ meter.old + extension_count search.now.case.now search.now.nurse }
-    ensures standing { CountsStates search.now.case.now search.now.nurse (offers_on search.now.offers.now) meter.old meter.new }
+    ensures exactly { meter.new ≡ meter.old + standing_steps search.now.case.now search.now.nurse
+        (offers_on search.now.offers.now) areas.now.days }
     ensures tables { tables.new ≡ tables.old }
 {
     let RowSearch {
@@ -69,10 +70,8 @@ pub fn search_row(
         labels,
         later,
         pointers,
-        areas,
         room,
     } = tables;
-    stand_days(search, &ranges, &mut areas.days);
     let days = Days {
         case,
         nurse,
@@ -83,7 +82,7 @@ pub fn search_row(
     label_days(&days, labels, later, pointers, room, meter);
     read_row(&days, pointers, row);
     let (first, _) = start(case, nurse);
-    later[first.code(&ranges) as usize]
+    labels[first.code(&ranges) as usize]
 }
 
 /// What the search knows before it labels: each day's offers, and the areas of each day and of the one after the last.
@@ -96,37 +95,12 @@ struct Days<'a> {
     areas: &'a [[Area; AREAS]],
 }
 
-/// Sets the areas of each day, from the first day to the one after the last. On the first day no state but the start stands.
-fn stand_days(search: &RowSearch<'_>, ranges: &Ranges, areas: &mut [[Area; AREAS]])
-    requires nurse { search.now.nurse < nurse_count search.now.case.now }
-    requires ranges { ranges.now ≡ sizes_of search.now.case.now search.now.nurse }
-    requires offers { AreOffers search.now.case.now search.now.nurse search.now.offers.now }
-    requires long { day_count search.now.case.now < length areas.old }
-    ensures start { Stands search.now.case.now search.now.nurse (areas_on areas.new 0) (summary_of search.now.case.now search.now.nurse []) }
-    ensures first { states_on search.now.case.now search.now.nurse (areas_on areas.new 0) ≤ 1 }
-    ensures lead { AreasLead search.now.case.now search.now.nurse (offers_on search.now.offers.now) areas.new }
-{
-    let (case, nurse) = (search.case, search.nurse);
-    case.keeps_limits();
-    let (state, _) = start(case, nurse);
-    areas[0] = areas_of(&state);
-    for day in 0..case.days() {
-        let at = SearchDay {
-            nurse,
-            day,
-            ranges: *ranges,
-        };
-        let day_offers = search.offers[day as usize].as_slice();
-        areas[day as usize + 1] = areas_after(case, &at, &areas[day as usize], day_offers);
-    }
-}
-
-/// Sets the labels and the pointers of all days, from the last day to the first, in two tables that change places. In the end the
-/// labels of the first day stand in `later`.
+/// Sets the labels and the pointers of all days, from the last day to the first, in two tables by turns: the labels of days with even
+/// numbers stand in one, those of the first day at last, and the labels of the others in the other one.
 fn label_days(
     days: &Days<'_>,
-    labels: &mut Vec<u32>,
-    later: &mut Vec<u32>,
+    even: &mut [u32],
+    odd: &mut [u32],
     pointers: &mut Pointers,
     room: &mut StretchRoom,
     meter: &mut Meter,
@@ -137,30 +111,41 @@ fn label_days(
     requires areas_room { day_count days.now.case.now < length days.now.areas.now }
     requires lead { AreasLead days.now.case.now days.now.nurse (offers_on days.now.offers.now) days.now.areas.now }
     requires stand { (day : ℕ) → day < day_count days.now.case.now → SomeStands days.now.case.now days.now.nurse (areas_on days.now.areas.now day) }
-    requires labels_room { product days.now.ranges ≤ length labels.old.items }
-    requires same_room { length later.old.items ≡ length labels.old.items }
+    requires labels_room { product days.now.ranges ≤ length even.old }
+    requires same_room { length odd.old ≡ length even.old }
     requires pointers_room { day_count days.now.case.now * product days.now.ranges ≤ length pointers.old }
-    requires room { meter.old + extension_count days.now.case.now days.now.nurse ≤ greatest_u64 }
-    ensures labels { AreLabels days.now.case.now days.now.nurse (areas_on days.now.areas.now 0) (onward days.now.case.now days.now.nurse (offers_on days.now.offers.now) 0) later.new.items }
+    requires room { meter.old + standing_steps days.now.case.now days.now.nurse
+        (offers_on days.now.offers.now) days.now.areas.now ≤ greatest_u64 }
+    ensures labels { AreLabels days.now.case.now days.now.nurse (areas_on days.now.areas.now 0)
+        (onward days.now.case.now days.now.nurse (offers_on days.now.offers.now) 0) even.new }
     ensures pointers { PointersFrom days.now.case.now days.now.nurse (offers_on days.now.offers.now) days.now.areas.now 0 pointers.new }
-    ensures lengths { (length labels.new.items ≡ length labels.old.items) × (length later.new.items ≡ length later.old.items) × (length pointers.new ≡ length pointers.old) }
+    ensures lengths { (length even.new ≡ length even.old) × (length odd.new ≡ length odd.old)
+        × (length pointers.new ≡ length pointers.old) }
     ensures each_day { meter.old + day_count days.now.case.now ≤ meter.new }
-    ensures counted { meter.new ≤ meter.old + extension_count days.now.case.now days.now.nurse }
-    ensures exactly { meter.new ≡ meter.old + sum_below (day_count days.now.case.now) (steps_on days.now.case.now days.now.nurse (offers_on days.now.offers.now) days.now.areas.now) }
+    ensures exactly { meter.new ≡ meter.old + standing_steps days.now.case.now days.now.nurse
+        (offers_on days.now.offers.now) days.now.areas.now }
 {
     let case = days.case;
     let count = case.days();
     let last = &days.areas[count as usize];
-    label_end(case, days.nurse, &days.ranges, last, later);
+    if count % 2 == 0 {
+        label_end(case, days.nurse, &days.ranges, last, even);
+    } else {
+        label_end(case, days.nurse, &days.ranges, last, odd);
+    }
     for day in (0..count).rev() {
         let at = SearchDay {
             nurse: days.nurse,
             day,
             ranges: days.ranges,
         };
-        let ahead = Ahead { at, later };
-        label_before(days, &ahead, labels, pointers, room, meter);
-        mem::swap(labels, later);
+        if day % 2 == 0 {
+            let ahead = Ahead { at, later: odd };
+            label_before(days, &ahead, even, pointers, room, meter);
+        } else {
+            let ahead = Ahead { at, later: even };
+            label_before(days, &ahead, odd, pointers, room, meter);
+        }
     }
 }
 
@@ -191,13 +176,13 @@ fn label_before(
     requires all { product ahead.now.at.ranges ≤ length ahead.now.later.now }
     requires labels_room { product ahead.now.at.ranges ≤ length labels.old }
     requires pointers_room { day_count days.now.case.now * product ahead.now.at.ranges ≤ length pointers.old }
-    requires room { meter.old + product ahead.now.at.ranges * choice_count days.now.case.now ahead.now.at.nurse ≤ greatest_u64 }
+    requires room { meter.old + states_on days.now.case.now ahead.now.at.nurse rest.here
+        * length (offers_on days.now.offers.now ahead.now.at.day) ≤ greatest_u64 }
     ensures labels { AreLabels days.now.case.now ahead.now.at.nurse rest.here (best_on days.now.case.now ahead.now.at (offers_on days.now.offers.now ahead.now.at.day) rest.best) labels.new }
     ensures pointers { ArePointers days.now.case.now ahead.now.at rest.here (offers_on days.now.offers.now ahead.now.at.day) rest.best (ahead.now.at.day * product ahead.now.at.ranges) pointers.new }
     ensures others { SameOutside (ahead.now.at.day * product ahead.now.at.ranges) (ahead.now.at.day * product ahead.now.at.ranges + product ahead.now.at.ranges) pointers.old pointers.new }
     ensures lengths { (length labels.new ≡ length labels.old) × (length pointers.new ≡ length pointers.old) }
     ensures some { meter.old < meter.new }
-    ensures counted { meter.new ≤ meter.old + product ahead.now.at.ranges * choice_count days.now.case.now ahead.now.at.nurse }
     ensures exactly { meter.new ≡ meter.old + states_on days.now.case.now ahead.now.at.nurse rest.here * length (offers_on days.now.offers.now ahead.now.at.day) }
 {
     let Ahead { at, later } = *ahead;

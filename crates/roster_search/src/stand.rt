@@ -1,26 +1,49 @@
-//! Which states stand after a day.
+//! Which states stand on each day.
 
-ghost use Rattle.std.specs.Prelude.{◌≡◌, ◌<◌, ◌≤◌, All, length};
-ghost use Rattle.roster_offers.specs.Lists.{IsOfferOf};
+ghost use Rattle.std.specs.Prelude.{◌<◌, All};
+ghost use Rattle.roster_instance.specs.Meaning.{nurse_count};
+ghost use Rattle.roster_offers.specs.Lists.{AreOffers, IsOfferOf, offers_on};
+ghost use Rattle.roster_search.specs.Search.{AreStanding};
 ghost use Rattle.roster_search.specs.Tables.{IsDayOf, LeadsOn};
 
 use crate::day::SearchDay;
-use roster_offers::{MOST_DAYS, Offer};
+use roster_offers::{MOST_DAYS, Offer, RowSearch};
 use roster_rules::Case;
-use roster_state::{AREAS, Area, NOWHERE, widen};
+use roster_state::{AREAS, Area, NOWHERE, Ranges, areas_of, start, widen};
 
-/// The areas of each day and of the one after the last.
+/// The areas of each day and of the one after the last: where the states of that day may stand. It takes 52,560 bytes, and serves one
+/// search after another.
 #[derive(Drop)]
-pub(crate) struct DayAreas {
-    pub(crate) days: [[Area; AREAS]; MOST_DAYS + 1],
+pub struct DayAreas {
+    pub days: [[Area; AREAS]; MOST_DAYS + 1],
 }
 
 impl DayAreas {
     /// No state stands on any day.
-    pub(crate) fn new() -> DayAreas {
+    pub fn new() -> DayAreas {
         DayAreas {
             days: [[NOWHERE; AREAS]; MOST_DAYS + 1],
         }
+    }
+}
+
+/// Sets the areas of each day of a search, from the first day to the one after the last. On the first day no state but the start
+/// stands.
+pub fn stand_days(search: &RowSearch<'_>, areas: &mut DayAreas)
+    requires nurse { search.now.nurse < nurse_count search.now.case.now }
+    requires offers { AreOffers search.now.case.now search.now.nurse search.now.offers.now }
+    ensures standing { AreStanding search.now.case.now search.now.nurse
+        (offers_on search.now.offers.now) areas.new.days }
+{
+    let (case, nurse) = (search.case, search.nurse);
+    case.keeps_limits();
+    let ranges = Ranges::of(case, nurse);
+    let (state, _) = start(case, nurse);
+    areas.days[0] = areas_of(&state);
+    for day in 0..case.days() {
+        let at = SearchDay { nurse, day, ranges };
+        let offers = search.offers[day as usize].as_slice();
+        areas.days[day as usize + 1] = areas_after(case, &at, &areas.days[day as usize], offers);
     }
 }
 

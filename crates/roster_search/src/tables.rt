@@ -5,18 +5,16 @@ ghost use Rattle.roster_bundle.specs.Limits.{greatest_u64};
 
 use crate::labels::StretchRoom;
 use crate::pointers::Pointers;
-use crate::stand::DayAreas;
 use std::alloc::{AllocError, Global};
 use std::marker::Model;
 
-/// What a search writes into: two tables of labels, one for the states of the day at hand and one for those of the next, and a
-/// pointer for each state and day; the areas of each day and of the one after the last, and room for a stretch. The same tables serve
-/// one search after another.
+/// What a search writes into: two tables of labels, which the days take by turns, those of the day at hand and those of the next, and a
+/// pointer for each state and day, with room for a stretch. The same tables serve one search after another, and no search reads what
+/// stood in them before it: between searches the labels may be lent for something else.
 pub struct Tables {
-    pub(crate) labels: Vec<u32>,
-    pub(crate) later: Vec<u32>,
+    pub labels: Vec<u32>,
+    pub later: Vec<u32>,
     pub(crate) pointers: Pointers,
-    pub(crate) areas: DayAreas,
     pub(crate) room: StretchRoom,
 }
 
@@ -27,19 +25,23 @@ impl Drop for Tables {
             labels: _,
             later: _,
             pointers: _,
-            areas: _,
             room: _,
         } = self;
     }
 }
 
 impl Model for Tables {
-    ghost use Rattle.std.specs.Prelude.{◌≡◌, ◌+◌, length};
+    ghost use Rattle.std.specs.Prelude.{◌≡◌, ◌+◌, length, vec_capacity};
     ghost use Rattle.roster_search.specs.Search.{TableRoom};
 
     ghost Value = { TableRoom };
 
-    ghost view = { λ t. record { labels = length t.labels.items + length t.later.items; pointers = length t.pointers } };
+    ghost view = { λ t. record {
+      labels = length t.labels.items + length t.later.items;
+      pointers = length t.pointers;
+      label_capacity = vec_capacity t.labels;
+      later_capacity = vec_capacity t.later;
+    } };
 
     ghost invariant = { λ t. length t.labels.items ≡ length t.later.items };
 }
@@ -59,7 +61,6 @@ impl Tables {
             labels: vec![in alloc; 0; states]?,
             later: vec![in alloc; 0; states]?,
             pointers: Pointers::new(alloc, states * days)?,
-            areas: DayAreas::new(),
             room: StretchRoom::new(),
         })
     }

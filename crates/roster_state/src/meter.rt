@@ -6,8 +6,8 @@ ghost use Rattle.roster_bundle.specs.Limits.{greatest_u64};
 use roster_rules::Case;
 use std::marker::Model;
 
-/// Counts extensions: one state taken over one choice. Whoever has a case for itself alone can make one; who is lent a
-/// case can't, so what is counted on a lent meter is all that was counted.
+/// Counts extensions: one state taken over one choice, and one cell of a line of floors over one offer. Whoever has a case for itself
+/// alone can make a meter; who is lent a case can't, so what is counted on a lent meter is all that was counted.
 #[derive(Drop)]
 pub struct Meter {
     count: u64,
@@ -61,8 +61,8 @@ impl Meter {
         self.count += 1;
     }
 
-    /// Counts so many extensions.
-    pub(crate) fn add(&mut self, more: u64)
+    /// Counts so many extensions. It is for those that no call of this crate makes, as those of the cells of a line of floors.
+    pub fn add(&mut self, more: u64)
         requires { self.old + more ≤ greatest_u64 }
         ensures { self.new ≡ self.old + more }
     {

@@ -21,19 +21,20 @@ use roster_rules::weights::{ASSIGNMENT, SHIFT_RUN};
 use roster_rules::{Case, Limits, Shift};
 use std::cmp::min;
 
-/// What a worked day brings to a state, whatever the shift.
+/// What a worked day brings to a state, whatever the shift. What it costs is read in this crate alone: others learn the cost of a step
+/// where the step is counted, by `extend_ahead` or `extend_stretch_ahead`.
 #[derive(Clone, Copy)]
 pub struct WorkedDay {
     /// The working days in a row after it.
-    pub run: u16,
+    pub(crate) run: u16,
     /// The assignments after it.
     pub assignments: u16,
     /// The worked weekends after it.
     pub weekends: u16,
     /// What it costs in penalty points, but for the runs of shifts.
-    pub cost: u32,
+    pub(crate) cost: u32,
     /// What the run of the last shift misses in penalty points, where it ends.
-    pub left: u32,
+    pub(crate) left: u32,
 }
 
 /// Any shift, where it is asked only whether one is worked.

@@ -3,9 +3,14 @@
 use crate::best_tests::{ready, row_of};
 use crate::texts::{RUN_LOG, fill};
 use roster_best::most_steps;
+use roster_case::Held;
 use roster_devices::{AtEnd, ShortWriter};
-use roster_rounds::{LogFault, Outcome, RunSpace, Step, improve, most_extensions, step};
+use roster_rounds::{
+    LogFault, Outcome, RunSpace, Step, improve, improve_unless_known, most_extensions, step,
+};
+use roster_state::Meter;
 use roster_text::Watch;
+use std::alloc::Global;
 use std::test::Fail;
 
 #[test]
@@ -32,15 +37,12 @@ fn steps_and_a_run(rt: HostRuntime) -> Result<(), Fail> {
         changed: true,
     };
     assert!(rt; first == wanted);
-    if meter.room() < most_extensions(held.case(), 3) {
+    if !workspace.fits(held.case()) || meter.room() < most_extensions(held.case(), 3) {
         return Err(Fail::new("no room for the run"));
     }
-    let Ok(mut space) = RunSpace::for_case(rt.alloc(), held.case()) else {
-        return Err(Fail::new("no space"));
-    };
     let mut room = [0; 80];
     let mut log = Watch::new(ShortWriter::new(&mut room, AtEnd::Fail));
-    let ended = improve(&mut held, 3, 0, &mut space, &mut meter, &mut log);
+    let ended = improve(&mut held, 3, 0, &mut workspace, &mut meter, &mut log);
     let wanted = Outcome {
         settled: true,
         rounds: 3,
@@ -51,11 +53,39 @@ fn steps_and_a_run(rt: HostRuntime) -> Result<(), Fail> {
     Ok(())
 }
 
+/// What a run over mini leaves: the roster, what it counted, and how it ended.
+type Left = (Held, Meter, Result<Outcome, LogFault>);
+
+type Log<'a> = Watch<ShortWriter<'a>>;
+
+/// A run over mini that searches at each step.
+fn run(alloc: Global, log: &mut Log<'_>) -> Result<Left, Fail> {
+    let (mut held, mut workspace, mut meter) = ready(alloc, &[])?;
+    if !workspace.fits(held.case()) || meter.room() < most_extensions(held.case(), 100) {
+        return Err(Fail::new("no room"));
+    }
+    let ended = improve(&mut held, 100, 0, &mut workspace, &mut meter, log);
+    Ok((held, meter, ended))
+}
+
+/// A run over mini that searches only where the nurse's last search doesn't tell enough.
+fn run_unless_known(alloc: Global, log: &mut Log<'_>) -> Result<Left, Fail> {
+    let (mut held, _, mut meter) = ready(alloc, &[])?;
+    let Ok(mut space) = RunSpace::for_case(alloc, held.case()) else {
+        return Err(Fail::new("no space"));
+    };
+    if meter.room() < most_extensions(held.case(), 100) {
+        return Err(Fail::new("no room"));
+    }
+    let ended = improve_unless_known(&mut held, 100, 0, &mut space, &mut meter, log);
+    Ok((held, meter, ended))
+}
+
 /// After how many bytes a log may fail (the first and the last number), and the total and the weeks of Ann and Bob that a run
 /// over mini leaves then.
-type Left = (usize, usize, u64, &'static [u8; 7], &'static [u8; 7]);
+type AtFault = (usize, usize, u64, &'static [u8; 7], &'static [u8; 7]);
 
-const LEFT: [Left; 4] = [
+const AT_FAULTS: [AtFault; 4] = [
     // The roster as it was read.
     (0, 9, 470, b"-------", b"-------"),
     // Ann's row was replaced in round 1.
@@ -68,19 +98,12 @@ const LEFT: [Left; 4] = [
 
 #[test]
 fn rosters_after_a_log_that_fails(rt: HostRuntime) -> Result<(), Fail> {
-    for (first, last, total, ann, bob) in LEFT {
+    for (first, last, total, ann, bob) in AT_FAULTS {
         for sent in first..last + 1 {
-            let (mut held, _, mut meter) = ready(rt.alloc(), &[])?;
-            if meter.room() < most_extensions(held.case(), 100) {
-                return Err(Fail::new("no room"));
-            }
-            let Ok(mut space) = RunSpace::for_case(rt.alloc(), held.case()) else {
-                return Err(Fail::new("no space"));
-            };
             let mut log_room = [0; 78];
             let writer = ShortWriter::new(&mut log_room[..sent.min(78)], AtEnd::Fail);
             let mut log = Watch::new(writer);
-            let ended = improve(&mut held, 100, 0, &mut space, &mut meter, &mut log);
+            let (held, meter, ended) = run(rt.alloc(), &mut log)?;
             assert!(rt; ended == Err(LogFault::LogFailed { sent }), "{sent}");
             assert!(rt; fill(log.into_inner().written(), RUN_LOG, sent), "{sent}");
             // The line of the start goes out before the first search.
@@ -89,6 +112,29 @@ fn rosters_after_a_log_that_fails(rt: HostRuntime) -> Result<(), Fail> {
             assert!(rt; held.roster().row(0) == row_of(ann).as_slice(), "{sent}");
             assert!(rt; held.roster().row(1) == row_of(bob).as_slice(), "{sent}");
         }
+    }
+    Ok(())
+}
+
+#[test]
+fn the_same_run_with_fewer_searches(rt: HostRuntime) -> Result<(), Fail> {
+    for sent in 0..81_usize {
+        let mut log_room = [0; 81];
+        let mut log = Watch::new(ShortWriter::new(&mut log_room[..sent], AtEnd::Fail));
+        let (held, meter, ended) = run(rt.alloc(), &mut log)?;
+        let mut other_room = [0; 81];
+        let mut other_log = Watch::new(ShortWriter::new(&mut other_room[..sent], AtEnd::Fail));
+        let (other, other_meter, other_ended) = run_unless_known(rt.alloc(), &mut other_log)?;
+        assert!(rt; other_ended == ended, "{sent}");
+        assert!(rt;
+            other_log.into_inner().written() == log.into_inner().written(),
+            "{sent}"
+        );
+        assert!(rt; other.roster().row(0) == held.roster().row(0), "{sent}");
+        assert!(rt; other.roster().row(1) == held.roster().row(1), "{sent}");
+        assert!(rt; other_meter.count() <= meter.count(), "{sent}");
+        // By the end at least one search was left out.
+        assert!(rt; sent < 78 || other_meter.count() < meter.count(), "{sent}");
     }
     Ok(())
 }

@@ -8,7 +8,7 @@ use crate::stop::Stop;
 use roster_best::{Workspace, best_row, most_steps};
 use roster_case::{Case, Held, Roster};
 use roster_reports::write_weeks;
-use roster_rounds::{Outcome, RunSpace, improve, most_extensions};
+use roster_rounds::{Outcome, improve, most_extensions};
 use roster_state::Meter;
 use roster_text::{Watch, parse_bundle, read_all, tokens};
 use std::alloc::Global;
@@ -28,11 +28,11 @@ pub fn write_better_weeks<In: Read, Out: Write, Log: Write>(
     // Who holds a case lends it, and a meter is made of a case that isn't lent.
     let mut meter = Meter::new(&mut case);
     let mut held = Held::new(alloc, case, roster)?;
-    let mut space = RunSpace::for_case(alloc, held.case())?;
+    let mut workspace = Workspace::for_case(alloc, held.case())?;
     for nurse in 0..held.case().nurses() {
-        put_best_row(&mut held, nurse, &mut space.workspace, &mut meter)?;
+        put_best_row(&mut held, nurse, &mut workspace, &mut meter)?;
     }
-    let outcome = improve_rounds(&mut held, rounds, &mut space, &mut meter, log)?;
+    let outcome = improve_rounds(&mut held, rounds, &mut workspace, &mut meter, log)?;
     write_weeks(output, held.case(), held.roster())?;
     Ok(outcome)
 }
@@ -77,16 +77,16 @@ pub fn put_best_row(
 fn improve_rounds<Log: Write>(
     held: &mut Held,
     rounds: u16,
-    space: &mut RunSpace,
+    workspace: &mut Workspace,
     meter: &mut Meter,
     log: &mut Watch<Log>,
 ) -> Result<Outcome, Stop>
     ensures case { held.new.case ≡ held.old.case }
 {
     // What `improve` asks for.
-    let can_improve = space.fits(held.case());
+    let can_improve = workspace.fits(held.case());
     if !can_improve || meter.room() < most_extensions(held.case(), rounds) {
         return Err(Stop::NoRoom);
     }
-    Ok(improve(held, rounds, 0, space, meter, log)?)
+    Ok(improve(held, rounds, 0, workspace, meter, log)?)
 }

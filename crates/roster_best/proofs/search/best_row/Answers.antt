@@ -1,6 +1,7 @@
 use Rattle.std.proofs.Common.{◌∙◌, sym}
 use Rattle.roster_best.proofs.BestLaws.{best_keeps, found_best, found_penalty}
-use Rattle.roster_best.proofs.SearchLaws.{counted_is, same_after}
+use Rattle.roster_best.proofs.SearchLaws.{counted_is}
+use Rattle.roster_partial.proofs.WorkspaceLaws.{same_after}
 use Rattle.roster_best.proofs.search.best_row.Goals as goal
 
 pub search_offers-requires-clause-offers : goal.search_offers-requires-clause-offers

@@ -2,7 +2,7 @@ use Rattle.std.proofs.Common.{◌∙◌, subst, sym}
 use Rattle.roster_offers.specs.Lists.{IsFound, best_over, offers_on}
 use Rattle.roster_best.specs.Searches.{AreShiftOffers}
 use Rattle.roster_best.proofs.BestLaws.{best_keeps, found_best, found_penalty}
-use Rattle.roster_best.proofs.SearchLaws.{same_after}
+use Rattle.roster_partial.proofs.WorkspaceLaws.{same_after}
 use Rattle.roster_best.proofs.search.cheaper_row.Goals as goal
 
 pub has_none_cheaper-requires-clause-offers : goal.has_none_cheaper-requires-clause-offers

@@ -1,11 +1,13 @@
 use Rattle.std.proofs.Common.{◌≡◌, ◌∙◌, ◌+◌, ◌-◌, ◌*◌, ◌<◌, ◌≤◌, ℕ, ap, arith, get_or, length, refl, subst, sym}
 use Rattle.std.proofs.lemmas.List.Edits.{length-between}
+use Rattle.roster_bundle.specs.Limits.{greatest_u64}
 use Rattle.std.proofs.lemmas.Nat.{mul-add-lt}
 use Rattle.roster_state.specs.Codes.{shift_digit, sizes_of}
 use Rattle.roster_state.proofs.CodeLemmas.{fits-all}
 use Rattle.roster_floors.specs.Lines.{IsUnderAll, UnderCell, UnderPlace, cell_place, most_floor}
 use Rattle.roster_floors.proofs.Cells.{low_more, rows_length, rows_more}
 use Rattle.roster_floors.proofs.DayLaws.{area_inside, area_is}
+use Rattle.roster_floors.proofs.Steps.{all_counted, one_counted, room_for_one}
 use Rattle.roster_floors.proofs.day.set_day.Goals as goal
 
 pub loop-digit-preserved : goal.loop-digit-preserved
@@ -31,6 +33,7 @@ loop-digit-preserved c =
           (λ p below r q l m e. subst (λ (i : ℕ). UnderCell k day next digit r q (get_or part i 0)) (sym e) (c.set_after.ensures.under r q l m));
       low = low_more here part digit size first width at is long inside most_floor c.loop-digit.invariant.low c.set_after.ensures.low;
       long = rows_length here part digit size first width at is long inside ∙ c.loop-digit.invariant.long;
+      counted = one_counted digit (size * length day.offers.now) c.args.meter.now c.loop-digit.meter c.set_after.new.meter c.loop-digit.invariant.counted c.set_after.ensures.counted;
     }
 
 pub returns-clause-under : goal.returns-clause-under
@@ -59,3 +62,18 @@ set_after-requires-clause-room c =
     let first = c.loop-digit.digit * area in
     let inside = area_inside k day c.requires.day c.loop-digit.digit c.loop-digit-test.true in
     omega (arith, length-between c.loop-digit.here first (first + area) (omega (arith, inside, c.loop-digit.invariant.long, c.requires.room)), area_is k day c.requires.day)
+
+pub set_after-requires-clause-steps : goal.set_after-requires-clause-steps
+set_after-requires-clause-steps c =
+    let day = c.args.day.now in
+    let z = sizes_of day.case.now day.nurse in
+    let size = z.run * z.shift_run * length day.offers.now in
+    let room : c.args.meter.now + z.last * size ≤ greatest_u64 = omega (arith, c.requires.steps) in
+    room_for_one c.loop-digit.digit z.last size c.args.meter.now c.loop-digit.meter greatest_u64 (omega (arith, c.requires.day.lasts, c.loop-digit-test.true)) c.loop-digit.invariant.counted room
+
+pub returns-clause-counted : goal.returns-clause-counted
+returns-clause-counted c =
+    let day = c.args.day.now in
+    let z = sizes_of day.case.now day.nurse in
+    let size = z.run * z.shift_run * length day.offers.now in
+    omega (arith, all_counted c.loop-digit.digit z.last size c.args.meter.now c.loop-digit.meter (omega (arith, c.requires.day.lasts, c.loop-digit.auto.digit-end, c.loop-digit-test.false)) c.loop-digit.invariant.counted)

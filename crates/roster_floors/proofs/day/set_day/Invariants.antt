@@ -9,4 +9,5 @@ invariant-loop-digit l = record {
       → UnderPlace l.day.case.now l.day l.next digit place (slice_index_or l.here (digit * ((sizes_of l.day.case.now l.day.nurse).run * (sizes_of l.day.case.now l.day.nurse).shift_run) + place) 0);
   low : (k : ℕ) → k < l.digit * ((sizes_of l.day.case.now l.day.nurse).run * (sizes_of l.day.case.now l.day.nurse).shift_run) → slice_index_or l.here k 0 ≤ most_floor;
   long : length l.here ≡ length l.fn.here;
+  counted : l.meter ≡ l.fn.meter + l.digit * ((sizes_of l.day.case.now l.day.nurse).run * (sizes_of l.day.case.now l.day.nurse).shift_run * length l.day.offers.now);
 }

@@ -4,6 +4,7 @@ use Rattle.std.proofs.Math.Path.{transport}
 use Rattle.std.proofs.lemmas.Bool.{cases_lt}
 use Rattle.std.proofs.lemmas.List.Edits.{length-between}
 use Rattle.std.proofs.lemmas.Nat.{mul-le}
+use Rattle.roster_instance.specs.Counting.{sum_below}
 use Rattle.roster_instance.specs.Meaning.{day_count}
 use Rattle.roster_offers.specs.Lists.{offers_on}
 use Rattle.roster_state.specs.Codes.{sizes_of}
@@ -11,6 +12,7 @@ use Rattle.roster_floors.specs.Floors.{floor_count}
 use Rattle.roster_floors.specs.Lines.{IsSetBy, IsSetOn, most_floor}
 use Rattle.roster_floors.proofs.Cells.{put_inside, put_length}
 use Rattle.roster_floors.proofs.DayLaws.{all_set, one_before, set_kept}
+use Rattle.roster_floors.proofs.Steps.{one_day_more, open_steps}
 use Rattle.roster_floors.proofs.set.set_floors.Goals as goal
 
 pub loop-day-init : goal.loop-day-init
@@ -32,6 +34,7 @@ loop-day-init c =
       end = λ k l. ap (λ d. get_or (put_mid first width old part) (d * floor_count z + k) 0) (sym c.days-days.ensures.count) ∙ none k l;
       low = λ k l. omega (arith, none k l);
       long = put_length old part first width long inside;
+      counted = ap (λ d. c.args.meter.now + floor_count z * sum_below d (λ e. length (offers_on c.args.search.now.offers.now e))) c.days-days.ensures.count;
     }
 
 pub set_before-requires-clause-low : goal.set_before-requires-clause-low
@@ -69,9 +72,29 @@ loop-day-preserved c =
       end = λ j l. c.set_before.ensures.kept (day_count k * floor_count z + j) (omega (arith, after, within)) ∙ known.end j l;
       low = λ j l. subst (λ i. get_or new (i + j) 0 ≤ most_floor) at (c.set_before.ensures.low j (omega (arith, l, count_is)));
       long = c.set_before.ensures.length ∙ known.long;
+      counted = omega (arith, known.counted, one_day_more (floor_count z) day (λ e. length (offers e)) c.loop-day-test.true, c.set_before.ensures.counted, open_steps c.floor_day-open.result.case.now k c.floor_day-open.result.nurse n c.floor_day-open.result.offers.now (offers (day - 1)) of_day.0 of_day.1 of_day.4);
     }
 
 pub returns-clause-floors : goal.returns-clause-floors
 returns-clause-floors c _ =
     let search = c.args.search.now in
     all_set search.case.now search.nurse c.args.rates (offers_on search.offers.now) c.loop-day.floors (λ d below. c.loop-day.invariant.set d (omega (arith, c.loop-day-test.false)) below) c.loop-day.invariant.end
+
+pub set_before-requires-clause-steps : goal.set_before-requires-clause-steps
+set_before-requires-clause-steps c =
+    let search = c.args.search.now in
+    let k = search.case.now in
+    let n = search.nurse in
+    let offers = offers_on search.offers.now in
+    let day = c.loop-day.day in
+    let of_day = c.floor_day-open.ensures.of in
+    let here = open_steps c.floor_day-open.result.case.now k c.floor_day-open.result.nurse n c.floor_day-open.result.offers.now (offers (day - 1)) of_day.0 of_day.1 of_day.4 in
+    omega (arith, here, one_day_more (floor_count (sizes_of k n)) day (λ e. length (offers e)) c.loop-day-test.true, c.loop-day.invariant.counted, c.requires.room)
+
+pub returns-clause-counted : goal.returns-clause-counted
+returns-clause-counted c _ =
+    let search = c.args.search.now in
+    let count = floor_count (sizes_of search.case.now search.nurse) in
+    let lengths : ℕ → ℕ = λ e. length (offers_on search.offers.now e) in
+    let none : c.loop-day.day ≡ 0 = omega (arith, c.loop-day-test.false) in
+    omega (arith, c.loop-day.invariant.counted, ap (λ d. count * sum_below d lengths) none)

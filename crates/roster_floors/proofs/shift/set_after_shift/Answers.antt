@@ -1,10 +1,12 @@
 use Rattle.std.proofs.Common.{◌≡◌, ◌∙◌, ◌+◌, ◌-◌, ◌*◌, ◌≤◌, ℕ, List, get_or, ap, arith, length, subst}
 use Rattle.std.proofs.lemmas.List.Edits.{length-between}
+use Rattle.roster_bundle.specs.Limits.{greatest_u64}
 use Rattle.std.proofs.lemmas.Nat.{mul-le}
 use Rattle.roster_instance.specs.declared.choice.Shift.{Shift}
 use Rattle.roster_state.specs.Codes.{sizes_of}
 use Rattle.roster_floors.specs.Lines.{UnderCell, most_floor}
 use Rattle.roster_floors.proofs.Cells.{all_low, low_more, row_inside, rows_length, rows_more}
+use Rattle.roster_floors.proofs.Steps.{all_counted, one_counted, room_for_one}
 use Rattle.roster_floors.proofs.shift.set_after_shift.Goals as goal
 
 pub slice_bounds-set_run-end : goal.slice_bounds-set_run-end
@@ -36,6 +38,7 @@ loop-run-preserved c =
           (subst (λ (t : Shift). UnderCell k day after.next.now (t.0 + 1) run q (get_or part q 0)) c.after_shift-after.ensures.last (c.set_run.ensures.under q l)));
       low = low_more here part run z.shift_run first width at is long inside most_floor c.loop-run.invariant.low c.set_run.ensures.low;
       long = rows_length here part run z.shift_run first width at is long inside ∙ c.loop-run.invariant.long;
+      counted = one_counted run (z.shift_run * length day.offers.now) c.args.meter.now c.loop-run.meter c.set_run.new.meter c.loop-run.invariant.counted c.set_run.ensures.counted;
     }
 
 pub returns-clause-under : goal.returns-clause-under
@@ -48,3 +51,18 @@ returns-clause-low c =
     let z = sizes_of c.args.day.now.case.now c.args.day.now.nurse in
     let all : z.run * z.shift_run ≤ c.loop-run.run * z.shift_run = mul-le z.run z.shift_run c.loop-run.run z.shift_run (omega (arith, c.requires.day.runs, c.loop-run-test.false)) (omega arith) in
     all_low most_floor c.loop-run.here (z.run * z.shift_run) (c.loop-run.invariant.long ∙ c.requires.room) (λ k l. c.loop-run.invariant.low k (omega (arith, l, all)))
+
+pub set_run-requires-clause-steps : goal.set_run-requires-clause-steps
+set_run-requires-clause-steps c =
+    let day = c.args.day.now in
+    let z = sizes_of day.case.now day.nurse in
+    let size = z.shift_run * length day.offers.now in
+    let room : c.args.meter.now + z.run * size ≤ greatest_u64 = omega (arith, c.requires.steps) in
+    room_for_one c.loop-run.run z.run size c.args.meter.now c.loop-run.meter greatest_u64 (omega (arith, c.requires.day.runs, c.loop-run-test.true)) c.loop-run.invariant.counted room
+
+pub returns-clause-counted : goal.returns-clause-counted
+returns-clause-counted c =
+    let day = c.args.day.now in
+    let z = sizes_of day.case.now day.nurse in
+    let size = z.shift_run * length day.offers.now in
+    omega (arith, all_counted c.loop-run.run z.run size c.args.meter.now c.loop-run.meter (omega (arith, c.requires.day.runs, c.loop-run.auto.run-end, c.loop-run-test.false)) c.loop-run.invariant.counted)

@@ -1,11 +1,11 @@
-use Rattle.std.proofs.Common.{◌≡◌, ◌≤◌, length, vec_capacity}
-use Rattle.roster_partial.specs.Rows.{most_rows}
+use Rattle.std.proofs.Common.{◌≡◌, ◌≤◌, length}
+use Rattle.roster_offers.specs.Lists.{offers_on}
+use Rattle.roster_partial.specs.Counts.{CountsPartial}
 use Rattle.roster_partial.proofs.search.search_partial.Given as goal
 
 abbrev pub invariant-limits : goal.invariant-limits
 invariant-limits l = record {
-  from : l.fn.meter ≤ l.meter;
-  most : l.meter ≤ l.most;
+  counted : CountsPartial l.bounded.search.case.now l.bounded.search.nurse (offers_on l.bounded.search.offers.now) l.fn.meter l.meter;
+  most : l.meter ≤ l.bounded.most;
   length : length l.row ≡ length l.fn.row;
-  spare : most_rows ≤ vec_capacity l.rows;
 }

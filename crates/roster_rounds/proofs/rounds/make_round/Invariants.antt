@@ -1,10 +1,9 @@
 -- The steps of the nurses so far are made, and the lines of those that changed the roster are sent.
-use Rattle.std.proofs.Common.{◌≡◌, ◌+◌, ◌*◌, ◌≤◌, true}
+use Rattle.std.proofs.Common.{◌≡◌, ◌+◌, ◌*◌, ◌≤◌}
 use Rattle.roster_rules.specs.AllowedRows.{best_row}
 use Rattle.roster_laws.specs.Greatest.{greatest_extension_count}
 use Rattle.roster_laws.specs.FrozenDays.{FrozenDaysStay}
-use Rattle.roster_partial.specs.Workspaces.{SameRoom, fits_space}
-use Rattle.roster_best.specs.Known.{IsKnown}
+use Rattle.roster_partial.specs.Workspaces.{SameRoom}
 use Rattle.roster_rounds.proofs.OneRound.{SoFar}
 use Rattle.roster_rounds.proofs.rounds.make_round.Given as goal
 
@@ -14,7 +13,6 @@ invariant-loop-nurse g l = record {
   so_far : SoFar g.W.Write.contents l.fn.held.case (best_row l.fn.held.case l.plan.from) l.plan.round l.fn.held.roster l.held.roster l.fn.log l.log l.fn.sent l.sent l.changes l.nurse;
   counted : l.meter ≤ l.fn.meter + l.nurse * greatest_extension_count l.fn.held.case;
   frozen : FrozenDaysStay l.fn.held.case l.plan.from l.fn.held.roster l.held.roster;
-  same_room : SameRoom l.fn.space.workspace l.space.workspace;
-  fits : fits_space l.fn.held.case l.space.workspace ≡ true;
-  known : IsKnown l.fn.held.case l.space.last;
+  same_room : SameRoom (g.S.Steps.space l.fn.steps) (g.S.Steps.space l.steps);
+  ready : g.S.Steps.IsReady l.fn.held.case l.steps;
 }

@@ -1,15 +1,16 @@
 use Rattle.std.proofs.Common.{◌≡◌, ◌∙◌, ◌+◌, ◌-◌, ◌*◌, ◌<◌, ◌≤◌, ℕ, suc, ap, arith, inl, inr, List, length, min, refl, subst, sym, true}
+use Rattle.std.proofs.lemmas.Nat.{mul-le}
 use Rattle.roster_instance.specs.Counting.{sum_below}
 use Rattle.roster_rules.specs.Prefix.{Summary}
 use Rattle.roster_state.specs.declared.area.Area.{Area}
 use Rattle.roster_state.specs.Areas.{InSpan, area_at}
 use Rattle.roster_state.specs.Codes.{Sizes, code_of, fits_sizes, product, shift_digit, sizes_of}
-use Rattle.roster_search.specs.Counts.{group_of, states_of_last, states_of_run, states_with}
+use Rattle.roster_search.specs.Counts.{group_of, states_of_last, states_of_run, states_on, states_with}
 use Rattle.roster_search.specs.Tables.{LabelsOf, PointersOf, PointsWhereBest, Stands, StandsLike, best_by, best_on, label_of}
-use Rattle.roster_search.proofs.BlockLaws.{groups_counted}
-use Rattle.roster_search.proofs.CellLaws.{outside_then, outside_wider, room_for_some, some_more_counted}
-use Rattle.roster_search.proofs.CountLaws.{exactly_more, exactly_on, sum_begun, sum_ended, sum_more}
-use Rattle.roster_search.proofs.DayLaws.{FewRuns, before_all, before_first_run, before_first_shift_run, after_last_run, after_last_shift_run, cells_grouped, counted_on, done_skipped, few_of, group_digit, group_end, group_fits, group_key, group_number, groups, key_of, last_more, number_all, number_up, number_within, of_group, run_more, span_same}
+use Rattle.roster_search.proofs.CellLaws.{outside_then, outside_wider}
+use Rattle.roster_search.proofs.CountLaws.{exactly_more, exactly_on, over_part, room_for_part, sum_begun, sum_ended, sum_more, sum_part}
+use Rattle.roster_search.proofs.DayLaws.{FewRuns, before_all, before_first_run, before_first_shift_run, after_last_run, after_last_shift_run, cells_grouped, done_skipped, few_of, group_digit, group_end, group_fits, group_key, key_of, of_group, span_same}
+use Rattle.roster_search.proofs.MostLaws.{states_few}
 use Rattle.roster_search.proofs.labels.label_day.Goals as goal
 use Rattle.roster_search.proofs.labels.label_day.Goals.{After-shift_run-shift_runs}
 
@@ -28,7 +29,6 @@ loop-last-init g c = record {
   };
   labels_length = refl;
   pointers_length = refl;
-  counted = omega arith;
   exactly = omega arith;
 }
 
@@ -56,7 +56,6 @@ loop-run-init g c =
           (λ s stands. before_first_run k n g.rest.here few s stands last _ area from (omega (arith, order, c.run-runs.ensures.within)) (λ x in_span fits. (c.below-first_run.ensures.each x in_span (omega (arith, fits, runs_size))).0)) old.done;
       labels_length = old.labels_length;
       pointers_length = old.pointers_length;
-      counted = counted_on (group_number z last 0 0) (group_number z last from 0) (z.weekends * (length offers * z.assignments)) c.args.meter.now c.loop-last.meter (number_up z last 0 from 0 0 (omega arith) (omega arith)) old.counted;
       exactly = exactly_on states (sum_below (from - at_least.run.least) (λ i. f (at_least.run.least + i))) _ (length offers) c.args.meter.now c.loop-last.meter old.exactly none refl;
     }
 
@@ -88,13 +87,14 @@ loop-shift_run-init g c =
           (λ s stands. before_first_shift_run k n g.rest.here few s stands last _ area run from few_runs (omega (arith, order, c.shift_run-shift_runs.ensures.within)) (λ x in_span fits. (c.below-first_shift_run.ensures.each x in_span (omega (arith, fits, shift_runs_size))).0)) old.done;
       labels_length = old.labels_length;
       pointers_length = old.pointers_length;
-      counted = counted_on (group_number z last run 0) (group_number z last run from) (z.weekends * (length offers * z.assignments)) c.args.meter.now c.loop-run.meter (number_up z last run run 0 from (omega arith) (omega arith)) old.counted;
       exactly = exactly_on (states + runs) (sum_below (from - at_least.shift_run.least) (λ i. h (at_least.shift_run.least + i))) _ (length offers) c.args.meter.now c.loop-run.meter old.exactly none refl;
     }
 
 pub label_group-requires : goal.label_group-requires
 label_group-requires g c =
+    let k = c.args.day.now.case.now in
     let at = c.args.day.now.at in
+    let n = at.nurse in
     let z = at.ranges in
     let offers = c.args.day.now.offers.now in
     let r = c.requires in
@@ -113,8 +113,24 @@ label_group-requires g c =
     (group_fits z last run shift_run last_fits run_fits shift_run_fits (omega (arith, ap (λ (y : Sizes). y.weekends) r.0.day.ranges)) (omega (arith, ap (λ (y : Sizes). y.assignments) r.0.day.ranges))) in
     let labels_room : product z ≤ length c.loop-shift_run.labels = omega (arith, old.labels_length, r.1.1.0) in
     let pointers_room : c.args.day.now.first + product z ≤ length c.loop-shift_run.pointers = omega (arith, old.pointers_length, r.1.1.1.0) in
-    let all : groups z * (z.weekends * (length offers * z.assignments)) ≡ product z * length offers = groups_counted (groups z) z.weekends z.assignments (length offers) (product z) (omega arith) in
-    let room = room_for_some (group_number z last run shift_run) (groups z) (z.weekends * (length offers * z.assignments)) c.args.meter.now c.loop-shift_run.meter 18446744073709551615 (number_within z last run shift_run last_fits run_fits shift_run_fits) old.counted (omega (arith, all, r.1.1.1.1)) in
+    let runs_size : c.run-runs.result ≡ (sizes_of k n).run = c.run-runs.ensures.run ∙ ap (λ (y : Sizes). y.run) r.0.day.ranges in
+    let shift_runs_size : c.shift_run-shift_runs.result ≡ (sizes_of k n).shift_run = c.shift_run-shift_runs.ensures.shift_run ∙ ap (λ (y : Sizes). y.shift_run) r.0.day.ranges in
+    let at_least = (area_at g.rest.here last) in
+    let f : ℕ → ℕ = states_of_run k n g.rest.here last in
+    let h : ℕ → ℕ = λ q. states_with k n g.rest.here (group_of last run q) in
+    let low_run : at_least.run.least ≤ run = omega (arith, (c.below-first_run.ensures.only run c.loop-run.auto.run c.loop-run-test.true).low, ap (λ (x : Area). x.run.least) area) in
+    let low_shift_run : at_least.shift_run.least ≤ shift_run = omega (arith, (c.below-first_shift_run.ensures.only shift_run c.loop-shift_run.auto.shift_run c.loop-shift_run-test.true).low, ap (λ (x : Area). x.shift_run.least) area) in
+    let states = sum_below last (states_of_last k n g.rest.here) in
+    let runs = sum_below (run - at_least.run.least) (λ i. f (at_least.run.least + i)) in
+    let shift_runs = sum_below (shift_run - at_least.shift_run.least) (λ i. h (at_least.shift_run.least + i)) in
+    let of_run : shift_runs + h shift_run ≤ f run =
+    over_part at_least.shift_run (sizes_of k n).shift_run shift_run c.below-first_shift_run.result.1 h (c.below-first_shift_run.ensures.end ∙ (λ i. min ((area i).shift_run.greatest + 1) (shift_runs_size i))) low_shift_run c.loop-shift_run-test.true in
+    let of_last : runs + f run ≤ states_of_last k n g.rest.here last =
+    over_part at_least.run (sizes_of k n).run run c.below-first_run.result.1 f (c.below-first_run.ensures.end ∙ (λ i. min ((area i).run.greatest + 1) (runs_size i))) low_run c.loop-run-test.true in
+    let of_day : states + states_of_last k n g.rest.here last ≤ states_on k n g.rest.here =
+    sum_part last (sizes_of k n).last (states_of_last k n g.rest.here) (omega (arith, last_fits, ap (λ (y : Sizes). y.last) r.0.day.ranges)) in
+    let room = subst (λ (s : Summary). c.loop-shift_run.meter + states_with k n g.rest.here s * length offers ≤ 18446744073709551615) is
+    (room_for_part (states + runs + shift_runs) (h shift_run) (states_on k n g.rest.here) (length offers) c.args.meter.now c.loop-shift_run.meter 18446744073709551615 old.exactly (omega (arith, of_run, of_last, of_day)) r.1.1.1.1) in
     let in_run = span_same (c.below-first_run.ensures.only run c.loop-run.auto.run c.loop-run-test.true) (ap (λ (s : Summary). s.run) is) in
     let in_shift_run = span_same (c.below-first_shift_run.ensures.only shift_run c.loop-shift_run.auto.shift_run c.loop-shift_run-test.true) (ap (λ (s : Summary). s.shift_run) is) in
     let here = area ∙ ap (area_at g.rest.here) (sym digit) in
@@ -176,8 +192,6 @@ loop-shift_run-preserved g c =
       };
       labels_length = e.lengths.0 ∙ old.labels_length;
       pointers_length = e.lengths.1 ∙ old.pointers_length;
-      counted = counted_on (group_number z last run shift_run + 1) (group_number z last run (shift_run + 1)) (z.weekends * (length offers * z.assignments)) c.args.meter.now c.label_group.new.meter (omega arith)
-          (some_more_counted (group_number z last run shift_run) (z.weekends * (length offers * z.assignments)) c.args.meter.now c.loop-shift_run.meter _ old.counted e.counted);
       exactly = exactly_more (states + runs + sum_below (shift_run - at_least.shift_run.least) (λ i. h (at_least.shift_run.least + i))) (h shift_run) _ (length offers) c.args.meter.now c.loop-shift_run.meter c.label_group.new.meter old.exactly new (ap (λ j. states + runs + j) more ∙ omega arith);
     }
 
@@ -213,7 +227,6 @@ loop-run-preserved g c =
           (λ s stands. after_last_shift_run k n g.rest.here few s stands last _ area run to few_runs (λ x in_span fits. omega (arith, (c.below-first_shift_run.ensures.each x in_span (omega (arith, fits, shift_runs_size))).1, c.loop-shift_run-test.false))) old.done;
       labels_length = old.labels_length;
       pointers_length = old.pointers_length;
-      counted = counted_on (group_number z last run to) (group_number z last (run + 1) 0) (z.weekends * (length offers * z.assignments)) c.args.meter.now c.loop-shift_run.meter (run_more z last run to up_to) old.counted;
       exactly = old.exactly ∙ ap (λ j. c.args.meter.now + j * length offers) (ap (λ j. states + runs + j) h_done ∙ omega arith ∙ ap (λ j. states + j) (sym more));
     }
 
@@ -244,7 +257,6 @@ loop-last-preserved g c =
           (λ s stands. after_last_run k n g.rest.here few s stands last _ area to (λ x in_span fits. omega (arith, (c.below-first_run.ensures.each x in_span (omega (arith, fits, runs_size))).1, c.loop-run-test.false))) old.done;
       labels_length = old.labels_length;
       pointers_length = old.pointers_length;
-      counted = counted_on (group_number z last to 0) (group_number z (last + 1) 0 0) (z.weekends * (length offers * z.assignments)) c.args.meter.now c.loop-run.meter (last_more z last to up_to) old.counted;
       exactly = old.exactly ∙ ap (λ j. c.args.meter.now + (states + j) * length offers) f_done ∙ ap (λ j. c.args.meter.now + sum_below j (states_of_last k n g.rest.here) * length offers) next;
     }
 
@@ -278,15 +290,6 @@ returns-clause-some g c offered s stands =
     let few = few_here g (goal.at.returns-clause-some g c).After-shift_run-shift_runs in
     c.loop-last.invariant.done.some offered s stands (before_all k n g.rest.here few s stands last (omega (arith, c.loop-last-test.false, c.last-last-end.ensures.last, ap (λ (y : Sizes). y.last) r.0.day.ranges)))
 
-pub returns-clause-counted : goal.returns-clause-counted
-returns-clause-counted g c =
-    let z = c.args.day.now.at.ranges in
-    let offers = c.args.day.now.offers.now in
-    let last = c.loop-last.last in
-    let up_to : last ≤ z.last = omega (arith, c.loop-last.auto.last-end, c.last-last-end.ensures.last) in
-    let all : groups z * (z.weekends * (length offers * z.assignments)) ≡ product z * length offers = groups_counted (groups z) z.weekends z.assignments (length offers) (product z) (omega arith) in
-    omega (arith, all, counted_on (group_number z last 0 0) (groups z) (z.weekends * (length offers * z.assignments)) c.args.meter.now c.loop-last.meter (number_all z last up_to) c.loop-last.invariant.counted)
-
 pub returns-clause-exactly : goal.returns-clause-exactly
 returns-clause-exactly g c =
     let day = c.args.day.now in
@@ -295,3 +298,14 @@ returns-clause-exactly g c =
     let last = c.loop-last.last in
     let all : last ≡ (sizes_of k n).last = omega (arith, c.loop-last.auto.last-end, c.loop-last-test.false, c.last-last-end.ensures.last, ap (λ (y : Sizes). y.last) c.requires.0.day.ranges) in
     c.loop-last.invariant.exactly ∙ ap (λ j. c.args.meter.now + sum_below j (states_of_last k n g.rest.here) * length day.offers.now) all
+
+pub returns-clause-counted : goal.returns-clause-counted
+returns-clause-counted g c =
+    let day = c.args.day.now in
+    let k = day.case.now in
+    let n = day.at.nurse in
+    let last = c.loop-last.last in
+    let f : ℕ → ℕ = states_of_last k n g.rest.here in
+    let all : last ≡ (sizes_of k n).last = omega (arith, c.loop-last.auto.last-end, c.loop-last-test.false, c.last-last-end.ensures.last, ap (λ (y : Sizes). y.last) c.requires.0.day.ranges) in
+    let up_to : sum_below last f ≤ product day.at.ranges = omega (arith, ap (λ j. sum_below j f) all, states_few k n g.rest.here, ap product c.requires.0.day.ranges) in
+    omega (arith, c.loop-last.invariant.exactly, mul-le (sum_below last f) (length day.offers.now) (product day.at.ranges) (length day.offers.now) up_to (omega arith))

@@ -16,7 +16,7 @@ use Rattle.roster_search.proofs.CellLaws.{outside_then, outside_wider}
 use Rattle.roster_search.specs.Counts.{numbers_in, states_with}
 use Rattle.roster_search.proofs.CountLaws.{none_with, numbers_are, some_with}
 use Rattle.roster_search.proofs.GroupLaws.{as_place, code_block, code_place, like_can_be, like_place, like_weekends, place_stands, weekends_fit}
-use Rattle.roster_search.proofs.StretchLaws.{group_more, rows_counted, stretch_counted}
+use Rattle.roster_search.proofs.StretchLaws.{group_more, rows_counted}
 use Rattle.roster_search.proofs.labels.label_group.Goals as goal
 use Rattle.roster_search.proofs.labels.label_group.Goals.{After-below-first, After-below-from, After-can_be}
 
@@ -49,6 +49,21 @@ rows_here g c =
       places = omega (arith, c.below-from.ensures.order, c.assignments-side.ensures.assignments);
       up_to = omega (arith, c.below-first.ensures.order, c.weekends.ensures.weekends);
     }
+
+-- how many of its states stand
+states_here : (g : _) (c : After-below-first g) → (c.below-first.result.1 - (area_at g.rest.here (shift_digit c.args.group.last)).weekends.least) * (c.below-from.result.1 - c.below-from.result.0) ≡ states_with c.args.day.now.case.now c.args.day.now.at.nurse g.rest.here c.args.group
+states_here g c =
+    let k = c.args.day.now.case.now in
+    let n = c.args.day.now.at.nurse in
+    let group = c.args.group in
+    let area = area_at g.rest.here (shift_digit group.last) in
+    let is = c.area_of-area.ensures ∙ ap (λ (x : List Area). area_at x c.last_number.result) (sym c.requires.1.0) ∙ ap (area_at g.rest.here) c.last_number.ensures.number in
+    let size = c.assignments-side.ensures.assignments ∙ ap (λ (y : Sizes). y.assignments) c.requires.0.day.ranges in
+    let over = rows_here g c in
+    let places_are : c.below-from.result.1 - c.below-from.result.0 ≡ numbers_in area.assignments (sizes_of k n).assignments =
+    numbers_are c.area_of-area.result.assignments c.assignments-side.result c.below-from.result.0 c.below-from.result.1 c.below-from.ensures.end c.below-from.ensures.first ∙ (λ i. numbers_in (is i).assignments (size i)) in
+    let last_is : c.below-first.result.1 ≡ min (area.weekends.greatest + 1) (sizes_of k n).weekends = c.below-first.ensures.end ∙ (λ i. min ((is i).weekends.greatest + 1) (over.high i)) in
+    (λ i. (last_is i - area.weekends.least) * places_are i) ∙ sym (some_with k n g.rest.here group (sym c.can_be.ensures ∙ c.if-not-can_be.false))
 
 pub area_of-area-requires : goal.area_of-area-requires
 area_of-area-requires g c =
@@ -174,8 +189,10 @@ label_rows-requires g c =
     λ more. omega (arith, c.alike_rows-alike.ensures.alike (omega (arith, more, e_rows.within)), e_rows.within) in
     let labels_room : product z ≤ length c.loop-weekends.labels = omega (arith, old.labels_length, r.1.1.1.1.1.0) in
     let pointers_room : day.first + product z ≤ length c.loop-weekends.pointers = omega (arith, old.pointers_length, r.1.1.1.1.1.1.0) in
-    let most = stretch_counted long (w + rows - least) (end - from) z.weekends z.assignments (omega (arith, few, over.up_to)) (omega (arith, over.places)) in
-    let room : c.loop-weekends.meter + long * (rows * (end - from)) ≤ 18446744073709551615 = omega (arith, old.counted, sum, most, r.1.1.1.1.1.1.1) in
+    let most = mul-le (w + rows - least) (end - from) (last - least) (end - from) (omega (arith, few)) (omega arith) in
+    let states = states_here g (goal.at.label_rows-requires g c).After-below-first in
+    let all = mul-le long ((w + rows - least) * (end - from)) long (states_with k n g.rest.here group) (omega arith) (omega (arith, most, states)) in
+    let room : c.loop-weekends.meter + long * (rows * (end - from)) ≤ 18446744073709551615 = omega (arith, old.counted, sum, all, r.1.1.1.1.1.1.1) in
     (r.0, (good, (alike, (labels_room, (pointers_room, room)))))
 
 pub loop-weekends-init : goal.loop-weekends-init
@@ -342,42 +359,12 @@ returns-clause-some g c offered s like =
 
 pub returns-clause-exactly : goal.returns-clause-exactly
 returns-clause-exactly g c =
-    let day = c.args.day.now in
-    let k = day.case.now in
-    let at = day.at in
-    let n = at.nurse in
-    let group = c.args.group in
     let from = c.below-from.result.0 in
     let end = c.below-from.result.1 in
-    let here = area_here g (goal.at.returns-clause-exactly g c).After-below-from in
-    let over = rows_here g (goal.at.returns-clause-exactly g c).After-below-first in
     let last = c.below-first.result.1 in
-    let least = (area_at g.rest.here (shift_digit group.last)).weekends.least in
-    let long = length day.offers.now in
+    let least = (area_at g.rest.here (shift_digit c.args.group.last)).weekends.least in
+    let long = length c.args.day.now.offers.now in
     let old = c.loop-weekends.invariant in
-    let w = c.loop-weekends.weekends in
-    let at_end : w ≡ last = omega (arith, old.inside, c.loop-weekends-test.false) in
-    let area = area_at g.rest.here (shift_digit group.last) in
-    let places_are : end - from ≡ numbers_in area.assignments (sizes_of k n).assignments =
-    numbers_are c.area_of-area.result.assignments c.assignments-side.result from end c.below-from.ensures.end c.below-from.ensures.first ∙ (λ i. numbers_in (here.is i).assignments (here.size i)) in
-    let last_is : last ≡ min (area.weekends.greatest + 1) (sizes_of k n).weekends = c.below-first.ensures.end ∙ (λ i. min ((here.is i).weekends.greatest + 1) (over.high i)) in
-    let rows_are : w - least ≡ numbers_in area.weekends (sizes_of k n).weekends = ap (λ j. j - least) (at_end ∙ last_is) in
-    let states : (w - least) * (end - from) ≡ states_with k n g.rest.here group = (λ i. rows_are i * places_are i) ∙ sym (some_with k n g.rest.here group (sym c.can_be.ensures ∙ c.if-not-can_be.false)) in
-    old.counted ∙ ap (λ j. c.args.meter.now + j) (mul_comm long ((w - least) * (end - from))) ∙ ap (λ j. c.args.meter.now + j * long) states
-
-pub returns-clause-counted : goal.returns-clause-counted
-returns-clause-counted g c =
-    let day = c.args.day.now in
-    let at = day.at in
-    let z = at.ranges in
-    let group = c.args.group in
-    let from = c.below-from.result.0 in
-    let end = c.below-from.result.1 in
-    let over = rows_here g (goal.at.returns-clause-counted g c).After-below-first in
-    let last = c.below-first.result.1 in
-    let least = (area_at g.rest.here (shift_digit group.last)).weekends.least in
-    let long = length day.offers.now in
-    let old = c.loop-weekends.invariant in
-    let w = c.loop-weekends.weekends in
-    let at_end : w ≡ last = omega (arith, old.inside, c.loop-weekends-test.false) in
-    omega (arith, old.counted, stretch_counted long (w - least) (end - from) z.weekends z.assignments (omega (arith, at_end, over.up_to)) (omega (arith, over.places)))
+    let at_end : c.loop-weekends.weekends ≡ last = omega (arith, old.inside, c.loop-weekends-test.false) in
+    let states = ap (λ j. (j - least) * (end - from)) at_end ∙ states_here g (goal.at.returns-clause-exactly g c).After-below-first in
+    old.counted ∙ ap (λ j. c.args.meter.now + j) (mul_comm long ((c.loop-weekends.weekends - least) * (end - from))) ∙ ap (λ j. c.args.meter.now + j * long) states

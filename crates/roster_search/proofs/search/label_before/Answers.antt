@@ -1,11 +1,11 @@
-use Rattle.std.proofs.Common.{◌≡◌, ◌∙◌, ◌+◌, ◌*◌, ◌≤◌, arith, ap, length, refl, subst, sym}
+use Rattle.std.proofs.Common.{◌≡◌, ◌∙◌, ◌+◌, ◌*◌, ◌≤◌, List, arith, ap, length, refl, subst, sym}
 use Rattle.std.proofs.Math.Path.{transport}
 use Rattle.std.proofs.lemmas.Nat.{mul-le}
 use Rattle.std.specs.List.{All}
 use Rattle.roster_instance.specs.Meaning.{day_count}
-use Rattle.roster_instance.specs.Sizes.{choice_count}
 use Rattle.roster_state.specs.Codes.{product}
 use Rattle.roster_lanes.specs.Lanes.{SameOutside}
+use Rattle.roster_offers.specs.declared.offer.Offer.{Offer}
 use Rattle.roster_offers.specs.Lists.{IsOfferOf, offers_on}
 use Rattle.roster_offers.proofs.ListLaws.{offers_read}
 use Rattle.roster_search.specs.Counts.{states_on}
@@ -28,10 +28,9 @@ label_day-requires g c =
     let day = r.1.0.each at.day r.0.day in
     let offers = offers_here g (goal.at.label_day-requires g c).After-as_slice-offers in
     let back = sym offers in
-    let length_is = ap length offers in
     let here = r.1.1.0 ∙ sym (areas_read c.args.days.now.areas.now at.day _ (omega (arith, r.0.day, r.1.1.1.0))) in
     let pointers_room : at.day * c.product.result + size ≤ length c.args.pointers.now = omega (arith, r.1.1.1.1.1.1.1.1.1.0, c.product.ensures.product, ap (λ n. at.day * n) c.product.ensures.product, mul-le (at.day + 1) size (day_count k) size (omega (arith, r.0.day)) (omega arith)) in
-    let room : c.args.meter.now + size * length c.as_slice-offers.result.now ≤ 18446744073709551615 = omega (arith, r.1.1.1.1.1.1.1.1.1.1, length_is, mul-le size (length c.as_slice-offers.result.now) size (choice_count k at.nurse) (omega arith) (omega (arith, day.few, length_is))) in
+    let room = subst (λ (xs : List Offer). c.args.meter.now + states_on k at.nurse g.rest.here * length xs ≤ 18446744073709551615) back r.1.1.1.1.1.1.1.1.1.1 in
     let ready : IsReady k at g.rest c.as_slice-offers.result.now c.args.ahead.now.later.now = record {
       day = r.0;
       offers = subst (All (IsOfferOf k)) back day.of_case;
@@ -71,15 +70,6 @@ returns-clause-some g c =
     let stand = c.requires.1.1.1.1.1.0 in
     let offers = offers_here g (goal.at.returns-clause-some g c).After-as_slice-offers in
     c.label_day.ensures.some (omega (arith, (c.requires.1.0.each c.args.ahead.now.at.day c.requires.0.day).some, ap length offers)) stand.state stand.stands
-
-pub returns-clause-counted : goal.returns-clause-counted
-returns-clause-counted g c =
-    let k = c.args.days.now.case.now in
-    let at = c.args.ahead.now.at in
-    let size = product at.ranges in
-    let offers = offers_here g (goal.at.returns-clause-counted g c).After-as_slice-offers in
-    let few = (c.requires.1.0.each at.day c.requires.0.day).few in
-    omega (arith, c.label_day.ensures.counted, mul-le size (length c.as_slice-offers.result.now) size (choice_count k at.nurse) (omega arith) (omega (arith, few, ap length offers)))
 
 pub returns-clause-exactly : goal.returns-clause-exactly
 returns-clause-exactly g c =

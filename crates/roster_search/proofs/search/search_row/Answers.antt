@@ -1,5 +1,6 @@
-use Rattle.std.proofs.Common.{◌≡◌, ◌∙◌, ◌*◌, ◌<◌, ◌≤◌, IfSome, List, Some, ap, arith, length, refl, slice_index_or, subst, sym, ◌+◌, true}
-use Rattle.std.proofs.lemmas.List.{get_or_read_under}
+use Rattle.std.proofs.Common.{◌≡◌, ◌∙◌, ◌*◌, ◌<◌, ◌≤◌, IfSome, ℕ, List, Some, vec_capacity, ap, arith, length, slice_index_or, subst, sym, ◌+◌, true}
+use Rattle.std.specs.Vec.{with_items}
+use Rattle.std.proofs.lemmas.List.{get_or_read_under, with_items_is}
 use Rattle.roster_instance.specs.Meaning.{day_count}
 use Rattle.roster_state.specs.Codes.{code_of, product, sizes_of, Sizes, fits_sizes}
 use Rattle.roster_offers.specs.declared.offer.Offer.{Offer}
@@ -9,7 +10,7 @@ use Rattle.roster_offers.proofs.LowRows.{LowRow, low_over}
 use Rattle.roster_search.specs.Search.{TableRoom, areas_on}
 use Rattle.roster_search.specs.Tables.{Stands}
 use Rattle.roster_search.proofs.SearchLaws.{first_label, goes_on}
-use Rattle.roster_search.proofs.SpareLaws.{spare_over}
+use Rattle.roster_search.proofs.MostLaws.{standing_within}
 use Rattle.roster_search.proofs.search.search_row.Goals as goal
 use Rattle.roster_search.proofs.search.search_row.Goals.{After-index, After-of-ranges}
 
@@ -19,7 +20,7 @@ found c = low_over c.args.search.now.case.now c.args.search.now.nurse (offers_on
 
 pub label_days-requires-clause-stand : goal.label_days-requires-clause-stand
 label_days-requires-clause-stand c day within =
-    let at = goes_on c.args.search.now.case.now c.args.search.now.nurse (offers_on c.args.search.now.offers.now) c.stand_days.new.areas c.stand_days.ensures.lead c.stand_days.ensures.start c.requires.some day (omega (arith, within)) in
+    let at = goes_on c.args.search.now.case.now c.args.search.now.nurse (offers_on c.args.search.now.offers.now) c.args.areas.now.days c.requires.standing.lead c.requires.standing.start c.requires.some day (omega (arith, within)) in
     record { state = at.state; stands = at.stands }
 
 pub label_days-requires-clause-labels_room : goal.label_days-requires-clause-labels_room
@@ -31,16 +32,16 @@ label_days-requires-clause-pointers_room c =
     omega (arith, ap (λ (t : TableRoom). t.pointers) c.tables.view_is, c.requires.tables.pointers, ap (λ m. day_count c.args.search.now.case.now * m) c.of-ranges.ensures.states)
 
 pub label_days-requires-clause-same_room : goal.label_days-requires-clause-same_room
-label_days-requires-clause-same_room c = sym c.tables.invariant
+label_days-requires-clause-same_room c = ap length c.deref_mut-2.ensures.value ∙ sym c.tables.invariant ∙ sym (ap length c.deref_mut.ensures.value)
 
 pub label_days-requires-clause-lead : goal.label_days-requires-clause-lead
-label_days-requires-clause-lead c = c.stand_days.ensures.lead
+label_days-requires-clause-lead c = c.requires.standing.lead
 
 pub read_row-requires-clause-start : goal.read_row-requires-clause-start
-read_row-requires-clause-start c = c.stand_days.ensures.start
+read_row-requires-clause-start c = c.requires.standing.start
 
 pub read_row-requires-clause-lead : goal.read_row-requires-clause-lead
-read_row-requires-clause-lead c = c.stand_days.ensures.lead
+read_row-requires-clause-lead c = c.requires.standing.lead
 
 pub read_row-requires-clause-pointers : goal.read_row-requires-clause-pointers
 read_row-requires-clause-pointers c = c.label_days.ensures.pointers
@@ -59,9 +60,16 @@ code-requires c = subst (λ (z : Sizes). fits_sizes z c.start-first.result.0 ≡
 
 pub index-requires : goal.index-requires
 index-requires c =
-    omega (arith, c.code.ensures.within, ap (λ (t : TableRoom). t.labels) c.tables.view_is, c.tables.invariant, c.requires.tables.labels, c.of-ranges.ensures.states, c.label_days.ensures.lengths.1)
+    omega (arith, c.code.ensures.within, ap (λ (t : TableRoom). t.labels) c.tables.view_is, c.tables.invariant, c.requires.tables.labels, c.of-ranges.ensures.states, c.label_days.ensures.lengths.0)
 
 -- ---- the first label
+
+-- the tables, each written through its slice
+labels_after : (c : After-index) → (with_items c.tables.inside.labels c.label_days.new.even).items ≡ c.label_days.new.even
+labels_after c = with_items_is c.tables.inside.labels c.label_days.new.even (c.label_days.ensures.lengths.0 ∙ c.deref_mut.ensures.len)
+
+later_after : (c : After-index) → (with_items c.tables.inside.later c.label_days.new.odd).items ≡ c.label_days.new.odd
+later_after c = with_items_is c.tables.inside.later c.label_days.new.odd (c.label_days.ensures.lengths.1 ∙ c.deref_mut-2.ensures.len)
 
 label_is : (c : After-index) (best : LowRow (best_over c.args.search.now.case.now c.args.search.now.nurse (offers_on c.args.search.now.offers.now))) → c.index.result.now ≡ best.row.0
 label_is c best =
@@ -69,11 +77,12 @@ label_is c best =
     let n = c.args.search.now.nurse in
     let s = c.start-first.result.0 in
     let code = c.code.result in
-    let stands = subst (Stands k n (areas_on c.stand_days.new.areas 0)) (sym c.start-first.ensures.state) c.stand_days.ensures.start in
+    let stands = subst (Stands k n (areas_on c.args.areas.now.days 0)) (sym c.start-first.ensures.state) c.requires.standing.start in
     let here : code ≡ code_of (sizes_of k n) s = c.code.ensures.code ∙ ap (λ y. code_of y s) c.of-ranges.ensures.sizes in
-    let told = ap (λ j. slice_index_or c.label_days.new.later.items j 0) here ∙ c.label_days.ensures.labels s stands in
-    let all : product c.of-ranges.result ≤ length c.label_days.new.later.items = omega (arith, ap (λ (t : TableRoom). t.labels) c.tables.view_is, c.tables.invariant, c.requires.tables.labels, c.of-ranges.ensures.states, c.label_days.ensures.lengths.1) in
-    let read = get_or_read_under c.label_days.new.later.items code (length c.label_days.new.later.items) c.index.result.now 0 c.index.ensures (omega (arith, all, c.code.ensures.within)) refl in
+    let told = ap (λ j. slice_index_or c.label_days.new.even j 0) here ∙ c.label_days.ensures.labels s stands in
+    let all : product c.of-ranges.result ≤ length c.label_days.new.even = omega (arith, ap (λ (t : TableRoom). t.labels) c.tables.view_is, c.tables.invariant, c.requires.tables.labels, c.of-ranges.ensures.states, c.label_days.ensures.lengths.0) in
+    let items = labels_after c in
+    let read = get_or_read_under (with_items c.tables.inside.labels c.label_days.new.even).items code (length c.label_days.new.even) c.index.result.now 0 c.index.ensures (omega (arith, all, c.code.ensures.within)) (sym (ap length items)) ∙ ap (λ (xs : List ℕ). slice_index_or xs code 0) items in
     first_label k n (offers_on c.args.search.now.offers.now) s c.index.result.now best.row.0 best.row.1 c.start-first.ensures.state (read ∙ told) best.is best.low
 
 pub returns-clause-best : goal.returns-clause-best
@@ -96,17 +105,12 @@ pub returns-clause-each_day : goal.returns-clause-each_day
 returns-clause-each_day c = c.label_days.ensures.each_day
 
 pub returns-clause-counted : goal.returns-clause-counted
-returns-clause-counted c = c.label_days.ensures.counted
+returns-clause-counted c =
+    let all = standing_within c.args.search.now.case.now c.args.search.now.nurse (offers_on c.args.search.now.offers.now) c.args.areas.now.days (λ day within. (c.requires.offers.each day within).few) in
+    omega (arith, c.label_days.ensures.exactly, all)
 
-pub returns-clause-spare : goal.returns-clause-spare
-returns-clause-spare c =
-    let k = c.args.search.now.case.now in
-    let n = c.args.search.now.nurse in
-    spare_over k n (offers_on c.args.search.now.offers.now) c.stand_days.new.areas (λ day within. (c.requires.offers.each day within).few) (omega (arith, c.weeks.ensures.count, c.weeks.ensures.some)) c.stand_days.ensures.first _ _ c.label_days.ensures.exactly
-
-pub returns-clause-standing : goal.returns-clause-standing
-returns-clause-standing c =
-    record { areas = c.stand_days.new.areas; start = c.stand_days.ensures.start; lead = c.stand_days.ensures.lead; counted = c.label_days.ensures.exactly }
+pub returns-clause-exactly : goal.returns-clause-exactly
+returns-clause-exactly c = c.label_days.ensures.exactly
 
 pub returns-clause-length : goal.returns-clause-length
 returns-clause-length c = c.read_row.ensures.length
@@ -114,11 +118,14 @@ returns-clause-length c = c.read_row.ensures.length
 -- ---- the tables after it
 
 pub invariant_of-tables : goal.invariant_of-tables
-invariant_of-tables c = c.label_days.ensures.lengths.0 ∙ c.tables.invariant ∙ sym c.label_days.ensures.lengths.1
+invariant_of-tables c =
+    let at = (goal.at.invariant_of-tables c).After-index in
+    ap length (labels_after at) ∙ (c.label_days.ensures.lengths.0 ∙ ap length c.deref_mut.ensures.value) ∙ c.tables.invariant ∙ sym (c.label_days.ensures.lengths.1 ∙ ap length c.deref_mut-2.ensures.value) ∙ sym (ap length (later_after at))
 
 pub returns-clause-tables : goal.returns-clause-tables
 returns-clause-tables c =
-    let lengths = c.label_days.ensures.lengths in
-    let view : record { labels = length c.label_days.new.labels.items + length c.label_days.new.later.items; pointers = length c.label_days.new.pointers } ≡ c.args.tables.now =
-    (λ i. record { labels = lengths.0 i + lengths.1 i; pointers = lengths.2 i }) ∙ c.tables.view_is in
-    view
+    let at = (goal.at.returns-clause-tables c).After-index in
+    let labels = ap length (labels_after at) ∙ c.label_days.ensures.lengths.0 ∙ ap length c.deref_mut.ensures.value in
+    let later = ap length (later_after at) ∙ c.label_days.ensures.lengths.1 ∙ ap length c.deref_mut-2.ensures.value in
+    let pointers = c.label_days.ensures.lengths.2 in
+    (λ i. record { labels = labels i + later i; pointers = pointers i; label_capacity = vec_capacity c.tables.inside.labels; later_capacity = vec_capacity c.tables.inside.later }) ∙ c.tables.view_is

@@ -75,7 +75,14 @@ returns-clause-standing c = c.search_row-cost.ensures.standing
 pub returns-clause-same_room : goal.returns-clause-same_room
 returns-clause-same_room c =
     let searched = (goal.at.returns-clause-same_room c).After-search_row-cost in
-    record { labels = labels_stay searched; pointers = pointers_stay searched; room = room_stays searched }
+    record {
+      labels = labels_stay searched;
+      pointers = pointers_stay searched;
+      room = room_stays searched;
+      label_capacity = ap (λ (t : TableRoom). t.label_capacity) searched.search_row-cost.ensures.tables ∙ ap (λ (w : Space). w.label_capacity) searched.self.view_is;
+      later_capacity = ap (λ (t : TableRoom). t.later_capacity) searched.search_row-cost.ensures.tables ∙ ap (λ (w : Space). w.later_capacity) searched.self.view_is;
+      row_capacity = ap (λ (w : Space). w.row_capacity) searched.self.view_is;
+    }
 
 pub returns-clause-fits : goal.returns-clause-fits
 returns-clause-fits c =

@@ -1,14 +1,14 @@
--- How many states stand at most: on a day no more than the nurse has, and where one state alone is in the areas, one. So a search that
--- begins with one state counts less than its bound.
-use Rattle.std.proofs.Common.{◌≡◌, ◌+◌, ◌-◌, ◌*◌, ◌<◌, ◌≤◌, ◌≢◌, ◌⊎◌, ℕ, zero, suc, inl, inr, ap, arith, subst, sym, List, length}
+-- How many states stand at most: on a day no more than the nurse has, nor than have their numbers in the areas, and where one state
+-- alone is in the areas, one.
+use Rattle.std.proofs.Common.{◌≡◌, ◌+◌, ◌*◌, ◌<◌, ◌≤◌, ◌≢◌, ◌⊎◌, ℕ, zero, suc, inl, inr, ap, arith, subst, sym, List, length}
 use Rattle.std.proofs.lemmas.Bool.{cases_lt}
 use Rattle.std.proofs.lemmas.Nat.{mul-le}
 use Rattle.roster_instance.specs.Counting.{sum_below}
 use Rattle.roster_instance.specs.Meaning.{Meaning, day_count}
-use Rattle.roster_instance.specs.Sizes.{choice_count, state_count}
+use Rattle.roster_instance.specs.Sizes.{choice_count}
 use Rattle.roster_laws.specs.Greatest.{extension_count}
 use Rattle.roster_rules.specs.Prefix.{Summary}
-use Rattle.roster_rules.proofs.RunBounds.{sum_within, where_within}
+use Rattle.roster_rules.proofs.RunBounds.{sum_compared, sum_within, where_within}
 use Rattle.roster_rules.proofs.RunSums.{sum_zero}
 use Rattle.roster_state.specs.declared.area.Area.{Area}
 use Rattle.roster_state.specs.declared.area.Span.{Span}
@@ -16,8 +16,8 @@ use Rattle.roster_state.specs.Areas.{area_at, nowhere, one_state}
 use Rattle.roster_state.specs.Codes.{Sizes, product, shift_digit, sizes_of}
 use Rattle.roster_state.specs.Standing.{can_be}
 use Rattle.roster_offers.specs.declared.offer.Offer.{Offer}
-use Rattle.roster_search.specs.Counts.{group_of, numbers_in, states_of_last, states_of_run, states_on, states_with, sum_over}
-use Rattle.roster_search.specs.Search.{areas_on, steps_on}
+use Rattle.roster_search.specs.Counts.{group_of, numbers_in, states_in, states_in_areas, states_of_last, states_of_run, states_on, states_with, sum_over}
+use Rattle.roster_search.specs.Search.{areas_on, standing_steps, steps_on}
 use Rattle.roster_search.proofs.DayLaws.{group_digit}
 use Rattle.roster_search.proofs.SearchLaws.{extension_is}
 
@@ -92,37 +92,32 @@ module _ (c : Meaning) (n : ℕ) (areas : List Area) where
     pub one_stands : states_on c n areas ≤ 1
     one_stands = sum_alone (sizes_of c n).last place 1 (states_of_last c n areas) (few_of_last place (all_sizes 1) few_there) (λ digit ne. omega (arith, few_of_last digit (all_sizes 0) (few_elsewhere digit ne)))
 
+-- ---- by the areas alone
+
+module _ (z : Sizes) (areas : List Area) where
+  area_few : (last : ℕ) → states_in z (area_at areas last) ≤ each_last z
+  area_few last =
+      let area = area_at areas last in
+      mul-le (numbers_in area.run z.run) (numbers_in area.shift_run z.shift_run * (numbers_in area.weekends z.weekends * numbers_in area.assignments z.assignments)) z.run (z.shift_run * (z.weekends * z.assignments)) (omega arith)
+      (mul-le (numbers_in area.shift_run z.shift_run) (numbers_in area.weekends z.weekends * numbers_in area.assignments z.assignments) z.shift_run (z.weekends * z.assignments) (omega arith)
+      (mul-le (numbers_in area.weekends z.weekends) (numbers_in area.assignments z.assignments) z.weekends z.assignments (omega arith) (omega arith)))
+
+  -- of so many last shifts
+  pub areas_few : (count : ℕ) → count ≤ z.last → sum_below count (λ last. states_in z (area_at areas last)) ≤ product z
+  areas_few count up_to =
+      omega (arith, sum_within count (each_last z) (λ last. states_in z (area_at areas last)) (λ last below. area_few last), mul-le count (each_last z) z.last (each_last z) up_to (omega arith))
+
+pub states_in_few : (c : Meaning) (n : ℕ) (areas : List Area) → states_on c n areas ≤ states_in_areas (sizes_of c n) areas
+states_in_few c n areas =
+    let z = sizes_of c n in
+    sum_compared z.last (states_of_last c n areas) (λ last. states_in z (area_at areas last)) (λ last.
+    let area = area_at areas last in
+    few_of_last c n areas last (record { last = 0; run = numbers_in area.run z.run; shift_run = numbers_in area.shift_run z.shift_run; weekends = numbers_in area.weekends z.weekends; assignments = numbers_in area.assignments z.assignments })
+    (record { run = omega arith; shift_run = omega arith; weekends = omega arith; assignments = omega arith }))
+
 -- ---- the days of a search
 
--- one state with each choice, of so many states
-spare_first : (states choices steps : ℕ) → steps ≤ states * choices → steps ≤ choices → steps + (states - 1) * choices ≤ states * choices
-spare_first zero choices steps most few = omega (arith, most)
-spare_first (suc states) choices steps most few =
-    let others : suc states - 1 ≡ states = omega arith in
-    omega (arith, few, ap (λ k. k * choices) others)
-
-spare_on : (later states choices : ℕ) (f : ℕ → ℕ) → f 0 ≤ choices → ((day : ℕ) → day < suc later → f day ≤ states * choices) → sum_below (suc later) f + (states - 1) * choices ≤ suc later * (states * choices)
-spare_on zero states choices f first each = omega (arith, spare_first states choices (f 0) (each 0 (omega arith)) first)
-spare_on (suc later) states choices f first each =
-    let before = spare_on later states choices f first (λ day below. each day (omega (arith, below))) in
-    omega (arith, before, each (suc later) (omega arith))
-
-spare_days : (days states choices : ℕ) (f : ℕ → ℕ) → 0 < days → f 0 ≤ choices → ((day : ℕ) → day < days → f day ≤ states * choices) → sum_below days f + (states - 1) * choices ≤ days * (states * choices)
-spare_days zero states choices f some first each = absurd (omega (arith, some))
-spare_days (suc later) states choices f some first each = spare_on later states choices f first each
-
-states_are : (c : Meaning) (n : ℕ) → state_count c n ≡ product (sizes_of c n)
-unfolding state_count
-states_are c n = λ i. product (sizes_of c n)
-
-module _ (c : Meaning) (n : ℕ) (offers : ℕ → List Offer) (areas : List (List Area)) (few : (day : ℕ) → day < day_count c → length (offers day) ≤ choice_count c n) (some : 0 < day_count c) (first : states_on c n (areas_on areas 0) ≤ 1) where
-  steps_few : (states day : ℕ) → day < day_count c → states_on c n (areas_on areas day) ≤ states → steps_on c n offers areas day ≤ states * choice_count c n
-  steps_few states day within stand = mul-le (states_on c n (areas_on areas day)) (length (offers day)) states (choice_count c n) stand (few day within)
-
-  pub spare_over : (old new : ℕ) → new ≡ old + sum_below (day_count c) (steps_on c n offers areas) → new + (state_count c n - 1) * choice_count c n ≤ old + extension_count c n
-  spare_over old new is =
-      let states = product (sizes_of c n) in
-      let choices = choice_count c n in
-      let all = spare_days (day_count c) states choices (steps_on c n offers areas) some (omega (arith, steps_few 1 0 some first)) (λ day within. steps_few states day within (states_few c n (areas_on areas day))) in
-      let same = ap (λ k. (k - 1) * choices) (states_are c n) in
-      omega (arith, is, all, same, extension_is c n)
+pub standing_within : (c : Meaning) (n : ℕ) (offers : ℕ → List Offer) (areas : List (List Area)) → ((day : ℕ) → day < day_count c → length (offers day) ≤ choice_count c n) → standing_steps c n offers areas ≤ extension_count c n
+standing_within c n offers areas few =
+    let all = sum_within (day_count c) (product (sizes_of c n) * choice_count c n) (steps_on c n offers areas) (λ day within. mul-le (states_on c n (areas_on areas day)) (length (offers day)) (product (sizes_of c n)) (choice_count c n) (states_few c n (areas_on areas day)) (few day within)) in
+    omega (arith, all, extension_is c n)

@@ -1,12 +1,11 @@
 -- The rounds so far are made, and the lines so far are sent.
-use Rattle.std.proofs.Common.{◌≡◌, ◌+◌, ◌≤◌, true}
+use Rattle.std.proofs.Common.{◌≡◌, ◌+◌, ◌≤◌}
 use Rattle.roster_rules.specs.AllowedRows.{best_row}
 use Rattle.roster_laws.specs.FrozenDays.{FrozenDaysStay}
-use Rattle.roster_partial.specs.Workspaces.{SameRoom, fits_space}
-use Rattle.roster_best.specs.Known.{IsKnown}
+use Rattle.roster_partial.specs.Workspaces.{SameRoom}
 use Rattle.roster_laws.specs.Greatest.{extensions_in}
 use Rattle.roster_rounds.proofs.RunSteps.{Going}
-use Rattle.roster_rounds.proofs.rounds.improve.Given as goal
+use Rattle.roster_rounds.proofs.rounds.make_rounds.Given as goal
 
 abbrev pub invariant-loop-rounds_before : goal.invariant-loop-rounds_before
 invariant-loop-rounds_before g l = record {
@@ -14,7 +13,6 @@ invariant-loop-rounds_before g l = record {
   going : Going g.W.Write.contents l.fn.held.case (best_row l.fn.held.case l.from) l.rounds l.fn.held.roster l.held.roster l.fn.log l.log l.sent l.changes l.rounds_before;
   counted : l.meter ≤ l.fn.meter + extensions_in l.fn.held.case l.rounds_before;
   frozen : FrozenDaysStay l.fn.held.case l.from l.fn.held.roster l.held.roster;
-  same_room : SameRoom l.fn.space.workspace l.space.workspace;
-  fits : fits_space l.fn.held.case l.space.workspace ≡ true;
-  known : IsKnown l.fn.held.case l.space.last;
+  same_room : SameRoom (g.S.Steps.space l.fn.steps) (g.S.Steps.space l.steps);
+  ready : g.S.Steps.IsReady l.fn.held.case l.steps;
 }

@@ -14,9 +14,9 @@ use Rattle.roster_search.specs.Counts.{states_on}
 use Rattle.roster_search.specs.Search.{areas_on}
 use Rattle.roster_search.specs.Tables.{LeadsOn, Stands}
 use Rattle.roster_search.proofs.SearchLaws.{areas_read, day_kept, lead_more}
-use Rattle.roster_search.proofs.SpareLaws.{one_stands}
-use Rattle.roster_search.proofs.search.stand_days.Goals as goal
-use Rattle.roster_search.proofs.search.stand_days.Goals.{After-as_slice-day_offers}
+use Rattle.roster_search.proofs.MostLaws.{one_stands}
+use Rattle.roster_search.proofs.stand.stand_days.Goals as goal
+use Rattle.roster_search.proofs.stand.stand_days.Goals.{After-as_slice-offers}
 
 pub areas_of-requires : goal.areas_of-requires
 areas_of-requires c = omega (arith, (fits-all _ c.start-state.result.0 c.start-state.ensures.fits).last, c.keeps_limits.ensures.shifts)
@@ -27,24 +27,24 @@ loop-day-init c =
     let n = c.args.search.now.nurse in
     let state = c.start-state.result.0 in
     let told = c.areas_of.ensures in
-    let here : areas_on (slice_set c.args.areas.now 0 c.areas_of.result) 0 ≡ c.areas_of.result = get_or-set_at c.args.areas.now 0 0 c.areas_of.result [] refl (omega (arith, c.requires.long)) in
+    let here : areas_on (slice_set c.args.areas.now.days 0 c.areas_of.result) 0 ≡ c.areas_of.result = get_or-set_at c.args.areas.now.days 0 0 c.areas_of.result [] refl (omega arith) in
     let stands : Stands k n c.areas_of.result state = record { fits = c.start-state.ensures.fits; can_be = c.start-state.ensures.can_be; inside = told.inside } in
     record {
       start = transport (λ i. Stands k n (sym here i) (c.start-state.ensures.state i)) stands;
       first = subst (λ (x : List Area). states_on k n x ≤ 1) (sym here) (one_stands k n c.areas_of.result (shift_digit state.last) state told.alone told.others);
       lead = λ day below. absurd (omega (arith, below));
-      length = length-set c.args.areas.now 0 c.areas_of.result;
+      length = length-set c.args.areas.now.days 0 c.areas_of.result;
     }
 
 -- a day's offers, as they are read from the table
-offers_here : (c : After-as_slice-day_offers) → c.as_slice-day_offers.result.now ≡ offers_on c.args.search.now.offers.now c.loop-day.day
+offers_here : (c : After-as_slice-offers) → c.as_slice-offers.result.now ≡ offers_on c.args.search.now.offers.now c.loop-day.day
 offers_here c =
-    c.as_slice-day_offers.ensures.value ∙ offers_read c.args.search.now.case.now c.args.search.now.nurse c.args.search.now.offers.now c.requires.offers c.loop-day.day (omega (arith, c.loop-day-test.true, c.days-day-end.ensures.count)) _ c.index-search-day.result refl
+    c.as_slice-offers.ensures.value ∙ offers_read c.args.search.now.case.now c.args.search.now.nurse c.args.search.now.offers.now c.requires.offers c.loop-day.day (omega (arith, c.loop-day-test.true, c.days-day-end.ensures.count)) _ c.index-search-day.result refl
 
 pub areas_after-requires-clause-offers : goal.areas_after-requires-clause-offers
 areas_after-requires-clause-offers c =
     let inside : c.loop-day.day < day_count c.args.search.now.case.now = omega (arith, c.loop-day-test.true, c.days-day-end.ensures.count) in
-    subst (All (IsOfferOf c.args.search.now.case.now)) (sym (offers_here (goal.at.areas_after-requires-clause-offers c).After-as_slice-day_offers)) (c.requires.offers.each c.loop-day.day inside).of_case
+    subst (All (IsOfferOf c.args.search.now.case.now)) (sym (offers_here (goal.at.areas_after-requires-clause-offers c).After-as_slice-offers)) (c.requires.offers.each c.loop-day.day inside).of_case
 
 pub loop-day-preserved : goal.loop-day-preserved
 loop-day-preserved c =
@@ -53,17 +53,27 @@ loop-day-preserved c =
     let n = c.args.search.now.nurse in
     let day = c.loop-day.day in
     let old = c.loop-day.invariant in
-    let inside : day + 1 < length c.loop-day.areas = omega (arith, c.loop-day-test.true, c.days-day-end.ensures.count, old.length, c.requires.long) in
-    let read = areas_read c.loop-day.areas day _ (omega (arith, inside)) in
-    let offers = offers_here (goal.at.loop-day-preserved c).After-as_slice-day_offers in
-    let sizes : c.args.ranges.now ≡ sizes_of k n = c.requires.ranges in
+    let inside : day + 1 < length c.loop-day.areas.days = omega (arith, c.loop-day-test.true, c.days-day-end.ensures.count, old.length) in
+    let read = areas_read c.loop-day.areas.days day _ (omega (arith, inside)) in
+    let offers = offers_here (goal.at.loop-day-preserved c).After-as_slice-offers in
+    let sizes : c.of-ranges.result ≡ sizes_of k n = c.of-ranges.ensures.sizes in
     let here = transport (λ i. All (LeadsOn k (record { nurse = n; day = day; ranges = sizes i }) (read i) c.areas_after.result) (offers i)) c.areas_after.ensures in
     record {
-      start = subst (λ (x : _). Stands k n x (summary_of k n [])) (sym (day_kept k n table c.loop-day.areas day inside c.areas_after.result 0 (omega arith))) old.start;
-      first = subst (λ (x : List Area). states_on k n x ≤ 1) (sym (day_kept k n table c.loop-day.areas day inside c.areas_after.result 0 (omega arith))) old.first;
-      lead = lead_more k n table c.loop-day.areas day inside c.areas_after.result here old.lead;
-      length = length-set c.loop-day.areas (day + 1) c.areas_after.result ∙ old.length;
+      start = subst (λ (x : _). Stands k n x (summary_of k n [])) (sym (day_kept k n table c.loop-day.areas.days day inside c.areas_after.result 0 (omega arith))) old.start;
+      first = subst (λ (x : List Area). states_on k n x ≤ 1) (sym (day_kept k n table c.loop-day.areas.days day inside c.areas_after.result 0 (omega arith))) old.first;
+      lead = lead_more k n table c.loop-day.areas.days day inside c.areas_after.result here old.lead;
+      length = length-set c.loop-day.areas.days (day + 1) c.areas_after.result ∙ old.length;
     }
 
-pub returns-clause-lead : goal.returns-clause-lead
-returns-clause-lead c day within = c.loop-day.invariant.lead day (omega (arith, within, c.days-day-end.ensures.count, c.loop-day-test.false))
+pub returns : goal.returns
+returns c =
+    let old = c.loop-day.invariant in
+    let all = c.days-day-end.ensures.count in
+    record {
+      standing = record {
+        start = old.start;
+        first = old.first;
+        lead = λ day within. old.lead day (omega (arith, within, all, c.loop-day-test.false));
+        long = omega (arith, old.length, all, c.days-day-end.ensures.within);
+      };
+    }

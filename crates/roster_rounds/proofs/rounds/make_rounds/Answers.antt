@@ -1,5 +1,4 @@
-use Rattle.std.proofs.Common.{◌≡◌, ◌∙◌, ◌+◌, ap, arith, refl, subst, sym, true}
-use Rattle.std.proofs.lemmas.Bool.{and_parts}
+use Rattle.std.proofs.Common.{◌≡◌, ◌∙◌, ◌+◌, ap, arith, refl, subst, sym}
 use Rattle.std.proofs.lemmas.Result.{err_from_is_err_and}
 use Rattle.roster_text.specs.Io.{BreaksIn, Sends}
 use Rattle.roster_instance.specs.Meaning.{Meaning}
@@ -8,16 +7,14 @@ use Rattle.roster_rules.specs.Improver.{round_log}
 use Rattle.roster_rules.specs.Penalties.{penalty}
 use Rattle.roster_laws.specs.FrozenDays.{FrozenDaysStay}
 use Rattle.roster_laws.proofs.Frozen.{stays_on, stays_self}
-use Rattle.roster_partial.specs.Workspaces.{fits_space}
-use Rattle.roster_best.specs.Known.{IsKnown, fits_last}
-use Rattle.roster_best.proofs.KnownLaws.{forgotten}
 use Rattle.roster_rounds.specs.RunLogs.{BreaksAmong, RoundMade}
-use Rattle.roster_rounds.proofs.Counts.{counted_within, fits_still, round_counted, round_room, round_within, room_stays}
+use Rattle.roster_partial.proofs.WorkspaceLaws.{same_after, same_self}
+use Rattle.roster_rounds.proofs.Counts.{counted_within, round_counted, round_room, round_within}
 use Rattle.roster_rounds.proofs.OneRound.{settled_line, start_line, stopped_line}
 use Rattle.roster_rounds.proofs.RunSteps.{Going-round, Going-settled, Going-start, Going-stopped, round_breaks, settled_breaks, start_breaks, stopped_breaks}
-use Rattle.roster_rounds.proofs.rounds.improve.Given as given
-use Rattle.roster_rounds.proofs.rounds.improve.Goals as goal
-use Rattle.roster_rounds.proofs.rounds.improve.Goals.{After-make_round, In_ok-made}
+use Rattle.roster_rounds.proofs.rounds.make_rounds.Given as given
+use Rattle.roster_rounds.proofs.rounds.make_rounds.Goals as goal
+use Rattle.roster_rounds.proofs.rounds.make_rounds.Goals.{After-make_round, In_ok-made}
 
 -- the round that was made, in the case of the beginning
 made_is : (g : given.Over) (c : In_ok-made g) → RoundMade g.W.Write.contents c.args.held.now.case (best_row c.args.held.now.case c.args.from) (c.loop-rounds_before.rounds_before + 1) c.loop-rounds_before.held.roster c.make_round.new.held.roster c.loop-rounds_before.log c.make_round.new.log c.loop-rounds_before.sent c.in_ok-made.made.sent c.in_ok-made.made.changes
@@ -33,6 +30,10 @@ stayed g c =
     stays_on c.args.held.now.case c.args.from c.args.held.now.roster l.held.roster c.make_round.new.held.roster l.invariant.frozen
     (subst (λ (m : Meaning). FrozenDaysStay m c.args.from l.held.roster c.make_round.new.held.roster) l.invariant.case_is c.make_round.ensures.frozen)
 
+-- what makes the steps is ready for the next round
+ready : (g : given.Over) (c : After-make_round g) → g.S.Steps.IsReady c.args.held.now.case c.make_round.new.steps
+ready g c = subst (λ (m : Meaning). g.S.Steps.IsReady m c.make_round.new.steps) c.loop-rounds_before.invariant.case_is c.make_round.ensures.ready
+
 pub returns-in_err-sent-clause-err : goal.returns-in_err-sent-clause-err
 returns-in_err-sent-clause-err g c =
     let p = err_from_is_err_and c.from_residual.result c.from_residual.ensures.1 in
@@ -47,9 +48,8 @@ loop-rounds_before-init g c =
       case_is = refl;
       counted = omega arith;
       frozen = stays_self c.args.held.now.case c.args.from c.args.held.now.roster;
-      same_room = record { labels = refl; pointers = refl; room = refl };
-      fits = (and_parts (fits_space c.args.held.now.case c.args.space.now.workspace) (fits_last c.args.held.now.case c.args.space.now.last) c.requires.fits).0;
-      known = forgotten c.args.held.now.case c.args.space.now.last c.forget.new.self (and_parts (fits_space c.args.held.now.case c.args.space.now.workspace) (fits_last c.args.held.now.case c.args.space.now.last) c.requires.fits).1 c.forget.ensures.prices c.forget.ensures.costs;
+      same_room = same_self _;
+      ready = c.requires.ready;
       going = Going-start g.W.Write.contents c.args.held.now.case (best_row c.args.held.now.case c.args.from) c.args.rounds c.args.held.now.roster c.args.log.now c.log_word.new.log c.in_ok-sent.sent
           (subst (Sends g.W.Write.contents c.args.log.now c.log_word.new.log 0 c.in_ok-sent.sent) line c.in_ok-sent.ensures.ok);
     }
@@ -106,9 +106,8 @@ loop-rounds_before-preserved g c =
       case_is = c.make_round.ensures.case ∙ l.invariant.case_is;
       counted = round_counted case l.held.case l.invariant.case_is l.rounds_before c.args.meter.now l.meter l.invariant.counted c.make_round.new.meter c.make_round.ensures.counted;
       frozen = stayed g (goal.at.loop-rounds_before-preserved g c).After-make_round;
-      same_room = room_stays _ _ _ l.invariant.same_room c.make_round.ensures.same_room;
-      fits = subst (λ (m : Meaning). fits_space m c.make_round.new.space.workspace ≡ true) l.invariant.case_is c.make_round.ensures.fits;
-      known = subst (λ (m : Meaning). IsKnown m c.make_round.new.space.last) l.invariant.case_is c.make_round.ensures.known;
+      same_room = same_after _ _ _ l.invariant.same_room c.make_round.ensures.same_room;
+      ready = ready g (goal.at.loop-rounds_before-preserved g c).After-make_round;
       going = Going-round contents case (best_row case c.args.from) c.args.rounds c.args.held.now.roster c.args.log.now now next l.log c.make_round.new.log l.sent made.sent l.changes l.rounds_before made.changes l.invariant.going
           c.loop-rounds_before-test.true round (omega (arith, c.if-made-eq0.false));
     }
@@ -141,8 +140,8 @@ make_round-requires-clause-room g c =
     let l = c.loop-rounds_before in
     round_room c.args.held.now.case l.held.case l.invariant.case_is l.rounds_before c.args.meter.now l.meter l.invariant.counted c.args.rounds 18446744073709551615 c.loop-rounds_before-test.true c.requires.room
 
-pub make_round-requires-clause-known : goal.make_round-requires-clause-known
-make_round-requires-clause-known g c = subst (λ (m : Meaning). IsKnown m c.loop-rounds_before.space.last) (sym c.loop-rounds_before.invariant.case_is) c.loop-rounds_before.invariant.known
+pub make_round-requires-clause-ready : goal.make_round-requires-clause-ready
+make_round-requires-clause-ready g c = subst (λ (m : Meaning). g.S.Steps.IsReady m c.loop-rounds_before.steps) (sym c.loop-rounds_before.invariant.case_is) c.loop-rounds_before.invariant.ready
 
 pub returns-in_err-made-clause-case : goal.returns-in_err-made-clause-case
 returns-in_err-made-clause-case g c = c.make_round.ensures.case ∙ c.loop-rounds_before.invariant.case_is
@@ -156,10 +155,10 @@ returns-in_err-made-clause-counted g c =
     round_within c.args.held.now.case l.held.case l.invariant.case_is l.rounds_before c.args.meter.now l.meter l.invariant.counted c.args.rounds c.make_round.new.meter c.loop-rounds_before-test.true c.make_round.ensures.counted
 
 pub returns-in_err-made-clause-same_room : goal.returns-in_err-made-clause-same_room
-returns-in_err-made-clause-same_room g c = room_stays _ _ _ c.loop-rounds_before.invariant.same_room c.make_round.ensures.same_room
+returns-in_err-made-clause-same_room g c = same_after _ _ _ c.loop-rounds_before.invariant.same_room c.make_round.ensures.same_room
 
-pub returns-in_err-made-clause-fits : goal.returns-in_err-made-clause-fits
-returns-in_err-made-clause-fits g c = fits_still c.args.held.now.case c.loop-rounds_before.held.case c.loop-rounds_before.invariant.case_is c.make_round.new.space c.make_round.ensures.fits c.make_round.ensures.known
+pub returns-in_err-made-clause-ready : goal.returns-in_err-made-clause-ready
+returns-in_err-made-clause-ready g c = ready g (goal.at.returns-in_err-made-clause-ready g c).After-make_round
 
 pub returns-in_err-log_word-clause-case : goal.returns-in_err-log_word-clause-case
 returns-in_err-log_word-clause-case g c = c.make_round.ensures.case ∙ c.loop-rounds_before.invariant.case_is
@@ -173,10 +172,10 @@ returns-in_err-log_word-clause-counted g c =
     round_within c.args.held.now.case l.held.case l.invariant.case_is l.rounds_before c.args.meter.now l.meter l.invariant.counted c.args.rounds c.make_round.new.meter c.loop-rounds_before-test.true c.make_round.ensures.counted
 
 pub returns-in_err-log_word-clause-same_room : goal.returns-in_err-log_word-clause-same_room
-returns-in_err-log_word-clause-same_room g c = room_stays _ _ _ c.loop-rounds_before.invariant.same_room c.make_round.ensures.same_room
+returns-in_err-log_word-clause-same_room g c = same_after _ _ _ c.loop-rounds_before.invariant.same_room c.make_round.ensures.same_room
 
-pub returns-in_err-log_word-clause-fits : goal.returns-in_err-log_word-clause-fits
-returns-in_err-log_word-clause-fits g c = fits_still c.args.held.now.case c.loop-rounds_before.held.case c.loop-rounds_before.invariant.case_is c.make_round.new.space c.make_round.ensures.fits c.make_round.ensures.known
+pub returns-in_err-log_word-clause-ready : goal.returns-in_err-log_word-clause-ready
+returns-in_err-log_word-clause-ready g c = ready g (goal.at.returns-in_err-log_word-clause-ready g c).After-make_round
 
 pub returns-then-made-eq0-clause-case : goal.returns-then-made-eq0-clause-case
 returns-then-made-eq0-clause-case g c = c.make_round.ensures.case ∙ c.loop-rounds_before.invariant.case_is
@@ -190,10 +189,10 @@ returns-then-made-eq0-clause-counted g c =
     round_within c.args.held.now.case l.held.case l.invariant.case_is l.rounds_before c.args.meter.now l.meter l.invariant.counted c.args.rounds c.make_round.new.meter c.loop-rounds_before-test.true c.make_round.ensures.counted
 
 pub returns-then-made-eq0-clause-same_room : goal.returns-then-made-eq0-clause-same_room
-returns-then-made-eq0-clause-same_room g c = room_stays _ _ _ c.loop-rounds_before.invariant.same_room c.make_round.ensures.same_room
+returns-then-made-eq0-clause-same_room g c = same_after _ _ _ c.loop-rounds_before.invariant.same_room c.make_round.ensures.same_room
 
-pub returns-then-made-eq0-clause-fits : goal.returns-then-made-eq0-clause-fits
-returns-then-made-eq0-clause-fits g c = fits_still c.args.held.now.case c.loop-rounds_before.held.case c.loop-rounds_before.invariant.case_is c.make_round.new.space c.make_round.ensures.fits c.make_round.ensures.known
+pub returns-then-made-eq0-clause-ready : goal.returns-then-made-eq0-clause-ready
+returns-then-made-eq0-clause-ready g c = ready g (goal.at.returns-then-made-eq0-clause-ready g c).After-make_round
 
 pub returns-in_err-log_word-2-clause-frozen : goal.returns-in_err-log_word-2-clause-frozen
 returns-in_err-log_word-2-clause-frozen g c = c.loop-rounds_before.invariant.frozen
@@ -203,10 +202,8 @@ returns-in_err-log_word-2-clause-counted g c =
     let l = c.loop-rounds_before in
     counted_within c.args.held.now.case l.rounds_before c.args.rounds c.args.meter.now l.meter (omega (arith, l.auto.rounds_before-end)) l.invariant.counted
 
-pub returns-in_err-log_word-2-clause-fits : goal.returns-in_err-log_word-2-clause-fits
-returns-in_err-log_word-2-clause-fits g c =
-    let l = c.loop-rounds_before in
-    fits_still c.args.held.now.case c.args.held.now.case refl l.space l.invariant.fits l.invariant.known
+pub returns-in_err-log_word-2-clause-ready : goal.returns-in_err-log_word-2-clause-ready
+returns-in_err-log_word-2-clause-ready g c = c.loop-rounds_before.invariant.ready
 
 pub returns-clause-frozen : goal.returns-clause-frozen
 returns-clause-frozen g c = c.loop-rounds_before.invariant.frozen
@@ -216,10 +213,8 @@ returns-clause-counted g c =
     let l = c.loop-rounds_before in
     counted_within c.args.held.now.case l.rounds_before c.args.rounds c.args.meter.now l.meter (omega (arith, l.auto.rounds_before-end)) l.invariant.counted
 
-pub returns-clause-fits : goal.returns-clause-fits
-returns-clause-fits g c =
-    let l = c.loop-rounds_before in
-    fits_still c.args.held.now.case c.args.held.now.case refl l.space l.invariant.fits l.invariant.known
+pub returns-clause-ready : goal.returns-clause-ready
+returns-clause-ready g c = c.loop-rounds_before.invariant.ready
 
 pub returns-in_err-sent-clause-frozen : goal.returns-in_err-sent-clause-frozen
 returns-in_err-sent-clause-frozen g c = stays_self c.args.held.now.case c.args.from c.args.held.now.roster

@@ -1,0 +1,70 @@
+-- How much a search counts, one part after another.
+use Rattle.std.proofs.Common.{◌≡◌, ◌∙◌, ◌+◌, ◌-◌, ◌*◌, ◌<◌, ◌≤◌, ◌⊎◌, ℕ, List, ap, arith, inl, inr, length, subst}
+use Rattle.std.specs.List.{All}
+use Rattle.roster_instance.specs.Meaning.{Meaning, day_count}
+use Rattle.roster_rules.proofs.RunSums.{sum_same}
+use Rattle.roster_state.specs.declared.area.Area.{Area}
+use Rattle.roster_state.specs.Codes.{sizes_of}
+use Rattle.roster_offers.specs.declared.offer.Offer.{Offer}
+use Rattle.roster_search.specs.Counts.{states_on}
+use Rattle.roster_search.specs.Search.{areas_on, search_day, standing_steps, steps_on}
+use Rattle.roster_search.specs.Tables.{LeadsOn}
+use Rattle.roster_floors.specs.Floors.{floor_count, floor_steps}
+use Rattle.roster_partial.specs.Counts.{CountsSearch, CountsSets}
+
+module _ (c : Meaning) (n : ℕ) (offers : ℕ → List Offer) where
+  -- partial rows alone
+  pub no_set : (before after : ℕ) → before ≤ after → CountsSets c n offers 0 before after
+  no_set before after more = record { sets = 0; rows = after - before; few = omega arith; counted = omega (arith, more) }
+
+  -- floors once
+  pub one_set : (before after : ℕ) → after ≡ before + floor_steps c n offers → CountsSets c n offers 1 before after
+  one_set before after is = record { sets = 1; rows = 0; few = omega arith; counted = omega (arith, is) }
+
+  -- one part after another
+  pub sets_more : (first second before between after : ℕ) → CountsSets c n offers first before between → CountsSets c n offers second between after → CountsSets c n offers (first + second) before after
+  sets_more first second before between after one more =
+      let size = floor_steps c n offers in
+      let all : (one.sets + more.sets) * size ≡ one.sets * size + more.sets * size = omega arith in
+      record { sets = one.sets + more.sets; rows = one.rows + more.rows; few = omega (arith, one.few, more.few); counted = omega (arith, one.counted, more.counted, all) }
+
+  -- no more than more
+  pub sets_within : (few most before after : ℕ) → few ≤ most → CountsSets c n offers few before after → CountsSets c n offers most before after
+  sets_within few most before after less is = record { sets = is.sets; rows = is.rows; few = omega (arith, is.few, less); counted = is.counted }
+
+  -- none is taken back
+  pub sets_from : (most before after : ℕ) → CountsSets c n offers most before after → before ≤ after
+  sets_from most before after is = omega (arith, is.counted)
+
+-- ---- offers that agree on each day
+
+module _ (c : Meaning) (n : ℕ) (f g : ℕ → List Offer) (same : (day : ℕ) → day < day_count c → f day ≡ g day) where
+  same_states : (areas : List (List Area)) → standing_steps c n f areas ≡ standing_steps c n g areas
+  same_states areas = sum_same (day_count c) (steps_on c n f areas) (steps_on c n g areas) (λ day within. ap (λ (xs : List Offer). states_on c n (areas_on areas day) * length xs) (same day within))
+
+  same_floors : floor_steps c n f ≡ floor_steps c n g
+  same_floors = ap (λ m. floor_count (sizes_of c n) * m) (sum_same (day_count c) (λ d. length (f d)) (λ d. length (g d)) (λ day within. ap (λ (xs : List Offer). length xs) (same day within)))
+
+  states_go : (areas : List (List Area)) (between after : ℕ) → (after ≡ between) ⊎ (after ≡ between + standing_steps c n f areas) → (after ≡ between) ⊎ (after ≡ between + standing_steps c n g areas)
+  states_go areas between after (inl none) = inl none
+  states_go areas between after (inr states) = inr (omega (arith, states, same_states areas))
+
+  pub counts_same : (before after : ℕ) → CountsSearch c n f before after → CountsSearch c n g before after
+  counts_same before after counts = record {
+    areas = counts.areas;
+    standing = record {
+      start = counts.standing.start;
+      first = counts.standing.first;
+      lead = λ day within. subst (All (LeadsOn c (search_day c n day) (areas_on counts.areas day) (areas_on counts.areas (day + 1)))) (same day within) (counts.standing.lead day within);
+      long = counts.standing.long;
+    };
+    between = counts.between;
+    partial = record {
+      sets = counts.partial.sets;
+      rows = counts.partial.rows;
+      few = counts.partial.few;
+      counted = counts.partial.counted ∙ ap (λ m. before + counts.partial.sets * m + counts.partial.rows) same_floors;
+    };
+    left = omega (arith, counts.left, same_states counts.areas);
+    states = states_go counts.areas counts.between after counts.states;
+  }

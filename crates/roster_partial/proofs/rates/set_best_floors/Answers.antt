@@ -1,0 +1,53 @@
+use Rattle.std.proofs.Common.{◌+◌, ℕ, List, arith, subst, sym}
+use Rattle.roster_offers.specs.Lists.{offers_on}
+use Rattle.roster_floors.specs.Floors.{AreFloors}
+use Rattle.roster_floors.specs.declared.rates.Rates.{Rates}
+use Rattle.roster_partial.specs.Counts.{CountsSets, most_sets}
+use Rattle.roster_partial.proofs.CountLaws.{no_set, one_set, sets_more, sets_within}
+use Rattle.roster_partial.proofs.rates.set_best_floors.Goals as goal
+use Rattle.roster_partial.proofs.rates.set_best_floors.Goals.{then-not-are_same, else-not-are_same}
+
+pub returns-then-floors-floor_cells-clause-counted : goal.returns-then-floors-floor_cells-clause-counted
+returns-then-floors-floor_cells-clause-counted c =
+    let search = c.args.search.now in
+    let offers = offers_on search.offers.now in
+    sets_within search.case.now search.nurse offers 0 most_sets c.args.meter.now c.args.meter.now (omega arith) (no_set search.case.now search.nurse offers c.args.meter.now c.args.meter.now (omega arith))
+
+pub returns-clause-floors : goal.returns-clause-floors
+returns-clause-floors c =
+    let search = c.args.search.now in
+    let k = search.case.now in
+    let offers = offers_on search.offers.now in
+    let tried = c.try_rates-last.ensures.tried in
+    elim c.if-not-are_same.branch [
+      | then-not-are_same w ↦
+          subst (λ (cells : List ℕ). AreFloors k search.nurse c.try_rates-last.result.rates offers cells) (sym w.floors-is) (w.set_floors-then-not-are_same.ensures.floors (w.set_floors-then-not-are_same.ensures.room.1 tried.inside))
+      | else-not-are_same w ↦
+          subst (λ (cells : List ℕ). AreFloors k search.nurse c.try_rates-last.result.rates offers cells) (sym w.floors-is)
+          (subst (λ (rates : Rates). AreFloors k search.nurse rates offers c.try_rates-last.new.floors) (sym (c.are_same.ensures w.if-not-are_same.false)) tried.floors)
+    ]
+
+pub returns-clause-counted : goal.returns-clause-counted
+returns-clause-counted c =
+    let search = c.args.search.now in
+    let k = search.case.now in
+    let n = search.nurse in
+    let offers = offers_on search.offers.now in
+    let start = c.args.meter.now in
+    let planned = c.plan_by-plan.new.meter in
+    let set = c.set_floors.new.meter in
+    let followed = c.trial-first.new.meter in
+    let tried = c.try_rates-last.new.meter in
+    let trials = c.plan_by-plan.result.trials in
+    let inside = c.set_floors.ensures.room.1 (omega (arith, c.if-floors-floor_cells.false, c.floor_cells.ensures)) in
+    let first = sets_more k n offers 0 1 start planned set (no_set k n offers start planned c.plan_by-plan.ensures.counted.0) (one_set k n offers planned set (c.set_floors.ensures.counted inside)) in
+    let followed_is = sets_more k n offers 1 0 start set followed first (no_set k n offers set followed c.trial-first.ensures.counted.0) in
+    let more = sets_more k n offers 1 trials start followed tried followed_is c.try_rates-last.ensures.counted in
+    elim c.if-not-are_same.branch [
+      | then-not-are_same w ↦
+          let again = w.set_floors-then-not-are_same.new.meter in
+          let all = sets_more k n offers (1 + trials) 1 start tried again more (one_set k n offers tried again (w.set_floors-then-not-are_same.ensures.counted (w.set_floors-then-not-are_same.ensures.room.1 c.try_rates-last.ensures.tried.inside))) in
+          subst (λ (m : ℕ). CountsSets k n offers most_sets start m) (sym w.meter-is) (sets_within k n offers (1 + trials + 1) most_sets start again (omega (arith, c.plan_by-plan.ensures.trials)) all)
+      | else-not-are_same w ↦
+          subst (λ (m : ℕ). CountsSets k n offers most_sets start m) (sym w.meter-is) (sets_within k n offers (1 + trials) most_sets start tried (omega (arith, c.plan_by-plan.ensures.trials)) more)
+    ]
