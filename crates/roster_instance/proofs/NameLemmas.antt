@@ -2,7 +2,6 @@
 use Rattle.std.proofs.Common.{◌&&◌, ◌*◌, ◌≤◌, ◌≡◌, ◌∙◌, ◌+◌, ◌<◌, ◌||◌, ◌==◌, ℕ, Bool, cond, not, true, false, refl, sym, ap, ap₂, arith, List, [], ◌∷◌, ◌++◌, get_or, length, map, nat_lt, suc, unwrap_or, Option, Some, None, is_some, inl, inr, length-append, lt-ltb, true≢false}
 use Rattle.std.specs.Prelude.{IfSome, option_and_then, option_map, position}
 use Rattle.std.specs.List.{list_any, position_or_len}
-use Rattle.std.specs.Map.{KeepsOthers, lookup}
 use Rattle.std.specs.Str.{bytes_eq}
 use Rattle.std.proofs.lemmas.Bool.{cases_lt, ne_eqb}
 use Rattle.std.proofs.lemmas.Bool.Decides.{nat_tests}
@@ -12,7 +11,7 @@ use Rattle.std.proofs.lemmas.List.Quantifiers.{position-Some}
 use Rattle.std.proofs.lemmas.Slice.Eq.{bytes_eq-Decides}
 use Rattle.roster_bundle.specs.Token.{text_of}
 use Rattle.roster_bundle.specs.declared.token.Token.{Token}
-use Rattle.roster_instance.specs.Names.{AreNumbers, HaveTheirPlaces, find_name, found, has_number, is_known, name_number, names_of, same_name}
+use Rattle.roster_instance.specs.Names.{HaveTheirPlaces, find_name, found, has_number, is_known, name_number, names_of, same_name}
 use Rattle.roster_instance.specs.Refusals.{repeated_fault, unknown_fault}
 use Rattle.roster_instance.specs.Faults.{fault_if}
 use Rattle.roster_instance.specs.Tables.{is_at}
@@ -86,7 +85,7 @@ position-last p (x ∷ xs) y none e = go (p x) (position p xs) refl (λ h. posit
     go false None first later h =
         position-cons p x (xs ++ y ∷ []) ∙ ap₂ (λ b o. cond b (Some 0) (option_map (λ k. 1 + k) o)) first (later refl) ∙ ap (λ n. Some n) (omega arith)
 
--- ---- names with a table of their numbers
+-- ---- the number of a name
 
 pub find_name-within : (names : List Text) (name : Text) → IfSome (find_name names name) (λ n. n < length names)
 find_name-within names name = go (find_name names name) refl
@@ -95,30 +94,21 @@ find_name-within names name = go (find_name names name) refl
     go None is = tt
     go (Some n) is = (position-Some (bytes_eq name) names n [] is).0
 
+-- ---- names that a set holds as its keys
+
 module _ {K : Type 0} (text : K → Text) where
-  -- whether a key has this name
-  abbrev is_named : Text → K → Bool
-  is_named name k = bytes_eq name (text k)
+  pub find_name-keys : (ks : List K) (name : Text) → find_name (map text ks) name ≡ position (λ k. bytes_eq name (text k)) ks
+  find_name-keys ks name = position-map (bytes_eq name) text ks
+
+  pub known-keys : (ks : List K) (name : Text) → is_some (find_name (map text ks) name) ≡ list_any (λ k. bytes_eq name (text k)) ks
+  known-keys ks name = ap is_some (find_name-keys ks name) ∙ position-some (λ k. bytes_eq name (text k)) ks
 
   -- one more key, whose name is new
-  pub numbers-more : (names : List Text) (entries new : List (K × ℕ)) (k : K) (name : Text) (n : ℕ) → text k ≡ name → n ≡ length names → find_name names name ≡ None
-      → AreNumbers names text entries → lookup (is_named (text k)) new ≡ Some n → KeepsOthers (λ a. is_named (text a)) (is_named (text k)) entries new
-      → AreNumbers (names ++ name ∷ []) text new
-  unfolding KeepsOthers
-  numbers-more names entries new k name n is last none are put keeps t = go (bytes_eq t name) refl
-    where
-      alike : (x y : K) → is_named t x ≡ true → is_named t y ≡ is_named (text x) y
-      alike x y e = ap (λ other. is_named other y) ((bytes_eq-Decides t (text x)).0 e)
-
-      apart : bytes_eq t name ≡ false → (y : K) → is_named (text k) y ≡ true → is_named t y ≡ false
-      apart e y h = ap (bytes_eq t) (sym ((bytes_eq-Decides (text k) (text y)).0 h) ∙ is) ∙ e
-
-      go : (b : Bool) → bytes_eq t name ≡ b → lookup (is_named t) new ≡ find_name (names ++ name ∷ []) t
-      go true e =
-          let same : t ≡ name = (bytes_eq-Decides t name).0 e in
-          ap (λ x. lookup (is_named x) new) (same ∙ sym is) ∙ put ∙ ap (λ m. Some m) last
-          ∙ sym (ap (find_name (names ++ name ∷ [])) same ∙ position-last (bytes_eq name) names name none ((bytes_eq-Decides name name).1 refl))
-      go false e = keeps (is_named t) alike (apart e) ∙ are t ∙ sym (position-other (bytes_eq t) names name e)
+  pub texts-added : (ks : List K) (k : K) (name : Text) → text k ≡ name → list_any (λ y. bytes_eq name (text y)) ks ≡ false
+      → map text (cond (list_any (λ y. bytes_eq (text k) (text y)) ks) ks (ks ++ k ∷ [])) ≡ map text ks ++ name ∷ []
+  texts-added ks k name same new =
+      ap (λ b. map text (cond b ks (ks ++ k ∷ []))) (ap (λ n. list_any (λ y. bytes_eq n (text y)) ks) same ∙ new)
+      ∙ map_push text ks k ∙ ap (λ n. map text ks ++ n ∷ []) same
 
 -- ---- names at their places
 
@@ -156,8 +146,7 @@ module _ (names : List Text) (name : Text) (n : ℕ) where
 -- ---- names that stand among others
 
 pub known-any : (source : Text) (earlier : List Token) (t : Token) → is_known source (names_of source earlier) t ≡ list_any (same_name source t) earlier
-known-any source earlier t =
-    ap is_some (position-map (bytes_eq (text_of source t)) (text_of source) earlier) ∙ position-some (same_name source t) earlier
+known-any source earlier t = known-keys (text_of source) earlier (text_of source t)
 
 twice : (b : Bool) → b ≡ not (not b)
 twice true = refl

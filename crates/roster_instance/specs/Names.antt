@@ -1,6 +1,5 @@
 -- The names of a bundle: bytes of its source, numbered in the order of the scenario.
 use Rattle.std.specs.Prelude.{◌≡◌, ◌<◌, ℕ, Bool, List, [], length, map, Option, Some, is_some, position, slice_index_or, unwrap_or, bytes_eq}
-use Rattle.std.specs.Map.{lookup}
 use Rattle.roster_bundle.specs.declared.bundle.Bundle.{Bundle}
 use Rattle.roster_bundle.specs.declared.bundle.Contract.{Contract}
 use Rattle.roster_bundle.specs.declared.bundle.Nurse.{Nurse}
@@ -39,10 +38,6 @@ nurse_names source b = names_of source (map (λ (n : Nurse). n.name) b.scenario.
 -- the number of the first of the names that is this text
 abbrev pub find_name : List (List ℕ) → List ℕ → Option ℕ
 find_name names text = position (bytes_eq text) names
-
--- a table by keys that stand for texts: it has the number of each name, and none for any other text
-abbrev pub AreNumbers : {K : Type 0} → List (List ℕ) → (K → List ℕ) → List (K × ℕ) → Type 0
-AreNumbers names text entries = (name : List ℕ) → lookup (λ k. bytes_eq name (text k)) entries ≡ find_name names name
 
 -- the names are different: the number of each is its place
 abbrev pub HaveTheirPlaces : List (List ℕ) → Type 0

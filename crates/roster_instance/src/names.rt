@@ -9,9 +9,9 @@ ghost use Rattle.roster_instance.specs.Refusals.{repeated_fault, unknown_fault};
 ghost use Rattle.roster_instance.specs.Tables.{is_at};
 
 use crate::fault::CaseFault;
+use indexmap::IndexSet;
 use roster_bundle::Token;
 use std::alloc::{AllocError, Global};
-use std::collections::HashMap;
 use std::marker::Model;
 
 /// So few names are compared one after another sooner than a name is hashed.
@@ -19,29 +19,25 @@ const FEW: usize = 8;
 
 /// Different names, numbered from 0 in the order in which they came.
 pub(crate) struct Names {
-    names: Vec<Vec<u8>>,
-    numbers: HashMap<Vec<u8>, usize>,
+    names: IndexSet<Vec<u8>>,
 }
 
 // By hand, so that who lets names go has one call to prove.
 impl Drop for Names {
     fn drop(self) {
-        let Names {
-            names: _,
-            numbers: _,
-        } = self;
+        let Names { names: _ } = self;
     }
 }
 
 impl Model for Names {
     ghost use Rattle.std.specs.Prelude.{ℕ, List, map};
-    ghost use Rattle.roster_instance.specs.Names.{AreNumbers, HaveTheirPlaces};
+    ghost use Rattle.roster_instance.specs.Names.{HaveTheirPlaces};
 
     ghost Value = { List (List ℕ) };
 
-    ghost view = { λ n. map (λ name. name.items) n.names.items };
+    ghost view = { λ n. map (λ name. name.items) n.names.keys };
 
-    ghost invariant = { λ n. AreNumbers (map (λ name. name.items) n.names.items) (λ name. name.items) n.numbers.entries × HaveTheirPlaces (map (λ name. name.items) n.names.items) };
+    ghost invariant = { λ n. HaveTheirPlaces (map (λ name. name.items) n.names.keys) };
 }
 
 impl Names {
@@ -50,8 +46,7 @@ impl Names {
         ensures { IfOk result (λ names. names ≡ []) }
     {
         Ok(Names {
-            names: Vec::with_capacity(alloc, count)?,
-            numbers: HashMap::with_capacity(alloc, count)?,
+            names: IndexSet::with_capacity(alloc, count)?,
         })
     }
 
@@ -60,16 +55,10 @@ impl Names {
         ensures taken { IfOk result (λ taken. taken ≡ not (is_some (find_name self.old name.now))) }
         ensures added { IfOk result (λ taken. self.new ≡ (if taken then self.old ++ name.now ∷ [] else self.old)) }
     {
-        if self.numbers.contains_key(name) {
+        if self.names.contains(name) {
             return Ok(false);
         }
-        let number = self.len();
-        let key = Vec::from_slice(alloc, name)?;
-        self.names.push(Vec::from_slice(alloc, name)?)?;
-        if self.numbers.insert(key, number).is_err() {
-            self.names.pop();
-            return Err(AllocError);
-        }
+        self.names.insert(Vec::from_slice(alloc, name)?)?;
         Ok(true)
     }
 
@@ -104,14 +93,15 @@ impl Names {
         if self.names.len() <= FEW {
             return number_among(self.names.as_slice(), name);
         }
-        self.numbers.get(name).copied()
+        self.names.get_index_of(name)
     }
 
     /// Whether a name has this number.
     fn is_at(&self, number: usize, name: &[u8]) -> bool
         ensures { result ≡ is_at number (find_name self.now name.now) }
     {
-        match self.names.get(number) {
+        let names = self.names.as_slice();
+        match names.get(number) {
             Some(own) => name == own.as_slice(),
             None => false,
         }
@@ -137,7 +127,7 @@ impl Names {
         requires { number < length self.now }
         ensures { result.now ≡ slice_index_or self.now number [] }
     {
-        self.names[number].as_slice()
+        self.names.as_slice()[number].as_slice()
     }
 
     /// The number of a token's name.
