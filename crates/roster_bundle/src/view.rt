@@ -1,6 +1,6 @@
 //! What a solution has to show so that it can be written.
 
-ghost use Rattle.std.specs.Prelude.{◌≡◌, ◌*◌, ◌^◌, ◌<◌, option_map};
+ghost use Rattle.std.specs.Prelude.{◌≡◌, ◌<◌, option_map};
 ghost use Rattle.roster_bundle.specs.Canonical.{Shown};
 
 /// One week's solution, by the numbers of its nurses and of the weekdays, 0 being Monday.
@@ -16,10 +16,9 @@ pub trait SolutionView {
     fn name(&self) -> &[u8]
         ensures { result.now ≡ (shown self.now).name };
 
-    /// How many nurses there are. Their names lie in memory, so a week's assignments can be counted.
+    /// How many nurses there are.
     fn nurses(&self) -> usize
-        ensures count { result ≡ (shown self.now).nurses }
-        ensures countable { 7 * result < 2 ^ 64 };
+        ensures { result ≡ (shown self.now).nurses };
 
     /// The name of a nurse.
     fn nurse(&self, nurse: usize) -> &[u8]

@@ -8,12 +8,17 @@ use Rattle.roster_text.specs.declared.fault.TextFault.TheVariants.{Memory, ReadF
 use Rattle.roster_text.specs.declared.fault.WriteFault.{WriteFault}
 use Rattle.roster_text.specs.declared.fault.WriteFault.TheVariants.{WriteFailed}
 
--- a reader or a writer, how many reads and writes it had, how many flushes, and how many of all these have failed
+-- how many flushes a writer had, and how many of these have failed
+pub record Flushes : Type 0 where
+  pub made : ℕ
+  pub failed : ℕ
+
+-- a reader or a writer, how many reads and writes it had, how many of these have failed, and its flushes
 pub record Watched (T : Type 0) : Type 0 where
   pub inner : T
   pub calls : ℕ
-  pub flushes : ℕ
   pub failures : ℕ
+  pub flushes : Flushes
 
 -- a count that stops at 2 ^ 64 - 1
 abbrev pub saturated : ℕ → ℕ
@@ -26,6 +31,10 @@ one_more count = saturated (count + 1)
 -- the count of failures after a call that fails where the test says so
 abbrev pub counted : ℕ → Bool → ℕ
 counted failures fails = if fails then one_more failures else failures
+
+-- after one more flush
+abbrev pub one_flush : Flushes → Bool → Flushes
+one_flush flushes fails = record { made = one_more flushes.made; failed = counted flushes.failed fails }
 
 -- a write of these bytes failed, or took none of at least one
 abbrev pub is_refused : {E : Type 0} → Result ℕ E → List ℕ → Bool

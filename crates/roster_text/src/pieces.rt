@@ -9,11 +9,12 @@ use crate::watch::Watch;
 use itoa::Buffer;
 use std::io::Write;
 
-/// A piece of a text: bytes as they are, or a number in decimal, without leading zeros.
+/// A piece of a text: bytes as they are, or a number in decimal, without leading zeros; a count may be greater than 64 bits hold.
 #[derive(Clone, Copy)]
 pub enum Piece<'a> {
     Bytes(&'a [u8]),
     Number(u64),
+    Count(u128),
 }
 
 /// Writes all of the bytes, by as many writes as it takes.
@@ -82,6 +83,10 @@ fn send_piece<W: Write>(
         Piece::Number(number) => {
             let mut digits = Buffer::new();
             send_bytes(out, before, digits.format(number).as_bytes())
+        }
+        Piece::Count(count) => {
+            let mut digits = Buffer::new();
+            send_bytes(out, before, digits.format(count).as_bytes())
         }
     }
 }

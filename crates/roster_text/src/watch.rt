@@ -3,20 +3,22 @@
 
 ghost use Rattle.std.specs.Prelude.{◌≡◌, ◌<◌, ◌↔◌, IsTrue, is_err};
 ghost use Rattle.std.specs.Fn.{FnOnceReturnsAtMut};
-ghost use Rattle.roster_text.specs.Io.{IsOneRead, IsOneWrite, counted, is_refused, one_more};
+ghost use Rattle.roster_text.specs.Io.{IsOneRead, IsOneWrite, counted, is_refused, one_flush, one_more};
 
 use std::io;
 use std::marker::Model;
 
-/// A reader or a writer that counts its reads and writes, its flushes, and how many of all these have failed.
+/// A reader or a writer that counts its reads and writes, and how many of them have failed. Its flushes, and how many of these have
+/// failed, it counts apart.
 ///
 /// A write that takes nothing of at least one byte counts as failing.
 #[derive(Drop)]
 pub struct Watch<T> {
     inner: T,
     calls: u64,
-    flushes: u64,
     failures: u64,
+    flushes: u64,
+    failed_flushes: u64,
 }
 
 impl<T> Model for Watch<T> {
@@ -24,23 +26,34 @@ impl<T> Model for Watch<T> {
 
     ghost Value = { Watched T };
 
-    ghost view = { λ w. record { inner = w.inner; calls = w.calls; flushes = w.flushes; failures = w.failures } };
+    ghost view = { λ w. record {
+      inner = w.inner;
+      calls = w.calls;
+      failures = w.failures;
+      flushes = record { made = w.flushes; failed = w.failed_flushes };
+    } };
 }
 
 impl<T> Watch<T> {
     /// A watch over a reader or a writer; there was no call yet.
     pub fn new(inner: T) -> Watch<T>
-        ensures { result ≡ record { inner = inner; calls = 0; flushes = 0; failures = 0 } }
+        ensures { result ≡ record {
+          inner = inner;
+          calls = 0;
+          failures = 0;
+          flushes = record { made = 0; failed = 0 };
+        } }
     {
         Watch {
             inner,
             calls: 0,
-            flushes: 0,
             failures: 0,
+            flushes: 0,
+            failed_flushes: 0,
         }
     }
 
-    /// Whether a read, a write or a flush has failed so far.
+    /// Whether a read or a write has failed so far. A flush that failed doesn't count.
     pub fn failed(&self) -> bool
         ensures { IsTrue result ↔ (0 < self.now.failures) }
     {
@@ -103,12 +116,11 @@ impl<T> Watch<T> {
         requires { F.IsAlwaysCallable flush }
         ensures called { FnOnceReturnsAtMut F.FnOnce flush self.old.inner result self.new.inner }
         ensures calls { self.new.calls ≡ self.old.calls }
-        ensures flushes { self.new.flushes ≡ one_more self.old.flushes }
-        ensures failures { self.new.failures ≡ counted self.old.failures (is_err result) }
+        ensures flushes { self.new.flushes ≡ one_flush self.old.flushes (is_err result) }
+        ensures failures { self.new.failures ≡ self.old.failures }
     {
         let result = flush(&mut self.inner);
-        self.flushes = self.flushes.saturating_add(1);
-        self.count_failure(result.is_err());
+        self.count_flush(result.is_err());
         result
     }
 
@@ -116,12 +128,26 @@ impl<T> Watch<T> {
         ensures { self.new ≡ record {
           inner = self.old.inner;
           calls = self.old.calls;
-          flushes = self.old.flushes;
           failures = counted self.old.failures has_failed;
+          flushes = self.old.flushes;
         } }
     {
         if has_failed {
             self.failures = self.failures.saturating_add(1);
+        }
+    }
+
+    fn count_flush(&mut self, has_failed: bool)
+        ensures { self.new ≡ record {
+          inner = self.old.inner;
+          calls = self.old.calls;
+          failures = self.old.failures;
+          flushes = one_flush self.old.flushes has_failed;
+        } }
+    {
+        self.flushes = self.flushes.saturating_add(1);
+        if has_failed {
+            self.failed_flushes = self.failed_flushes.saturating_add(1);
         }
     }
 }

@@ -1,9 +1,10 @@
-//! Reading and writing under watch. A call is one of the device, as the counts say: they grow by calls of the device alone.
+//! Reading and writing under watch. A call is one of the device, with the same bytes, and its answer is the device's. The counts grow by
+//! calls of the device alone.
 
 ghost use Rattle.std.specs.Prelude.{◌≡◌, is_err};
 ghost use Rattle.std.specs.Io.{ReadsAtMost, WritesAtMost};
 ghost use Rattle.std.specs.Io.KnownBytes.{ReadConsumes, WriteAppends, Keeps};
-ghost use Rattle.roster_text.specs.Io.{counted, is_refused, one_more};
+ghost use Rattle.roster_text.specs.Io.{counted, is_refused, one_flush, one_more};
 
 use crate::watch::Watch;
 use std::io;
@@ -41,8 +42,8 @@ impl<W: Write> Write for Watch<W> {
     fn flush(&mut self) -> io::Result<()>
         ensures bytes { Keeps (W.contents self.old.inner) (W.contents self.new.inner) }
         ensures calls { self.new.calls ≡ self.old.calls }
-        ensures flushes { self.new.flushes ≡ one_more self.old.flushes }
-        ensures failures { self.new.failures ≡ counted self.old.failures (is_err result) }
+        ensures flushes { self.new.flushes ≡ one_flush self.old.flushes (is_err result) }
+        ensures failures { self.new.failures ≡ self.old.failures }
     {
         self.flush_once(W::flush)
     }

@@ -45,7 +45,7 @@ fn send_heading<W: Write, S: SolutionView>(
             Piece::Bytes(b" "),
             Piece::Bytes(view.name()),
             Piece::Bytes(b"\n\nASSIGNMENTS = "),
-            Piece::Number(count_assignments(view)),
+            Piece::Count(count_assignments(view)),
             Piece::Bytes(b"\n"),
         ],
     )
@@ -120,7 +120,8 @@ pub fn weekday_text(weekday: u16) -> [u8; 3]
     }
 }
 
-fn count_assignments<S: SolutionView>(view: &S) -> u64
+/// How many assignments there are: up to seven for each nurse, so more than 64 bits hold where there are so many nurses.
+fn count_assignments<S: SolutionView>(view: &S) -> u128
     ensures { result ≡ length (assignments (S.shown view.now)) }
 {
     let mut count = 0;
@@ -130,7 +131,7 @@ fn count_assignments<S: SolutionView>(view: &S) -> u64
     count
 }
 
-fn count_of_nurse<S: SolutionView>(view: &S, nurse: usize) -> u64
+fn count_of_nurse<S: SolutionView>(view: &S, nurse: usize) -> u128
     requires { nurse < (S.shown view.now).nurses }
     ensures count { result ≡ length (nurse_assignments (S.shown view.now) nurse) }
     ensures at_most_daily { result ≤ 7 }

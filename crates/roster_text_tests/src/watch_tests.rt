@@ -1,8 +1,95 @@
-//! That a watch's calls succeed, and reach its device as often as its contracts say.
+//! That a watch's calls succeed, reach its device as often as its contracts say, with the same bytes, and answer what it answers.
+
+ghost use Rattle.std.specs.Prelude.{◌≡◌, IfOk};
 
 use roster_devices::{AtEnd, CallCounter, ShortWriter};
 use roster_text::{TextFault, Watch, WriteFault, read_all, write_bytes};
-use std::io::{Read, Write};
+use std::io;
+use std::io::{ErrorKind, Read, Write};
+use std::test::Fail;
+
+/// A device that keeps how many bytes it was lent last, and takes or gives all of them, or fails so.
+#[derive(Drop)]
+struct Witness {
+    lent: usize,
+    fault: Option<ErrorKind>,
+}
+
+impl Witness {
+    fn answer(&mut self, lent: usize) -> io::Result<usize>
+        ensures { IfOk result (λ count. count ≡ lent) }
+    {
+        self.lent = lent;
+        match self.fault {
+            Some(kind) => Err(kind.into()),
+            None => Ok(lent),
+        }
+    }
+}
+
+impl Read for Witness {
+    fn read(&mut self, buf: &mut [u8]) -> io::Result<usize> {
+        self.answer(buf.len())
+    }
+}
+
+impl Write for Witness {
+    fn write(&mut self, buf: &[u8]) -> io::Result<usize> {
+        self.answer(buf.len())
+    }
+
+    fn flush(&mut self) -> io::Result<()> {
+        self.answer(0)?;
+        Ok(())
+    }
+}
+
+const FAULTS: [ErrorKind; 4] = [
+    ErrorKind::Interrupted,
+    ErrorKind::WouldBlock,
+    ErrorKind::PermissionDenied,
+    ErrorKind::Other,
+];
+
+/// Whether a call failed so.
+fn fails_so<T: Drop>(answer: io::Result<T>, kind: ErrorKind) -> bool {
+    matches!(answer, Err(fault) if fault.kind() == kind)
+}
+
+#[test]
+fn a_fault_is_that_of_the_device(rt: HostRuntime) {
+    for place in 0..FAULTS.len() {
+        let kind = FAULTS[place];
+        let mut device = Watch::new(Witness {
+            lent: 0,
+            fault: Some(kind),
+        });
+        assert!(rt; fails_so(device.read(&mut [0; 3]), kind));
+        assert!(rt; fails_so(device.write(b"one"), kind));
+        assert!(rt; fails_so(device.flush(), kind));
+    }
+}
+
+#[test]
+fn a_call_lends_the_device_all_bytes(rt: HostRuntime) -> Result<(), Fail> {
+    let mut bytes = Vec::new(rt.alloc());
+    bytes.resize(70_000, 0)?;
+    for length in [0, 1, 8, 9, 4_097, 8_193, 65_537, 70_000] {
+        let mut device = Watch::new(Witness {
+            lent: 70_001,
+            fault: None,
+        });
+        assert!(rt; matches!(device.write(&bytes[..length]), Ok(taken) if taken == length));
+        assert_eq!(rt; device.into_inner().lent, length);
+        let mut device = Watch::new(Witness {
+            lent: 70_001,
+            fault: None,
+        });
+        assert!(rt; matches!(device.read(&mut bytes[..length]), Ok(given) if given == length));
+        assert_eq!(rt; device.into_inner().lent, length);
+    }
+    Ok(())
+}
 
 #[test]
 fn a_failed_write_is_not_tried_again(rt: HostRuntime) {
@@ -69,10 +156,11 @@ fn a_write_that_takes_nothing_is_not_tried_again(rt: HostRuntime) {
 }
 
 #[test]
-fn a_flush_is_passed_on_with_its_failure(rt: HostRuntime) {
+fn a_flush_is_passed_on_with_its_failure_which_is_none_of_a_write(rt: HostRuntime) {
     let mut out = Watch::new(CallCounter::new(Vec::new(rt.alloc()), 1));
     assert!(rt; out.flush().is_err());
-    assert!(rt; out.failed());
+    assert!(rt; !out.failed());
     assert!(rt; out.flush().is_ok());
+    assert!(rt; !out.failed());
     assert_eq!(rt; out.into_inner().calls, 2);
 }

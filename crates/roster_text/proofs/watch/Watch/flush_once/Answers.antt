@@ -7,5 +7,5 @@ returns-clause-called g c = record {
   shows = search rules;
   left = _;
   met = c.flush-result.ensures;
-  leaves = sym (ap (λ w. w.inner) c.count_failure.ensures);
+  leaves = sym (ap (λ w. w.inner) c.count_flush.ensures);
 }
