@@ -116,18 +116,18 @@ fn answer_request<R: Files + AllocGlobal, In: Read + Drop, Out: Write + Drop, Lo
     }
 }
 
-/// Opens files in order, each under a watch.
+/// Opens files in order.
 fn open_all<T: Drop, F: Fn(&str) -> io::Result<T>>(
     alloc: Global,
     paths: &[String],
     open_file: F,
-) -> Result<Vec<Watch<T>>, TextFault>
+) -> Result<Vec<T>, TextFault>
     requires { F.IsAlwaysCallable open_file }
 {
     let mut files = Vec::with_capacity(alloc, paths.len())?;
     for path in paths {
         match open_file(path.as_str()) {
-            Ok(file) => files.push(Watch::new(file))?,
+            Ok(file) => files.push(file)?,
             Err(error) if error.kind() == ErrorKind::OutOfMemory => return Err(TextFault::Memory),
             Err(_) => return Err(TextFault::ReadFailed),
         }

@@ -1,7 +1,7 @@
 //! Several readers as one.
 
 use roster_cli::Joined;
-use roster_text::Watch;
+use roster_devices::CallCounter;
 use std::io::Read;
 use std::test::Fail;
 
@@ -19,7 +19,21 @@ fn gives_by_one_byte(input: &mut impl Read, bytes: &[u8]) -> bool {
 #[test]
 fn joined_readers_by_one_byte(rt: HostRuntime) -> Result<(), Fail> {
     let mut readers = Vec::new(rt.alloc());
-    readers.push(Watch::new(b"a".as_slice()))?;
+    readers.push(b"a".as_slice())?;
     assert!(rt; gives_by_one_byte(&mut Joined::new(readers), b"a\n"));
+    Ok(())
+}
+
+#[test]
+fn a_fault_of_a_joined_reader_is_passed_on(rt: HostRuntime) -> Result<(), Fail> {
+    let mut readers = Vec::new(rt.alloc());
+    readers.push(CallCounter::new(b"a".as_slice(), 0))?;
+    readers.push(CallCounter::new(b"b".as_slice(), 1))?;
+    let mut joined = Joined::new(readers);
+    let mut bytes = [0; 4];
+    assert!(rt; matches!(joined.read(&mut bytes), Ok(1)));
+    assert!(rt; matches!(joined.read(&mut bytes), Ok(1)));
+    assert!(rt; joined.read(&mut bytes).is_err());
+    assert!(rt; gives_by_one_byte(&mut joined, b"b\n"));
     Ok(())
 }

@@ -1,12 +1,11 @@
 -- What a read of several readers as one takes.
-use Rattle.std.proofs.Common.{rules, ◌≡◌, ◌∙◌, ◌+◌, ◌<◌, add-one, ap, arith, sym, subst, refl, codes, List, ◌∷◌, ◌++◌, ℕ, Option, Some, None, Ok, Result, length, get_or, drop, take, suc, map, ◌-◌, append_assoc}
+use Rattle.std.proofs.Common.{◌≡◌, ◌∙◌, ◌+◌, ◌<◌, add-one, ap, arith, sym, subst, refl, codes, List, ◌∷◌, ◌++◌, ℕ, Option, Some, None, Ok, Result, length, get_or, drop, take, suc, append_assoc}
 use Rattle.std.proofs.Math.ListN.{set}
 use Rattle.std.proofs.Math.Seq.{drop-cons}
 use Rattle.std.proofs.lemmas.List.{drop-drop, drop-set}
 use Rattle.std.specs.Io.KnownBytes.{Consumes, IsAtEnd, Keeps, ReadConsumes}
 use Rattle.std.specs.Prelude.{[], Err, IsErr, option_and_then, option_map}
-use Rattle.roster_text.specs.Io.{Watched}
-use Rattle.roster_joined.specs.JoinedBytes.{FailsAsFirst, FirstFails, joined_bytes}
+use Rattle.roster_joined.specs.JoinedBytes.{joined_bytes}
 
 -- those of a reader, one LF, and those of the others
 abbrev joined_with : Option (List ℕ) → Option (List ℕ) → Option (List ℕ)
@@ -30,22 +29,26 @@ pub rest_left : {R : Type 0} (readers : List R) (done : ℕ) (new : R) → done 
 rest_left readers done new within = sym (drop-drop 1 done (set readers done new)) ∙ ap (drop 1) (drop-set readers done new within)
 
 -- the first is at its end, so the LF after it is given
-pub end_given : {R : Type 0} (remaining : R → Option (List ℕ)) (readers left : List (Watched R)) (old new : Watched R) (rest : List (Watched R)) → readers ≡ old ∷ rest → left ≡ rest
-    → Consumes (remaining old.inner) (remaining new.inner) [] → IsAtEnd (remaining new.inner) → Consumes (joined_bytes remaining readers) (joined_bytes remaining left) (codes "\n")
+pub end_given : {R : Type 0} (remaining : R → Option (List ℕ)) (readers left : List R) (old new : R) (rest : List R) → readers ≡ old ∷ rest → left ≡ rest
+    → Consumes (remaining old) (remaining new) [] → IsAtEnd (remaining new) → Consumes (joined_bytes remaining readers) (joined_bytes remaining left) (codes "\n")
 end_given remaining readers left old new rest before after taken ended =
     subst (λ l. Consumes (joined_bytes remaining readers) (joined_bytes remaining l) (codes "\n")) (sym after)
     (subst (λ r. Consumes (joined_bytes remaining r) (joined_bytes remaining rest) (codes "\n")) (sym before)
-    (end_taken (remaining old.inner) (remaining new.inner) (joined_bytes remaining rest) taken ended))
+    (end_taken (remaining old) (remaining new) (joined_bytes remaining rest) taken ended))
 
 -- the one byte that was written
 pub first_byte : (buf : List ℕ) (byte : ℕ) → 0 < length buf → take 1 (set buf 0 byte) ≡ byte ∷ []
 first_byte [] byte room = absurd (omega arith)
 first_byte (b ∷ buf) byte room = refl
 
--- a fault of the first reader that is passed on
-pub passed_on : {R E : Type 0} (result : Result ℕ E) (readers left : List (Watched R)) → IsErr result → FirstFails readers left → FailsAsFirst result readers left
-passed_on (Ok n) readers left is fails = search rules
-passed_on (Err e) readers left is fails = fails
+-- a read of the first reader gave nothing, and the LF after it is given in its place
+pub ended : {R E : Type 0} (remaining : R → Option (List ℕ)) (readers left after : List R) (old new : R) (rest : List R) (result : Result ℕ E) (taken : ℕ) (buf : List ℕ) → readers ≡ old ∷ rest → left ≡ new ∷ rest → after ≡ drop 1 left
+    → result ≡ Ok taken → taken ≡ 0 → 0 < length buf → ReadConsumes (remaining old) (remaining new) result buf → Consumes (joined_bytes remaining readers) (joined_bytes remaining after) (take 1 (set buf 0 10))
+ended remaining readers left after old new rest result taken buf before later is was none room read =
+    let given = subst (λ r. ReadConsumes (remaining old) (remaining new) r buf) was read in
+    let nothing : Consumes (remaining old) (remaining new) [] = subst (λ n. Consumes (remaining old) (remaining new) (take n buf)) none given.0 in
+    subst (Consumes (joined_bytes remaining readers) (joined_bytes remaining after)) (sym (first_byte buf 10 room))
+    (end_given remaining readers after old new rest before (is ∙ ap (drop 1) later) nothing (given.1 none room))
 
 -- a reader's bytes are given, those of the others stay
 first_given : (before after others : Option (List ℕ)) (bs : List ℕ) → Consumes before after bs → Consumes (joined_with others before) (joined_with others after) bs
@@ -61,33 +64,14 @@ first_kept (Some bytes) (Some left) None kept = tt
 first_kept (Some bytes) (Some left) (Some xs) kept = ap (λ b. b ++ codes "\n" ++ xs) kept
 
 -- the first gave some bytes
-pub bytes_given : {R : Type 0} (remaining : R → Option (List ℕ)) (readers left : List (Watched R)) (old new : Watched R) (rest : List (Watched R)) (bs : List ℕ) → readers ≡ old ∷ rest → left ≡ new ∷ rest
-    → Consumes (remaining old.inner) (remaining new.inner) bs → Consumes (joined_bytes remaining readers) (joined_bytes remaining left) bs
+pub bytes_given : {R : Type 0} (remaining : R → Option (List ℕ)) (readers left : List R) (old new : R) (rest : List R) (bs : List ℕ) → readers ≡ old ∷ rest → left ≡ new ∷ rest
+    → Consumes (remaining old) (remaining new) bs → Consumes (joined_bytes remaining readers) (joined_bytes remaining left) bs
 bytes_given remaining readers left old new rest bs before after taken =
-    rw (before, after) (first_given (remaining old.inner) (remaining new.inner) (joined_bytes remaining rest) bs taken)
+    rw (before, after) (first_given (remaining old) (remaining new) (joined_bytes remaining rest) bs taken)
 
 -- the first failed
-pub bytes_kept : {R E : Type 0} (remaining : R → Option (List ℕ)) (readers left : List (Watched R)) (old new : Watched R) (rest : List (Watched R)) (result : Result ℕ E) (buf : List ℕ) → readers ≡ old ∷ rest → left ≡ new ∷ rest
-    → IsErr result → Keeps (remaining old.inner) (remaining new.inner) → ReadConsumes (joined_bytes remaining readers) (joined_bytes remaining left) result buf
+pub bytes_kept : {R E : Type 0} (remaining : R → Option (List ℕ)) (readers left : List R) (old new : R) (rest : List R) (result : Result ℕ E) (buf : List ℕ) → readers ≡ old ∷ rest → left ≡ new ∷ rest
+    → IsErr result → Keeps (remaining old) (remaining new) → ReadConsumes (joined_bytes remaining readers) (joined_bytes remaining left) result buf
 bytes_kept remaining readers left old new rest (Ok n) buf before after is kept = absurd cc
 bytes_kept remaining readers left old new rest (Err e) buf before after is kept =
-    rw (before, after) (first_kept (remaining old.inner) (remaining new.inner) (joined_bytes remaining rest) kept)
-
--- ---- no reader that is left has failed
-
-abbrev failures : {R : Type 0} → List (Watched R) → List ℕ
-failures readers = map (λ r. r.failures) readers
-
-pub none_read : {R : Type 0} (readers : List (Watched R)) → failures readers ≡ drop (length readers - length readers) (failures readers)
-none_read readers = let none : length readers - length readers ≡ 0 = omega arith in rw none refl
-
-pub first_read : {R : Type 0} (readers left : List (Watched R)) (old new : Watched R) (rest : List (Watched R)) → readers ≡ old ∷ rest → left ≡ new ∷ rest → new.failures ≡ old.failures
-    → failures left ≡ drop (length readers - length left) (failures readers)
-first_read readers left old new rest before after same =
-    let none : length (old ∷ rest) - length (new ∷ rest) ≡ 0 = omega arith in
-    rw (before, after, none) (ap (λ n. n ∷ failures rest) same)
-
-pub first_ended : {R : Type 0} (readers left : List (Watched R)) (old : Watched R) (rest : List (Watched R)) → readers ≡ old ∷ rest → left ≡ rest → failures left ≡ drop (length readers - length left) (failures readers)
-first_ended readers left old rest before after =
-    let one : length (old ∷ rest) - length rest ≡ 1 = omega arith in
-    rw (before, after, one) refl
+    rw (before, after) (first_kept (remaining old) (remaining new) (joined_bytes remaining rest) kept)

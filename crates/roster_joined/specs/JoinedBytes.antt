@@ -1,24 +1,30 @@
 -- What several readers give as one, and when that fails.
-use Rattle.std.specs.Prelude.{◌≡◌, ℕ, ◌-◌, List, [], ◌∷◌, ◌++◌, drop, length, map, Ok, Err, Option, Some, Result, codes, option_and_then, option_map}
-use Rattle.roster_text.specs.Io.{Watched, one_more}
+use Rattle.std.specs.Prelude.{◌≡◌, ℕ, List, [], ◌∷◌, ◌++◌, drop, length, Option, Some, codes, option_and_then, option_map}
+use Rattle.std.specs.Borrow.{MutBor}
+use Rattle.std.specs.Fn.{Once}
+use Rattle.roster_text.specs.Io.{IsOneRead}
+
+-- the readers that have not come to their end, and how many reads have failed
+pub record Left (R : Type 0) : Type 0 where
+  pub readers : List R
+  pub failures : ℕ
 
 -- the bytes of each reader and then one LF, where those of all are known
-abbrev pub joined_bytes : {R : Type 0} → (R → Option (List ℕ)) → List (Watched R) → Option (List ℕ)
+abbrev pub joined_bytes : {R : Type 0} → (R → Option (List ℕ)) → List R → Option (List ℕ)
 joined_bytes remaining [] = Some []
 joined_bytes remaining (reader ∷ rest) =
-    option_and_then (λ bytes. option_map (λ after. bytes ++ codes "\n" ++ after) (joined_bytes remaining rest)) (remaining reader.inner)
+    option_and_then (λ bytes. option_map (λ after. bytes ++ codes "\n" ++ after) (joined_bytes remaining rest)) (remaining reader)
 
--- of the readers, the first failed once, and all are left
-pub record FirstFails {R : Type 0} (readers readers_left : List (Watched R)) : Type 0 where
-  pub reader : Watched R
-  pub left : Watched R
-  pub rest : List (Watched R)
-  pub before : readers ≡ reader ∷ rest
-  pub after : readers_left ≡ left ∷ rest
-  pub failures : left.failures ≡ one_more reader.failures
+-- the result is that of one read of the first reader, and the others stay
+pub record ReadsFirst {F R E : Type 0} (g : Once F (MutBor R × (MutBor (List ℕ) × Unit {0})) (E × (MutBor R × (MutBor (List ℕ) × Unit {0}))))
+    (read : F) (readers : List R) (bytes : List ℕ) (result : E) (readers_left : List R) (filled : List ℕ) : Type 0 where
+  pub first : R
+  pub first_left : R
+  pub rest : List R
+  pub before : readers ≡ first ∷ rest
+  pub after : readers_left ≡ first_left ∷ rest
+  pub called : IsOneRead g read first bytes result first_left filled
 
--- a fault is one of the first reader, to which the next read goes; where there is none, no reader failed
-abbrev pub FailsAsFirst : {R E : Type 0} → Result ℕ E → List (Watched R) → List (Watched R) → Type 0
-FailsAsFirst (Err e) readers readers_left = FirstFails readers readers_left
-FailsAsFirst (Ok n) readers readers_left =
-    map (λ r. r.failures) readers_left ≡ drop (length readers - length readers_left) (map (λ r. r.failures) readers)
+-- there is still a first reader, and those after it are the same
+abbrev pub KeepsLater : {R : Type 0} → List R → List R → Type 0
+KeepsLater old new = (length new ≡ length old) × (drop 1 new ≡ drop 1 old)
