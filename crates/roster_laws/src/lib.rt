@@ -7,11 +7,13 @@
 //! of a case in `specs/Greatest.antt`; the order of rows in `specs/RowOrder.antt`.
 #![tactic(auto)]
 
+mod bounds;
 mod improver;
 mod replaced;
 mod rows;
 mod sizes;
 
+pub use bounds::penalties_are_low;
 pub use improver::{
     changes_are_few, frozen_days_stay, frozen_weeks_stay, last_round_tells, log_ends_with_the_run,
     penalty_never_rises, runs_keep_the_hard_rules, same_rows_are_equal, settled_stays,

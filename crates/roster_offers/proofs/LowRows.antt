@@ -1,24 +1,28 @@
 -- The best row over a table of offers costs less than the label of no row.
 use Rattle.std.proofs.Common.{◌≡◌, ◌∙◌, ◌+◌, ◌*◌, ◌<◌, ◌≤◌, ◌⊎◌, ℕ, zero, suc, All, Bool, IsSome, List, Option, Some, None, [], ◌∷◌, ap, arith, false, if◌then◌else◌, inl, inr, length, nat_lt, refl, slice_index_or, subst, sym, true}
+use Rattle.std.specs.Prelude.{IfSome}
 use Rattle.std.proofs.lemmas.Bool.{true≢false}
 use Rattle.std.proofs.lemmas.List.{length-map}
 use Rattle.std.proofs.lemmas.List.Elements.{All-cons, All-get_or, All-head, All-nil, All-tail}
 use Rattle.roster_instance.specs.declared.choice.Choice.{Choice}
 use Rattle.roster_instance.specs.Choices.{days_of, shift_of}
 use Rattle.roster_instance.specs.Limits.{most_days, most_weeks}
-use Rattle.roster_instance.specs.Meaning.{Meaning, day_count, week_count}
+use Rattle.roster_instance.specs.declared.choice.Shift.{Shift}
+use Rattle.roster_instance.specs.Meaning.{Meaning, day_count, forbids, week_count}
 use Rattle.roster_instance.specs.Rosters.{Row, choice_on}
 use Rattle.roster_instance.specs.Small.{HasSmallNumbers}
 use Rattle.roster_rules.specs.Penalties.{own_cost}
 use Rattle.roster_rules.specs.Prefix.{Summary, due, summary_of}
 use Rattle.roster_rules.proofs.Bounds.{both_run_costs-within, shift_run_cost-within, split_cost-within, totals_cost-within, weekends_cost-within}
 use Rattle.roster_rules.proofs.RunBounds.{sum_within}
-use Rattle.roster_state.specs.Step.{end_cost_of}
+use Rattle.roster_state.specs.Room.{most_at_end, most_of_step}
+use Rattle.roster_state.specs.Step.{end_cost_of, next_of, step_cost, step_of}
+use Rattle.roster_state.proofs.StepBounds.{step_within}
 use Rattle.roster_offers.specs.declared.offer.Offer.{Offer}
 use Rattle.roster_offers.specs.ByStates.{Steps, best_after, best_from, cost_after, cost_from}
 use Rattle.roster_offers.specs.Cheapest.{Priced, cheaper, cheapest, plus, raised}
-use Rattle.roster_offers.specs.Offers.{choices_of, offer_step, offered_row_by, row_cost_at, row_prices_by}
-use Rattle.roster_offers.specs.Lists.{IsOfferOf, best_over, most_price, no_row}
+use Rattle.roster_offers.specs.Offers.{best_of_offers, choices_of, dearer, offer_step, offered_row_by, row_cost_at, row_prices_by}
+use Rattle.roster_offers.specs.Lists.{IsOfferOf, best_over, most_label, most_price, no_row}
 use Rattle.roster_offers.proofs.Cheapest.{cost_or, thing_or}
 use Rattle.roster_offers.proofs.RowCosts.{choice_step, costs_by_states, owed}
 use Rattle.roster_offers.proofs.ListLaws.{no_offer}
@@ -132,6 +136,54 @@ module _ (c : Meaning) (n : ℕ) (small : HasSmallNumbers c) (weeks : week_count
         totals_cost-within c n (days_of row) small few,
         weekends_cost-within c n (days_of row) small few,
       )
+
+-- ---- labels, whatever the state is
+
+-- what so many days and the end cost at most
+abbrev most_of : ℕ → ℕ
+most_of m = m * (most_price + most_of_step) + most_at_end
+
+abbrev step_cost_of : Option (Summary × ℕ) → ℕ
+step_cost_of None = 0
+step_cost_of (Some t) = t.1
+
+module _ (c : Meaning) (small : HasSmallNumbers c) (n : ℕ) (offers : ℕ → List Offer) (of_case : (d : ℕ) → All (IsOfferOf c) (offers d)) where
+  step_is_low : (d : ℕ) (s : Summary) (shift : Option Shift) (t : Summary × ℕ) → step_of c n d s shift ≡ Some t → t.1 ≤ most_of_step
+  step_is_low d s shift t is = go (forbids c.successions s.last shift) is
+    where
+      go : (b : Bool) → (if b then None else Some (next_of c n d s shift, step_cost c n d s shift)) ≡ Some t → t.1 ≤ most_of_step
+      go true e = absurd cc
+      go false e = let same : step_cost c n d s shift ≡ t.1 = ap step_cost_of e in omega (arith, same, step_within c n d s shift small)
+
+  -- an offer, a step and what comes after them
+  one_day : (m d : ℕ) (s : Summary) (x : Offer) (rest : Summary → Priced (List Offer)) (best : ℕ × List Offer) → IsOfferOf c x → ((t : Summary) → IfSome (rest t) (λ p. p.0 ≤ most_of m))
+      → best_after x (offer_step c n d s x) rest ≡ Some best → best.0 ≤ most_of (suc m)
+  one_day m d s x rest best of later is = go (step_of c n d s (shift_of x.choice)) refl is
+    where
+      after : (more : ℕ) (o : Priced (List Offer)) → more ≤ most_price + most_of_step → IfSome o (λ p. p.0 ≤ most_of m) → raised more (λ xs. x ∷ xs) o ≡ Some best → best.0 ≤ most_of (suc m)
+      after more None few low e = absurd cc
+      after more (Some p) few low e = let total : more + p.0 ≡ best.0 = ap (cost_or 0) e in omega (arith, low, total, few)
+
+      go : (o : Option (Summary × ℕ)) → step_of c n d s (shift_of x.choice) ≡ o → best_after x (dearer x.price o) rest ≡ Some best → best.0 ≤ most_of (suc m)
+      go None stepped e = absurd cc
+      go (Some t) stepped e = after (x.price + t.1) (rest t.0) (omega (arith, of.price, step_is_low d s (shift_of x.choice) t stepped)) (later t.0) e
+
+  low_from : (m d : ℕ) (s : Summary) → IfSome (best_of_offers c n offers m d s) (λ label. label.0 ≤ most_of m)
+  low_from zero d s = omega (arith, (small.contracts n).total.least)
+  low_from (suc m) d s = go (best_of_offers c n offers (suc m) d s) refl (low_from m (suc d))
+    where
+      go : (o : Priced (List Offer)) → best_of_offers c n offers (suc m) d s ≡ o → ((t : Summary) → IfSome (best_of_offers c n offers m (suc d) t) (λ p. p.0 ≤ most_of m)) → IfSome o (λ label. label.0 ≤ most_of (suc m))
+      go None is later = tt
+      go (Some best) is later =
+          let one = one_of_all (λ x. best_after x (offer_step c n d s x) (best_of_offers c n offers m (suc d))) (IsOfferOf c) (offers d) best (of_case d) is in
+          one_day m d s one.0 (best_of_offers c n offers m (suc d)) best one.1 later one.2
+
+  pub label_low : (m d : ℕ) → m ≤ most_days → (s : Summary) → IfSome (best_of_offers c n offers m d s) (λ label. (label.0 ≤ most_label) × (label.0 < no_row))
+  label_low m d few s = go (best_of_offers c n offers m d s) (low_from m d s)
+    where
+      go : (o : Priced (List Offer)) → IfSome o (λ label. label.0 ≤ most_of m) → IfSome o (λ label. (label.0 ≤ most_label) × (label.0 < no_row))
+      go None low = tt
+      go (Some label) low = (omega (arith, low, few), omega (arith, low, few))
 
 pub record LowRow {X : Type 0} (p : Priced X) : Type 0 where
   pub row : ℕ × X

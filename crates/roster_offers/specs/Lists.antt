@@ -45,6 +45,10 @@ pub record AreOffers (c : Meaning) (n : ℕ) (offers : List (ArrayVec Offer)) : 
 abbrev pub no_row : ℕ
 no_row = 1073741824
 
+-- no label of a state from which a row goes on is above that
+abbrev pub most_label : ℕ
+most_label = 714703850
+
 -- the best row over all days of these offers, with its cost
 abbrev pub best_over : Meaning → ℕ → (ℕ → List Offer) → Priced (List Offer)
 best_over c n offers = best_of_offers c n offers (day_count c) 0 (summary_of c n [])

@@ -1,10 +1,10 @@
 //! The best row is found from state to state. The functions here do nothing: each is a law, and its clauses say it.
 
-ghost use Rattle.std.specs.Prelude.{◌≡◌, ◌+◌, ◌<◌, ◌≤◌, ℕ, Bool, true, false, [], ◌∷◌, All, Contains, List, IsSome, IsSomeAnd, Some, length};
+ghost use Rattle.std.specs.Prelude.{◌≡◌, ◌+◌, ◌<◌, ◌≤◌, ℕ, Bool, true, false, [], ◌∷◌, All, Contains, IfSome, List, IsSome, IsSomeAnd, Some, length};
 ghost use Rattle.roster_instance.specs.declared.choice.Choice.{Choice};
 ghost use Rattle.roster_rules.specs.AllowedRows.{IsBestRow, IsFirstLeast, is_frozen, penalty_with};
 ghost use Rattle.roster_rules.specs.HardRules.{keeps_hard};
-ghost use Rattle.roster_instance.specs.Limits.{most_shifts, most_skills, most_weeks};
+ghost use Rattle.roster_instance.specs.Limits.{most_days, most_shifts, most_skills, most_weeks};
 ghost use Rattle.roster_instance.specs.Meaning.{Meaning, day_count, nurse_count, shift_count, skill_count, week_count};
 ghost use Rattle.roster_rules.specs.Prefix.{Summary, due};
 ghost use Rattle.roster_instance.specs.Rosters.{Row, Rows, choice_on, fits_case, row_of};
@@ -16,7 +16,7 @@ ghost use Rattle.roster_offers.specs.ByStates.{Steps, best_from, cost_from, rows
 ghost use Rattle.roster_offers.specs.Cheapest.{cheapest, with_cost};
 ghost use Rattle.roster_offers.specs.Offers.{best_by_states, best_of_offers, cheapest_by_shift, choices_of, offer_of, offered_rows, offers_by, offers_of, open_offers, row_cost_at, shift_offers};
 ghost use Rattle.roster_offers.specs.Rises.{AllHaveRisen};
-ghost use Rattle.roster_offers.specs.Lists.{IsOfferOf, best_over, no_row};
+ghost use Rattle.roster_offers.specs.Lists.{IsOfferOf, best_over, most_label, no_row};
 ghost use Rattle.roster_offers.specs.declared.offer.Offer.{Offer};
 
 /// The cheapest of all rows of the days' offers, the first of them, is what the search from state to state gives, with its
@@ -43,6 +43,14 @@ pub fn best_row_is_found_by_states()
     ensures best { (c : Meaning) (from : ℕ) (r : Rows) → fits_case c r ≡ true → keeps_hard c r ≡ true → (n : ℕ) → n < nurse_count c → (cost : ℕ) (offers : List Offer) → best_by_states c from r n ≡ Some (cost, offers) → IsBestRow c from r n (choices_of offers) }
     ensures below { (c : Meaning) (from : ℕ) (r : Rows) → fits_case c r ≡ true → keeps_hard c r ≡ true → (n : ℕ) → n < nurse_count c → (cost : ℕ) (offers : List Offer) → best_by_states c from r n ≡ Some (cost, offers) → HasSmallNumbers c → shift_count c ≤ most_shifts → skill_count c ≤ most_skills → week_count c ≤ most_weeks → cost < no_row }
     ensures penalty { (c : Meaning) (from : ℕ) (r : Rows) → fits_case c r ≡ true → keeps_hard c r ≡ true → (n : ℕ) → n < nurse_count c → (cost : ℕ) (offers : List Offer) → best_by_states c from r n ≡ Some (cost, offers) → penalty_with c r n (choices_of offers) ≡ rest_of c r n + due c n [] + cost }
+{}
+
+/// In a case with small numbers a label, what the best row of some days costs from a state on, is at most 714,703,850, below that of no
+/// row, whatever the state and the offers are.
+pub fn labels_are_low()
+    ensures { (c : Meaning) → HasSmallNumbers c → (n : ℕ) (offers : ℕ → List Offer)
+        → ((d : ℕ) → All (IsOfferOf c) (offers d)) → (m d : ℕ) → m ≤ most_days → (s : Summary)
+        → IfSome (best_of_offers c n offers m d s) (λ label. (label.0 ≤ most_label) × (label.0 < no_row)) }
 {}
 
 /// The offers of a day are choices of the case at small prices, and not more than the nurse has choices. For a roster that fits

@@ -6,7 +6,7 @@ use Rattle.roster_instance.specs.Days.{Days, shift_on, works, days_worked, satur
 use Rattle.roster_instance.specs.Limits.{most_days, most_nurses, most_shifts, most_skills, most_small, most_weeks}
 use Rattle.roster_instance.specs.Meaning.{Meaning, week_count, day_count, shift_count, skill_count, nurse_count, run_of_shift, past_of, contract_of, optimum}
 use Rattle.roster_rules.specs.Penalties.{staffing_cost, staffing_cost_of_day, working_run_cost, shift_run_cost, free_run_cost, breaks_off_request, meets_wishes, off_request_cost, request_cost, wish_cost, wish_cost_on, split_cost, totals_cost, weekends_cost, over_nurses, costs_of, total_cost}
-use Rattle.roster_rules.specs.Room.{most_staffing, penalty_room}
+use Rattle.roster_rules.specs.Room.{most_penalty, most_staffing, penalty_room}
 use Rattle.roster_rules.specs.Weights.{staffing_weight, working_run_weight, shift_run_weight, free_run_weight, off_request_weight, split_weight, assignment_weight, weekend_weight, wish_weight}
 use Rattle.roster_instance.specs.Rosters.{Rows, days_of_nurse, cover, fits_case}
 use Rattle.roster_instance.specs.Small.{HasSmallNumbers}
@@ -122,9 +122,9 @@ both_rules : (c : Meaning) (r : Rows) (rule other : ℕ → Days → ℕ) → ov
 both_rules c r rule other = sym (sum_both (nurse_count c) (λ n. rule n (days_of_nurse r n)) (λ n. other n (days_of_nurse r n)))
 
 -- in numbers 698,181,120, and 16,512,565 for each of 400 nurses: 7,303,207,120
-pub penalty-within : (c : Meaning) (r : Rows) → HasSmallNumbers c → shift_count c ≤ most_shifts → skill_count c ≤ most_skills → week_count c ≤ most_weeks → nurse_count c ≤ most_nurses → fits_case c r ≡ true → total_cost (costs_of c r) < penalty_room
+pub penalty-at_most : (c : Meaning) (r : Rows) → HasSmallNumbers c → shift_count c ≤ most_shifts → skill_count c ≤ most_skills → week_count c ≤ most_weeks → nurse_count c ≤ most_nurses → fits_case c r ≡ true → total_cost (costs_of c r) ≤ most_penalty
 unfolding costs_of
-penalty-within c r small shifts skills weeks nurses fit =
+penalty-at_most c r small shifts skills weeks nurses fit =
     let few : (n : ℕ) → n < nurse_count c → length (days_of_nurse r n) ≤ most_days = λ n h. omega (arith, days_of_nurse-length c r n fit h) in
     let working : ℕ → Days → ℕ = λ n days. working_run_cost c n days + shift_run_cost c n days in
     let together = both_rules c r working (free_run_cost c) in
@@ -135,3 +135,6 @@ penalty-within c r small shifts skills weeks nurses fit =
     let weekends = over_nurses-within c r (weekends_cost c) most_weekends (λ n days d. weekends_cost-within c n days small d) few in
     let wishes = over_nurses-within c r (wish_cost c) most_wishes (λ n days d. wish_cost-within c n days small d) few in
     omega (arith, staffing_cost-within c r small shifts skills (omega arith), together, runs, off_requests, splits, total, weekends, wishes)
+
+pub penalty-within : (c : Meaning) (r : Rows) → HasSmallNumbers c → shift_count c ≤ most_shifts → skill_count c ≤ most_skills → week_count c ≤ most_weeks → nurse_count c ≤ most_nurses → fits_case c r ≡ true → total_cost (costs_of c r) < penalty_room
+penalty-within c r small shifts skills weeks nurses fit = omega (arith, penalty-at_most c r small shifts skills weeks nurses fit)

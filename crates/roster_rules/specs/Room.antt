@@ -7,6 +7,10 @@ use Rattle.roster_rules.specs.Weights.{staffing_weight}
 abbrev pub most_staffing : ℕ
 most_staffing = most_days * most_shifts * most_skills * staffing_weight * most_small
 
--- each penalty is below 2^33
+-- no penalty is above that
+abbrev pub most_penalty : ℕ
+most_penalty = 7307273120
+
+-- each is below 2^33
 abbrev pub penalty_room : ℕ
 penalty_room = 8589934592

@@ -1,0 +1,8 @@
+use Rattle.roster_rules.specs.Penalties.{penalty}
+use Rattle.roster_rules.proofs.Bounds.{penalty-at_most, penalty-within}
+use Rattle.roster_laws.proofs.bounds.penalties_are_low.Goals as goal
+
+pub returns : goal.returns
+unfolding penalty
+returns c m small shifts skills weeks nurses r fits =
+    (penalty-at_most m r small shifts skills weeks nurses fits, penalty-within m r small shifts skills weeks nurses fits)
