@@ -69,6 +69,7 @@ status_listed (fault.Case (case.H1 number day) nurse) = (1, lit< tt, refl)
 status_listed (fault.Hard f names) = (1, lit< tt, refl)
 status_listed (fault.Nurse name) = (1, lit< tt, refl)
 status_listed fault.Memory = (3, lit< tt, refl)
+status_listed fault.Workspace = (3, lit< tt, refl)
 status_listed fault.Output = (2, lit< tt, refl)
 status_listed fault.Log = (2, lit< tt, refl)
 
@@ -127,6 +128,7 @@ refused_reading output log command source (fault.Case f nurse) h o l =
 refused_reading output log command source (fault.Hard f names) h o l = absurd h
 refused_reading output log command source (fault.Nurse name) h o l = absurd h
 refused_reading output log command source fault.Memory h o l = absurd h
+refused_reading output log command source fault.Workspace h o l = absurd h
 refused_reading output log command source fault.Output h o l = absurd h
 refused_reading output log command source fault.Log h o l = absurd h
 
@@ -146,6 +148,7 @@ module _ {W L : Type 0} (output : Output W) (log : Output L) (command : Command)
     as_taken (Some (fault.Hard f names)) h o l = record { bundle = i.bundle; spelled = says.spelled; report = p; is = is; ends = record { taken = says.taken; ends = h }; left = o; logged = l }
     as_taken (Some (fault.Nurse name)) h o l = record { bundle = i.bundle; spelled = says.spelled; report = p; is = is; ends = record { taken = says.taken; ends = h }; left = o; logged = l }
     as_taken (Some fault.Memory) h o l = record { bundle = i.bundle; spelled = says.spelled; report = p; is = is; ends = record { taken = says.taken; ends = h }; left = o; logged = l }
+    as_taken (Some fault.Workspace) h o l = record { bundle = i.bundle; spelled = says.spelled; report = p; is = is; ends = record { taken = says.taken; ends = h }; left = o; logged = l }
     as_taken (Some fault.Output) h o l = record { bundle = i.bundle; spelled = says.spelled; report = p; is = is; ends = record { taken = says.taken; ends = h }; left = o; logged = l }
     as_taken (Some fault.Log) h o l = record { bundle = i.bundle; spelled = says.spelled; report = p; is = is; ends = record { taken = says.taken; ends = h }; left = o; logged = l }
 
@@ -164,6 +167,7 @@ written_ends output p source b (Err (fault.Case f nurse)) allowed ok err = absur
 written_ends output p source b (Err (fault.Hard f names)) allowed ok err = absurd err
 written_ends output p source b (Err (fault.Nurse name)) allowed ok err = absurd err
 written_ends output p source b (Err fault.Memory) allowed ok err = absurd err
+written_ends output p source b (Err fault.Workspace) allowed ok err = absurd err
 written_ends output p source b (Err fault.Output) allowed ok err = record { ends = allowed; left = err }
 written_ends output p source b (Err fault.Log) allowed ok err = absurd err
 
@@ -176,6 +180,7 @@ written_log output log told text (Err (fault.Case f nurse)) logged err = absurd 
 written_log output log told text (Err (fault.Hard f names)) logged err = absurd err
 written_log output log told text (Err (fault.Nurse name)) logged err = absurd err
 written_log output log told text (Err fault.Memory) logged err = absurd err
+written_log output log told text (Err fault.Workspace) logged err = absurd err
 written_log output log told text (Err fault.Output) logged err = logged
 written_log output log told text (Err fault.Log) logged err = absurd err
 
@@ -193,6 +198,7 @@ silent_log output log p source b (Some (fault.Case f nurse)) none e same = same
 silent_log output log p source b (Some (fault.Hard f names)) none e same = same
 silent_log output log p source b (Some (fault.Nurse name)) none e same = same
 silent_log output log p source b (Some fault.Memory) none e same = same
+silent_log output log p source b (Some fault.Workspace) none e same = same
 silent_log output log p source b (Some fault.Output) none e same = rw none same
 silent_log output log p source b (Some fault.Log) none e same = absurd (true≢false (sym e.ends.1 ∙ ap is_some none))
 
@@ -204,6 +210,7 @@ unheld_ends output p source b (fault.Case f nurse) held h same = absurd h
 unheld_ends output p source b (fault.Hard f names) held h same = record { ends = h; left = same }
 unheld_ends output p source b (fault.Nurse name) held h same = absurd h
 unheld_ends output p source b fault.Memory held h same = record { ends = (h, held); left = same }
+unheld_ends output p source b fault.Workspace held h same = absurd h
 unheld_ends output p source b fault.Output held h same = absurd h
 unheld_ends output p source b fault.Log held h same = absurd h
 
@@ -215,5 +222,6 @@ unheld_log log told source b broken (fault.Case f nurse) h same = absurd h
 unheld_log log told source b broken (fault.Hard f names) h same = same
 unheld_log log told source b broken (fault.Nurse name) h same = absurd h
 unheld_log log told source b broken fault.Memory h same = same
+unheld_log log told source b broken fault.Workspace h same = absurd h
 unheld_log log told source b broken fault.Output h same = absurd h
 unheld_log log told source b broken fault.Log h same = absurd h

@@ -66,6 +66,7 @@ module _ (rounds from : ℕ) (c : Meaning) (r : Rows) where
     bound_ends bound (Err (fault.Hard f names)) kept h ok err = absurd err
     bound_ends bound (Err (fault.Nurse name)) kept h ok err = absurd err
     bound_ends bound (Err fault.Memory) kept h ok err = absurd err
+    bound_ends bound (Err fault.Workspace) kept h ok err = absurd err
     bound_ends bound (Err fault.Log) kept h ok err = absurd err
     bound_ends bound (Err fault.Output) kept h ok err = record {
       report = bound_report h.lines c r;

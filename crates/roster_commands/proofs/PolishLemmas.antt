@@ -70,6 +70,7 @@ module _ (searches from : ℕ) (c : Meaning) (r : Rows) where
     polish_ends few fewer last told (Err (fault.Hard f names)) kept h ok err = absurd err
     polish_ends few fewer last told (Err (fault.Nurse name)) kept h ok err = absurd err
     polish_ends few fewer last told (Err fault.Memory) kept h ok err = absurd err
+    polish_ends few fewer last told (Err fault.Workspace) kept h ok err = absurd err
     polish_ends few fewer last told (Err fault.Log) kept h ok err = absurd err
     polish_ends few fewer last told (Err fault.Output) kept h ok err = record {
       report = polish_report last h.text c r;

@@ -61,7 +61,9 @@ module _ {R W L : Type 0} (input : Input R) (output : Output W) (log : Output L)
   cause (fault.Nurse name) (inl h) = absurd h.0
   cause (fault.Nurse name) (inr h) = of_none (λ e. cc) h.read.failures h.answers.left
   cause fault.Memory (inl h) = absurd h.0
+  cause fault.Workspace (inl h) = absurd h.0
   cause fault.Memory (inr h) = of_none (λ e. cc) h.read.failures h.answers.left
+  cause fault.Workspace (inr h) = of_none (λ e. cc) h.read.failures h.answers.left
   cause fault.Output (inl h) = absurd h.0
   cause fault.Output (inr h) = of_output refl h.read.failures h.answers.left.stops.failures (λ silent. subst (Logged log) (silent _ _ _ h.answers.is) h.answers.logged)
   cause fault.Log (inl h) = absurd h.0

@@ -107,6 +107,7 @@ Leaves output text (Some (fault.Case f nurse)) = Untouched output
 Leaves output text (Some (fault.Hard f names)) = Untouched output
 Leaves output text (Some (fault.Nurse name)) = Untouched output
 Leaves output text (Some fault.Memory) = Untouched output
+Leaves output text (Some fault.Workspace) = Untouched output
 Leaves output text (Some fault.Log) = Untouched output
 
 -- what it leaves of its log before a fault is told: all, where it is done or the output failed; some, where the log failed;
@@ -120,6 +121,7 @@ LeavesLog log told (Some (fault.Case f nurse)) = Untouched log
 LeavesLog log told (Some (fault.Hard f names)) = Untouched log
 LeavesLog log told (Some (fault.Nurse name)) = Untouched log
 LeavesLog log told (Some fault.Memory) = Untouched log
+LeavesLog log told (Some fault.Workspace) = Untouched log
 
 -- ---- the bytes
 
@@ -244,6 +246,7 @@ IsOutcomeOf p bytes b (Some fault.Log) = IsAllowed p × (is_some p.log ≡ true)
 IsOutcomeOf p bytes b (Some (fault.Hard f names)) = IsFirstBreach bytes b p.broken (fault.Hard f names)
 IsOutcomeOf p bytes b (Some (fault.Nurse name)) = (p.broken ≡ []) × (p.unknown ≡ Some name.now)
 IsOutcomeOf p bytes b (Some fault.Memory) = (p.broken ≡ []) × (p.is_held ≡ true)
+IsOutcomeOf p bytes b (Some fault.Workspace) = IsAllowed p × (p.is_held ≡ true)
 IsOutcomeOf p bytes b (Some (fault.Text f)) = ⊥
 IsOutcomeOf p bytes b (Some (fault.Case f nurse)) = ⊥
 

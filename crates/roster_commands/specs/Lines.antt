@@ -29,6 +29,7 @@ fault_line (fault.Case f nurse) = case_line f nurse.now
 fault_line (fault.Hard f names) = hard_line f names
 fault_line (fault.Nurse name) = codes "unknown nurse " ++ name.now ++ codes "\n"
 fault_line fault.Memory = memory_line
+fault_line fault.Workspace = memory_line
 fault_line fault.Output = output_line
 fault_line fault.Log = []
 
@@ -55,5 +56,6 @@ status_of (fault.Case f nurse) = case_status f
 status_of (fault.Hard f names) = 1
 status_of (fault.Nurse name) = 1
 status_of fault.Memory = 4
+status_of fault.Workspace = 4
 status_of fault.Output = 3
 status_of fault.Log = 3

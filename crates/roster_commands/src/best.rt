@@ -45,7 +45,7 @@ pub(crate) fn report_best<'a, Out: Write, Log: Write>(
         return Err(Fault::Nurse(name));
     };
     let Ok(mut workspace) = Workspace::for_case(alloc, held.case()) else {
-        return Err(Fault::Memory);
+        return Err(Fault::Workspace);
     };
     search_has_room(held.case(), nurse);
     match put_best_row(

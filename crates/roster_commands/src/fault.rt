@@ -16,8 +16,10 @@ pub(crate) enum Fault<'a> {
     Hard(HardFault, BreachNames<'a>),
     /// The case has no nurse of this name, for whom the command is.
     Nurse(&'a [u8]),
-    /// A growth was refused for what a command keeps of a roster that it holds.
+    /// A growth was refused for what a command keeps of a roster that it holds, or for its rounds.
     Memory,
+    /// A growth was refused for the search of a nurse's row, once it is known whose.
+    Workspace,
     /// The output failed.
     Output,
     /// The log failed, inside what the command tells of its work.

@@ -41,7 +41,10 @@ fn status_of(fault: Fault<'_>) -> u8
     ensures { result ≡ status_of fault.entry }
 {
     match fault {
-        Fault::Text(TextFault::Memory) | Fault::Case(CaseFault::Memory, _) | Fault::Memory => 4,
+        Fault::Text(TextFault::Memory)
+        | Fault::Case(CaseFault::Memory, _)
+        | Fault::Memory
+        | Fault::Workspace => 4,
         Fault::Text(TextFault::ReadFailed) | Fault::Output | Fault::Log => 3,
         Fault::Text(_) | Fault::Case(_, _) | Fault::Hard(_, _) | Fault::Nurse(_) => 1,
     }
@@ -64,7 +67,7 @@ fn write_line<Log: Write>(fault: Fault<'_>, log: &mut Watch<Log>) -> Result<(), 
                 Piece::Bytes(b"\n"),
             ],
         ),
-        Fault::Memory => write_no_memory(log),
+        Fault::Memory | Fault::Workspace => write_no_memory(log),
         Fault::Output => write_pieces(log, &[Piece::Bytes(b"write failed\n")]),
         Fault::Log => Ok(()),
     }

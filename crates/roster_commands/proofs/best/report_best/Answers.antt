@@ -31,9 +31,11 @@ returns-in_err-held-clause-logged g c =
 
 pub returns-in_default-for_case-clause-ends : goal.returns-in_default-for_case-clause-ends
 returns-in_default-for_case-clause-ends g c =
-    let output : Output g.row.Out.Denot = record { contents = g.Out.Write.contents; before = c.args.output.now; after = c.args.output.now } in
+    let of_case : Meaning → HeldRoster = λ m. record { case = m; roster = c.args.instance.roster } in
+    let held = c.in_ok-held.ensures.held ∙ ap of_case c.new-meter.ensures.same in
     let kept = subst (λ (m : Meaning). hard_faults m c.args.instance.roster ≡ []) c.new-meter.ensures.same c.in_ok-held.ensures.kept in
-    unheld_ends output (best_report c.args.name.now c.args.from c.args.instance.case c.args.instance.roster) c.args.source.now c.args.instance.bundle fault.Memory refl kept refl
+    let found = c.in-Some.ensures.found ∙ ap (λ (m : Meaning). find_name m.nurse_names c.args.name.now) (c.case.ensures ∙ ap (λ (h : HeldRoster). h.case) held) in
+    record { ends = (record { kept = kept; known = known c.args.instance.case c.args.name.now c.in-Some.nurse found }, refl); left = refl }
 
 pub returns-clause-ends : goal.returns-clause-ends
 returns-clause-ends g c =
