@@ -114,7 +114,8 @@ impl Held {
         &self.roster
     }
 
-    /// The case and the roster, as they are held.
+    /// The case and the roster, as they are held. It takes the held roster itself: so who is lent one, as a search is, never has its case
+    /// for itself alone, and can make no meter of it.
     pub fn into_parts(self) -> (Case, Roster)
         ensures case { result.0 ≡ self.case }
         ensures roster { result.1 ≡ self.roster }
