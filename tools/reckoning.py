@@ -211,9 +211,9 @@ def with_row(roster, number, row):
 # ---- a floor under all rosters
 
 
-def first_worths(case):
-    """What a nurse at work is paid in the first round, by shift and skill, on each day: 30 where any are asked for."""
-    return {at: [30 if max(need) else 0 for need in of_days] for at, of_days in case.needs.items()}
+def even_worths(case, worth):
+    """What a nurse at work is paid, by shift and skill, on each day: so much where any are asked for."""
+    return {at: [worth if max(need) else 0 for need in of_days] for at, of_days in case.needs.items()}
 
 
 def place_floor(need, worth):
@@ -227,35 +227,138 @@ def levelled(case):
     return case._replace(contracts=contracts, shifts=[it._replace(limits=Limits(it.limits.least, 0)) for it in case.shifts])
 
 
+def total_with(case, number, row):
+    """The assignments of a nurse with a row, and the history's."""
+    return case.nurses[number].history.assignments + sum(map(bool, row))
+
+
 def first_pay(case, roster, number):
     """What a nurse is paid for an assignment in the first round: more where the roster's are too few, nothing where they are too many."""
-    nurse = case.nurses[number]
-    limits, total = case.contracts[nurse.contract].assignments, nurse.history.assignments + sum(map(bool, roster[number]))
+    limits, total = case.contracts[case.nurses[number].contract].assignments, total_with(case, number, roster[number])
     return 40 if total < limits.least else 0 if total > limits.greatest else 20
 
 
-def nurse_floor(case, roster, number, worths, first_week=0):
+def nurse_floor(case, roster, number, worths, pay, first_week=0):
     """The least that a nurse costs less what her places pay: over all rows with her skills and without a forbidden succession, where
     each assignment costs alike and is paid for, and over all totals that she can get, which cost what they do less that. On the days
-    before a week she does what the roster says."""
-    nurse, pay, days = case.nurses[number], first_pay(case, roster, number), len(days_of(case))
+    before a week she does what the roster says. And the first of the cheapest of these rows."""
+    nurse, days = case.nurses[number], len(days_of(case))
     choices = [None, *((shift, skill) for shift in range(len(case.shifts)) for skill in sorted(nurse.skills))]
     worth = lambda day, choice: worths[choice][day] if choice in worths else 0
     price = lambda day, choice: request_cost(case, number, day, choice) - worth(day, choice) - (15 + pay) * bool(choice)
     free = lambda day: choices if day // 7 >= first_week else [roster[number][day]]
-    row = cheapest_row(levelled(case), number, [[(it, price(day, it)) for it in free(day)] for day in days_of(case)])[0]
+    cost, row = cheapest_row(levelled(case), number, [[(it, price(day, it)) for it in free(day)] for day in days_of(case)])
     before = nurse.history.assignments
     totals = range(before, before + days + 1)
     least = min(total_costs(case.contracts[nurse.contract], it, 0)["S6"] - 20 * it + pay * (it - before) for it in totals)
-    return row + least
+    return cost + least, row
 
 
-def floor(case, roster, worths, first_week=0):
+def floor(case, roster, worths, pays, first_week=0):
     """No roster costs less that keeps the hard rules and the days before a week, as each penalty is a multiple of 5: what is paid to
-    the nurses is what they get."""
+    the nurses is what they get. And the rows by which it is reckoned."""
     places = sum(place_floor(need, worth) for at in case.needs for need, worth in zip(case.needs[at], worths[at]))
-    nurses = sum(nurse_floor(case, roster, number, worths, first_week) for number in range(len(case.nurses)))
-    return 5 * -(-max(0, places + nurses) // 5)
+    nurses = [nurse_floor(case, roster, number, worths, pay, first_week) for number, pay in enumerate(pays)]
+    return 5 * -(-max(0, places + sum(least for least, _ in nurses)) // 5), [row for _, row in nurses]
+
+
+# ---- how worths and pays go on from round to round: the program's own affair, told here for its tests. Both are held in 256ths of a
+# point. What is wanted at a place and what is there, and a nurse's assignments that are wanted and those that there are, are sums
+# that fade.
+
+
+def points(fine):
+    return (fine + 128) // 256
+
+
+def faded(before, more):
+    return min(256 * more + before * 179 // 256, 1 << 20)
+
+
+def greatest_step(made, rounds):
+    """18 points by the third power of the share of the rounds that are left, each time rounded down."""
+    step = 18 * 256
+    for _ in range(3):
+        step = step * (rounds - made) // rounds
+    return step
+
+
+def shares(wanted, had, step):
+    """For each thing its share of a step: the whole step where wanted and had are farthest apart, or one apart at most."""
+    apart = {it: abs(wanted[it] - had[it]) for it in wanted}
+    return {it: min(apart[it] * step // max(1, *apart.values()), step) for it in wanted}
+
+
+def next_worth(fine, wanted, had, share):
+    """More where nurses are wanted, less where there are too many: by 1000 points at most, and by one 256th more downwards."""
+    return min(fine + share, 256_000) if had < wanted else max(0, fine - share - 1) if wanted < had else fine
+
+
+def next_pay(fine, wanted, had, share):
+    """More where assignments are wanted, less where there are too many. It halts at 0, 20 and 40 points."""
+    if had < wanted:
+        return min(fine + share, 5120 if fine < 5120 else 10240)
+    return max(fine - share, 5120 if fine > 5120 else 0) if wanted < had else fine
+
+
+class Moves:
+    """The worths of the places and the pays of the nurses of a run, with what moves them."""
+
+    def __init__(self, case, roster, rounds):
+        self.case, self.rounds, self.made = case, rounds, 0
+        self.places = list(itertools.product(range(len(case.shifts)), range(len(case.skills)), days_of(case)))
+        self.pays = [256 * first_pay(case, roster, number) for number in range(len(case.nurses))]
+        self.set_worths(30)
+        self.wanted, self.had = dict.fromkeys(self.places, 0), dict.fromkeys(self.places, 0)
+        self.wanted_of, self.had_of = dict.fromkeys(range(len(self.pays)), 0), dict.fromkeys(range(len(self.pays)), 0)
+
+    def need(self, shift, skill, day):
+        return self.case.needs[shift, skill][day] if (shift, skill) in self.case.needs else Limits(0, 0)
+
+    def set_worths(self, worth):
+        self.worths = {it: 256 * worth if max(self.need(*it)) else 0 for it in self.places}
+
+    def in_points(self):
+        worths = {at: [points(self.worths[(*at, day)]) for day in days_of(self.case)] for at in self.case.needs}
+        return worths, [min(40, points(it)) for it in self.pays]
+
+    def learn(self, rows):
+        """After a round with these rows."""
+        for it in self.places:
+            need = self.need(*it)
+            wanted = max(need) if points(self.worths[it]) <= 30 else need.least
+            self.wanted[it] = faded(self.wanted[it], wanted)
+            self.had[it] = faded(self.had[it], sum(row[it[2]] == it[:2] for row in rows))
+        for number, row in enumerate(rows):
+            limits, had = self.case.contracts[self.case.nurses[number].contract].assignments, total_with(self.case, number, row)
+            fine = self.pays[number]
+            wanted = limits.greatest if fine < 5120 else limits.least if fine > 5120 else min(max(had, limits.least), limits.greatest)
+            self.wanted_of[number] = faded(self.wanted_of[number], wanted)
+            self.had_of[number] = faded(self.had_of[number], had)
+
+    def go_on(self, rows):
+        """To the next round. After the first the worths begin again at 15."""
+        self.made += 1
+        if self.made == 1:
+            self.set_worths(15)
+            return
+        self.learn(rows)
+        step = greatest_step(self.made, self.rounds)
+        share, share_of = shares(self.wanted, self.had, step), shares(self.wanted_of, self.had_of, step // 9 * 2)
+        for it in self.places:
+            self.worths[it] = next_worth(self.worths[it], self.wanted[it], self.had[it], share[it])
+        for it in share_of:
+            self.pays[it] = next_pay(self.pays[it], self.wanted_of[it], self.had_of[it], share_of[it])
+
+
+def floors(case, roster, rounds, first_week=0):
+    """What each of so many rounds reaches."""
+    moves, found = Moves(case, roster, rounds), []
+    for _ in range(rounds):
+        reached, rows = floor(case, roster, *moves.in_points(), first_week)
+        found.append(reached)
+        moves.go_on(rows)
+    return found
 
 
 # ---- what the commands answer: the output and the log
@@ -308,10 +411,13 @@ def improve(case, roster, rounds, first_week=0):
 
 
 def bound(case, roster, rounds, first_week=0):
-    """What 'bound' answers with no round or with one. How the worths go on after that is the program's own affair."""
-    reached = floor(case, roster, first_worths(case), first_week) if rounds else 0
-    log = [f"start {penalty(case, roster)}", *([f"round 1 {reached}"] if reached else [])]
-    return f"roster {penalty(case, roster)}\nbound {reached}\n", "".join(f"{it}\n" for it in log)
+    """What 'bound' answers after so many rounds."""
+    best, log = 0, [f"start {penalty(case, roster)}"]
+    for number, reached in enumerate(floors(case, roster, rounds, first_week), 1):
+        if reached > best:
+            best = reached
+            log.append(f"round {number} {best}")
+    return f"roster {penalty(case, roster)}\nbound {best}\n", "".join(f"{it}\n" for it in log)
 
 
 # ---- texts of which nothing is refused
