@@ -1,17 +1,20 @@
 -- A run that raises a floor: the lines so far are sent.
-use Rattle.std.proofs.Common.{◌≡◌, ◌∙◌, ◌+◌, ◌<◌, ◌≤◌, ℕ, List, [], ◌∷◌, ◌++◌, Option, ap, append_assoc, append-nil, arith, codes, flat_map, length, refl, subst, sym, zero-add}
+use Rattle.std.proofs.Common.{◌≡◌, ◌∙◌, ◌+◌, ◌<◌, ◌≤◌, ◌⊎◌, ℕ, zero, suc, Bool, true, false, List, [], ◌∷◌, ◌++◌, Option, ap, append_assoc, append-nil, arith, codes, flat_map, if◌then◌else◌, inl, inr, length, nat_lt, refl, subst, sym, zero-add}
+use Rattle.std.proofs.lemmas.Bool.{cases_lt}
 use Rattle.std.proofs.lemmas.List.Concat.{flat_map-append}
 use Rattle.std.proofs.lemmas.List.Elements.{All-append, All-cons, All-nil}
 use Rattle.roster_text.specs.declared.fault.WriteFault.{WriteFault}
 use Rattle.roster_text.specs.Io.{BreaksIn, Sends, StopsAt, Watched, saturated, sent_of}
-use Rattle.roster_text.proofs.Texts.{Sends-append, StopsAt-after}
-use Rattle.roster_instance.specs.Meaning.{Meaning}
-use Rattle.roster_instance.specs.Rosters.{Rows}
-use Rattle.roster_rules.specs.Penalties.{penalty}
+use Rattle.roster_text.proofs.Texts.{Sends-append, StopsAt-after, StopsAt-append}
+use Rattle.roster_instance.specs.Meaning.{Meaning, contract_of}
+use Rattle.roster_instance.specs.Rosters.{Rows, days_of_nurse}
+use Rattle.roster_rules.specs.Penalties.{penalty, total_of}
+use Rattle.roster_rules.specs.Weights.{assignment_weight, staffing_weight}
 use Rattle.roster_rules.specs.Improver.{line}
 use Rattle.roster_log.specs.declared.fault.LogFault.TheVariants.{LogFailed}
-use Rattle.roster_bound.specs.Floors.{FloorLine, FloorLogStops, IsFloorLog, RaisesFloor, Rises, floor_line, floor_text, last_line, no_line}
-use Rattle.roster_bound.specs.Worths.{IsLowerBound}
+use Rattle.roster_bound.specs.Floors.{FloorLine, FloorLogStops, IsFloorLog, IsRoundBound, RaisesFloor, Rises, floor_line, floor_text, last_line, no_line}
+use Rattle.roster_bound.specs.Worths.{ArePays, AreWorths, IsLowerBound, NursePays, PlaceWorths, asks_for_nurses, first_bound, first_pays, first_worths, levelled_bound, most_pay, most_worth}
+use Rattle.roster_bound.proofs.Duality.{no_roster_below_level}
 
 -- ---- one line more
 
@@ -27,6 +30,95 @@ rises_more before (y ∷ xs) x rises later more = (rises.0, rises.1, rises_more 
 
 pub first_text : (c : Meaning) (given : Rows) (total : ℕ) → total ≡ penalty c given → line (codes "start") total ≡ floor_text c given []
 first_text c given total e = ap (line (codes "start")) e ∙ sym (append-nil (line (codes "start") (penalty c given)))
+
+-- ---- what a round tells, after so many others
+
+pub record Tells (c : Meaning) (from : ℕ) (given : Rows) (made bound : ℕ) : Type 0 where
+  pub worths : PlaceWorths
+  pub pays : NursePays
+  pub are_worths : AreWorths worths
+  pub are_pays : ArePays pays
+  pub bound_is : bound ≡ levelled_bound c from given worths pays
+  pub first : made ≡ 0 → bound ≡ first_bound c from given
+
+module _ (c : Meaning) (from : ℕ) (given : Rows) where
+  pub tells_below : (made bound : ℕ) → Tells c from given made bound → IsLowerBound c from given bound
+  tells_below made bound t = subst (IsLowerBound c from given) (sym t.bound_is) (no_roster_below_level c from given t.worths t.are_worths t.pays t.are_pays)
+
+  -- the first round
+  even_within : (asks : Bool) → (if asks then staffing_weight else 0) ≤ most_worth
+  even_within true = omega arith
+  even_within false = omega arith
+
+  pay_within : (few many : Bool) → (if few then most_pay else if many then 0 else assignment_weight) ≤ most_pay
+  pay_within true many = omega arith
+  pay_within false true = omega arith
+  pay_within false false = omega arith
+
+  first_tells : Tells c from given 0 (first_bound c from given)
+  first_tells = record {
+    worths = first_worths c;
+    pays = first_pays c given;
+    are_worths = λ d s k. even_within (asks_for_nurses c d s k);
+    are_pays = λ n. pay_within (nat_lt (total_of c n (days_of_nurse given n)) (contract_of c n).total.least) (nat_lt (contract_of c n).total.greatest (total_of c n (days_of_nurse given n)));
+    bound_is = refl;
+    first = λ e. refl;
+  }
+
+  -- ---- the log of no round, of later ones, and of one more
+
+  no_log : IsFloorLog c from given 0 []
+  no_log = record { floors = All-nil (λ x. IsLowerBound c from given x.bound); each = All-nil (IsRoundBound c from given); rises = tt; within = omega arith; first = λ some. absurd (omega (arith, some)) }
+
+  later_log : (made next : ℕ) (lines : List FloorLine) → made ≤ next → (0 < next → 0 < made) → IsFloorLog c from given made lines → IsFloorLog c from given next lines
+  later_log made next lines h some p =
+      let within : (last_line no_line lines).round ≤ made = p.within in
+      record { floors = p.floors; each = p.each; rises = p.rises; within = omega arith; first = λ any. p.first (some any) }
+
+  -- a round that didn't raise the floor
+  same_log : (made best bound : ℕ) (lines : List FloorLine) → IsFloorLog c from given made lines → best ≡ (last_line no_line lines).bound → bound ≤ best → Tells c from given made bound → IsFloorLog c from given (made + 1) lines
+  same_log made best bound lines p best_is no_more t =
+      let within : (last_line no_line lines).round ≤ made = p.within in
+      record { floors = p.floors; each = p.each; rises = p.rises; within = omega arith; first = λ any. reached (cases_lt 0 made) }
+    where
+      reached : (0 < made) ⊎ (made ≤ 0) → first_bound c from given ≤ (last_line no_line lines).bound
+      reached (inl some) = p.first some
+      reached (inr none) = omega (arith, t.first (omega (arith, none)), no_more, best_is)
+
+  -- one that raised it
+  no_less : (made best bound : ℕ) → (0 < made → first_bound c from given ≤ best) → best < bound → Tells c from given made bound → first_bound c from given ≤ bound
+  no_less made best bound reached more t = go (cases_lt 0 made)
+    where
+      go : (0 < made) ⊎ (made ≤ 0) → first_bound c from given ≤ bound
+      go (inl some) = omega (arith, reached some, more)
+      go (inr none) = omega (arith, t.first (omega (arith, none)))
+
+  more_log : (made best bound : ℕ) (lines : List FloorLine) → IsFloorLog c from given made lines → best ≡ (last_line no_line lines).bound → best < bound → Tells c from given made bound
+      → IsFloorLog c from given (made + 1) (lines ++ record { round = made + 1; bound = bound } ∷ [])
+  more_log made best bound lines p best_is more t =
+      let x : FloorLine = record { round = made + 1; bound = bound } in
+      let within : (last_line no_line lines).round ≤ made = p.within in
+      let below : IsLowerBound c from given bound = tells_below made bound t in
+      let above : first_bound c from given ≤ bound = no_less made best bound (λ some. omega (arith, p.first some, best_is)) more t in
+      let line : IsRoundBound c from given x = record { worths = t.worths; pays = t.pays; are_worths = t.are_worths; are_pays = t.are_pays; bound_is = t.bound_is; first = λ one. t.first (omega (arith, one)); no_less = above } in
+      record {
+        floors = All-append (λ y. IsLowerBound c from given y.bound) lines (x ∷ []) p.floors (All-cons (λ y. IsLowerBound c from given y.bound) x [] below (All-nil (λ y. IsLowerBound c from given y.bound)));
+        each = All-append (IsRoundBound c from given) lines (x ∷ []) p.each (All-cons (IsRoundBound c from given) x [] line (All-nil (IsRoundBound c from given)));
+        rises = rises_more no_line lines x p.rises (omega arith) (omega arith);
+        within = omega (arith, ap (λ (y : FloorLine). y.round) (last_is no_line lines x));
+        first = λ any. omega (arith, above, ap (λ (y : FloorLine). y.bound) (last_is no_line lines x));
+      }
+
+  -- some log there is
+  pub some_log : (rounds : ℕ) → (lines : List FloorLine) × IsFloorLog c from given rounds lines
+  some_log zero = ([], no_log)
+  some_log (suc n) = go (cases_lt 0 (first_bound c from given))
+    where
+      go : (0 < first_bound c from given) ⊎ (first_bound c from given ≤ 0) → (lines : List FloorLine) × IsFloorLog c from given (suc n) lines
+      go (inl some) =
+          let lines : List FloorLine = record { round = 0 + 1; bound = first_bound c from given } ∷ [] in
+          (lines, later_log (0 + 1) (suc n) lines (omega arith) (λ any. omega arith) (more_log 0 0 (first_bound c from given) [] no_log refl some first_tells))
+      go (inr none) = ([], later_log (0 + 1) (suc n) [] (omega arith) (λ any. omega arith) (same_log 0 0 (first_bound c from given) [] no_log refl none first_tells))
 
 -- ---- the rounds made so far
 
@@ -47,76 +139,60 @@ module _ {W : Type 0} (contents : W → Option (List ℕ)) (c : Meaning) (from :
       ∙ ap (λ text. first_line ++ text) (ap (λ text. flat_map floor_line xs ++ text) (sym (append-nil (floor_line x))) ∙ sym (flat_map-append floor_line xs (x ∷ [])))
 
   pub Going-start : (new : Watched W) (sent : ℕ) → Sends contents old new 0 sent (floor_text c given []) → Going contents c from given old new 0 sent 0
-  Going-start new sent p = record {
-    lines = [];
-    is_log = record { floors = All-nil (λ x. IsLowerBound c from given x.bound); rises = tt; within = omega arith };
-    sends = p;
-    best_is = refl;
-  }
+  Going-start new sent p = record { lines = []; is_log = no_log c from given; sends = p; best_is = refl }
 
+  -- the first line broke off: whatever would have come after it
   pub start_breaks : (rounds : ℕ) (new : Watched W) (fault : WriteFault) → BreaksIn contents old new 0 (floor_text c given []) fault → FloorLogStops contents c from given rounds old new (LogFailed (sent_of fault))
-  start_breaks rounds new fault p = record {
-    lines = [];
-    is_log = record { floors = All-nil (λ x. IsLowerBound c from given x.bound); rises = tt; within = omega arith };
-    sent = p.sent;
-    stops = p.stops;
-    counted = ap (λ f. LogFailed (sent_of f)) p.counted ∙ ap (λ n. LogFailed (saturated n)) (zero-add p.sent);
-  }
-
-  later_log : (made next : ℕ) (lines : List FloorLine) → made ≤ next → IsFloorLog c from given made lines → IsFloorLog c from given next lines
-  later_log made next lines h p = let within : (last_line no_line lines).round ≤ made = p.within in record { floors = p.floors; rises = p.rises; within = omega arith }
+  unfolding first_line
+  start_breaks rounds new fault p =
+      let some = some_log c from given rounds in
+      record {
+        lines = some.0;
+        is_log = some.1;
+        sent = p.sent;
+        stops = StopsAt-append contents old new (line (codes "start") (penalty c given)) (flat_map floor_line some.0) p.sent (subst (λ text. StopsAt contents old new text p.sent) (append-nil (line (codes "start") (penalty c given))) p.stops);
+        counted = ap (λ f. LogFailed (sent_of f)) p.counted ∙ ap (λ n. LogFailed (saturated n)) (zero-add p.sent);
+      }
 
   -- a round that didn't raise the floor
-  pub Going-same : (mid : Watched W) (made sent best : ℕ) → Going contents c from given old mid made sent best → Going contents c from given old mid (made + 1) sent best
-  Going-same mid made sent best p = record {
+  pub Going-same : (mid : Watched W) (made sent best bound : ℕ) → Going contents c from given old mid made sent best → bound ≤ best → Tells c from given made bound → Going contents c from given old mid (made + 1) sent best
+  Going-same mid made sent best bound p no_more t = record {
     lines = p.lines;
-    is_log = later_log made (made + 1) p.lines (omega arith) p.is_log;
+    is_log = same_log c from given made best bound p.lines p.is_log p.best_is no_more t;
     sends = p.sends;
     best_is = p.best_is;
   }
 
-  -- the lines with that of a round that raised it
-  more_log : (made best bound : ℕ) (lines : List FloorLine) → IsFloorLog c from given made lines → best ≡ (last_line no_line lines).bound → best < bound → IsLowerBound c from given bound
-      → IsFloorLog c from given (made + 1) (lines ++ record { round = made + 1; bound = bound } ∷ [])
-  more_log made best bound lines p best_is more below =
-      let x : FloorLine = record { round = made + 1; bound = bound } in
-      let within : (last_line no_line lines).round ≤ made = p.within in
-      record {
-        floors = All-append (λ y. IsLowerBound c from given y.bound) lines (x ∷ []) p.floors (All-cons (λ y. IsLowerBound c from given y.bound) x [] below (All-nil (λ y. IsLowerBound c from given y.bound)));
-        rises = rises_more no_line lines x p.rises (omega arith) (omega arith);
-        within = omega (arith, ap (λ (y : FloorLine). y.round) (last_is no_line lines x));
-      }
-
-  pub Going-raised : (mid new : Watched W) (made sent after best bound : ℕ) → Going contents c from given old mid made sent best → best < bound → IsLowerBound c from given bound
+  pub Going-raised : (mid new : Watched W) (made sent after best bound : ℕ) → Going contents c from given old mid made sent best → best < bound → Tells c from given made bound
       → Sends contents mid new sent after (floor_line (record { round = made + 1; bound = bound })) → Going contents c from given old new (made + 1) after bound
-  Going-raised mid new made sent after best bound p more below q =
+  Going-raised mid new made sent after best bound p more t q =
       let x : FloorLine = record { round = made + 1; bound = bound } in
       record {
         lines = p.lines ++ x ∷ [];
-        is_log = more_log made best bound p.lines p.is_log p.best_is more below;
+        is_log = more_log c from given made best bound p.lines p.is_log p.best_is more t;
         sends = subst (Sends contents old new 0 after) (text_more p.lines x) (Sends-append contents old mid new 0 sent after (floor_text c given p.lines) (floor_line x) p.sends q);
         best_is = sym (ap (λ (y : FloorLine). y.bound) (last_is no_line p.lines x));
       }
 
   -- its line broke off
-  pub raised_breaks : (rounds : ℕ) (mid new : Watched W) (made sent best bound : ℕ) (fault : WriteFault) → Going contents c from given old mid made sent best → made < rounds → best < bound → IsLowerBound c from given bound
+  pub raised_breaks : (rounds : ℕ) (mid new : Watched W) (made sent best bound : ℕ) (fault : WriteFault) → Going contents c from given old mid made sent best → made < rounds → best < bound → Tells c from given made bound
       → BreaksIn contents mid new sent (floor_line (record { round = made + 1; bound = bound })) fault → FloorLogStops contents c from given rounds old new (LogFailed (sent_of fault))
-  raised_breaks rounds mid new made sent best bound fault p inside more below q =
+  raised_breaks rounds mid new made sent best bound fault p inside more t q =
       let x : FloorLine = record { round = made + 1; bound = bound } in
       let front : sent ≡ saturated (0 + length (floor_text c given p.lines)) = p.sends.counted in
       let count : saturated (sent + q.sent) ≡ saturated (length (floor_text c given p.lines) + q.sent) = omega arith in
       record {
         lines = p.lines ++ x ∷ [];
-        is_log = later_log (made + 1) rounds (p.lines ++ x ∷ []) (omega arith) (more_log made best bound p.lines p.is_log p.best_is more below);
+        is_log = later_log c from given (made + 1) rounds (p.lines ++ x ∷ []) (omega arith) (λ any. omega arith) (more_log c from given made best bound p.lines p.is_log p.best_is more t);
         sent = length (floor_text c given p.lines) + q.sent;
         stops = subst (λ text. StopsAt contents old new text (length (floor_text c given p.lines) + q.sent)) (text_more p.lines x) (StopsAt-after contents old mid new (floor_text c given p.lines) (floor_line x) q.sent p.sends.writes q.stops);
         counted = ap (λ f. LogFailed (sent_of f)) q.counted ∙ ap LogFailed count;
       }
 
-  pub Going-end : (rounds : ℕ) (new : Watched W) (made sent best : ℕ) → Going contents c from given old new made sent best → made ≤ rounds → RaisesFloor contents c from given rounds old new best
-  Going-end rounds new made sent best p few = record {
+  pub Going-end : (rounds : ℕ) (new : Watched W) (made sent best : ℕ) → Going contents c from given old new made sent best → made ≤ rounds → rounds ≤ made → RaisesFloor contents c from given rounds old new best
+  Going-end rounds new made sent best p few all = record {
     lines = p.lines;
-    is_log = later_log made rounds p.lines few p.is_log;
+    is_log = later_log c from given made rounds p.lines few (λ some. omega (arith, some, all)) p.is_log;
     writes = p.sends.writes;
     bound_is = p.best_is;
   }

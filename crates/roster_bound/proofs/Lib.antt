@@ -4,5 +4,6 @@ pub mod Duality
 pub mod Among
 pub mod RowFloors
 pub mod Counted
+pub mod SameBounds
 pub mod FloorLogs
 mod Levels

@@ -7,7 +7,7 @@ use Rattle.roster_rules.specs.Penalties.{penalty}
 use Rattle.roster_rules.specs.Improver.{line}
 use Rattle.roster_log.specs.declared.fault.LogFault.{LogFault}
 use Rattle.roster_log.specs.declared.fault.LogFault.TheVariants.{LogFailed}
-use Rattle.roster_bound.specs.Worths.{IsLowerBound}
+use Rattle.roster_bound.specs.Worths.{ArePays, AreWorths, IsLowerBound, NursePays, PlaceWorths, first_bound, levelled_bound}
 
 -- a line of the log: a round, and the floor that it reached
 pub record FloorLine : Type 0 where
@@ -28,11 +28,24 @@ abbrev pub Rises : FloorLine → List FloorLine → Type 0
 Rises before [] = Unit {0}
 Rises before (x ∷ xs) = (before.round < x.round) × (before.bound < x.bound) × Rises x xs
 
--- each line's bound is a floor, greater than the one before, and no round is beyond the number of rounds
+-- a round's bound: that of some worths and pays, which aren't said but for the first round's; and no less than the first round's
+pub record IsRoundBound (c : Meaning) (from : ℕ) (given : Rows) (x : FloorLine) : Type 0 where
+  pub worths : PlaceWorths
+  pub pays : NursePays
+  pub are_worths : AreWorths worths
+  pub are_pays : ArePays pays
+  pub bound_is : x.bound ≡ levelled_bound c from given worths pays
+  pub first : x.round ≡ 1 → x.bound ≡ first_bound c from given
+  pub no_less : first_bound c from given ≤ x.bound
+
+-- each line has its round's bound, a floor, greater than the one before, and no round is beyond the number of rounds; with a round or
+-- more the last floor is no less than the first round's bound
 pub record IsFloorLog (c : Meaning) (from : ℕ) (given : Rows) (rounds : ℕ) (lines : List FloorLine) : Type 0 where
   pub floors : All (λ x. IsLowerBound c from given x.bound) lines
+  pub each : All (IsRoundBound c from given) lines
   pub rises : Rises no_line lines
   pub within : (last_line no_line lines).round ≤ rounds
+  pub first : 0 < rounds → first_bound c from given ≤ (last_line no_line lines).bound
 
 -- ---- the text: the penalty of the given roster, then each floor
 

@@ -1,19 +1,20 @@
 -- A floor under the penalty of every roster. A place is a day, a shift and a skill. It pays its worth to each nurse that works there:
 -- what the places pay is what the nurses earn, so that pay changes no penalty. But then each place and each nurse has a least cost of
 -- its own, and no roster costs less than all of these together (our own, by weak duality).
-use Rattle.std.specs.Prelude.{◌≡◌, ℕ, ◌+◌, ◌-◌, ◌*◌, ◌/◌, ◌≤◌, min, max, Bool, true, ◌&&◌, List, length, filter, Option}
+use Rattle.std.specs.Prelude.{◌≡◌, ℕ, ◌+◌, ◌-◌, ◌*◌, ◌/◌, ◌<◌, ◌≤◌, min, max, Bool, true, ◌&&◌, ◌||◌, nat_lt, if◌then◌else◌, List, length, filter, Option}
 use Rattle.std.specs.Option.{option_map_or}
 use Rattle.roster_instance.specs.declared.choice.Choice.{Choice}
 use Rattle.roster_instance.specs.declared.choice.Choice.TheVariants.{Off, Work}
+use Rattle.roster_instance.specs.declared.rules.Limits.{Limits}
 use Rattle.roster_instance.specs.Choices.{all_choices, all_rows, days_of, shift_of}
 use Rattle.roster_instance.specs.Counting.{sum_below}
 use Rattle.roster_instance.specs.Levels.{levelled}
 use Rattle.roster_instance.specs.Limits.{most_small}
 use Rattle.roster_instance.specs.Meaning.{Meaning, contract_of, day_count, minimum, nurse_count, optimum, past_of, shift_count, skill_count}
-use Rattle.roster_instance.specs.Rosters.{Row, Rows, choice_on, fits_case}
+use Rattle.roster_instance.specs.Rosters.{Row, Rows, choice_on, days_of_nurse, fits_case}
 use Rattle.roster_rules.specs.AllowedRows.{first_least, keeps_frozen_days}
 use Rattle.roster_rules.specs.HardRules.{keeps_hard, keeps_skills, keeps_successions}
-use Rattle.roster_rules.specs.Penalties.{extra_cost, missing_cost, own_cost, penalty, request_cost_on}
+use Rattle.roster_rules.specs.Penalties.{extra_cost, missing_cost, own_cost, penalty, request_cost_on, total_of}
 use Rattle.roster_rules.specs.Weights.{assignment_weight, shift_run_weight, staffing_weight}
 use Rattle.roster_laws.specs.FrozenDays.{FrozenDaysStay}
 
@@ -150,3 +151,36 @@ bound_by c from given w = rounded_up (floors_together c w (row_floor c from give
 -- over the levelled case
 unfoldable pub levelled_bound : Meaning → ℕ → Rows → PlaceWorths → NursePays → ℕ
 levelled_bound c from given w pay = rounded_up (floors_together c w (nurse_floor c from given w pay))
+
+-- ---- the worths and the pays of the first round
+
+-- a place asks for nurses: its minimum or its optimum is above 0
+abbrev pub asks_for_nurses : Meaning → (d s k : ℕ) → Bool
+asks_for_nurses c d s k = nat_lt 0 (minimum c d s k) || nat_lt 0 (optimum c d s k)
+
+-- each such place has the same worth, and the others have none
+abbrev pub even_worths : Meaning → ℕ → PlaceWorths
+even_worths c worth d s k = if asks_for_nurses c d s k then worth else 0
+
+-- as much as a missing nurse costs
+abbrev pub first_worths : Meaning → PlaceWorths
+first_worths c = even_worths c staffing_weight
+
+-- the most where so many assignments are too few, none where they are too many, else half the most
+abbrev pub first_pay : Limits → ℕ → ℕ
+first_pay asked total = if nat_lt total asked.least then most_pay else if nat_lt asked.greatest total then 0 else assignment_weight
+
+-- by the assignments that a nurse has in the given roster, with the history's
+abbrev pub first_pays : Meaning → Rows → NursePays
+first_pays c given n = first_pay (contract_of c n).total (total_of c n (days_of_nurse given n))
+
+-- the bound of the first round
+abbrev pub first_bound : Meaning → ℕ → Rows → ℕ
+first_bound c from given = levelled_bound c from given (first_worths c) (first_pays c given)
+
+-- two worths agree at each place of the case, and two pays for each nurse
+abbrev pub SameWorths : Meaning → PlaceWorths → PlaceWorths → Type 0
+SameWorths c w v = (d s k : ℕ) → d < day_count c → s < shift_count c → k < skill_count c → w d s k ≡ v d s k
+
+abbrev pub SamePays : Meaning → NursePays → NursePays → Type 0
+SamePays c pay other = (n : ℕ) → n < nurse_count c → pay n ≡ other n

@@ -4,7 +4,7 @@
 //! held in `specs/Tables.antt`, what a nurse is offered by them in `specs/Days.antt`, what is kept
 //! of a roster under which a floor is raised in `specs/Levelled.antt`, and the log of a run in `specs/Floors.antt`.
 //! `no_roster_is_below_the_bound` promises that the floor by any worths and pays is one. `lower_bound` promises to be it, and `raise_floor`
-//! that all that it tells is a floor. `improve_worths` gives worths alone.
+//! that all that it tells is the bound of a round, and no less than the first round's. `improve_worths` gives worths alone.
 #![tactic(auto)]
 
 mod floors;

@@ -1,8 +1,11 @@
 //! What each nurse is paid for an assignment, and how it moves from one round to the next.
 
-ghost use Rattle.std.specs.Prelude.{◌≡◌, ◌<◌, ◌≤◌};
-ghost use Rattle.roster_bound.specs.Levelled.{pays_of};
-ghost use Rattle.roster_bound.specs.Worths.{most_pay};
+ghost use Rattle.std.specs.Prelude.{◌≡◌, ◌+◌, ◌*◌, ◌<◌, ◌≤◌, IfOk, length, min};
+ghost use Rattle.roster_instance.specs.Choices.{days_of};
+ghost use Rattle.roster_instance.specs.Days.{days_worked};
+ghost use Rattle.roster_instance.specs.Meaning.{nurse_count, past_of};
+ghost use Rattle.roster_bound.specs.Levelled.{AreFirstPays, pays_of};
+ghost use Rattle.roster_bound.specs.Worths.{first_pay, most_pay};
 
 use crate::levelled::Levelled;
 use crate::moves::faded;
@@ -42,7 +45,9 @@ impl Pays {
     /// # Errors
     ///
     /// The growth was refused.
-    pub fn of_nurses(alloc: Global, nurses: usize) -> Result<Pays, AllocError> {
+    pub fn of_nurses(alloc: Global, nurses: usize) -> Result<Pays, AllocError>
+        ensures { IfOk result (λ pays. length pays.each.items ≡ nurses) }
+    {
         Ok(Pays {
             each: vec![in alloc; Pay::default(); nurses]?,
         })
@@ -62,19 +67,15 @@ impl Pays {
     }
 
     /// Begins anew, by the totals of the held roster: in the middle, or at the end where a nurse has too few assignments or too many.
-    pub(crate) fn begin(&mut self, held: &Levelled) {
+    pub(crate) fn begin(&mut self, held: &Levelled)
+        requires nurses { length self.old.each.items ≡ nurse_count held.now.case }
+        ensures nurses { length self.new.each.items ≡ length self.old.each.items }
+        ensures first { AreFirstPays held.now self.new.each.items }
+    {
         for nurse in 0..self.each.len() {
             let total = total_of(held, nurse, worked_days(held.roster().row(nurse)));
-            let asked = held.asked(nurse);
-            let fine = if total < asked.least {
-                2 * MIDDLE
-            } else if total > asked.greatest {
-                0
-            } else {
-                MIDDLE
-            };
             self.each[nurse] = Pay {
-                fine,
+                fine: first_pay(held.asked(nurse), total),
                 wanted: 0,
                 had: 0,
             };
@@ -82,7 +83,9 @@ impl Pays {
     }
 
     /// Adds a round, in which the nurses worked so many days.
-    pub(crate) fn learn(&mut self, held: &Levelled, worked: &[u16]) {
+    pub(crate) fn learn(&mut self, held: &Levelled, worked: &[u16])
+        ensures { length self.new.each.items ≡ length self.old.each.items }
+    {
         for nurse in 0..self.each.len() {
             let days = match worked.get(nurse) {
                 Some(days) => *days,
@@ -95,7 +98,9 @@ impl Pays {
     }
 
     /// Moves each pay towards what is wanted, by its share of a step: the whole step where wanted and had are farthest apart.
-    pub(crate) fn follow(&mut self, step: u32) {
+    pub(crate) fn follow(&mut self, step: u32)
+        ensures { length self.new.each.items ≡ length self.old.each.items }
+    {
         let far = self.farthest();
         for nurse in 0..self.each.len() {
             let pay = self.each[nurse];
@@ -118,16 +123,33 @@ impl Pays {
     }
 }
 
+/// The first pay of a nurse with so many assignments, in 256ths of a point.
+fn first_pay(asked: Limits, total: u16) -> u32
+    ensures { result ≡ 256 * first_pay asked total }
+{
+    if total < asked.least {
+        2 * MIDDLE
+    } else if total > asked.greatest {
+        0
+    } else {
+        MIDDLE
+    }
+}
+
 /// The assignments of a nurse in the end, with so many worked days.
-fn total_of(held: &Levelled, nurse: usize, days: u16) -> u16 {
+fn total_of(held: &Levelled, nurse: usize, days: u16) -> u16
+    ensures { result ≡ min 65535 ((past_of held.now.case nurse).assignments + days) }
+{
     held.case().past(nurse).assignments.saturating_add(days)
 }
 
 /// How many days a row works.
-fn worked_days(row: &[Choice]) -> u16 {
+fn worked_days(row: &[Choice]) -> u16
+    ensures { result ≡ min 65535 (days_worked (days_of row.now)) }
+{
     let mut days: u16 = 0;
-    for choice in row.iter() {
-        if *choice != Choice::Off {
+    for choice in row {
+        if choice.shift().is_some() {
             days = days.saturating_add(1);
         }
     }

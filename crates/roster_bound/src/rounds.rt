@@ -7,8 +7,9 @@ ghost use Rattle.roster_instance.specs.Meaning.{nurse_count};
 ghost use Rattle.roster_rules.specs.Penalties.{penalty};
 ghost use Rattle.roster_laws.specs.Greatest.{extensions_in, greatest_extension_count};
 ghost use Rattle.roster_bound.specs.Floors.{FloorLogStops, RaisesFloor};
-ghost use Rattle.roster_bound.specs.Workspaces.{FitsFloor};
-ghost use Rattle.roster_bound.specs.Worths.{IsLowerBound};
+ghost use Rattle.roster_bound.specs.Workspaces.{FitsFloor, bound_of};
+ghost use Rattle.roster_bound.specs.Tables.{worths_of};
+ghost use Rattle.roster_bound.specs.Worths.{AreWorths, IsLowerBound};
 
 use crate::floors::{find_rows, lower_bound};
 use crate::levelled::Levelled;
@@ -23,7 +24,8 @@ use std::io::Write;
 
 /// Raises a floor under every roster of a case that keeps the hard rules and agrees with the held one on the days before week `from`:
 /// so many rounds, each by other worths and pays. The log gets the penalty of the held roster, and then each round in which the floor
-/// rose, as it comes. The answer is the greatest floor, 0 where there was no round. It takes no memory.
+/// rose, as it comes. The answer is the greatest floor, 0 where there was no round: the bound of a round, and no less than the first
+/// round's. It takes no memory.
 ///
 /// # Errors
 ///
@@ -38,8 +40,10 @@ pub fn raise_floor<W: Write>(
 ) -> Result<u64, LogFault>
     requires fits { FitsFloor (levelled held.now.case) workspace.old }
     requires room { meter.old + extensions_in (levelled held.now.case) rounds ≤ greatest_u64 }
-    ensures ok { IfOk result (RaisesFloor W.contents held.now.case from held.now.roster rounds log.old log.new) }
-    ensures err { IfErr result (FloorLogStops W.contents held.now.case from held.now.roster rounds log.old log.new) }
+    ensures ok { IfOk result (RaisesFloor W.contents held.now.case from held.now.roster rounds
+        log.old log.new) }
+    ensures err { IfErr result (FloorLogStops W.contents held.now.case from held.now.roster rounds
+        log.old log.new) }
     ensures below { IfOk result (IsLowerBound held.now.case from held.now.roster) }
     ensures within { IfOk result (λ bound. bound ≤ penalty held.now.case held.now.roster) }
     ensures counted { meter.new ≤ meter.old + extensions_in (levelled held.now.case) rounds }
@@ -97,6 +101,8 @@ fn make_round(held: &Levelled, from: u16, workspace: &mut FloorWorkspace, meter:
     requires room { meter.old + nurse_count held.now.case * greatest_extension_count (levelled held.now.case) ≤ greatest_u64 }
     ensures below { IsLowerBound held.now.case from held.now.roster result }
     ensures within { result ≤ penalty held.now.case held.now.roster }
+    ensures worths { AreWorths (worths_of workspace.old.worths) }
+    ensures bound { result ≡ bound_of held.now from workspace.old }
     ensures counted { meter.new ≤ meter.old + nurse_count held.now.case * greatest_extension_count (levelled held.now.case) }
     ensures fits { FitsFloor (levelled held.now.case) workspace.new }
 {
@@ -106,6 +112,7 @@ fn make_round(held: &Levelled, from: u16, workspace: &mut FloorWorkspace, meter:
         pays,
         ..
     } = workspace;
+    worths.keep_most();
     lower_bound(held, from, worths, pays, rows, meter)
 }
 

@@ -3,7 +3,9 @@
 ghost use Rattle.std.specs.Prelude.{◌≡◌, ◌*◌, IfOk, length};
 ghost use Rattle.roster_instance.specs.Levels.{levelled};
 ghost use Rattle.roster_instance.specs.Meaning.{day_count};
-ghost use Rattle.roster_bound.specs.Workspaces.{FitsFloor, FitsRows};
+ghost use Rattle.roster_bound.specs.Tables.{worths_of};
+ghost use Rattle.roster_bound.specs.Workspaces.{FitsFloor, FitsRows, IsFirst};
+ghost use Rattle.roster_bound.specs.Worths.{SameWorths, first_worths};
 
 use crate::levelled::Levelled;
 use crate::moves::Covers;
@@ -111,7 +113,8 @@ impl FloorWorkspace {
     /// Begins anew, as if no round had been made: with the worths of the first.
     pub(crate) fn begin(&mut self, case: &Case)
         requires { FitsFloor case.now self.old }
-        ensures { FitsFloor case.now self.new }
+        ensures fits { FitsFloor case.now self.new }
+        ensures worths { SameWorths case.now (worths_of self.new.worths) (first_worths case.now) }
     {
         for place in 0..self.covers.wanted.len() {
             self.covers.wanted[place] = 0;
@@ -125,7 +128,8 @@ impl FloorWorkspace {
     /// The same for a run under a held roster, with the pays of the first round.
     pub(crate) fn begin_under(&mut self, held: &Levelled)
         requires { FitsFloor (levelled held.now.case) self.old }
-        ensures { FitsFloor (levelled held.now.case) self.new }
+        ensures fits { FitsFloor (levelled held.now.case) self.new }
+        ensures first { IsFirst held.now self.new }
     {
         self.begin(held.case());
         self.pays.begin(held);

@@ -1,10 +1,10 @@
 //! What each place pays to a nurse that works there.
 
-ghost use Rattle.std.specs.Prelude.{◌≡◌, ◌*◌, ◌<◌, ◌≤◌, IfOk, length, replicate};
+ghost use Rattle.std.specs.Prelude.{◌≡◌, ◌+◌, ◌-◌, ◌*◌, ◌/◌, ◌%◌, ◌<◌, ◌≤◌, IfOk, length, min, replicate};
 ghost use Rattle.roster_instance.specs.Limits.{most_days};
 ghost use Rattle.roster_instance.specs.Meaning.{day_count};
 ghost use Rattle.roster_bound.specs.Tables.{most_fine, worths_of};
-ghost use Rattle.roster_bound.specs.Worths.{AreWorths, most_worth};
+ghost use Rattle.roster_bound.specs.Worths.{AreWorths, SameWorths, asks_for_nurses, even_worths, most_worth};
 
 use crate::moves::Covers;
 use roster_rules::{Case, Shift, Skill};
@@ -75,11 +75,12 @@ impl Worths {
     pub(crate) fn set_all(&mut self, case: &Case, worth: u16)
         requires worth { worth ≤ most_worth }
         requires days { self.old.days ≡ day_count case.now }
-        ensures { self.new.days ≡ self.old.days }
+        ensures days { self.new.days ≡ self.old.days }
+        ensures even { SameWorths case.now (worths_of self.new) (even_worths case.now worth) }
     {
+        case.keeps_limits();
         for place in 0..self.fine.len() {
-            let asks = asks_for_nurses(case, place);
-            self.fine[place] = if asks { PARTS * worth as u32 } else { 0 };
+            self.fine[place] = even_worth(case, place, worth);
         }
     }
 
@@ -107,9 +108,23 @@ impl Worths {
     }
 }
 
+/// A worth in 256ths of a point where the place asks for nurses, else none.
+fn even_worth(case: &Case, place: usize, worth: u16) -> u32
+    requires place { place < 64 * day_count case.now }
+    requires worth { worth ≤ most_worth }
+    ensures fine { result ≡ 256 * even_worths case.now worth (place / 64) (place % 64 / 8) (place % 8) }
+    ensures within { result ≤ most_fine }
+{
+    if asks_for_nurses(case, place) {
+        return PARTS * worth as u32;
+    }
+    0
+}
+
 /// Whether the minimum or the optimum of a place is above 0.
 fn asks_for_nurses(case: &Case, place: usize) -> bool
     requires { place < 64 * day_count case.now }
+    ensures { result ≡ asks_for_nurses case.now (place / 64) (place % 64 / 8) (place % 8) }
 {
     case.keeps_limits();
     let (day, shift, skill) = (place / 64, place % 64 / 8, place % 8);
@@ -120,7 +135,10 @@ fn asks_for_nurses(case: &Case, place: usize) -> bool
 /// A worth in 256ths of a point, moved by a share: up where nurses are wanted, and by one more down where there are too many.
 fn moved(fine: u32, wanted: u32, had: u32, share: u32) -> u32
     requires { fine ≤ most_fine }
-    ensures { result ≤ most_fine }
+    ensures up { had < wanted → result ≡ min (fine + share) most_fine }
+    ensures down { wanted < had → result ≡ fine - (share + 1) }
+    ensures same { had ≡ wanted → result ≡ fine }
+    ensures within { result ≤ most_fine }
 {
     if had < wanted {
         fine.saturating_add(share).min(MOST_FINE)

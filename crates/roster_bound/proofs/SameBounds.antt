@@ -1,0 +1,96 @@
+-- A bound is by the worths at the case's places and by the pays of its nurses alone.
+use Rattle.std.proofs.Common.{◌≡◌, ◌∙◌, ◌+◌, ◌-◌, ◌*◌, ◌<◌, ◌==◌, ℕ, Bool, true, false, ap, ap₂, refl, arith, List, [], ◌∷◌, length, nat_lt, Contains, None, Option, Some, if◌then◌else◌}
+use Rattle.std.specs.List.{All, list_all}
+use Rattle.std.specs.Option.{option_map_or}
+use Rattle.std.proofs.lemmas.Bool.{and_parts, eqb-true, ltb-true}
+use Rattle.std.proofs.lemmas.List.Elements.{All-contains_itself, All-filter, All-get_or, All-head, All-tail, All-weaker}
+use Rattle.std.proofs.lemmas.List.Sums.{AllPass-from_list_all}
+use Rattle.roster_instance.specs.declared.choice.Choice.{Choice}
+use Rattle.roster_instance.specs.declared.choice.Choice.TheVariants.{Off, Work}
+use Rattle.roster_instance.specs.Choices.{all_choices, all_rows, days_of, shift_of}
+use Rattle.roster_instance.specs.Counting.{sum_below}
+use Rattle.roster_instance.specs.Levels.{levelled}
+use Rattle.roster_instance.specs.Meaning.{Meaning, day_count, nurse_count, shift_count, skill_count}
+use Rattle.roster_instance.specs.Rosters.{Row, Rows, choice_on, is_choice_of, is_row_of}
+use Rattle.roster_rules.specs.AllowedRows.{cheaper_of, first_least}
+use Rattle.roster_rules.specs.Penalties.{own_cost, request_cost_on}
+use Rattle.roster_rules.specs.Weights.{shift_run_weight}
+use Rattle.roster_rules.proofs.RunSums.{sum_same}
+use Rattle.roster_laws.proofs.AllRows.{member_is_row}
+use Rattle.roster_bound.specs.Worths.{NursePays, PlaceWorths, SamePays, SameWorths, can_work, earned, free_price, levelled_bound, most_worth, nurse_floor, own_rows, place_floor, places_floor, price_with, rounded_up, row_cost_by, row_floor, total_floor, level_cost}
+use Rattle.roster_bound.proofs.LeastCosts.{least_cost}
+
+-- ---- the first least member, and what it costs
+
+module _ {A : Type 0} (f g : A → ℕ) where
+  SameLeast : Option A → Option A → Type 0
+  SameLeast o p = (o ≡ p) × (option_map_or f o 0 ≡ option_map_or g p 0)
+
+  chosen : (x y z : A) (b : Bool) (d : Bool) → b ≡ d → y ≡ z → f x ≡ g x → f y ≡ g z → SameLeast (Some (if b then y else x)) (Some (if d then z else x))
+  unfolding SameLeast
+  chosen x y z true true e same at_x at_y = (ap Some same, at_y)
+  chosen x y z true false e same at_x at_y = absurd cc
+  chosen x y z false true e same at_x at_y = absurd cc
+  chosen x y z false false e same at_x at_y = (refl, at_x)
+
+  one_more : (x : A) (o p : Option A) → f x ≡ g x → SameLeast o p → SameLeast (Some (cheaper_of f x o)) (Some (cheaper_of g x p))
+  unfolding SameLeast
+  one_more x None None at_x same = (refl, at_x)
+  one_more x None (Some z) at_x same = absurd (let e = same.0 in cc)
+  one_more x (Some y) None at_x same = absurd (let e = same.0 in cc)
+  one_more x (Some y) (Some z) at_x same =
+      chosen x y z (nat_lt (f y) (f x)) (nat_lt (g z) (g x)) (ap₂ nat_lt same.1 at_x) (ap (λ o. elim o [ None ↦ y | Some v ↦ v ]) same.0) at_x same.1
+
+  least_pair : (xs : List A) → All (λ x. f x ≡ g x) xs → SameLeast (first_least f xs) (first_least g xs)
+  unfolding SameLeast
+  least_pair [] each = (refl, refl)
+  least_pair (x ∷ xs) each = one_more x (first_least f xs) (first_least g xs) (All-head (λ y. f y ≡ g y) x xs each) (least_pair xs (All-tail (λ y. f y ≡ g y) x xs each))
+
+  pub least_same : (xs : List A) → All (λ x. f x ≡ g x) xs → least_cost f xs ≡ least_cost g xs
+  unfolding SameLeast
+  least_same xs each = (least_pair xs each).1
+
+-- ---- a case, and worths that agree at its places
+
+module _ (c : Meaning) (w v : PlaceWorths) (same : SameWorths c w v) where
+  earned_same : (d : ℕ) (x : Choice) → d < day_count c → is_choice_of c x ≡ true → earned w d x ≡ earned v d x
+  earned_same d Off inside is = refl
+  earned_same d (Work s k) inside is =
+      let parts = and_parts (nat_lt s.0 (shift_count c)) (nat_lt k.0 (skill_count c)) is in
+      same d s.0 k.0 inside (ltb-true s.0 (shift_count c) parts.0) (ltb-true k.0 (skill_count c) parts.1)
+
+  row_same : (free n : ℕ) (row : Row) → is_row_of c row ≡ true → row_cost_by c w free n row ≡ row_cost_by c v free n row
+  row_same free n row is =
+      let parts = and_parts (length row == day_count c) (list_all (is_choice_of c) row) is in
+      let days : length row ≡ day_count c = eqb-true (length row) (day_count c) parts.0 in
+      let choice : (d : ℕ) → d < length row → is_choice_of c (choice_on row d) ≡ true = λ d inside. All-get_or (λ x. is_choice_of c x ≡ true) row d Off inside (AllPass-from_list_all (is_choice_of c) row parts.1) in
+      ap (λ m. own_cost c n (days_of row) + m)
+      (sum_same (length row) (λ d. price_with c w free n d (choice_on row d)) (λ d. price_with c v free n d (choice_on row d))
+      (λ d inside. ap (λ e. ((most_worth - e) + request_cost_on c n d (shift_of (choice_on row d))) + free_price free (choice_on row d)) (earned_same d (choice_on row d) (omega (arith, inside, days)) (choice d inside))))
+
+  row_floor_same : (from : ℕ) (given : Rows) (free n : ℕ) → row_floor c from given w free n ≡ row_floor c from given v free n
+  row_floor_same from given free n =
+      let rows : List Row = all_rows (all_choices c) (day_count c) in
+      let P : Row → Type 0 = λ row. row_cost_by c w free n row ≡ row_cost_by c v free n row in
+      least_same (row_cost_by c w free n) (row_cost_by c v free n) (own_rows c from given n)
+      (All-filter (can_work c from given n) P rows (All-weaker (Contains rows) P (λ row member. row_same free n row (member_is_row c row member)) rows (All-contains_itself rows)))
+
+  places_same : places_floor c w ≡ places_floor c v
+  places_same =
+      let at : PlaceWorths → ℕ → ℕ → ℕ = λ u d s. sum_below (skill_count c) (place_floor c u d s) in
+      let on : PlaceWorths → ℕ → ℕ = λ u d. sum_below (shift_count c) (at u d) in
+      sum_same (day_count c) (on w) (on v)
+      (λ d hd. sum_same (shift_count c) (at w d) (at v d)
+      (λ s hs. sum_same (skill_count c) (place_floor c w d s) (place_floor c v d s) (λ k hk. ap (λ e. place_floor c (λ day shift skill. e) d s k) (same d s k hd hs hk))))
+
+module _ (c : Meaning) (from : ℕ) (given : Rows) (w v : PlaceWorths) (pay other : NursePays) (same : SameWorths c w v) (alike : SamePays c pay other) where
+  nurse_same : (n : ℕ) → n < nurse_count c → nurse_floor c from given w pay n ≡ nurse_floor c from given v other n
+  nurse_same n inside =
+      ap (λ p. row_floor (levelled c) from given w (shift_run_weight + p) n + total_floor c n p - level_cost c n p) (alike n inside)
+      ∙ ap (λ floor. floor + total_floor c n (other n) - level_cost c n (other n)) (row_floor_same (levelled c) w v same from given (shift_run_weight + other n) n)
+
+  pub bound_same : levelled_bound c from given w pay ≡ levelled_bound c from given v other
+  unfolding levelled_bound
+  bound_same =
+      ap₂ (λ places nurses. rounded_up (places + nurses - nurse_count c * (day_count c * most_worth))) (places_same c w v same)
+      (sum_same (nurse_count c) (nurse_floor c from given w pay) (nurse_floor c from given v other) nurse_same)
