@@ -45,9 +45,9 @@ module _ (searches from : ℕ) (c : Meaning) (r : Rows) where
     }
 
     -- the log failed inside the run
-    pub polish_stops : (few : ℕ) → few ≤ searches → (f : LogFault) → hard_faults c r ≡ [] → PolishLogStops log.contents c from r few log.before log.after f → Untouched output
+    pub polish_stops : (few : ℕ) → few ≤ searches → (after : Rows) (f : LogFault) → hard_faults c r ≡ [] → PolishLogStops log.contents c from r few after log.before log.after f → Untouched output
         → Reports output log (IsPolishReport searches from c r) source b (Some fault.Log)
-    polish_stops few fewer f kept h o = record {
+    polish_stops few fewer after f kept h o = record {
       report = polish_report h.last h.text c r;
       is = of_run few fewer h.settled h.last h.text h.run;
       ends = record { ends = (record { kept = kept; known = refl }, refl); left = o };

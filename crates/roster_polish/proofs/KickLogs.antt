@@ -1,5 +1,8 @@
 -- A run of kicks: the lines so far are sent.
-use Rattle.std.proofs.Common.{◌≡◌, ◌∙◌, ◌+◌, ◌<◌, ◌≤◌, ℕ, Bool, true, List, [], ◌∷◌, ◌++◌, Option, ap, append_assoc, append-nil, arith, codes, flat_map, length, refl, subst, sym, zero-add}
+use Rattle.std.proofs.Common.{◌≡◌, ◌∙◌, ◌+◌, ◌-◌, ◌<◌, ◌≤◌, ℕ, Bool, true, List, [], ◌∷◌, ◌++◌, Option, ap, append_assoc, append-nil, arith, codes, flat_map, length, length-append, map, refl, subst, sym, zero-add}
+use Rattle.std.specs.Prelude.{if◌then◌else◌}
+use Rattle.std.proofs.lemmas.Bool.{le-ltb, lt-ltb}
+use Rattle.std.proofs.lemmas.List.{map-append}
 use Rattle.std.proofs.lemmas.List.Concat.{flat_map-append}
 use Rattle.std.proofs.lemmas.List.Elements.{All-append, All-cons, All-nil}
 use Rattle.roster_text.specs.declared.fault.WriteFault.{WriteFault}
@@ -17,7 +20,7 @@ use Rattle.roster_laws.proofs.Runs.{fall, settled_rows}
 use Rattle.roster_rounds.specs.PutIn.{IsAccepted}
 use Rattle.roster_log.specs.declared.fault.LogFault.TheVariants.{LogFailed}
 use Rattle.roster_polish.specs.declared.run.Polished.{Polished}
-use Rattle.roster_polish.specs.Polished.{Falls, IsKickLog, IsPolishing, IsReached, KickLine, PolishLogStops, Polishes, first_run, kick_line, kicks_text, last_kick, last_line, most_rounds, no_kick}
+use Rattle.roster_polish.specs.Polished.{Falls, IsKickLog, IsPolishing, IsReached, KickLine, PolishLogStops, Polishes, Told, first_run, held_at, kick_line, kicks_text, last_kick, last_line, most_rounds, no_kick, told_kick, told_last, told_lines, told_start}
 use Rattle.roster_polish.specs.Settled.{IsSettled}
 
 -- ---- one line more
@@ -33,6 +36,34 @@ falls_more c before (y ∷ xs) x falls later less = (falls.0, falls.1, falls_mor
 last_is_least : (c : Meaning) (before : KickLine) (xs : List KickLine) → Falls c before xs → penalty c (last_kick before xs).roster ≤ penalty c before.roster
 last_is_least c before [] falls = omega arith
 last_is_least c before (x ∷ xs) falls = omega (arith, falls.1, last_is_least c x xs falls.2)
+
+-- ---- the roster at a line
+
+held_here : (x : Told) (xs : List Told) (r : Rows) (sent : ℕ) → sent < length x.text → held_at sent (x ∷ xs) r ≡ x.roster
+held_here x xs r sent inside = ap (λ b. if b then x.roster else held_at (sent - length x.text) xs r) (lt-ltb sent (length x.text) inside)
+
+held_later : (x : Told) (xs : List Told) (r : Rows) (more : ℕ) → held_at (length x.text + more) (x ∷ xs) r ≡ held_at more xs r
+held_later x xs r more =
+    let rest : length x.text + more - length x.text ≡ more = omega arith in
+    ap (λ b. if b then x.roster else held_at (length x.text + more - length x.text) xs r) (le-ltb (length x.text + more) (length x.text) (omega arith)) ∙ ap (λ m. held_at m xs r) rest
+
+held_kicks : (c : Meaning) (xs : List KickLine) (rest : List Told) (r : Rows) (more : ℕ) → held_at (length (flat_map (kick_line c) xs) + more) (map (told_kick c) xs ++ rest) r ≡ held_at more rest r
+held_kicks c [] rest r more = ap (λ m. held_at m rest r) (zero-add more)
+held_kicks c (x ∷ xs) rest r more =
+    let size : length (kick_line c x ++ flat_map (kick_line c) xs) + more ≡ length (kick_line c x) + (length (flat_map (kick_line c) xs) + more) = omega (arith, length-append (kick_line c x) (flat_map (kick_line c) xs)) in
+    ap (λ m. held_at m (told_kick c x ∷ map (told_kick c) xs ++ rest) r) size ∙ held_later (told_kick c x) (map (told_kick c) xs ++ rest) r (length (flat_map (kick_line c) xs) + more) ∙ held_kicks c xs rest r more
+
+-- at the line after some kicks
+held_after : (c : Meaning) (given : Rows) (xs : List KickLine) (x : Told) (rest : List Told) (more : ℕ) → more < length x.text → held_at (length (kicks_text c given xs) + more) (told_start c given ∷ map (told_kick c) xs ++ x ∷ rest) given ≡ x.roster
+held_after c given xs x rest more inside =
+    let start : List ℕ = line (codes "start") (penalty c given) in
+    let size : length (start ++ flat_map (kick_line c) xs) + more ≡ length start + (length (flat_map (kick_line c) xs) + more) = omega (arith, length-append start (flat_map (kick_line c) xs)) in
+    ap (λ m. held_at m (told_start c given ∷ map (told_kick c) xs ++ x ∷ rest) given) size ∙ held_later (told_start c given) (map (told_kick c) xs ++ x ∷ rest) given (length (flat_map (kick_line c) xs) + more)
+    ∙ held_kicks c xs (x ∷ rest) given more ∙ held_here x rest given more inside
+
+told_more : (c : Meaning) (given : Rows) (xs : List KickLine) (x : KickLine) (settled : Bool) (last : Rows) → told_start c given ∷ map (told_kick c) xs ++ told_kick c x ∷ told_last c settled last ∷ [] ≡ told_lines c given (xs ++ x ∷ []) settled last
+told_more c given xs x settled last =
+    ap (λ those. told_start c given ∷ those) (sym (append_assoc (map (told_kick c) xs) (told_kick c x ∷ []) (told_last c settled last ∷ [])) ∙ ap (λ those. those ++ told_last c settled last ∷ []) (sym (map-append (told_kick c) xs (x ∷ []))))
 
 -- ---- the first line
 
@@ -113,7 +144,8 @@ module _ (c : Meaning) (from : ℕ) (given : Rows) where
     }
 
     -- the start's line broke off
-    pub start_breaks : (kicks : ℕ) (new : Watched W) (fault : WriteFault) → IsAccepted c given → BreaksIn contents old new 0 (kicks_text c given []) fault → PolishLogStops contents c from given kicks old new (LogFailed (sent_of fault))
+    pub start_breaks : (kicks : ℕ) (new : Watched W) (fault : WriteFault) → IsAccepted c given → BreaksIn contents old new 0 (kicks_text c given []) fault → PolishLogStops contents c from given kicks given old new (LogFailed (sent_of fault))
+    unfolding unkicked
     start_breaks kicks new fault accepted p = record {
       settled = (first_run c from given).is_settled;
       last = first;
@@ -122,9 +154,14 @@ module _ (c : Meaning) (from : ℕ) (given : Rows) where
       sent = p.sent;
       stops = StopsAt-append contents old new (kicks_text c given []) (last_line c (first_run c from given).is_settled first) p.sent p.stops;
       counted = ap (λ f. LogFailed (sent_of f)) p.counted ∙ ap (λ n. LogFailed (saturated n)) (zero-add p.sent);
+      held = sym (held_here (told_start c given) (told_last c (first_run c from given).is_settled first ∷ []) given p.sent (subst (λ text. p.sent < length text) (append-nil (line (codes "start") (penalty c given))) p.stops.left));
+      reached = record { accepted = accepted; stays = stays_self c from given };
     }
 
     module _ (mid : Watched W) (made sent : ℕ) (settled : Bool) (kept : Rows) (p : Underway contents c from given old mid made sent settled kept) where
+      pub underway_no_dearer : penalty c kept ≤ penalty c given
+      underway_no_dearer = no_dearer_than p.lines kept p.is_log.falls p.as_told
+
       -- a kick that left the roster as dear
       pub underway_same : (now : Bool) (next : Rows) → penalty c next ≡ penalty c kept → (now ≡ true → IsSettled c from next) → (settled ≡ true → now ≡ true) → Underway contents c from given old mid (made + 1) sent now next
       underway_same now next same is_settled still = record {
@@ -167,7 +204,7 @@ module _ (c : Meaning) (from : ℕ) (given : Rows) where
         }
 
         -- its line broke off
-        pub cheaper_breaks : (kicks : ℕ) (new : Watched W) (fault : WriteFault) → made < kicks → BreaksIn contents mid new sent (kick_line c one) fault → PolishLogStops contents c from given kicks old new (LogFailed (sent_of fault))
+        pub cheaper_breaks : (kicks : ℕ) (new : Watched W) (fault : WriteFault) → made < kicks → BreaksIn contents mid new sent (kick_line c one) fault → PolishLogStops contents c from given kicks next old new (LogFailed (sent_of fault))
         cheaper_breaks kicks new fault inside q =
             let front : sent ≡ saturated (0 + length (kicks_text c given p.lines)) = p.sends.counted in
             let count : saturated (sent + q.sent) ≡ saturated (length (kicks_text c given p.lines) + q.sent) = omega arith in
@@ -189,15 +226,16 @@ module _ (c : Meaning) (from : ℕ) (given : Rows) where
               stops = StopsAt-append contents old new (kicks_text c given lines_then) (last_line c true next) (length (kicks_text c given p.lines) + q.sent)
                   (subst (λ text. StopsAt contents old new text (length (kicks_text c given p.lines) + q.sent)) (text_more p.lines one) (StopsAt-after contents old mid new (kicks_text c given p.lines) (kick_line c one) q.sent p.sends.writes q.stops));
               counted = ap (λ f. LogFailed (sent_of f)) q.counted ∙ ap LogFailed count;
+              held = sym (subst (λ those. held_at (length (kicks_text c given p.lines) + q.sent) those given ≡ next) (told_more c given p.lines one true next) (held_after c given p.lines (told_kick c one) (told_last c true next ∷ []) q.sent q.stops.left));
+              reached = reached;
             }
 
       -- ---- the end
 
-      whole : List ℕ
+      abbrev whole : List ℕ
       whole = kicks_text c given p.lines ++ last_line c settled kept
 
-      ended : (kicks : ℕ) → made ≤ kicks → IsReached c from given kept → IsPolishing c from given kicks settled kept whole
-      unfolding whole
+      abbrev ended : (kicks : ℕ) → made ≤ kicks → IsReached c from given kept → IsPolishing c from given kicks settled kept whole
       ended kicks few reached = record {
         lines = p.lines;
         is_log = later_log made kicks p.lines few p.is_log;
@@ -210,7 +248,6 @@ module _ (c : Meaning) (from : ℕ) (given : Rows) where
       }
 
       pub ends : (kicks : ℕ) (new : Watched W) (after : ℕ) (told : Polished) → made ≤ kicks → IsReached c from given kept → told.settled ≡ settled → told.total ≡ penalty c kept → Sends contents mid new sent after (last_line c settled kept) → Polishes contents c from given kicks kept old new told
-      unfolding whole
       ends kicks new after told few reached settled_is total_is q = record {
         text = whole;
         run = subst (λ b. IsPolishing c from given kicks b kept whole) (sym settled_is) (ended kicks few reached);
@@ -218,8 +255,7 @@ module _ (c : Meaning) (from : ℕ) (given : Rows) where
         total = total_is;
       }
 
-      pub end_breaks : (kicks : ℕ) (new : Watched W) (fault : WriteFault) → made ≤ kicks → IsReached c from given kept → BreaksIn contents mid new sent (last_line c settled kept) fault → PolishLogStops contents c from given kicks old new (LogFailed (sent_of fault))
-      unfolding whole
+      pub end_breaks : (kicks : ℕ) (new : Watched W) (fault : WriteFault) → made ≤ kicks → IsReached c from given kept → BreaksIn contents mid new sent (last_line c settled kept) fault → PolishLogStops contents c from given kicks kept old new (LogFailed (sent_of fault))
       end_breaks kicks new fault few reached q =
           let front : sent ≡ saturated (0 + length (kicks_text c given p.lines)) = p.sends.counted in
           let count : saturated (sent + q.sent) ≡ saturated (length (kicks_text c given p.lines) + q.sent) = omega arith in
@@ -231,4 +267,6 @@ module _ (c : Meaning) (from : ℕ) (given : Rows) where
             sent = length (kicks_text c given p.lines) + q.sent;
             stops = StopsAt-after contents old mid new (kicks_text c given p.lines) (last_line c settled kept) q.sent p.sends.writes q.stops;
             counted = ap (λ f. LogFailed (sent_of f)) q.counted ∙ ap LogFailed count;
+            held = sym (held_after c given p.lines (told_last c settled kept) [] q.sent q.stops.left);
+            reached = reached;
           }

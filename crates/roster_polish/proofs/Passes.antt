@@ -1,20 +1,23 @@
 -- A pass: the steps of some nurses in their order.
-use Rattle.std.proofs.Common.{◌≡◌, ◌∙◌, ◌+◌, ◌-◌, ◌*◌, ◌<◌, ◌≤◌, ◌⊎◌, ℕ, suc, Bool, true, false, not, inl, inr, ap, arith, nat_lt, refl, subst, sym}
+use Rattle.std.proofs.Common.{◌≡◌, ◌∙◌, ◌+◌, ◌-◌, ◌*◌, ◌<◌, ◌≤◌, ◌⊎◌, ℕ, zero, suc, Bool, true, false, not, inl, inr, ap, arith, nat_lt, refl, subst, sym}
 use Rattle.std.specs.Prelude.{if◌then◌else◌}
 use Rattle.std.specs.List.{fold, range_with_len}
 use Rattle.std.proofs.lemmas.Bool.{cases_Bool, false_from_ne_true, ltb-false, ltb-true, true≢false}
+use Rattle.std.proofs.lemmas.Nat.{mul-le}
 use Rattle.roster_instance.specs.Meaning.{Meaning, nurse_count}
 use Rattle.roster_instance.specs.Rosters.{Rows}
 use Rattle.roster_rules.specs.AllowedRows.{best_row}
 use Rattle.roster_rules.specs.Improver.{Run, round, run, same_rows, step}
 use Rattle.roster_rules.specs.Penalties.{penalty}
+use Rattle.roster_laws.specs.Greatest.{greatest_extension_count}
 use Rattle.roster_laws.proofs.Runs.{run-goes_on, run-settled, run-stopped}
 use Rattle.roster_laws.proofs.SameRows.{same_rows_is, same_rows_of}
 use Rattle.roster_rounds.proofs.RoundSteps.{fold_more}
 use Rattle.roster_polish.specs.declared.settle.Pass.{Pass}
 use Rattle.roster_polish.specs.declared.settle.Pass.TheVariants.{Changed, Stopped, Unchanged}
-use Rattle.roster_polish.specs.Settled.{HasBestRow}
-use Rattle.roster_polish.proofs.Steps.{falls_if, has_best, is_same, one_and_rest}
+use Rattle.roster_polish.specs.Polished.{first_searches, most_rounds, rounds_made, settling_searches}
+use Rattle.roster_polish.specs.Settled.{HasBestRow, Spends, extensions_of}
+use Rattle.roster_polish.proofs.Steps.{both_of, falls_if, has_best, is_same, one_and_rest}
 
 -- the steps of the nurses from the first to before this one led from one roster to another, and changed it or not
 pub record PassTo (c : Meaning) (from : ℕ) (old now : Rows) (changed : Bool) (first n : ℕ) : Type 0 where
@@ -103,6 +106,46 @@ module _ (c : Meaning) (from : ℕ) (old now : Rows) (rounds made : ℕ) (next :
     where
       settled_at : Rows → Run
       settled_at r = record { roster = r; is_settled = true }
+
+  -- ---- how many rounds it makes
+
+  round_more : (m : ℕ) → same_rows (round c (best_row c from) old) old ≡ false → rounds_made c from (suc m) old ≡ suc (rounds_made c from m (round c (best_row c from) old))
+  unfolding rounds_made
+  round_more m differs = rw differs refl
+
+  round_last : (m : ℕ) → same_rows (round c (best_row c from) old) old ≡ true → rounds_made c from (suc m) old ≡ 1
+  unfolding rounds_made
+  round_last m same = rw same refl
+
+  pub rounds_go_on : same_rows now old ≡ false → rounds_made c from (rounds - made) old ≡ suc (rounds_made c from (rounds - (made + 1)) now)
+  rounds_go_on differs =
+      ap (λ m. rounds_made c from m old) one_more ∙ round_more (rounds - (made + 1)) (ap (λ r. same_rows r old) (sym is_round) ∙ differs)
+      ∙ ap (λ r. suc (rounds_made c from (rounds - (made + 1)) r)) (sym is_round)
+
+  pub rounds_end : same_rows now old ≡ true → rounds_made c from (rounds - made) old ≡ 1
+  rounds_end same = ap (λ m. rounds_made c from m old) one_more ∙ round_last (rounds - (made + 1)) (ap (λ r. same_rows r old) (sym is_round) ∙ same)
+
+pub rounds_stop : (c : Meaning) (from : ℕ) (r : Rows) (rounds made : ℕ) → made ≡ rounds → rounds_made c from (rounds - made) r ≡ 0
+unfolding rounds_made
+rounds_stop c from r rounds made all = let none : rounds - made ≡ 0 = omega (arith, all) in ap (λ m. rounds_made c from m r) none
+
+one_more_or_last : (last : Bool) (rest most : ℕ) → rest ≤ most → (if last then 1 else suc rest) ≤ suc most
+one_more_or_last true rest most few = omega arith
+one_more_or_last false rest most few = omega (arith, few)
+
+rounds_few : (c : Meaning) (from rounds : ℕ) (r : Rows) → rounds_made c from rounds r ≤ rounds
+unfolding rounds_made
+rounds_few c from zero r = omega arith
+rounds_few c from (suc m) r = one_more_or_last (same_rows (round c (best_row c from) r) r) (rounds_made c from m (round c (best_row c from) r)) m (rounds_few c from m (round c (best_row c from) r))
+
+-- no first settling takes more searches than any does
+pub settling_few : (c : Meaning) (from : ℕ) (r : Rows) → settling_searches c from r ≤ first_searches c
+settling_few c from r = mul-le (rounds_made c from most_rounds r) (nurse_count c) most_rounds (nurse_count c) (rounds_few c from most_rounds r) (omega arith)
+
+-- what a settling of so many rounds has counted, where each took at most one search for each nurse
+pub counted_in : (c : Meaning) (rounds meter left new new_left : ℕ) → Spends c meter left new new_left → left ≤ new_left + rounds * nurse_count c → new ≤ meter + extensions_of c (rounds * nurse_count c)
+counted_in c rounds meter left new new_left spends few =
+    omega (arith, spends.counted, both_of new_left (rounds * nurse_count c) (greatest_extension_count c), mul-le left (greatest_extension_count c) (new_left + rounds * nurse_count c) (greatest_extension_count c) few (omega arith))
 
 pub run_stops : (c : Meaning) (from : ℕ) (r : Rows) (rounds made : ℕ) → made ≡ rounds → run c (best_row c from) (rounds - made) r ≡ record { roster = r; is_settled = false }
 run_stops c from r rounds made all = let none : rounds - made ≡ 0 = omega (arith, all) in ap (λ m. run c (best_row c from) m r) none ∙ run-stopped c (best_row c from) r

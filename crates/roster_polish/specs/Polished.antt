@@ -1,5 +1,5 @@
 -- What a run of kicks comes to, and what its log tells (our own).
-use Rattle.std.specs.Prelude.{◌≡◌, ℕ, ◌*◌, ◌<◌, ◌≤◌, All, Bool, true, List, [], ◌∷◌, ◌++◌, codes, decimal, flat_map, if◌then◌else◌, length, Option}
+use Rattle.std.specs.Prelude.{◌≡◌, ℕ, zero, suc, ◌+◌, ◌-◌, ◌*◌, ◌⊎◌, ◌<◌, ◌≤◌, All, Bool, true, List, [], ◌∷◌, ◌++◌, codes, decimal, flat_map, if◌then◌else◌, length, map, nat_lt, Option}
 use Rattle.roster_text.specs.Io.{StopsAt, Watched, Writes, saturated}
 use Rattle.roster_instance.specs.Meaning.{Meaning, day_count, nurse_count}
 use Rattle.roster_instance.specs.Rosters.{Rows, fits_case}
@@ -7,7 +7,7 @@ use Rattle.roster_rules.specs.Penalties.{penalty}
 use Rattle.roster_laws.specs.FrozenDays.{FrozenDaysStay}
 use Rattle.roster_rounds.specs.PutIn.{IsAccepted}
 use Rattle.roster_rules.specs.AllowedRows.{best_row}
-use Rattle.roster_rules.specs.Improver.{Run, line, run}
+use Rattle.roster_rules.specs.Improver.{Run, line, round, run, same_rows}
 use Rattle.roster_log.specs.declared.fault.LogFault.{LogFault}
 use Rattle.roster_log.specs.declared.fault.LogFault.TheVariants.{LogFailed}
 use Rattle.roster_best.specs.Known.{IsKnown}
@@ -25,6 +25,21 @@ most_rounds = 1000000
 abbrev pub first_run : Meaning → ℕ → Rows → Run
 first_run c from given = run c (best_row c from) most_rounds given
 
+-- why a settling is given up: no search is left, the roster is dearer than is asked, or it was so dear that all rounds may not be enough
+abbrev pub IsGivenUp : Meaning → (most left : ℕ) → (before after : Rows) → Type 0
+IsGivenUp c most left before after = (left ≡ 0) ⊎ (most < penalty c after) ⊎ (most_rounds ≤ penalty c before + 1)
+
+-- how many rounds a run of at most so many makes: it ends with the first that changes nothing
+unfoldable pub rounds_made : Meaning → ℕ → (rounds : ℕ) → Rows → ℕ
+rounds_made c from zero r = 0
+rounds_made c from (suc rounds) r =
+    let next = round c (best_row c from) r in
+    if same_rows next r then 1 else suc (rounds_made c from rounds next)
+
+-- how many searches the first settling makes at most: one for each nurse in each of its rounds
+abbrev pub settling_searches : Meaning → ℕ → Rows → ℕ
+settling_searches c from given = rounds_made c from most_rounds given * nurse_count c
+
 -- ---- the memory of a run
 
 -- room for floors, what true searches told at last and of the kept roster, nine numbers for each day, and a roster of the case
@@ -35,7 +50,7 @@ pub record FitsPolish (c : Meaning) (w : PolishSpace) : Type 0 where
   pub dearer : length w.dearer.items ≡ 9 * day_count c
   pub kept : fits_case c w.kept ≡ true
 
--- how many searches the first settling makes at most
+-- and how many from whatever roster
 abbrev pub first_searches : Meaning → ℕ
 first_searches c = most_rounds * nurse_count c
 
@@ -86,6 +101,30 @@ kicks_text c given lines = line (codes "start") (penalty c given) ++ flat_map (k
 abbrev pub last_line : Meaning → Bool → Rows → List ℕ
 last_line c settled r = line (if settled then codes "settled" else codes "stopped") (penalty c r)
 
+-- ---- the roster at a line
+
+-- a line, and the roster that is held while it goes out
+pub record Told : Type 0 where
+  pub text : List ℕ
+  pub roster : Rows
+
+abbrev pub told_kick : Meaning → KickLine → Told
+told_kick c x = record { text = kick_line c x; roster = x.roster }
+
+abbrev pub told_start : Meaning → Rows → Told
+told_start c given = record { text = line (codes "start") (penalty c given); roster = given }
+
+abbrev pub told_last : Meaning → Bool → Rows → Told
+told_last c settled last = record { text = last_line c settled last; roster = last }
+
+abbrev pub told_lines : Meaning → Rows → List KickLine → Bool → Rows → List Told
+told_lines c given lines settled last = told_start c given ∷ map (told_kick c) lines ++ told_last c settled last ∷ []
+
+-- where so many bytes went out, the roster of the first line that didn't wholly go out
+abbrev pub held_at : ℕ → List Told → Rows → Rows
+held_at sent [] r = r
+held_at sent (x ∷ xs) r = if nat_lt sent (length x.text) then x.roster else held_at (sent - length x.text) xs r
+
 -- ---- a run
 
 -- from the given roster to the last, by kicks from where the first settling led; the last roster is as dear as the last line says,
@@ -107,8 +146,8 @@ pub record Polishes {W : Type 0} (contents : W → Option (List ℕ)) (c : Meani
   pub writes : Writes contents old new text
   pub total : told.total ≡ penalty c after
 
--- just the first bytes of the log of a run went out
-pub record PolishLogStops {W : Type 0} (contents : W → Option (List ℕ)) (c : Meaning) (from : ℕ) (given : Rows) (kicks : ℕ) (old new : Watched W) (fault : LogFault) : Type 0 where
+-- just the first bytes of the log of a run went out, and the roster is that of the line at which the log failed
+pub record PolishLogStops {W : Type 0} (contents : W → Option (List ℕ)) (c : Meaning) (from : ℕ) (given : Rows) (kicks : ℕ) (after : Rows) (old new : Watched W) (fault : LogFault) : Type 0 where
   pub settled : Bool
   pub last : Rows
   pub text : List ℕ
@@ -116,3 +155,5 @@ pub record PolishLogStops {W : Type 0} (contents : W → Option (List ℕ)) (c :
   pub sent : ℕ
   pub stops : StopsAt contents old new text sent
   pub counted : fault ≡ LogFailed (saturated sent)
+  pub held : after ≡ held_at sent (told_lines c given run.lines settled last) given
+  pub reached : IsReached c from given after

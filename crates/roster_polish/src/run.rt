@@ -4,7 +4,8 @@ ghost use Rattle.std.specs.Prelude.{◌≡◌, ◌+◌, ◌*◌, ◌≤◌, true
 ghost use Rattle.roster_bundle.specs.Limits.{greatest_u64};
 ghost use Rattle.roster_instance.specs.Limits.{most_nurses};
 ghost use Rattle.roster_laws.specs.FrozenDays.{FrozenDaysStay};
-ghost use Rattle.roster_polish.specs.Polished.{FitsPolish, PolishLogStops, Polishes, first_searches};
+ghost use Rattle.roster_rules.specs.Penalties.{penalty};
+ghost use Rattle.roster_polish.specs.Polished.{FitsPolish, PolishLogStops, Polishes, first_searches, settling_searches};
 ghost use Rattle.roster_polish.specs.Settled.{extensions_of};
 
 use crate::kick::{Kicking, try_kick};
@@ -42,7 +43,8 @@ pub struct Polished {
 ///
 /// # Errors
 ///
-/// The log failed.
+/// The log failed. The roster is then that of the first line that didn't wholly go out: the given one at the first line, and at the
+/// others the one that the line tells of.
 pub fn polish<W: Write>(
     held: &mut Held,
     course: &Course,
@@ -54,9 +56,10 @@ pub fn polish<W: Write>(
     requires room { meter.old + extensions_of held.old.case (course.now.searches + first_searches held.old.case) ≤ greatest_u64 }
     ensures case { held.new.case ≡ held.old.case }
     ensures ok { IfOk result (Polishes W.contents held.old.case course.now.from held.old.roster course.now.searches held.new.roster log.old log.new) }
-    ensures err { IfErr result (PolishLogStops W.contents held.old.case course.now.from held.old.roster course.now.searches log.old log.new) }
+    ensures err { IfErr result (PolishLogStops W.contents held.old.case course.now.from held.old.roster course.now.searches held.new.roster log.old log.new) }
+    ensures no_dearer { penalty held.old.case held.new.roster ≤ penalty held.old.case held.old.roster }
     ensures frozen { FrozenDaysStay held.old.case course.now.from held.old.roster held.new.roster }
-    ensures counted { meter.new ≤ meter.old + extensions_of held.old.case (course.now.searches + first_searches held.old.case) }
+    ensures counted { meter.new ≤ meter.old + extensions_of held.old.case (course.now.searches + settling_searches held.old.case course.now.from held.old.roster) }
     ensures fits { FitsPolish held.old.case space.new }
 {
     held.keeps_rules();

@@ -9,8 +9,8 @@ ghost use Rattle.roster_rules.specs.Penalties.{penalty};
 ghost use Rattle.roster_laws.specs.FrozenDays.{FrozenDaysStay};
 ghost use Rattle.roster_partial.specs.Workspaces.{fits_space};
 ghost use Rattle.roster_best.specs.Known.{IsKnown};
-ghost use Rattle.roster_polish.specs.declared.settle.Pass.TheVariants.{Changed, Unchanged};
-ghost use Rattle.roster_polish.specs.Polished.{FitsPolish, first_run, first_searches};
+ghost use Rattle.roster_polish.specs.declared.settle.Pass.TheVariants.{Changed, Stopped, Unchanged};
+ghost use Rattle.roster_polish.specs.Polished.{FitsPolish, IsGivenUp, first_run, first_searches, settling_searches};
 ghost use Rattle.roster_polish.specs.Settled.{HasBestRow, IsSettled, Spends, extensions_of};
 
 use crate::searches::Searches;
@@ -52,7 +52,7 @@ pub(crate) fn settle_first(
     ensures case { held.new.case ≡ held.old.case }
     ensures roster { held.new.roster ≡ (first_run held.old.case from held.old.roster).roster }
     ensures settled { result ≡ (first_run held.old.case from held.old.roster).is_settled }
-    ensures counted { meter.new ≤ meter.old + extensions_of held.old.case (first_searches held.old.case) }
+    ensures counted { meter.new ≤ meter.old + extensions_of held.old.case (settling_searches held.old.case from held.old.roster) }
     ensures fits { FitsPolish held.old.case space.new }
 {
     held.case().keeps_limits();
@@ -83,6 +83,7 @@ pub(crate) fn settle_in(
     ensures case { held.new.case ≡ held.old.case }
     ensures kept { space.new.kept ≡ space.old.kept }
     ensures settled { result ≡ true → IsSettled held.old.case searches.old.from held.new.roster }
+    ensures given_up { result ≡ false → IsGivenUp held.old.case aim.most searches.new.left held.old.roster held.new.roster }
     ensures frozen { FrozenDaysStay held.old.case searches.old.from held.old.roster held.new.roster }
     ensures no_dearer { penalty held.old.case held.new.roster ≤ penalty held.old.case held.old.roster }
     ensures from { searches.new.from ≡ searches.old.from }
@@ -109,6 +110,7 @@ fn settle(
     requires room { meter.old + extensions_of held.old.case searches.old.left ≤ greatest_u64 }
     ensures case { held.new.case ≡ held.old.case }
     ensures settled { result ≡ true → IsSettled held.old.case searches.old.from held.new.roster }
+    ensures given_up { result ≡ false → IsGivenUp held.old.case aim.most searches.new.left held.old.roster held.new.roster }
     ensures frozen { FrozenDaysStay held.old.case searches.old.from held.old.roster held.new.roster }
     ensures no_dearer { penalty held.old.case held.new.roster ≤ penalty held.old.case held.old.roster }
     ensures from { searches.new.from ≡ searches.old.from }
@@ -155,6 +157,8 @@ fn make_pass(
     ensures case { held.new.case ≡ held.old.case }
     ensures round { first ≡ 0 → nurse_count held.old.case ≤ searches.old.left → held.new.roster ≡ round held.old.case (best_row held.old.case searches.old.from) held.old.roster }
     ensures end { first ≡ 0 → nurse_count held.old.case ≤ searches.old.left → result ≡ (if same_rows held.new.roster held.old.roster then Unchanged else Changed) }
+    ensures stopped { result ≡ Stopped → searches.new.left ≡ 0 }
+    ensures falls { result ≡ Changed → penalty held.old.case held.new.roster < penalty held.old.case held.old.roster }
     ensures unchanged { result ≡ Unchanged → (n : ℕ) → first ≤ n → n < nurse_count held.old.case → HasBestRow held.old.case searches.old.from held.new.roster n }
     ensures frozen { FrozenDaysStay held.old.case searches.old.from held.old.roster held.new.roster }
     ensures no_dearer { penalty held.old.case held.new.roster ≤ penalty held.old.case held.old.roster }

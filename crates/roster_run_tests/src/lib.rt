@@ -5,3 +5,5 @@
 mod failing_tests;
 #[cfg(test)]
 mod hostile_tests;
+#[cfg(test)]
+mod seed_tests;

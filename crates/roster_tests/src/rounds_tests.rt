@@ -2,11 +2,12 @@
 
 use crate::best_tests::{ready, row_of};
 use crate::texts::{RUN_LOG, fill};
-use roster_best::most_steps;
+use roster_best::{LastSearches, Workspace, most_steps};
 use roster_case::Held;
 use roster_devices::{AtEnd, ShortWriter};
 use roster_rounds::{
     LogFault, Outcome, RunSpace, Step, improve, improve_unless_known, most_extensions, step,
+    step_unless_known,
 };
 use roster_state::Meter;
 use roster_text::Watch;
@@ -135,6 +136,34 @@ fn the_same_run_with_fewer_searches(rt: HostRuntime) -> Result<(), Fail> {
         assert!(rt; other_meter.count() <= meter.count(), "{sent}");
         // By the end at least one search was left out.
         assert!(rt; sent < 78 || other_meter.count() < meter.count(), "{sent}");
+    }
+    Ok(())
+}
+
+#[test]
+fn nurses_who_are_known_take_no_search(rt: HostRuntime) -> Result<(), Fail> {
+    let alloc = rt.alloc();
+    let mut log_room = [0; 80];
+    let mut log = Watch::new(ShortWriter::new(&mut log_room, AtEnd::Fail));
+    let (mut held, mut meter, ended) = run(alloc, &mut log)?;
+    let settled = ended.is_ok() && held.case().nurses() == 2;
+    let (Ok(mut workspace), Ok(mut last)) = (
+        Workspace::for_case(alloc, held.case()),
+        LastSearches::for_case(alloc, held.case()),
+    ) else {
+        return Err(Fail::new("no space"));
+    };
+    if !settled || meter.room() < most_extensions(held.case(), 2) {
+        return Err(Fail::new("no room"));
+    }
+    // The first search for a nurse tells that no row is cheaper, and as long as no row changes, that is known.
+    for searched in [true, false] {
+        for nurse in 0..2 {
+            let before = meter.count();
+            let step = step_unless_known(&mut held, nurse, 0, &mut workspace, &mut last, &mut meter);
+            assert!(rt; !step.changed, "{nurse}");
+            assert!(rt; (meter.count() > before) == searched, "{nurse} {searched}");
+        }
     }
     Ok(())
 }

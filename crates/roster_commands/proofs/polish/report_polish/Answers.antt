@@ -51,6 +51,6 @@ returns g c =
     let held = c.in_ok-held.ensures.held ∙ ap of_case c.new-meter.ensures.same in
     let kept = subst (λ (m : Meaning). hard_faults m c.args.instance.roster ≡ []) c.new-meter.ensures.same c.in_ok-held.ensures.kept in
     let f = c.in-Err-LogFailed.field-0 in
-    let stops_then = subst (λ (k : Course). PolishLogStops g.Log.Write.contents c.in_ok-held.held.case k.from c.in_ok-held.held.roster k.searches c.args.log.now c.polish.new.log f) c.within_room-course.ensures c.in-Err-LogFailed.ensures.err in
-    let stops = subst (λ (h : HeldRoster). PolishLogStops g.Log.Write.contents h.case c.args.course.now.from h.roster (min c.args.course.now.searches most_searches) c.args.log.now c.polish.new.log f) held stops_then in
-    polish_stops c.args.course.now.searches c.args.course.now.from c.args.instance.case c.args.instance.roster output log c.args.source.now c.args.instance.bundle (min c.args.course.now.searches most_searches) (omega arith) f kept stops refl
+    let stops_then = subst (λ (k : Course). PolishLogStops g.Log.Write.contents c.in_ok-held.held.case k.from c.in_ok-held.held.roster k.searches c.polish.new.held.roster c.args.log.now c.polish.new.log f) c.within_room-course.ensures c.in-Err-LogFailed.ensures.err in
+    let stops = subst (λ (h : HeldRoster). PolishLogStops g.Log.Write.contents h.case c.args.course.now.from h.roster (min c.args.course.now.searches most_searches) c.polish.new.held.roster c.args.log.now c.polish.new.log f) held stops_then in
+    polish_stops c.args.course.now.searches c.args.course.now.from c.args.instance.case c.args.instance.roster output log c.args.source.now c.args.instance.bundle (min c.args.course.now.searches most_searches) (omega arith) c.polish.new.held.roster f kept stops refl

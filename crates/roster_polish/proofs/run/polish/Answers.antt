@@ -1,4 +1,5 @@
 use Rattle.std.proofs.Common.{◌≡◌, ◌∙◌, ◌+◌, ◌++◌, ◌≤◌, ap, arith, codes, decimal, refl, subst, sym, true}
+use Rattle.std.proofs.lemmas.Nat.{mul-le}
 use Rattle.std.proofs.lemmas.Result.{err_from_is_err_and}
 use Rattle.roster_text.specs.Io.{BreaksIn, Sends}
 use Rattle.roster_instance.specs.Meaning.{Meaning}
@@ -7,10 +8,11 @@ use Rattle.roster_laws.specs.FrozenDays.{FrozenDaysStay}
 use Rattle.roster_laws.specs.Greatest.{greatest_extension_count}
 use Rattle.roster_laws.proofs.Frozen.{stays_on}
 use Rattle.roster_rules.specs.Improver.{line}
-use Rattle.roster_polish.specs.Polished.{FitsPolish, first_searches, last_line}
+use Rattle.roster_polish.specs.Polished.{FitsPolish, first_searches, last_line, settling_searches}
 use Rattle.roster_polish.specs.Settled.{IsSettled, extensions_of}
 use Rattle.roster_polish.proofs.Keeping.{reached_by}
-use Rattle.roster_polish.proofs.KickLogs.{cheaper_breaks, end_breaks, ends, first_kept, first_text, start_breaks, underway_cheaper, underway_first, underway_same}
+use Rattle.roster_polish.proofs.KickLogs.{cheaper_breaks, end_breaks, ends, first_kept, first_text, start_breaks, underway_cheaper, underway_first, underway_no_dearer, underway_same}
+use Rattle.roster_polish.proofs.Passes.{settling_few}
 use Rattle.roster_polish.proofs.Steps.{both_of}
 use Rattle.roster_polish.proofs.run.polish.Goals as goal
 use Rattle.roster_polish.proofs.run.polish.Goals.{else-total-before, then-total-before+in_ok-sent-2}
@@ -25,6 +27,20 @@ returns-in_err-sent-clause-err g c =
     (subst (λ text. BreaksIn g.W.Write.contents c.args.log.now c.log_word.new.log 0 text c.in_err-sent.field-0.0) (first_text k given c.total.result c.total.ensures.total) c.in_err-sent.ensures.err))
 
 -- ---- the first settling
+
+pub begin-kicking-requires-clause-room : goal.begin-kicking-requires-clause-room
+begin-kicking-requires-clause-room g c =
+    let k = c.args.held.now.case in
+    let given = c.args.held.now.roster in
+    let told = c.settle_first-settled.ensures in
+    let settling = settling_searches k c.args.course.now.from given in
+    rw told.case (omega (
+      arith,
+      told.counted,
+      c.requires.room,
+      both_of c.args.course.now.searches (first_searches k) (greatest_extension_count k),
+      mul-le settling (greatest_extension_count k) (first_searches k) (greatest_extension_count k) (settling_few k c.args.course.now.from given) (omega arith),
+    ))
 
 pub loop-kicks_before-init : goal.loop-kicks_before-init
 loop-kicks_before-init g c =
@@ -44,12 +60,27 @@ loop-kicks_before-init g c =
         c.begin-kicking.ensures.counted,
         ap (λ (m : Meaning). extensions_of m c.begin-kicking.result.searches.left) told.case,
         ap (λ (m : Meaning). extensions_of m c.args.course.now.searches) told.case,
-        both_of c.args.course.now.searches (first_searches k) (greatest_extension_count k),
+        both_of c.args.course.now.searches (settling_searches k c.args.course.now.from given) (greatest_extension_count k),
       );
       fits = subst (λ (m : Meaning). FitsPolish m c.begin-kicking.new.space) told.case c.begin-kicking.ensures.fits;
     }
 
 -- ---- a kick
+
+pub try_kick-requires-clause-room : goal.try_kick-requires-clause-room
+try_kick-requires-clause-room g c =
+    let k = c.args.held.now.case in
+    let given = c.args.held.now.roster in
+    let l = c.loop-kicks_before in
+    let settling = settling_searches k c.args.course.now.from given in
+    rw l.invariant.case (omega (
+      arith,
+      l.invariant.counted,
+      c.requires.room,
+      both_of c.args.course.now.searches settling (greatest_extension_count k),
+      both_of c.args.course.now.searches (first_searches k) (greatest_extension_count k),
+      mul-le settling (greatest_extension_count k) (first_searches k) (greatest_extension_count k) (settling_few k c.args.course.now.from given) (omega arith),
+    ))
 
 pub loop-kicks_before-preserved-then-not-try_kick : goal.loop-kicks_before-preserved-then-not-try_kick
 loop-kicks_before-preserved-then-not-try_kick g c =
@@ -135,7 +166,25 @@ loop-kicks_before-preserved g c =
       fits = subst (λ (m : Meaning). FitsPolish m c.try_kick.new.space) i.case told.fits;
     }
 
+pub returns-in_err-sent-2-clause-no_dearer : goal.returns-in_err-sent-2-clause-no_dearer
+returns-in_err-sent-2-clause-no_dearer g c =
+    let k = c.args.held.now.case in
+    let l = c.loop-kicks_before in
+    let next = c.try_kick.new.held.roster in
+    let less : penalty k next ≤ penalty k l.held.roster = subst (λ (m : Meaning). penalty m next ≤ penalty m l.held.roster) l.invariant.case c.try_kick.ensures.no_dearer in
+    omega (arith, less, underway_no_dearer k c.args.course.now.from c.args.held.now.roster g.W.Write.contents c.args.log.now l.log l.kicks_before l.sent l.settled l.held.roster l.invariant.going)
+
 -- ---- the end
+
+pub returns-in_err-log_word-clause-no_dearer : goal.returns-in_err-log_word-clause-no_dearer
+returns-in_err-log_word-clause-no_dearer g c =
+    let l = c.loop-kicks_before in
+    underway_no_dearer c.args.held.now.case c.args.course.now.from c.args.held.now.roster g.W.Write.contents c.args.log.now l.log l.kicks_before l.sent l.settled l.held.roster l.invariant.going
+
+pub returns-clause-no_dearer : goal.returns-clause-no_dearer
+returns-clause-no_dearer g c =
+    let l = c.loop-kicks_before in
+    underway_no_dearer c.args.held.now.case c.args.course.now.from c.args.held.now.roster g.W.Write.contents c.args.log.now l.log l.kicks_before l.sent l.settled l.held.roster l.invariant.going
 
 pub returns-in_err-log_word-clause-err : goal.returns-in_err-log_word-clause-err
 returns-in_err-log_word-clause-err g c =

@@ -1,7 +1,7 @@
 -- The kicks so far are made, and the lines so far are sent.
 use Rattle.std.proofs.Common.{◌≡◌, ◌+◌, ◌≤◌}
 use Rattle.roster_laws.specs.FrozenDays.{FrozenDaysStay}
-use Rattle.roster_polish.specs.Polished.{FitsPolish, first_searches}
+use Rattle.roster_polish.specs.Polished.{FitsPolish, settling_searches}
 use Rattle.roster_polish.specs.Settled.{extensions_of}
 use Rattle.roster_polish.proofs.KickLogs.{Underway}
 use Rattle.roster_polish.proofs.run.polish.Given as goal
@@ -13,6 +13,6 @@ invariant-loop-kicks_before g l = record {
   frozen : FrozenDaysStay l.fn.held.case l.course.from l.fn.held.roster l.held.roster;
   going : Underway g.W.Write.contents l.fn.held.case l.course.from l.fn.held.roster l.fn.log l.log l.kicks_before l.sent l.settled l.held.roster;
   from : l.kicking.searches.from ≡ l.course.from;
-  counted : l.meter + extensions_of l.fn.held.case l.kicking.searches.left ≤ l.fn.meter + extensions_of l.fn.held.case (l.course.searches + first_searches l.fn.held.case);
+  counted : l.meter + extensions_of l.fn.held.case l.kicking.searches.left ≤ l.fn.meter + extensions_of l.fn.held.case (l.course.searches + settling_searches l.fn.held.case l.course.from l.fn.held.roster);
   fits : FitsPolish l.fn.held.case l.space;
 }

@@ -1,4 +1,4 @@
-use Rattle.std.proofs.Common.{◌≡◌, ◌∙◌, ◌≤◌, arith, refl, rules, subst, sym, true}
+use Rattle.std.proofs.Common.{◌≡◌, ◌∙◌, ◌<◌, ◌≤◌, arith, inl, inr, refl, rules, subst, sym, true}
 use Rattle.std.proofs.lemmas.Bool.{true≢false}
 use Rattle.roster_instance.specs.Meaning.{Meaning}
 use Rattle.roster_partial.specs.Workspaces.{fits_space}
@@ -6,16 +6,19 @@ use Rattle.roster_best.specs.Known.{IsKnown}
 use Rattle.roster_rules.specs.Penalties.{penalty}
 use Rattle.roster_laws.specs.FrozenDays.{FrozenDaysStay}
 use Rattle.roster_laws.proofs.Frozen.{stays_on, stays_self}
-use Rattle.roster_polish.specs.declared.settle.Pass.TheVariants.{Unchanged}
+use Rattle.roster_polish.specs.declared.settle.Pass.{Pass}
+use Rattle.roster_polish.specs.declared.settle.Pass.TheVariants.{Changed, Stopped, Unchanged}
 use Rattle.roster_polish.specs.Settled.{HasBestRow, Spends}
 use Rattle.roster_polish.proofs.Steps.{at_same, room_left, spent_both, spent_none}
 use Rattle.roster_polish.proofs.settle.settle.Goals as goal
-use Rattle.roster_polish.proofs.settle.settle.Goals.{After-make_pass-end}
+use Rattle.roster_polish.proofs.settle.settle.Goals.{After-make_pass-end, else-first-eq0-via-then-first-eq0+else-eq, else-first-eq0-via-else-first-eq0, then-eq-2-via-then-eq-2, then-eq-2-via-else-eq-2+then-total-saturating_add}
 
 pub loop-pass-init : goal.loop-pass-init
 loop-pass-init c = record {
   case = refl;
   frozen = stays_self c.args.held.now.case c.args.searches.now.from c.args.held.now.roster;
+  first = inl refl;
+  fallen = omega arith;
   no_dearer = omega arith;
   from = refl;
   spends = spent_none c.args.held.now.case c.args.meter.now c.args.searches.now.left;
@@ -65,6 +68,20 @@ fits c = subst (λ (m : Meaning). fits_space m c.make_pass-end.new.workspace ≡
 known : (c : After-make_pass-end) → IsKnown c.args.held.now.case c.make_pass-end.new.last
 known c = subst (λ (m : Meaning). IsKnown m c.make_pass-end.new.last) c.loop-pass.invariant.case c.make_pass-end.ensures.known
 
+-- a pass that changed the roster made it cheaper
+fell : (c : After-make_pass-end) → c.make_pass-end.result ≡ Changed → penalty c.args.held.now.case c.make_pass-end.new.held.roster < penalty c.args.held.now.case c.loop-pass.held.roster
+fell c changed =
+    let next = c.make_pass-end.new.held.roster in
+    subst (λ (m : Meaning). penalty m next < penalty m c.loop-pass.held.roster) c.loop-pass.invariant.case (c.make_pass-end.ensures.falls changed)
+
+same : (c : After-make_pass-end) → c.make_pass-end.new.held.case ≡ c.args.held.now.case
+same c = c.make_pass-end.ensures.case ∙ c.loop-pass.invariant.case
+
+changed_of : (end : Pass) → (end ≡ Unchanged → ⊥) → (end ≡ Stopped → ⊥) → end ≡ Changed
+changed_of Unchanged moved going = absurd (moved refl)
+changed_of Changed moved going = refl
+changed_of Stopped moved going = absurd (going refl)
+
 pub returns-then-eq : goal.returns-then-eq
 returns-then-eq c =
     let k = c.args.held.now.case in
@@ -79,6 +96,7 @@ returns-then-eq c =
       settled = λ e n inside.
           at_same (λ m from. HasBestRow m from next n) l.held.case k l.searches.from c.args.searches.now.from i.case i.from
           (told.unchanged unchanged n (omega (arith, c.if-first-eq0.true)) (rw i.case inside));
+      given_up = λ e. absurd (true≢false e);
       frozen = frozen here;
       no_dearer = no_dearer here;
       from = told.from ∙ i.from;
@@ -93,6 +111,10 @@ returns-then-eq-2 c =
     record {
       case = c.make_pass-end.ensures.case ∙ c.loop-pass.invariant.case;
       settled = λ e. absurd (true≢false (sym e));
+      given_up = λ e. elim c.then-eq-2.branch [
+        | then-eq-2-via-then-eq-2 w ↦ (let ended : c.make_pass-end.result ≡ Stopped = search rules in inl (c.make_pass-end.ensures.stopped ended))
+        | then-eq-2-via-else-eq-2+then-total-saturating_add w ↦ inr (inl (rw (← same here) (omega (arith, w.total.ensures.total, w.if-total-saturating_add.true, w.saturating_add.ensures, w.total.type_inv))))
+      ];
       frozen = frozen here;
       no_dearer = no_dearer here;
       from = c.make_pass-end.ensures.from ∙ c.loop-pass.invariant.from;
@@ -103,10 +125,20 @@ returns-then-eq-2 c =
 
 pub loop-pass-preserved : goal.loop-pass-preserved
 loop-pass-preserved c =
+    let k = c.args.held.now.case in
+    let l = c.loop-pass in
     let here = (goal.at.loop-pass-preserved c).After-make_pass-end in
     record {
       case = c.make_pass-end.ensures.case ∙ c.loop-pass.invariant.case;
       frozen = frozen here;
+      first = inr refl;
+      fallen = elim l.invariant.first [
+        | inl begun ↦ omega (arith, begun, no_dearer here)
+        | inr all ↦ elim c.else-first-eq0.branch [
+          | else-first-eq0-via-then-first-eq0+else-eq w ↦ (let moved : c.make_pass-end.result ≡ Changed = changed_of c.make_pass-end.result (search rules) (search rules) in omega (arith, l.invariant.fallen, fell here moved))
+          | else-first-eq0-via-else-first-eq0 w ↦ absurd (w.if-first-eq0.false all)
+        ]
+      ];
       no_dearer = no_dearer here;
       from = c.make_pass-end.ensures.from ∙ c.loop-pass.invariant.from;
       spends = spends here;
@@ -117,4 +149,4 @@ loop-pass-preserved c =
 pub returns : goal.returns
 returns c =
     let i = c.loop-pass.invariant in
-    record { case = i.case; settled = λ e. absurd (true≢false (sym e)); frozen = i.frozen; no_dearer = i.no_dearer; from = i.from; spends = i.spends; fits = i.fits; known = i.known }
+    record { case = i.case; settled = λ e. absurd (true≢false (sym e)); given_up = λ e. inr (inr (omega (arith, i.fallen, c.loop-pass-test.false))); frozen = i.frozen; no_dearer = i.no_dearer; from = i.from; spends = i.spends; fits = i.fits; known = i.known }

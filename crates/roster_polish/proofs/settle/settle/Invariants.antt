@@ -1,4 +1,4 @@
-use Rattle.std.proofs.Common.{◌≡◌, ◌≤◌, true}
+use Rattle.std.proofs.Common.{◌≡◌, ◌+◌, ◌≤◌, ◌⊎◌, true}
 use Rattle.roster_rules.specs.Penalties.{penalty}
 use Rattle.roster_laws.specs.FrozenDays.{FrozenDaysStay}
 use Rattle.roster_partial.specs.Workspaces.{fits_space}
@@ -10,6 +10,8 @@ abbrev pub invariant-loop-pass : goal.invariant-loop-pass
 invariant-loop-pass l = record {
   case : l.held.case ≡ l.fn.held.case;
   frozen : FrozenDaysStay l.fn.held.case l.fn.searches.from l.fn.held.roster l.held.roster;
+  first : (l.pass ≡ 0) ⊎ (l.first ≡ 0);
+  fallen : penalty l.fn.held.case l.held.roster + l.pass ≤ penalty l.fn.held.case l.fn.held.roster + 1;
   no_dearer : penalty l.fn.held.case l.held.roster ≤ penalty l.fn.held.case l.fn.held.roster;
   from : l.searches.from ≡ l.fn.searches.from;
   spends : Spends l.fn.held.case l.fn.meter l.fn.searches.left l.meter l.searches.left;

@@ -12,6 +12,7 @@ returns c =
       case = told.case;
       kept = refl;
       settled = told.settled;
+      given_up = told.given_up;
       frozen = told.frozen;
       no_dearer = told.no_dearer;
       from = told.from;
