@@ -3,9 +3,10 @@ import argparse
 import errno
 import os
 import sys
+import time
 import typing
 
-from desk_lib import check, grid, improve, page, plot, program, replacing, signals, split, tables
+from desk_lib import check, grid, improve, outputs, page, plot, polish, program, replacing, signals, split, tables
 from desk_lib.costs import Costing
 from desk_lib.model import Plan
 from desk_lib.program import Program
@@ -27,8 +28,16 @@ another program than the one of this repository. The status is that of roster: 0
 IMPROVE = """
 
 After each round the file is replaced at once, so that Ctrl-C leaves the roster of the last whole round. At the end
-it has the very bytes of one run of 'roster improve'. With --polish it goes on by slices of 'roster polish', and
-keeps each that is cheaper. The log goes to standard error; on a terminal it is one line that changes."""
+it has the very bytes of one run of 'roster improve'. With --polish it has those of one run of 'roster polish' with
+as many searches and that seed, or a cheaper roster. Such a run writes nothing before its end, nor on Ctrl-C; so
+slices of polish go on beside it, from the roster in the file, and each that is cheaper is kept. The log has a line
+for each cheaper roster; it goes to standard error, and on a terminal it is one line that changes. Where something
+else writes the file meanwhile, that stays, and the roster is kept beside it."""
+
+
+# What solutions are among the files that are read; and so many seeds are taken at once.
+SOLUTIONS = "the file of --sols"
+MOST_SEEDS = 1000
 
 
 class WriteFailed(Exception):
@@ -48,6 +57,30 @@ def write(lines: typing.Iterable[str]) -> None:
 
 
 # ---- what a command works on
+
+
+def files_read(asked: argparse.Namespace) -> list[outputs.Named]:
+    """The files that a command reads, each with what it is there."""
+    found: list[outputs.Named] = [("an input file", it) for it in asked.files]
+    found += [(f"the file of --{kind}", name) for kind in KINDS for name in getattr(asked, kind) or ()]
+    found = found or [("standard input", 0)]
+    found += [("the file of --with", it) for it in getattr(asked, "other", None) or ()]
+    found += [("the file of --log", asked.log)] if "log" in asked and asked.log and "log" not in asked.writes else []
+    named = asked.roster or os.environ.get(program.VARIABLE)
+    return [*found, ("the program", named)] if named else found
+
+
+def check_written(asked: argparse.Namespace) -> None:
+    """Refuses to write what is read, before anything is done. The one file of all solutions may become a better roster."""
+    written = [(f"--{it}", getattr(asked, it)) for it in asked.writes if getattr(asked, it)]
+    read = files_read(asked)
+    if asked.run is run_improve:
+        for named in [named for named, file in written if file == "-"]:
+            raise DeskError(f"{named} -: this is no file, and can't be written again and again; give the name of one", 2)
+        solutions = [it for it in read if it[0] == SOLUTIONS]
+        if len(solutions) == 1 and outputs.identity(solutions[0][1]) == outputs.identity(asked.out):
+            read.remove(solutions[0])
+    outputs.refuse_inputs(written, read)
 
 
 def texts_of(asked: argparse.Namespace) -> Texts:
@@ -144,7 +177,7 @@ def run_page(asked: argparse.Namespace, roster: Program) -> int:
     sheet, before, texts = sheet_of(asked, roster)
     floor = improve.floor_of(roster, texts, first_week_words(asked)) if asked.bound else None
     text = page.Page(sheet, before, log, floor).text()
-    if asked.out:
+    if asked.out and asked.out != "-":
         replacing.replace_text(asked.out, text.encode())
     else:
         write([text.rstrip("\n")])
@@ -156,20 +189,24 @@ def first_week_words(asked: argparse.Namespace) -> list[str]:
 
 
 def run_improve(asked: argparse.Namespace, roster: Program) -> int:
+    end = None if asked.seconds is None else time.monotonic() + asked.seconds
     texts = texts_of(asked)
-    plan = program.taken(roster, texts)
+    [(_, plan)] = both_plans(roster, texts, None)
     before, words = texts.before(plan.solutions_offset(), []), first_week_words(asked)
-    if asked.polish:
+    has_polish = asked.polish is not None or end is not None
+    if asked.seeds and not has_polish:
+        raise DeskError("--seeds: these are the seeds of polish; say how long by --polish or --seconds", 2)
+    if has_polish:
         roster.must_know("polish")
-    progress = improve.Progress(improve.log_file(asked.log))
+    progress = improve.Progress(asked.log)
     run = improve.Run(roster, before, texts.joined[plan.solutions_offset() :], asked.out, words, progress)
 
     def work() -> None:
         if asked.bound:
             progress.floor = improve.floor_of(roster, texts, words, progress)
-        run.rounds(asked.rounds)
-        if asked.polish:
-            run.polish(asked.polish, asked.slice, asked.seed)
+        run.rounds(asked.rounds, end)
+        if has_polish:
+            polish.go_on(run, polish.Course(asked.polish, asked.seeds or [asked.seed], asked.slice, end))
 
     improve.finish(run, work)
     return 0
@@ -180,8 +217,20 @@ def run_split(asked: argparse.Namespace, roster: Program) -> int:
     pairs = both_plans(roster, texts, asked.other)
     plan, (chosen, _) = pairs[0][1], pairs[-1]
     before = texts.before(plan.solutions_offset(), [])
-    write(shown(it) for it in split.split(roster, chosen, before, plan.case.weeks, asked.prefix, asked.crlf))
+    names = split.names(asked.prefix, plan.case.weeks)
+    check_split(asked, names)
+    split.split(roster, chosen, before, names, asked.crlf)
+    write(shown(it) for it in names)
     return 0
+
+
+def check_split(asked: argparse.Namespace, names: list[str]) -> None:
+    """Refuses to write what is read, but for solutions, and to replace files unless that is asked for."""
+    read = [it for it in files_read(asked) if it[0] != SOLUTIONS]
+    outputs.refuse_inputs([("PREFIX", it) for it in names], read)
+    there = [shown(it) for it in names if os.path.lexists(it)]
+    if there and not asked.force:
+        raise DeskError(f"{', '.join(there)}: would be replaced; give another PREFIX, or --force to replace", 2)
 
 
 # ---- the words of the command line
@@ -191,11 +240,22 @@ def number_in(least: int, greatest: int) -> typing.Callable[[str], int]:
     """Reads a number of a range."""
 
     def number(word: str) -> int:
-        if not (word.isascii() and word.isdigit() and len(word) < 10 and least <= int(word) <= greatest):
+        if not (word.isascii() and word.isdigit() and len(word) < 12 and least <= int(word) <= greatest):
             raise argparse.ArgumentTypeError(f"'{shown(word)}' is no number from {least} to {greatest}")
         return int(word)
 
     return number
+
+
+def seeds_in(word: str) -> list[int]:
+    """Reads the first and the last of several seeds, as 1-8."""
+    ends = word.split("-")
+    seed = number_in(0, polish.SEEDS - 1)
+    first, last = (seed(it) for it in ends) if len(ends) == 2 else (1, 0)
+    if not first <= last < first + MOST_SEEDS:
+        told = f"'{shown(word)}' isn't the first and the last of at most {MOST_SEEDS} seeds, as 1-8"
+        raise argparse.ArgumentTypeError(told)
+    return [*range(first, last + 1)]
 
 
 class Parser(argparse.ArgumentParser):
@@ -231,13 +291,15 @@ def with_first_week(parser: argparse.ArgumentParser, told: str) -> None:
     parser.add_argument("--from", dest="first_week", type=number_in(0, 52), default=0, metavar="V", help=told)
 
 
-def command(commands: typing.Any, name: str, run: typing.Callable, told: str, more: str = "") -> argparse.ArgumentParser:
-    """A command of the desk, with the files that it takes."""
+def command(
+    commands: typing.Any, name: str, run: typing.Callable, told: str, more: str = "", writes: tuple[str, ...] = ()
+) -> argparse.ArgumentParser:
+    """A command of the desk. Of its options, `writes` name files that it writes."""
     described = f"{told[0].upper()}{told[1:]}.{more}"
     parser = commands.add_parser(
         name, help=told, description=described, epilog=FILES, formatter_class=Formatter, allow_abbrev=False
     )
-    parser.set_defaults(run=run)
+    parser.set_defaults(run=run, writes=writes)
     return parser
 
 
@@ -249,9 +311,8 @@ class Formatter(argparse.RawDescriptionHelpFormatter):
 
 
 def add_improve(commands: typing.Any) -> None:
-    parser = command(
-        commands, "improve", run_improve, "makes rounds one at a time, and keeps the best roster so far in a file", IMPROVE
-    )
+    told = "makes rounds one at a time, and keeps the best roster so far in a file"
+    parser = command(commands, "improve", run_improve, told, IMPROVE, ("out", "log"))
     parser.add_argument(
         "--out", required=True, metavar="FILE", help="the file of the roster; replaced at once after each round"
     )
@@ -262,23 +323,24 @@ def add_improve(commands: typing.Any) -> None:
     parser.add_argument(
         "--bound", action="store_true", help="ask 'roster bound' for a floor first, and tell how much above it the roster is"
     )
+    searches = number_in(1, polish.MOST_SEARCHES)
+    parser.add_argument("--polish", type=searches, metavar="N", help="then go on with 'roster polish', N searches in a run")
     parser.add_argument(
-        "--polish", type=number_in(1, 10_000_000), metavar="N", help="then go on with 'roster polish', N searches in all"
+        "--seconds",
+        type=number_in(1, 1_000_000),
+        metavar="N",
+        help="end after so many seconds, the first round made; with --polish or earlier, and else go on with 'roster polish'",
     )
+    seed = number_in(0, polish.SEEDS - 1)
+    parser.add_argument("--seed", type=seed, default=1, metavar="S", help="the seed of polish (1 if not given)")
     parser.add_argument(
-        "--slice",
-        type=number_in(1, 10_000_000),
-        default=2000,
-        metavar="M",
-        help="searches of a slice of polish (2000 if not given)",
+        "--seeds",
+        type=seeds_in,
+        metavar="A-B",
+        help="a run of polish by each seed from A to B, as many at once as there are processors; the cheapest roster is"
+        " kept, and the log tells what each comes to",
     )
-    parser.add_argument(
-        "--seed",
-        type=number_in(0, 999_999_999),
-        default=1,
-        metavar="S",
-        help="the seed of the first slice; each further one has one more (1 if not given)",
-    )
+    parser.add_argument("--slice", type=searches, metavar="M", help="searches of a slice (as take some 4 seconds if not given)")
     parser.add_argument("--log", metavar="FILE", help="write the log to this file, too; 'page --log' draws it")
     with_files(parser)
 
@@ -300,7 +362,7 @@ def parser_of() -> argparse.ArgumentParser:
         "--width", type=number_in(20, 9999), metavar="COLUMNS", help="how wide it may be; else as wide as the terminal"
     )
     with_files(it)
-    it = command(commands, "page", run_page, "writes the same as one HTML file to look at and to print")
+    it = command(commands, "page", run_page, "writes the same as one HTML file to look at and to print", writes=("out",))
     with_other(it, "it is shown, with what changed")
     with_first_week(it, "the weeks before V are frozen")
     it.add_argument("--log", metavar="FILE", help="the log of improve: its penalty is drawn")
@@ -311,6 +373,7 @@ def parser_of() -> argparse.ArgumentParser:
     it = command(commands, "split", run_split, "writes a solution file for each week: PREFIX-0.txt, PREFIX-1.txt and so on")
     it.add_argument("prefix", metavar="PREFIX", help="how the names of the files begin, such as Sol-n030w4")
     it.add_argument("--crlf", action="store_true", help="end lines with CR LF")
+    it.add_argument("--force", action="store_true", help="replace the files that are there")
     with_other(it, "its weeks are written")
     with_files(it)
     return parser
@@ -318,29 +381,38 @@ def parser_of() -> argparse.ArgumentParser:
 
 def run(words: list[str]) -> int:
     asked = parser_of().parse_args(words)
+    check_written(asked)
     return asked.run(asked, program.find(asked.roster))
 
 
 def main(words: list[str]) -> int:
     """The desk with these words; returns the status."""
     fill_streams()
-    signals.take()
     try:
-        return run(words)
+        signals.take()
+        status, why = ran(words)
+    except signals.Interrupted as end:
+        status, why = end.status, "interrupted"
+    signals.leave()
+    return ended(why, status) if status else status
+
+
+def ran(words: list[str]) -> tuple[int, str]:
+    """The status, and why the desk ends, where there is something to tell."""
+    try:
+        return run(words), ""
     except DeskError as why:
-        return ended(str(why), why.status)
+        return why.status, str(why)
     except WriteFailed as why:
         # (a reader that has gone wants no line)
         reason = why.__cause__
-        return ended("" if isinstance(reason, BrokenPipeError) else f"write failed: {reason.strerror}", 3)
+        return 3, "" if isinstance(reason, BrokenPipeError) else f"standard output: write failed: {reason.strerror}"
     except BrokenPipeError:
-        return ended("", 3)
+        return 3, ""
     except OSError as why:
-        return ended(f"write failed: {why.strerror}", 3)
+        return 3, f"write failed: {why.strerror}"
     except MemoryError:
-        return ended("no memory", 4)
-    except signals.Interrupted as end:
-        return ended("interrupted", end.status)
+        return 4, "no memory"
 
 
 def fill_streams() -> None:

@@ -1,45 +1,65 @@
-"""The command `improve`: rounds one at a time, the file replaced after each; then slices of `polish`, if asked for."""
+"""The command `improve`: rounds one at a time, the file replaced after each. desk_lib/polish.py has what may follow."""
 import contextlib
 import sys
 import time
 import typing
 
 from desk_lib.program import Program, costs_by
-from desk_lib.replacing import Replacement, replace_all
-from desk_lib.signals import Interrupted, held_back
+from desk_lib.replacing import Replacement, bytes_of, keep_beside, read_back
+from desk_lib.signals import Interrupted, held_back, within_time
 from desk_lib.texts import DeskError, Text, Texts, shown
 
 
 class Progress:
     """Tells how far a run is: the log's lines, or on a terminal one line that changes."""
 
-    def __init__(self, log: typing.BinaryIO | None):
-        self.log, self.is_terminal = log, sys.stderr.isatty()
+    def __init__(self, log: str | None):
+        """`log` is the name of a file for the lines."""
+        self.name, self.is_terminal = log, sys.stderr.isatty()
+        try:
+            self.log = open(log, "wb") if log else None
+        except OSError as why:
+            raise self.failed(why) from None
         self.floor: int | None = None
-        self.began, self.last = time.monotonic(), b""
+        self.began, self.last, self.is_shown = time.monotonic(), b"", False
 
     def line(self, line: bytes) -> None:
         """A line of the log, as it comes."""
         self.last = line
-        if self.log:
-            self.log.write(line + b"\n")
-            self.log.flush()
+        try:
+            if self.log:
+                self.log.write(line + b"\n")
+                self.log.flush()
+        except OSError as why:
+            raise self.failed(why) from None
         if not self.is_terminal:
             sys.stderr.buffer.write(line + b"\n")
             sys.stderr.buffer.flush()
 
-    def show(self, what: str, total: int) -> None:
+    def failed(self, why: OSError) -> DeskError:
+        return DeskError(f"{shown(self.name)}: write failed: {why.strerror}; give another name for the log", 3)
+
+    def close(self) -> None:
+        with contextlib.suppress(OSError):
+            if self.log:
+                self.log.close()
+
+    def above_floor(self, total: int) -> str:
+        """A clause for the floor, where it is known."""
+        return "" if self.floor is None else f", {total - self.floor} above the floor {self.floor}"
+
+    def show(self, what: str, total: int, more: str = "") -> None:
         """The line that changes."""
         if self.is_terminal:
-            above = "" if self.floor is None else f", {total - self.floor} above the floor {self.floor}"
-            text = f"{what}: {total}{above}, {time.monotonic() - self.began:.0f} s"
+            text = f"{what}: {total}{self.above_floor(total)}{more}, {time.monotonic() - self.began:.0f} s"
             sys.stderr.write(f"\r{text}\x1b[K")
             sys.stderr.flush()
+            self.is_shown = True
 
     def end(self, told: str = "") -> None:
         """Leaves the line that changes as it stands. What the run came to follows on a terminal, and where there is a floor."""
         if self.is_terminal:
-            sys.stderr.write(f"\n{told}\n" if told else "\n")
+            sys.stderr.write("\n" * self.is_shown + f"{told}\n" * bool(told))
         elif told and self.floor is not None:
             sys.stderr.write(f"desk: {told}\n")
         sys.stderr.flush()
@@ -54,8 +74,10 @@ class Run:
         """`before` has all texts but the solutions; `first_week` are the words of --from, if it was given."""
         self.roster, self.before, self.solutions = roster, before, solutions
         self.out, self.first_week, self.progress = out, first_week, progress
-        self.total = 0
-        self.saved = ""
+        # (the last line of the last log; and what the file has: what it costs, and after what)
+        self.given, self.end, self.total, self.saved = self.texts(), b"", 0, ""
+        # (what the file is to have when it is replaced next)
+        self.there = bytes_of(out)
         # what can't be replaced is told before the first round
         with Replacement(out, b""):
             pass
@@ -74,69 +96,70 @@ class Run:
                 ),
                 3,
             )
-        with held_back():
-            replace_all(self.roster, self.before, solutions, [(self.out, solutions)])
-            self.solutions, self.total, self.saved = solutions, total, what
+        with held_back(), read_back(self.roster, self.before, solutions, [(self.out, solutions)]) as (new,):
+            self.look(solutions, f"after {what}, which costs {total}")
+            new.put()
+            self.solutions, self.there, self.total, self.saved = solutions, solutions, total, what
+
+    def look(self, solutions: bytes, told: str) -> None:
+        """Looks whether the file has what this run has put there, or what was there before; else keeps the roster beside it."""
+        if bytes_of(self.out) == self.there:
+            return
+        name = keep_beside(self.out, solutions)
+        self.saved = ""
+        raise DeskError(
+            (
+                f"{shown(self.out)}: something else has written this file meanwhile, and it stays as it is; the roster {told},"
+                f" is in {shown(name)}. Give each run a file of its own"
+            ),
+            3,
+        )
+
+    def look_again(self) -> None:
+        """The same at the end, where a roster was put there."""
+        if self.saved:
+            with held_back():
+                self.look(self.solutions, self.told())
+
+    def told(self) -> str:
+        return f"after {self.saved}, which costs {self.total}"
 
     # ---- rounds
 
-    def rounds(self, count: int) -> None:
-        """Makes rounds until one changes nothing, or so many. The log is that of one run."""
-        end = b""
-        for number in range(1, max(1, count) + 1):
-            end = self.round(number, min(1, count))
-            if end.startswith(b"settled"):
-                break
-        self.progress.line(end)
+    def rounds(self, count: int, end: float | None) -> None:
+        """Makes rounds until one changes nothing, or so many, or until a time; at least one, unless none is allowed. The log is
+        that of one run."""
+        self.round(1, min(1, count))
+        within_time(end, lambda: self.further_rounds(count))
+        self.progress.line(self.end)
 
-    def round(self, number: int, count: int) -> bytes:
-        """Makes one round, or none; returns the last line of its log."""
+    def further_rounds(self, count: int) -> None:
+        for number in range(2, count + 1):
+            if self.end.startswith(b"settled"):
+                break
+            self.round(number, 1)
+
+    def round(self, number: int, count: int) -> None:
+        """Makes one round, or none."""
         answer = self.roster.ask(
             ["improve", "--rounds", str(count), *self.first_week], self.texts(), lambda it: self.tell(it, number)
         )
-        total = number_of(answer.log[-1])
-        self.save(answer.output, total, f"round {number}" if count else "no round")
-        return answer.log[-1]
+        self.save(answer.output, number_of(answer.log[-1]), f"round {number}" if count else "no round")
+        self.end = answer.log[-1]
 
     def tell(self, line: bytes, number: int) -> None:
         """Passes on a line of a round's log, with the number of that round."""
         words = line.split(b" ")
-        if words[0] == b"start" and number > 1 or words[0] in (b"settled", b"stopped"):
-            return
         if words[0] == b"1":
             line = b" ".join([b"%d" % number, *words[1:]])
         elif words[0] == b"round":
             line = b"round %d %s" % (number, words[-1])
+        elif words[0] != b"start" or number > 1:
+            # (the last line comes once for all rounds, and why the texts are refused is told by itself)
+            return
         self.progress.line(line)
         if words[-1].isdigit():
             self.progress.show(f"round {number}", int(words[-1]))
-
-    # ---- polish
-
-    def polish(self, searches: int, slice_: int, seed: int) -> None:
-        """Goes on by slices of `polish`, each with a seed of its own; keeps what is cheaper."""
-        done, number = 0, 0
-        while done < searches:
-            number += 1
-            now = min(slice_, searches - done)
-            self.slice(number, now, seed + number - 1)
-            done += now
-        self.progress.line(b"settled %d" % self.total)
-
-    def slice(self, number: int, searches: int, seed: int) -> None:
-        words = ["polish", "--searches", str(searches), "--seed", str(seed), *self.first_week]
-        answer = self.roster.ask(words, self.texts(), lambda it: self.tell_kick(it, number))
-        total = number_of(answer.log[-1])
-        if total < self.total:
-            self.save(answer.output, total, f"slice {number} of polish")
-        self.progress.line(b"slice %d %d" % (number, self.total))
-        self.progress.show(f"slice {number}", self.total)
-
-    def tell_kick(self, line: bytes, number: int) -> None:
-        words = line.split(b" ")
-        if words[0] == b"kick":
-            self.progress.line(line)
-            self.progress.show(f"slice {number}, kick {shown(words[1])}", int(words[-1]))
 
 
 def number_of(line: bytes) -> int:
@@ -154,29 +177,20 @@ def floor_of(roster: Program, texts: Texts, first_week: list[str], progress: Pro
     return number_of(next(it for it in output.splitlines() if it.startswith(b"bound ")))
 
 
-def log_file(name: str | None) -> typing.BinaryIO | None:
-    try:
-        return open(name, "wb") if name else None
-    except OSError as why:
-        raise DeskError(f"{shown(name)}: write failed: {why.strerror}; give another name for the log", 3) from None
-
-
 def finish(run: Run, work: typing.Callable[[], None]) -> None:
     """Does the work. What ends it early leaves the last whole round in the file, and says so."""
     try:
         work()
+        run.look_again()
     except Interrupted as end:
         run.progress.end()
-        told = (
-            f"{shown(run.out)} has the roster after {run.saved}, which costs {run.total}"
-            if run.saved
-            else f"no round was over, and {shown(run.out)} is as it was"
-        )
+        run.look_again()
+        told = f"{shown(run.out)} has the roster {run.told()}" if run.saved else f"no round was over, and {shown(run.out)} is as it was"
         raise DeskError(f"interrupted; {told}", end.status) from None
+    except DeskError as why:
+        run.progress.end()
+        has = f"; {shown(run.out)} has the roster {run.told()}" if run.saved else ""
+        raise DeskError(f"{why}{has}", why.status) from None
     finally:
-        with contextlib.suppress(OSError):
-            if run.progress.log:
-                run.progress.log.close()
-    floor = run.progress.floor
-    above = "" if floor is None else f", {run.total - floor} above the floor {floor}"
-    run.progress.end(f"{shown(run.out)}: {shown(run.progress.last)}{above}")
+        run.progress.close()
+    run.progress.end(f"{shown(run.out)}: {shown(run.progress.last)}{run.progress.above_floor(run.total)}")

@@ -4,8 +4,10 @@ import re
 
 from desk_lib.texts import DeskError, shown
 
-WIDTH, HEIGHT, LEFT, RIGHT, TOP, BOTTOM = 720, 260, 56, 14, 24, 36
-LINE = re.compile(rb"(start|round|settled|stopped|kick|slice|\d+)(?: (.*))? (\d+)", re.S)
+WIDTH, HEIGHT, LEFT, RIGHT, TOP, BOTTOM = 720, 260, 56, 78, 24, 36
+# So far apart are texts beside each other, and below each other.
+BESIDE, BELOW = 22, 15
+LINE = re.compile(rb"(start|round|settled|stopped|kick|slice|seed|\d+)(?: (.*))? (\d+)", re.S)
 
 
 @dataclasses.dataclass(frozen=True)
@@ -28,7 +30,9 @@ def points_in(log: bytes, name: str) -> list[Point]:
                 f"{shown(name)}:{number}: no line of a log: '{shown(line[:40])}'; --log wants what improve wrote on standard"
                 " error"
             )
-        found.append(Point(told[1].decode(), int(told[3])))
+        # (what a run by another seed comes to isn't what the roster costs)
+        if told[1] != b"seed":
+            found.append(Point(told[1].decode(), int(told[3])))
     if not found:
         raise DeskError(f"{shown(name)}: the log is empty; --log wants what improve wrote on standard error")
     return found
@@ -69,43 +73,54 @@ class Plot:
 
     def rounds(self) -> list[str]:
         """A mark where a round ends, with its number where there is room."""
-        ends = [at for at, it in enumerate(self.points) if it.kind == "round"]
-        every = max(1, len(ends) // 20)
-        found = []
-        for number, at in enumerate(ends, 1):
-            found.append(
-                f'<line class="round" x1="{self.x(at):.1f}" x2="{self.x(at):.1f}" y1="{TOP}" y2="{HEIGHT - BOTTOM}"/>'
-            )
-            if number % every == 0:
-                found.append(f'<text class="turn" x="{self.x(at):.1f}" y="{HEIGHT - BOTTOM + 22}">{number}</text>')
+        found, free = [], 0.0
+        for number, at in enumerate((at for at, it in enumerate(self.points) if it.kind == "round"), 1):
+            x = self.x(at)
+            found.append(f'<line class="round" x1="{x:.1f}" x2="{x:.1f}" y1="{TOP}" y2="{HEIGHT - BOTTOM}"/>')
+            if x >= free:
+                found.append(below(x, str(number)))
+                free = x + BESIDE
         return found
+
+    def polish(self) -> list[str]:
+        """The name of what follows the last round, below it, and where it begins."""
+        ends = [at for at, it in enumerate(self.points) if it.kind in ("settled", "stopped")]
+        if not ends or ends[0] == len(self.points) - 1:
+            return []
+        first, last = self.x(ends[0]), self.x(len(self.points) - 1)
+        line = f'<line class="polish" x1="{first:.1f}" x2="{first:.1f}" y1="{TOP}" y2="{HEIGHT - BOTTOM + 8}"/>'
+        return [line, below(max(first + 2 * BESIDE, (first + last) / 2), "polish")]
 
     def floor_line(self) -> list[str]:
         if self.floor is None:
             return []
         y = self.y(self.floor)
-        return [
-            f'<line class="floor" x1="{LEFT}" x2="{WIDTH - RIGHT}" y1="{y:.1f}" y2="{y:.1f}"/>',
-            f'<text class="floor-name" x="{WIDTH - RIGHT}" y="{y - 6:.1f}">floor {self.floor}</text>',
-        ]
+        return [f'<line class="floor" x1="{LEFT}" x2="{WIDTH - RIGHT}" y1="{y:.1f}" y2="{y:.1f}"/>']
+
+    def names(self) -> list[str]:
+        """What the first and the last roster cost, and the floor. At the right they are beside the lines, and not over one."""
+        first, last = self.points[0].total, self.points[-1].total
+        y, right = self.y(last), WIDTH - RIGHT + 9
+        found = [f'<text class="first" x="{self.x(0):.1f}" y="{self.y(first) - 9:.1f}">{first}</text>']
+        if self.floor is not None:
+            of_floor = self.y(self.floor)
+            apart = max(0.0, BELOW - abs(of_floor - y)) / 2 * (1 if last >= self.floor else -1)
+            y -= apart
+            found.append(f'<text class="floor-name" x="{right}" y="{of_floor + apart + 4:.1f}">floor {self.floor}</text>')
+        return [*found, f'<text class="last" x="{right}" y="{y + 4:.1f}">{last}</text>']
 
     def svg(self) -> str:
         path = " ".join(f"{self.x(at):.1f},{self.y(it.total):.1f}" for at, it in enumerate(self.points))
         first, last = self.points[0].total, self.points[-1].total
         name = f"The penalty falls from {first} to {last}" + ("" if self.floor is None else f"; the floor is {self.floor}")
-        ends = [(0, first, "first"), (len(self.points) - 1, last, "last")]
-        dots = [f'<circle class="dot" cx="{self.x(at):.1f}" cy="{self.y(total):.1f}" r="4"/>' for at, total, _ in ends]
-        names = [
-            f'<text class="{kind}" x="{self.x(at):.1f}" y="{self.y(total) - 9:.1f}">{total}</text>'
-            for at, total, kind in ends
-        ]
-        parts = [
-            *self.lines(),
-            *self.rounds(),
-            *self.floor_line(),
-            f'<polyline class="run" points="{path}"/>',
-            *dots,
-            *names,
-        ]
+        ends = [(0, first), (len(self.points) - 1, last)]
+        dots = [f'<circle class="dot" cx="{self.x(at):.1f}" cy="{self.y(total):.1f}" r="4"/>' for at, total in ends]
+        parts = [*self.lines(), *self.rounds(), *self.polish(), *self.floor_line()]
+        parts += [f'<polyline class="run" points="{path}"/>', *dots, *self.names()]
         parts.append(f'<text class="scale" x="{LEFT - 8}" y="{HEIGHT - BOTTOM + 22}">round</text>')
         return f'<svg viewBox="0 0 {WIDTH} {HEIGHT}" role="img" aria-label="{name}">{"".join(parts)}</svg>'
+
+
+def below(x: float, text: str) -> str:
+    """A text below the drawing."""
+    return f'<text class="turn" x="{x:.1f}" y="{HEIGHT - BOTTOM + 22}">{text}</text>'

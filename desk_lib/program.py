@@ -1,7 +1,9 @@
 """How the desk finds the program `roster`, and calls it. Each call gets the texts on standard input."""
+import ctypes
 import dataclasses
 import os
 import re
+import signal
 import subprocess
 import sys
 import typing
@@ -12,6 +14,11 @@ from desk_lib.texts import DeskError, Texts, shown
 
 TOP = os.path.dirname(os.path.dirname(os.path.realpath(__file__)))
 VARIABLE = "DESK_ROSTER"
+LIBC = ctypes.CDLL(None)
+# (the number of this call of prctl, which Python doesn't name)
+SET_DEATH_SIGNAL = 1
+# So much of a log is read at once, in bytes.
+AT_ONCE = 65_536
 
 
 @dataclasses.dataclass
@@ -29,57 +36,107 @@ class Answer:
 OnLine = typing.Callable[[bytes], None]
 
 
+class Running:
+    """The program at work. Used by `with`, it doesn't go on afterwards.
+
+    The text and the output lie in memory. The program has a session of its own: Ctrl-C is the desk's alone; and it ends with the
+    desk, however that ends.
+    """
+
+    def __init__(self, path: str, words: list[str], text: bytes, niceness: int = 0):
+        self.words, self.log, self.rest, self.is_over = words, [], b"", False
+        self.output, desk = open(os.memfd_create("output"), "w+b"), os.getpid()
+        with open(os.memfd_create("input"), "w+b") as given:
+            given.write(text)
+            given.seek(0)
+            how = {"stdin": given, "stdout": self.output, "stderr": subprocess.PIPE, "start_new_session": True}
+            try:
+                self.ran = subprocess.Popen([path, *words], bufsize=0, preexec_fn=lambda: tie_to(desk, niceness), **how)
+            except OSError as why:
+                raise DeskError(f"{shown(path)} can't be run: {why.strerror}; --roster names the program", 3) from None
+
+    def __enter__(self) -> "Running":
+        return self
+
+    def __exit__(self, *_: object) -> None:
+        self.close()
+
+    def close(self) -> None:
+        """Ends it."""
+        if self.ran.poll() is None:
+            self.ran.kill()
+            self.ran.wait()
+        self.ran.stderr.close()
+        self.output.close()
+
+    def lines(self) -> list[bytes]:
+        """The lines of the log that have come since. Waits for some; where none come any more, the run is over."""
+        data = self.ran.stderr.read(AT_ONCE)
+        *lines, self.rest = (self.rest + data).split(b"\n")
+        if not data:
+            self.is_over, lines = True, [self.rest] if self.rest else []
+        self.log += lines
+        return lines
+
+    def answer(self) -> Answer:
+        """What the program answered, once it is over."""
+        status = self.ran.wait()
+        self.output.seek(0)
+        return Answer(status, self.output.read(), self.log)
+
+    def taken(self, texts: Texts) -> Answer:
+        """As `answer`, and a refusal is an error that names the file."""
+        answer = self.answer()
+        if answer.status == 2:
+            raise unknown(" ".join(self.words))
+        if answer.status < 0:
+            raise DeskError(f"'roster {self.words[0]}' was ended by {signal.Signals(-answer.status).name}", 3)
+        if answer.status:
+            raise DeskError(f"{located(answer.last(), texts)}; 'desk check' with these files tells all that is wrong", answer.status)
+        return answer
+
+
+def tie_to(desk: int, niceness: int) -> None:
+    """In the new process, before it is the program: it is to end with the desk, and to be as nice as it is to be."""
+    LIBC.prctl(SET_DEATH_SIGNAL, signal.SIGKILL)
+    if os.getppid() != desk:
+        os._exit(1)
+    os.nice(niceness)
+
+
 class Program:
     """The program, by the path of its file."""
 
     def __init__(self, path: str):
         self.path = path
 
-    def call(self, words: list[str], text: bytes, on_line: OnLine | None = None) -> Answer:
-        """Runs a command over the text. Each line of the log is passed on as it comes.
+    def start(self, words: list[str], text: bytes, niceness: int = 0) -> Running:
+        return Running(self.path, words, text, niceness)
 
-        The text and the output lie in memory. The program has a session of its own: Ctrl-C is the desk's alone.
-        """
-        with open(os.memfd_create("input"), "w+b") as given, open(os.memfd_create("output"), "w+b") as output:
-            given.write(text)
-            given.seek(0)
-            log = []
-            try:
-                ran = subprocess.Popen(
-                    [self.path, *words], stdin=given, stdout=output, stderr=subprocess.PIPE, start_new_session=True
-                )
-            except OSError as why:
-                raise DeskError(f"{shown(self.path)} can't be run: {why.strerror}; --roster names the program", 3) from None
-            try:
-                for line in ran.stderr:
-                    log.append(line.rstrip(b"\n"))
-                    if on_line:
-                        on_line(log[-1])
-                status = ran.wait()
-            finally:
-                if ran.poll() is None:
-                    ran.kill()
-                    ran.wait()
-                ran.stderr.close()
-            output.seek(0)
-            return Answer(status, output.read(), log)
+    def call(self, words: list[str], text: bytes) -> Answer:
+        """Runs a command over the text."""
+        with self.start(words, text) as running:
+            follow(running)
+            return running.answer()
 
     def ask(self, words: list[str], texts: Texts, on_line: OnLine | None = None) -> Answer:
-        """As `call`, and a refusal is an error that names the file."""
-        answer = self.call(words, texts.joined, on_line)
-        if answer.status == 2:
-            raise unknown(" ".join(words))
-        if answer.status:
-            raise DeskError(
-                f"{located(answer.last(), texts)}; 'desk check' with these files tells all that is wrong",
-                max(answer.status, 1),
-            )
-        return answer
+        """As `call`, and a refusal is an error that names the file. Each line of the log is passed on as it comes."""
+        with self.start(words, texts.joined) as running:
+            follow(running, on_line)
+            return running.taken(texts)
 
     def must_know(self, command: str) -> None:
         """Stops where the program doesn't know a command."""
         if self.call([command, "--help"], b"").status:
             raise unknown(command)
+
+
+def follow(running: Running, on_line: OnLine | None = None) -> None:
+    """Reads the log to its end, and passes each line on."""
+    while not running.is_over:
+        for line in running.lines():
+            if on_line:
+                on_line(line)
 
 
 def unknown(command: str) -> DeskError:
@@ -97,13 +154,23 @@ def find(path: str | None) -> Program:
     """The program: the one named, or that of this repository, which is built where it has to be."""
     path = path or os.environ.get(VARIABLE)
     if path:
-        return Program(path)
+        return known(Program(path))
     ran = subprocess.run([f"{TOP}/roster", "--version"], stdin=subprocess.DEVNULL, stdout=subprocess.PIPE)
     if ran.returncode:
         raise DeskError(
             f"'{TOP}/roster --version' ended with status {ran.returncode}; the README says how the program is built", 3
         )
     return Program(f"{TOP}/out/roster")
+
+
+def known(program: Program) -> Program:
+    """The program, where it says that it is roster."""
+    answer = program.call(["--version"], b"")
+    if answer.status or not answer.output.startswith(b"roster "):
+        said = shown(answer.output.split(b"\n")[0][:40]) or answer.last()
+        told = f"{shown(program.path)} isn't the program roster: to '--version' it answers '{said}'"
+        raise DeskError(f"{told}; --roster or {VARIABLE} names the program", 3)
+    return program
 
 
 def taken(program: Program, texts: Texts) -> Plan:

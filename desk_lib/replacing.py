@@ -1,5 +1,8 @@
 """Files that are replaced as a whole: written beside, read back, and renamed. None is left half written."""
+import collections.abc
 import contextlib
+import errno
+import itertools
 import os
 import stat
 import tempfile
@@ -8,9 +11,14 @@ from desk_lib.program import Program
 from desk_lib.signals import held_back
 from desk_lib.texts import DeskError, Text, Texts, shown
 
+# What to do where a file can't be written, by the error; and for all others.
+REMEDIES = dict.fromkeys((errno.ENOSPC, errno.EDQUOT), "make room on that disk, or give a name on another")
+REMEDY = "give a name in a folder that can be written"
+
 
 def failed(name: str, why: OSError) -> DeskError:
-    return DeskError(f"{shown(name)}: write failed: {why.strerror}; give a name in a folder that can be written", 3)
+    told = f"{shown(name)}: write failed: {why.strerror}; nothing was replaced"
+    return DeskError(f"{told}; {REMEDIES.get(why.errno, REMEDY)}", 3)
 
 
 class Replacement:
@@ -39,26 +47,39 @@ class Replacement:
                 os.unlink(self.beside)
 
     def write(self) -> None:
-        """Writes the new file beside."""
-        mode = self.mode()
+        """Writes the new file beside, with the mode and the owner of the old one."""
+        old = self.old()
         handle, self.beside = tempfile.mkstemp(prefix=".desk-", dir=os.path.dirname(self.path))
         with open(handle, "wb") as file:
             file.write(self.data)
-            os.fchmod(file.fileno(), mode)
+            if old:
+                self.keep_owner(file.fileno(), old)
+            os.fchmod(file.fileno(), stat.S_IMODE(old.st_mode) if old else mode_of_new())
             file.flush()
             os.fsync(file.fileno())
 
-    def mode(self) -> int:
-        """The mode of the file that is there, or that of a new one."""
+    def old(self) -> os.stat_result | None:
+        """What there is of the file, if anything. What may not be replaced is refused."""
         try:
             there = os.stat(self.path)
         except FileNotFoundError:
-            mask = os.umask(0)
-            os.umask(mask)
-            return 0o666 & ~mask
+            return None
         if not stat.S_ISREG(there.st_mode):
             raise DeskError(f"{shown(self.name)}: no regular file; give the name of one, or of none", 3)
-        return stat.S_IMODE(there.st_mode)
+        if not there.st_mode & 0o222 or not os.access(self.path, os.W_OK):
+            told = f"{shown(self.name)}: the file is write-protected, and isn't replaced"
+            raise DeskError(f"{told}; give another name, or allow it by 'chmod u+w'", 3)
+        return there
+
+    def keep_owner(self, handle: int, old: os.stat_result) -> None:
+        """Gives the new file to the owner of the old one. Where that can't be, the old one stays."""
+        new = os.fstat(handle)
+        if (new.st_uid, new.st_gid) != (old.st_uid, old.st_gid):
+            try:
+                os.fchown(handle, old.st_uid, old.st_gid)
+            except PermissionError:
+                told = f"{shown(self.name)}: the file belongs to another user or group, and a new one would be yours"
+                raise DeskError(f"{told}; give another name", 3) from None
 
     def read(self) -> bytes:
         """The bytes that lie beside."""
@@ -74,9 +95,42 @@ class Replacement:
         self.beside = ""
 
 
-def replace_all(roster: Program, texts: Texts, solutions: bytes, files: list[tuple[str, bytes]]) -> None:
-    """Writes files that hold the solutions, which the program wrote for the texts. Each is put in its place, one after the
-    other, once the program has read all of them back to the same bytes."""
+def mode_of_new() -> int:
+    """The mode of a file that is new."""
+    mask = os.umask(0)
+    os.umask(mask)
+    return 0o666 & ~mask
+
+
+def bytes_of(name: str) -> bytes | None:
+    """What a file has; None where it can't be read, or isn't there."""
+    try:
+        with open(name, "rb") as file:
+            return file.read()
+    except OSError:
+        return None
+
+
+def keep_beside(name: str, data: bytes) -> str:
+    """Writes a file beside one of this name, under a name that no file has, and returns that."""
+    for number in itertools.count(1):
+        beside = f"{name}.kept-{number}"
+        try:
+            with open(beside, "xb") as file:
+                file.write(data)
+            return beside
+        except FileExistsError:
+            continue
+        except OSError as why:
+            raise failed(beside, why) from None
+
+
+@contextlib.contextmanager
+def read_back(
+    roster: Program, texts: Texts, solutions: bytes, files: list[tuple[str, bytes]]
+) -> collections.abc.Iterator[list[Replacement]]:
+    """New files that hold the solutions, which the program wrote for the texts, once it has read all of them back to the same
+    bytes. They lie beside the old ones, and those that aren't put go."""
     with contextlib.ExitStack() as stack:
         new = [stack.enter_context(Replacement(name, data)) for name, data in files]
         back = Texts([*texts.texts, *(Text(it.name, it.read()) for it in new)])
@@ -85,8 +139,7 @@ def replace_all(roster: Program, texts: Texts, solutions: bytes, files: list[tup
             raise DeskError(
                 f"{shown(files[0][0])}: read back it is another roster; nothing is replaced. This is a fault of the desk", 3
             )
-        for it in new:
-            it.put()
+        yield new
 
 
 def replace_text(name: str, data: bytes) -> None:

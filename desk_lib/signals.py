@@ -2,6 +2,8 @@
 import collections.abc
 import contextlib
 import signal
+import time
+import typing
 
 ENDING = (signal.SIGINT, signal.SIGTERM, signal.SIGHUP)
 
@@ -14,21 +16,56 @@ class Interrupted(BaseException):
         self.status = status
 
 
+class TimeOver(BaseException):
+    """The time that was given is over."""
+
+
 def on_signal(number: int, _: object) -> None:
+    # (a second one would come while the first is dealt with)
+    put_all(signal.SIG_IGN)
     raise Interrupted(128 + number)
 
 
-def take() -> None:
-    """From now on a signal that ends the desk is an exception; one that is ignored stays so."""
+def put_all(handler: typing.Any) -> None:
+    """Sets what such signals do; one that is ignored stays so."""
     for it in ENDING:
         if signal.getsignal(it) != signal.SIG_IGN:
-            signal.signal(it, on_signal)
+            signal.signal(it, handler)
+
+
+def take() -> None:
+    """From now on a signal that ends the desk is an exception."""
+    put_all(on_signal)
+
+
+def leave() -> None:
+    """From now on such a signal ends the desk without a word."""
+    put_all(signal.SIG_DFL)
+
+
+def on_alarm(*_: object) -> None:
+    raise TimeOver
+
+
+def within_time(end: float | None, work: typing.Callable[[], None]) -> None:
+    """Does the work, until that time (of time.monotonic) where one is given."""
+    signal.signal(signal.SIGALRM, on_alarm)
+    try:
+        try:
+            if end is not None:
+                # (0 would be never)
+                signal.setitimer(signal.ITIMER_REAL, max(0.001, end - time.monotonic()))
+            work()
+        finally:
+            signal.setitimer(signal.ITIMER_REAL, 0)
+    except TimeOver:
+        pass
 
 
 @contextlib.contextmanager
 def held_back() -> collections.abc.Iterator[None]:
     """No such signal comes meanwhile; it comes afterwards."""
-    before = signal.pthread_sigmask(signal.SIG_BLOCK, ENDING)
+    before = signal.pthread_sigmask(signal.SIG_BLOCK, (*ENDING, signal.SIGALRM))
     try:
         yield
     finally:

@@ -2,10 +2,15 @@
 import re
 
 from desk_lib.program import Program
-from desk_lib.replacing import replace_all
+from desk_lib.replacing import read_back
 from desk_lib.texts import DeskError, Texts
 
 HEAD = re.compile(rb"(?m)^SOLUTION$")
+
+
+def names(prefix: str, weeks: int) -> list[str]:
+    """The names of the files."""
+    return [f"{prefix}-{week}.txt" for week in range(weeks)]
 
 
 def weeks_in(solutions: bytes) -> list[bytes]:
@@ -14,12 +19,13 @@ def weeks_in(solutions: bytes) -> list[bytes]:
     return [solutions[first:last].rstrip(b"\n") + b"\n" for first, last in zip(starts, [*starts[1:], len(solutions)])]
 
 
-def split(roster: Program, texts: Texts, before: Texts, weeks: int, prefix: str, is_crlf: bool) -> list[str]:
-    """Writes the roster of the texts, of which `before` has all but the solutions. Returns the names of the files."""
+def split(roster: Program, texts: Texts, before: Texts, names: list[str], is_crlf: bool) -> None:
+    """Writes the roster of the texts, of which `before` has all but the solutions, into a file of these names for each week."""
     solutions = roster.ask(["show"], texts).output
     parts = weeks_in(solutions)
-    if len(parts) != weeks:
-        raise DeskError(f"'roster show' wrote {len(parts)} solutions for {weeks} weeks; this is a fault of the desk", 3)
-    files = [(f"{prefix}-{week}.txt", part.replace(b"\n", b"\r\n") if is_crlf else part) for week, part in enumerate(parts)]
-    replace_all(roster, before, solutions, files)
-    return [name for name, _ in files]
+    if len(parts) != len(names):
+        raise DeskError(f"'roster show' wrote {len(parts)} solutions for {len(names)} weeks; this is a fault of the desk", 3)
+    files = [(name, part.replace(b"\n", b"\r\n") if is_crlf else part) for name, part in zip(names, parts)]
+    with read_back(roster, before, solutions, files) as new:
+        for it in new:
+            it.put()

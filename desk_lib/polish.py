@@ -1,0 +1,195 @@
+"""What may follow the rounds of `improve`: whole runs of `polish`, and slices beside them.
+
+A run of `polish` writes its roster at its end alone. So, while whole runs go on, short ones, the slices, begin with the roster in
+the file, one after the other, and each that makes it cheaper is put there. At the end the file has the cheapest roster of all; of
+equally dear ones, that of a whole run, which has the very bytes of one that is made without the desk.
+"""
+import contextlib
+import dataclasses
+import os
+import selectors
+import time
+
+from desk_lib.improve import Run, number_of
+from desk_lib.program import Answer, Running
+from desk_lib.signals import within_time
+from desk_lib.texts import Texts
+
+MOST_SEARCHES, SEEDS = 10_000_000, 2**32
+# Of slices: searches of the first, seconds of a further one, how much longer it may be than the one before, and how it gives way
+# to whole runs where there are too few processors. Their seeds are far from those of whole runs.
+FIRST, SECONDS, GROWTH, NICENESS, SEED_AWAY = 500, 4.0, 4, 10, 2**31
+# Where the time is given: how much of it a whole run is made for, and from how many seconds on one is begun.
+SHARE, WORTHWHILE = 0.8, 2.0
+
+
+@dataclasses.dataclass(frozen=True)
+class Course:
+    """How whole runs are made: with how many searches, or as many as the time takes; by which seeds; how many searches a slice has,
+    or as many as take some seconds; and when the time is over."""
+
+    searches: int | None
+    seeds: list[int]
+    slice_: int | None = None
+    end: float | None = None
+
+
+@dataclasses.dataclass(eq=False)
+class Job:
+    """A run of `polish` that goes on: its number, of slices and of whole runs by themselves, and what it was made with."""
+
+    number: int
+    seed: int
+    searches: int
+    is_slice: bool
+    texts: Texts
+    running: Running
+    began: float = dataclasses.field(default_factory=time.monotonic)
+
+    def seconds(self) -> float:
+        return max(0.001, time.monotonic() - self.began)
+
+
+class Polish:
+    """Whole runs and slices, which go on together."""
+
+    def __init__(self, run: Run, course: Course):
+        self.run, self.course = run, course
+        self.least, self.word = run.total, b"settled"
+        self.begun, self.slices = 0, 0
+        self.speed: float | None = None
+        self.ended: list[tuple[int, int, Answer]] = []
+        self.jobs = selectors.DefaultSelector()
+
+    def work(self) -> None:
+        """Makes all runs. The log has a line for each roster that is cheaper than all before."""
+        try:
+            self.start_slice(self.course.slice_ or FIRST)
+            while self.start_whole_runs() or self.is_open():
+                for key, _ in self.jobs.select(1.0):
+                    self.take(key.data)
+                self.show()
+        finally:
+            for job in self.going():
+                job.running.close()
+            self.jobs.close()
+        self.keep_first()
+
+    def finish(self) -> None:
+        """The last line of the log."""
+        self.run.progress.line(b"%s %d" % (self.word, self.run.total))
+
+    def going(self) -> list[Job]:
+        return [it.data for it in self.jobs.get_map().values()]
+
+    def whole_runs(self) -> list[Job]:
+        return [it for it in self.going() if not it.is_slice]
+
+    def left(self) -> float | None:
+        """How many seconds are left, where the time is given."""
+        return None if self.course.end is None else self.course.end - time.monotonic()
+
+    def is_open(self) -> bool:
+        """Whether something may still come: where the time says how much is searched, until it is over."""
+        return self.course.searches is None
+
+    # ---- what is begun
+
+    def start(self, number: int, seed: int, searches: int, is_slice: bool) -> None:
+        run = self.run
+        texts = run.texts() if is_slice else run.given
+        words = ["polish", "--searches", str(searches), "--seed", str(seed % SEEDS), *run.first_week]
+        running = run.roster.start(words, texts.joined, NICENESS if is_slice else 0)
+        job = Job(number, seed % SEEDS, searches, is_slice, texts, running)
+        self.jobs.register(running.ran.stderr, selectors.EVENT_READ, job)
+
+    def start_slice(self, searches: int) -> None:
+        self.slices += 1
+        self.start(self.slices, self.course.seeds[0] + SEED_AWAY + self.slices, searches, True)
+
+    def start_whole_runs(self) -> bool:
+        """Begins as many whole runs as there are processors; says whether one goes on."""
+        while len(self.whole_runs()) < len(os.sched_getaffinity(0)):
+            seed, searches = self.next_seed(), self.searches()
+            if seed is None or not searches:
+                break
+            self.begun += 1
+            self.start(self.begun, seed, searches, False)
+        return bool(self.whole_runs())
+
+    def next_seed(self) -> int | None:
+        """The seed of the next whole run. Where the time says how much is searched, one run after the other has the next one."""
+        seeds = self.course.seeds
+        if self.begun < len(seeds):
+            return seeds[self.begun]
+        return seeds[-1] + self.begun + 1 - len(seeds) if self.is_open() and not self.whole_runs() else None
+
+    def searches(self) -> int:
+        """How many searches the next whole run has: where the time says it, as many as slices show that it takes; else none."""
+        if self.course.searches is not None:
+            return self.course.searches
+        turns = max(1, -(-(len(self.course.seeds) - self.begun) // len(os.sched_getaffinity(0))))
+        seconds = self.left() / turns
+        return int(min(MOST_SEARCHES, SHARE * seconds * self.speed)) if self.speed and seconds > WORTHWHILE else 0
+
+    # ---- what comes
+
+    def take(self, job: Job) -> None:
+        """Takes the lines that have come of a run, and its roster where it is over."""
+        for line in job.running.lines():
+            if line.startswith(b"kick ") and not job.is_slice:
+                self.tell(line)
+        if job.running.is_over:
+            self.jobs.unregister(job.running.ran.stderr)
+            with contextlib.closing(job.running):
+                answer = job.running.taken(job.texts)
+            if job.is_slice:
+                self.take_slice(job, answer)
+            else:
+                self.take_whole(job, answer)
+
+    def take_slice(self, job: Job, answer: Answer) -> None:
+        total, took = number_of(answer.log[-1]), job.seconds()
+        if total < self.run.total:
+            self.keep(answer, f"slice {job.number} of polish")
+            self.tell(b"slice %d %d" % (job.number, total))
+        self.speed = job.searches / took
+        grown = min(GROWTH * job.searches, int(self.speed * SECONDS), MOST_SEARCHES)
+        self.start_slice(self.course.slice_ or max(1, grown))
+
+    def take_whole(self, job: Job, answer: Answer) -> None:
+        total = number_of(answer.log[-1])
+        self.ended.append((total, job.number, answer))
+        if len(self.course.seeds) > 1:
+            self.run.progress.line(b"seed %d %d" % (job.seed, total))
+        if total <= self.run.total:
+            self.keep(answer, f"polish with the seed {job.seed}")
+
+    def keep(self, answer: Answer, what: str) -> None:
+        if answer.output != self.run.solutions:
+            self.run.save(answer.output, number_of(answer.log[-1]), what)
+        self.word = answer.log[-1].split(b" ")[0]
+
+    def keep_first(self) -> None:
+        """Of equally dear rosters of whole runs the first stays, whichever was over first."""
+        total, number, answer = min(self.ended, default=(0, 0, None))
+        if answer and total == self.run.total:
+            self.keep(answer, f"run {number} of polish")
+
+    def tell(self, line: bytes) -> None:
+        """Passes on a line, where the roster is cheaper than all before."""
+        if number_of(line) < self.least:
+            self.least = number_of(line)
+            self.run.progress.line(line)
+
+    def show(self) -> None:
+        kept = "" if self.least == self.run.total else f", in the file {self.run.total}"
+        self.run.progress.show("polish", self.least, kept)
+
+
+def go_on(run: Run, course: Course) -> None:
+    """Goes on with polish, to its end or until the time is over."""
+    polish = Polish(run, course)
+    if course.end is None or time.monotonic() < course.end:
+        within_time(course.end, polish.work)
+        polish.finish()
