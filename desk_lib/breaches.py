@@ -1,5 +1,6 @@
-"""Every place where a roster breaks H2 to H4, in the words and in the order of the program."""
+"""Every place where a roster breaks H2 to H4, in the words and in the order of the program, and what is broken there."""
 import collections.abc
+import dataclasses
 
 from reckoning import cover
 
@@ -7,35 +8,52 @@ from desk_lib.model import Plan, day_name
 from desk_lib.texts import shown
 
 
-def minimums(plan: Plan) -> collections.abc.Iterator[str]:
+@dataclasses.dataclass(frozen=True)
+class Breach:
+    """A breach: the line by which the program tells it, and more; of H2 the shift and the skill, of others the nurse."""
+
+    line: str
+    more: str
+    rule: str
+    day: int
+    of: tuple[int, ...]
+
+
+def minimums(plan: Plan) -> collections.abc.Iterator[Breach]:
     """H2, by day, shift and skill."""
     case = plan.case
     for day in range(plan.days):
         have = cover(row[day] for row in plan.roster)
         for (shift, skill), needs in case.needs.items():
-            if have[shift, skill] < needs[day].least:
+            there, least = have[shift, skill], needs[day].least
+            if there < least:
                 place = f"{shown(case.shifts[shift].name)} {shown(case.skills[skill])}"
-                yield f"H2 week {day // 7} {day_name(day)} {place}: {have[shift, skill]} of {needs[day].least}"
+                line = f"H2 week {day // 7} {day_name(day)} {place}: {there} of {least}"
+                yield Breach(line, f"the cover is {there}, and the minimum {least}", "H2", day, (shift, skill))
 
 
-def successions(plan: Plan) -> collections.abc.Iterator[str]:
+def successions(plan: Plan) -> collections.abc.Iterator[Breach]:
     """H3, by nurse and day, the last shift of the history included."""
-    for nurse, row in zip(plan.case.nurses, plan.roster):
+    for number, (nurse, row) in enumerate(zip(plan.case.nurses, plan.roster)):
         before = nurse.history.last
         for day, choice in enumerate(row):
             shift = choice and choice[0]
             if (before, shift) in plan.case.forbidden:
-                yield f"H3 week {day // 7} {day_name(day)} {shown(nurse.name)}"
+                line = f"H3 week {day // 7} {day_name(day)} {shown(nurse.name)}"
+                then, now = (shown(plan.case.shifts[it].name) for it in (before, shift))
+                where = "" if day else ", the last shift of the history"
+                yield Breach(line, f"{now} may not follow {then}{where}", "H3", day, (number,))
             before = shift
 
 
-def skills(plan: Plan) -> collections.abc.Iterator[str]:
+def skills(plan: Plan) -> collections.abc.Iterator[Breach]:
     """H4, by nurse and day."""
-    for nurse, row in zip(plan.case.nurses, plan.roster):
+    for number, (nurse, row) in enumerate(zip(plan.case.nurses, plan.roster)):
         for day, choice in enumerate(row):
             if choice and choice[1] not in nurse.skills:
-                yield f"H4 week {day // 7} {day_name(day)} {shown(nurse.name)}"
+                line = f"H4 week {day // 7} {day_name(day)} {shown(nurse.name)}"
+                yield Breach(line, f"{shown(nurse.name)} hasn't the skill {shown(plan.case.skills[choice[1]])}", "H4", day, (number,))
 
 
-def all_breaches(plan: Plan) -> list[str]:
+def all_breaches(plan: Plan) -> list[Breach]:
     return [*minimums(plan), *successions(plan), *skills(plan)]

@@ -3,19 +3,26 @@ import re
 
 from desk_lib import breaches, hidden, names, program
 from desk_lib.findings import Finding
-from desk_lib.grammar import Bundle, Fault, Part, Words, read_bundle
-from desk_lib.model import DAYS, Plan, plan_of
+from desk_lib.grammar import MOST_OF, PARTS, Bundle, Fault, Part, Words, read_bundle
+from desk_lib.model import Plan, plan_of
 from desk_lib.program import Answer, Program
 from desk_lib.recovery import Recovery
-from desk_lib.texts import DeskError, Texts, shown
+from desk_lib.texts import DeskError, Texts, plural, shown
 
 BREACH = re.compile(r"H[234] week \d+ ")
+OUT_OF_LIMITS = "count out of limits"
 
 
 def out_of_place(words: Words, parts: list[Part]) -> list[Finding]:
-    """The solutions that don't stand in the place of their week, and those that stand twice."""
+    """The solutions that don't stand in the place of their week, and those that stand twice. Weeks that count from 1 are told
+    once."""
     found: list[Finding] = []
     first: dict[int, Part] = {}
+    weeks = [part[b"SOLUTION"].count for part in parts if part[b"SOLUTION"].lines]
+    if len(weeks) == len(parts) > 0 and weeks == [*range(1, len(weeks) + 1)]:
+        at = parts[0][b"SOLUTION"].lines[0][0]
+        told = f"the weeks of the solutions count from 1, and have to count from 0; write 0 to {len(weeks) - 1}"
+        return [Finding(words.offset(at), words.place(at), told)]
     for place, part in enumerate(parts):
         head = part[b"SOLUTION"]
         if not head.lines:
@@ -52,7 +59,11 @@ def refused_text(texts: Texts, line: str) -> list[Finding]:
     if all_read:
         recovery.check_order()
     found = names.findings_of(recovery)
-    found += out_of_place(words, [it.sections for it in recovery.of_kind("solution")])
+    if all_read and recovery.has_all_weeks():
+        # (else a right one may stand in the place of one that lacks)
+        found += out_of_place(words, [it.sections for it in recovery.of_kind("solution")])
+    if found and not causes and all(it.message.startswith("H1 ") for it in found):
+        found += breach_findings(words, read_bundle(words))
     hiding |= {it.line_key() for it in causes}
     found = causes + [it for it in found if it.place is None or it.line_key() not in hiding]
     found = sorted({(it.line_key(), it.message): it for it in reversed(found)}.values(), key=lambda it: it.offset)
@@ -69,7 +80,9 @@ def with_program(texts: Texts, line: str, found: list[Finding], hiding: set[tupl
     said = own.message
     same = next((it for it in found if it.place and it.line_key() == own.line_key()), None)
     if same is None:
-        is_told = own.line_key() in hiding or any(it.message.startswith(said) for it in found)
+        # (where parts lack, the next one that is right stands in the place of another)
+        lacks_part = any(said == f"expected {it.decode()}" for it in PARTS) and found
+        is_told = lacks_part or own.line_key() in hiding or any(it.message.startswith(said) for it in found)
         return found if is_told else sorted([*found, own], key=lambda it: it.offset)
     if same.message.startswith(said):
         return found
@@ -85,12 +98,24 @@ def of_program(texts: Texts, line: str) -> Finding:
     offset = texts.line_start(int(told[1]))
     place, words = texts.place(offset), Words(texts)
     try:
-        read_bundle(words)
+        bundle = read_bundle(words)
     except Fault as fault:
         mine = words.place(fault.at)
         if fault.told() == told[2] and (mine.file, mine.line) == (place.file, place.line):
             offset, place = words.offset(fault.at), mine
-    return Finding(offset, place, told[2])
+        return Finding(offset, place, told[2])
+    return of_count(words, bundle) if told[2] == OUT_OF_LIMITS else Finding(offset, place, told[2])
+
+
+def of_count(words: Words, bundle: Bundle) -> Finding:
+    """A count that is out of its limits, with these."""
+    for keyword, most in MOST_OF.items():
+        section = bundle.scenario[keyword]
+        if not 1 <= section.count <= most:
+            break
+    at = section.at + 2
+    told = f"{OUT_OF_LIMITS}: {section.keyword} is {section.count}, and may be 1 to {most}"
+    return Finding(words.offset(at), words.place(at), told)
 
 
 def of_nurse(texts: Texts, line: str) -> Finding:
@@ -111,45 +136,62 @@ def all_breaches(texts: Texts, line: str) -> list[Finding]:
     """Every breach of H2 to H4, of which the program's is the first; solutions in a wrong place before them."""
     words = Words(texts)
     bundle = read_bundle(words)
+    told = breaches.all_breaches(plan_of(words, bundle))
+    first = told[0].line if told else "nothing"
+    if first != line:
+        raise DeskError(f"'roster cost' says '{line}', and the desk '{first}'; this is a fault of the desk", 3)
+    return out_of_place(words, bundle.solutions) + breach_findings(words, bundle)
+
+
+def breach_findings(words: Words, bundle: Bundle) -> list[Finding]:
+    """Every breach of H2 to H4; for the minimums of empty weeks one together, before the others."""
     plan = plan_of(words, bundle)
-    told = breaches.all_breaches(plan)
-    if not told or told[0] != line:
-        raise DeskError(
-            f"'roster cost' says '{line}', and the desk '{told[0] if told else 'nothing'}'; this is a fault of the desk", 3
-        )
-    places = Places(plan, bundle)
-    return out_of_place(words, bundle.solutions) + [places.finding(it) for it in told]
+    told, places = breaches.all_breaches(plan), Places(plan, bundle)
+    empty = [week for week, part in enumerate(bundle.solutions) if not part[b"ASSIGNMENTS"].lines]
+    of_empty = [it for it in told if it.rule == "H2" and it.day // 7 in empty]
+    found = [places.of_empty(empty, len(of_empty))] if of_empty else []
+    return found + [places.finding(it) for it in told if it not in of_empty]
 
 
 class Places:
     """Finds the words at which a roster breaks a rule."""
 
     def __init__(self, plan: Plan, bundle: Bundle):
-        self.words = plan.words
+        self.words, self.case, self.bundle = plan.words, plan.case, bundle
         named = self.words.words
         self.needs = {
-            (week, shown(named[shift]), shown(named[skill])): shift
+            (week, named[shift], named[skill]): shift
             for week, part in enumerate(bundle.weeks)
             for shift, skill, _ in part[b"REQUIREMENTS"].lines
         }
         self.assignments = {
-            (week, shown(named[nurse]), day): nurse
+            (week, named[nurse], day): nurse
             for week, part in enumerate(bundle.solutions)
             for nurse, day, *_ in part[b"ASSIGNMENTS"].lines
         }
 
-    def finding(self, breach: str) -> Finding:
-        rule, _, week, day, *who = breach.split(" ")
-        weekday = DAYS.index(day.encode())
-        if rule == "H2":
+    def finding(self, breach: breaches.Breach) -> Finding:
+        week, weekday = divmod(breach.day, 7)
+        if breach.rule == "H2":
+            shift, skill = breach.of
             # after the shift and the skill stand seven pairs of five words each
-            first = self.needs[int(week), who[0], who[1].rstrip(":")] + 2 + 5 * weekday
-            last = first + 4
-        else:
-            first = last = self.assignments[int(week), " ".join(who), weekday] + (2 if rule == "H3" else 3)
+            first = self.needs[week, self.case.shifts[shift].name, self.case.skills[skill]] + 2 + 5 * weekday
+            return self.at(first, first + 4, f"{breach.line}: {breach.more}")
+        first = self.assignments[week, self.case.nurses[breach.of[0]].name, weekday] + (2 if breach.rule == "H3" else 3)
+        return self.at(first, first, f"{breach.line}: {breach.more}")
+
+    def of_empty(self, weeks: list[int], count: int) -> Finding:
+        """The minimums of weeks that have no assignment."""
+        first = self.bundle.solutions[weeks[0]][b"ASSIGNMENTS"].at
+        named = ", ".join(map(str, weeks))
+        which = f"week {named} is empty: the solution has" if len(weeks) == 1 else f"weeks {named} are empty: the solutions have"
+        return self.at(first, first + 2, f"H2 {which} no assignment, and none of the {count} minimums is met")
+
+    def at(self, first: int, last: int, message: str) -> Finding:
+        """A finding of the words from one to another."""
         offset = self.words.offset(first)
         length = self.words.offset(last) + len(self.words.words[last]) - offset
-        return Finding(offset, self.words.texts.place(offset, length), breach)
+        return Finding(offset, self.words.texts.place(offset, length), message)
 
 
 def accepted(texts: Texts) -> tuple[list[Finding], Bundle]:
@@ -175,10 +217,10 @@ def check(roster: Program, texts: Texts) -> tuple[list[str], int]:
 
 def summary(texts: Texts, answer: Answer, count: int) -> str:
     """The last line: how much is wrong, and what the program says by itself."""
-    files = "1 file" if len(texts.texts) == 1 else f"{len(texts.texts)} files"
+    files = plural(len(texts.texts), "file")
     if answer.status:
         said = f"'roster cost' says: {program.located(answer.last(), texts)}"
     else:
         said = f"'roster cost' takes them: {answer.output.decode().splitlines()[-1]}"
-    faults = "nothing is wrong" if not count else "1 fault" if count == 1 else f"{count} faults"
+    faults = plural(count, "fault") if count else "nothing is wrong"
     return f"{files}, {faults}; {said}"

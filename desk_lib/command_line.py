@@ -11,7 +11,7 @@ from desk_lib.costs import Costing
 from desk_lib.model import Plan
 from desk_lib.program import Program
 from desk_lib.sheet import Sheet
-from desk_lib.texts import KINDS, DeskError, Text, Texts, read_file, shown
+from desk_lib.texts import KINDS, DeskError, Text, Texts, plural, read_file, shown
 
 ABOUT = """\
 Looks at rosters, and makes better ones, with the program `roster`.
@@ -89,12 +89,17 @@ def texts_of(asked: argparse.Namespace) -> Texts:
     if not any(by_kind.values()):
         return Texts(read_files([(it, "") for it in asked.files])) if asked.files else from_input()
     if asked.files:
-        raise DeskError(f"{shown(asked.files[0])}: name all files by --sce, --his, --weeks and --sols, or none", 2)
+        told = f"{shown(asked.files[0])}: name all files by --sce, --his, --weeks and --sols, or none"
+        second = "; one of the second roster has --with before it" if getattr(asked, "other", None) else ""
+        raise DeskError(f"{told}{second}", 2)
     lacking = [f"--{kind}" for kind, names in by_kind.items() if not names]
     if lacking:
-        raise DeskError(
-            f"without {' and without '.join(lacking)}: --sce, --his, --weeks and --sols name all files together", 2
-        )
+        told = f"without {' and without '.join(lacking)}: --sce, --his, --weeks and --sols name all files together"
+        first = "; roster needs a roster to begin with" if "--sols" in lacking else ""
+        raise DeskError(f"{told}{first}", 2)
+    for kind in ("sce", "his"):
+        if len(by_kind[kind]) > 1:
+            raise DeskError(f"--{kind} names {' and '.join(map(shown, by_kind[kind]))}; give one file", 2)
     return Texts(read_files([(name, kind) for kind, names in by_kind.items() for name in names]))
 
 
@@ -125,7 +130,12 @@ def both_plans(roster: Program, texts: Texts, other: list[str] | None) -> list[t
     The last is the one to show."""
     found = [(texts, program.taken(roster, texts))]
     if other:
-        after = texts.before(found[0][1].solutions_offset(), [read_file(it) for it in other])
+        second = read_files([(it, "") for it in other])
+        count, weeks = sum(len(split.HEAD.findall(it.data.replace(b"\r", b""))) for it in second), found[0][1].case.weeks
+        if count != weeks:
+            told = f"--with {' '.join(map(shown, other))}: {plural(count, 'solution')} for {plural(weeks, 'week')}"
+            raise DeskError(f"{told}; give those of all weeks, in one file, or in several with --with before each", 1)
+        after = texts.before(found[0][1].solutions_offset(), second)
         found.append((after, program.taken(roster, after)))
     for it, plan in found:
         for wrong in check.out_of_place(plan.words, plan.bundle.solutions):
@@ -198,6 +208,9 @@ def run_improve(asked: argparse.Namespace, roster: Program) -> int:
         raise DeskError("--seeds: these are the seeds of polish; say how long by --polish or --seconds", 2)
     if has_polish:
         roster.must_know("polish")
+    if asked.first_week >= plan.case.weeks:
+        told = f"--from {asked.first_week}: the roster has {plural(plan.case.weeks, 'week')}, so all days are frozen"
+        program.warn(f"{told}, and nothing can change")
     progress = improve.Progress(asked.log)
     run = improve.Run(roster, before, texts.joined[plan.solutions_offset() :], asked.out, words, progress)
 
@@ -261,6 +274,12 @@ def seeds_in(word: str) -> list[int]:
 class Parser(argparse.ArgumentParser):
     """Tells what is wrong in one line."""
 
+    def parse_known_args(self, words: typing.Any = None, asked: typing.Any = None) -> typing.Any:
+        for it in words or ():
+            if it[:1] == "-" and f"-{it.partition('=')[0]}" in self._option_string_actions:
+                self.error(f"{it}: an option has two dashes; write -{it}")
+        return super().parse_known_args(words, asked)
+
     def error(self, message: str) -> typing.NoReturn:
         raise DeskError(f"{shown(message)}; '{self.prog} --help' shows how", 2)
 
@@ -268,12 +287,15 @@ class Parser(argparse.ArgumentParser):
 def with_files(parser: argparse.ArgumentParser) -> None:
     files = parser.add_argument_group("the files", "in the program's order, or by four options in any order")
     files.add_argument("files", nargs="*", metavar="FILE", help="scenario, history, week data and solutions, in this order")
-    files.add_argument("--sce", nargs=1, metavar="FILE", help="the scenario")
-    files.add_argument("--his", nargs=1, metavar="FILE", help="the history")
-    files.add_argument("--weeks", nargs="+", metavar="FILE", help="the week data, from the first week on")
-    files.add_argument(
-        "--sols", nargs="+", metavar="FILE", help="the solutions, from the first week on, in one file or in several"
-    )
+    told = {
+        "sce": "the scenario",
+        "his": "the history",
+        "weeks": "the week data, from the first week on",
+        "sols": "the solutions, from the first week on, in one file or in several",
+    }
+    for kind in KINDS:
+        count = 1 if kind in ("sce", "his") else "+"
+        files.add_argument(f"--{kind}", nargs=count, action="extend", metavar="FILE", help=told[kind])
     parser.add_argument("--roster", metavar="PROGRAM", help="the program roster, where it isn't that of this repository")
 
 

@@ -17,21 +17,25 @@ DAYS = [b"Mon", b"Tue", b"Wed", b"Thu", b"Fri", b"Sat", b"Sun"]
 LONG_DAYS = b"Monday Tuesday Wednesday Thursday Friday Saturday Sunday".split()
 DAY_OF = {name: number for names in (DAYS, LONG_DAYS) for number, name in enumerate(names)}
 SMALL, COUNT = 999, 99_999
+# How many there may be of what these sections count, from 1 on.
+MOST_OF = {b"WEEKS": 52, b"SKILLS": 8, b"SHIFT_TYPES": 8, b"CONTRACTS": 64, b"NURSES": 400}
 NONE, ANY = b"None", b"Any"
 # Words that begin a part, with what it is called, in the order of parts.
 PARTS = {b"SCENARIO": "scenario", b"HISTORY": "history", b"WEEK_DATA": "week data", b"SOLUTION": "solution"}
 
 
 class Fault(Exception):
-    """A word, by its number, at which something else is due; or a number out of its range."""
+    """A word, by its number, at which something else is due; or a number above the greatest that is allowed there."""
 
-    def __init__(self, at: int, due: str, is_range: bool = False):
+    def __init__(self, at: int, due: str, greatest: int | None = None):
         super().__init__(due)
-        self.at, self.due, self.is_range = at, due, is_range
+        self.at, self.due, self.greatest = at, due, greatest
 
     def told(self) -> str:
         """What the program says of it, after the line's number."""
-        return "number out of range" if self.is_range else "text after the end" if not self.due else f"expected {self.due}"
+        if self.greatest is not None:
+            return "number out of range"
+        return f"expected {self.due}" if self.due else "text after the end"
 
 
 class Words:
@@ -85,7 +89,7 @@ class Cursor:
             raise Fault(self.at, "number")
         digits = word.lstrip(b"0")
         if len(digits) > 5 or int(digits or b"0") > greatest:
-            raise Fault(self.at, "number", is_range=True)
+            raise Fault(self.at, "number", greatest)
         self.at += 1
         return int(digits or b"0")
 

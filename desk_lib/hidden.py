@@ -30,7 +30,18 @@ SIGNS = [
         False,
     ),
     (rb";", "a semicolon, which is part of a word and divides none; put a blank in its place", False),
+    # (what is found first, a pair, has no group, and is none)
+    (rb"\([^()\n]{0,40}\)|(,)", "a comma, which stands in pairs alone, as (2,5), and divides no words; put a blank in its place", False),
 ]
+# How files begin that are no texts, with what they are.
+KINDS = {
+    b"PK\x03\x04": "a ZIP archive, as .xlsx, .ods and .docx are",
+    b"\xd0\xcf\x11\xe0": "an old .xls or .doc",
+    b"%PDF": "a PDF",
+    b"<": "XML or HTML",
+    b"{": "JSON",
+    b"[": "JSON",
+}
 
 
 def is_utf8(data: bytes) -> bool:
@@ -47,6 +58,10 @@ def whole_file(text: Text) -> str:
         return "the file is empty (0 bytes)"
     if not text.data.strip():
         return "the file has blanks and line ends alone"
+    begin = text.data.removeprefix(UTF8_MARK).lstrip()
+    kind = next((told for it, told in KINDS.items() if begin.startswith(it)), "")
+    if kind:
+        return f"the file is {kind}; give it as plain text, whose words docs/COMMANDS.md has under 'The input'"
     if text.data.startswith(UTF16_MARKS) or text.data.count(b"\0") * 4 > len(text.data):
         return f"the file is UTF-16, of two bytes a letter; {SAVE_AS}"
     return ""
@@ -72,9 +87,8 @@ def signs_in(text: Text, names: set[bytes]) -> list[tuple[int, int, str]]:
     plain = is_utf8(text.data)
     for pattern, told, is_of_bytes in SIGNS:
         if not (is_of_bytes and plain):
-            found += [
-                (it.start(), it.end(), told) for it in re.finditer(pattern, text.data) if it.start() or it[0] != UTF8_MARK
-            ]
+            signs = [it for it in re.finditer(pattern, text.data) if it.re.groups == 0 or it.lastindex]
+            found += [(it.start(), it.end(), told) for it in signs if it.start() or it[0] != UTF8_MARK]
     return [it for it in found if word_at(text.data, it[0]) not in names]
 
 

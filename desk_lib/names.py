@@ -121,15 +121,17 @@ class Names:
         for week, found in enumerate(parts):
             for _, name in self.lines(found.sections, b"SOLUTION"):
                 self.check_scenario(name)
-            seen = set()
+            seen: dict[tuple[bytes, int], int] = {}
             for nurse, day, shift, skill in self.lines(found.sections, b"ASSIGNMENTS"):
                 self.look_up(nurse, self.nurses, "nurse")
                 self.look_up(shift, self.shifts, "shift")
                 self.look_up(skill, self.skills, "skill")
                 both = self.words[nurse], day
                 if both in seen and both[0] in self.nurses:
-                    self.recovery.tell(nurse, f"H1 week {week} {DAYS[day].decode()} {shown(both[0])}")
-                seen.add(both)
+                    first = self.recovery.words.place(seen[both])
+                    told = f"H1 week {week} {DAYS[day].decode()} {shown(both[0])}"
+                    self.recovery.tell(nurse, f"{told}: this is a second line for the day; the first is line {first.line}")
+                seen.setdefault(both, nurse)
 
 
 def findings_of(recovery: Recovery) -> list[Finding]:

@@ -7,7 +7,7 @@ from desk_lib.grammar import DAYS
 from desk_lib.model import Choice
 from desk_lib.plot import Plot, Point
 from desk_lib.sheet import Cell, Cover, Sheet
-from desk_lib.texts import shown
+from desk_lib.texts import plural, shown
 
 # Weeks side by side in one table.
 AT_ONCE = 4
@@ -244,10 +244,6 @@ class Page:
         return """<footer>Made by desk. Each total is that of the program roster; the costs by nurse add up to it.</footer>
 </body>
 </html>"""
-
-
-def plural(count: int, what: str) -> str:
-    return f"{count} {what}{'' if count == 1 else 's'}"
 
 
 def low(cover: Cover) -> list[str]:

@@ -1,10 +1,12 @@
 """A second reading of refused texts, section by section and line by line, which goes on after a fault and tells each."""
 import collections
+import collections.abc
+import contextlib
 import dataclasses
 
 from desk_lib import grammar
-from desk_lib.findings import Finding, nearest, nearest_names
-from desk_lib.grammar import PARTS, READERS, SECTIONS_OF, Cursor, Fault, Part, Section, Words
+from desk_lib.findings import Finding, also, nearest, nearest_names
+from desk_lib.grammar import MARKS, PARTS, READERS, SECTIONS_OF, Cursor, Fault, Part, Section, Words
 from desk_lib.texts import KINDS, shown
 
 ORDER = "the order is scenario, history, week data, solutions; or name the files by --sce, --his, --weeks and --sols"
@@ -23,6 +25,10 @@ LINES = {
 }
 # So many faults are told, and for the first of them a keyword is looked for that a word may be meant to be.
 MOST, MEANT = 10_000, 1_000
+# A name with blanks is looked for in lines of so many words, and has at most so many.
+LONGEST_LINE, LONGEST_NAME = 60, 4
+# The sections that declare names.
+DECLARING = {b"SCENARIO", b"SKILLS", b"SHIFT_TYPES", b"CONTRACTS", b"NURSES"}
 UNCOUNTED = {b"FORBIDDEN_SHIFT_TYPES_SUCCESSIONS", b"NURSE_HISTORY", b"REQUIREMENTS"}
 ALONE = {b"HISTORY", b"WEEK_DATA", b"SOLUTION", *UNCOUNTED}
 
@@ -47,9 +53,14 @@ class Recovery:
         self.parts: list[Found] = []
         # (names that stand first in lines with another fault, by the keywords of their sections)
         self.broken: dict[bytes, list[bytes]] = collections.defaultdict(list)
+        # (names with blanks in them, with the numbers of the first words of each)
+        self.blanks: dict[bytes, list[int]] = {}
+        # (names of one word that are declared)
+        self.known: set[bytes] = set()
         heads = self.heads()
         for (at, keyword), (end, _) in zip(heads, [*heads[1:], (len(self.list), b"")]):
             self.take(keyword, self.section(keyword, at, end))
+        self.tell_blanks()
         self.check_parts()
 
     def tell(self, at: int, message: str, last: int | None = None) -> None:
@@ -108,7 +119,8 @@ class Recovery:
             fault = told
         if keyword in LINES:
             return self.by_lines(keyword, at, end, Section(keyword.decode(), at))
-        self.tell_fault(fault, end)
+        if not self.has_blank(keyword, lambda it: READERS[keyword](it, Section(keyword.decode(), at)), at, end):
+            self.tell_fault(fault, end)
         return section
 
     def as_whole(self, keyword: bytes, cursor: Cursor, section: Section) -> None:
@@ -129,13 +141,59 @@ class Recovery:
             cursor = Cursor(self.list, start, stop)
             try:
                 line = LINES[keyword](cursor)
-                section.lines.append(line)
-                if cursor.at < stop:
-                    self.tell(cursor.at, "the line has more words than a line of this section", stop - 1)
+                if cursor.at == stop or not self.has_blank(keyword, LINES[keyword], start, stop):
+                    section.lines.append(line)
+                    if cursor.at < stop:
+                        self.tell(cursor.at, "the line has more words than a line of this section", stop - 1)
+                    continue
             except Fault as fault:
-                self.tell_fault(fault, stop)
-                self.broken[keyword].append(self.words.words[start])
+                if not self.has_blank(keyword, LINES[keyword], start, stop):
+                    self.tell_fault(fault, stop)
+            self.broken[keyword].append(self.words.words[start])
         return section
+
+    # ---- names with blanks
+
+    def has_blank(self, keyword: bytes, read: collections.abc.Callable[[Cursor], object], start: int, stop: int) -> bool:
+        """Whether these words of a section can be read where names with blanks are one word each: those that were noted before,
+        and one more, the first and shortest, where names are declared. Notes them."""
+        if stop - start > LONGEST_LINE:
+            return False
+        words = self.joined(start, stop)
+        counts = range(1, LONGEST_NAME + 1 if keyword in DECLARING else 2)
+        # (of one name alone nothing is joined, wherever it is)
+        for count, at in ((count, at) for count in counts for at in range(len(words) - count + 1 if count > 1 else 1)):
+            names = [name for name, _ in words[at : at + count]]
+            if count > 1 and (self.known.issuperset(names) or not MARKS.isdisjoint(names)):
+                continue
+            tried = [*words[:at], (b" ".join(names), words[at][1]), *words[at + count :]]
+            cursor = Cursor([name for name, _ in tried])
+            with contextlib.suppress(Fault):
+                read(cursor)
+                if cursor.peek() is None:
+                    for name, first in tried:
+                        if b" " in name:
+                            self.blanks.setdefault(name, []).append(first)
+                    return True
+        return False
+
+    def joined(self, start: int, stop: int) -> list[tuple[bytes, int]]:
+        """These words with their numbers, the names with blanks that were noted as one word each."""
+        found, at = [], start
+        while at < stop:
+            names = ((count, b" ".join(self.list[at : at + count])) for count in range(LONGEST_NAME, 1, -1) if at + count <= stop)
+            count, name = next((it for it in names if it[1] in self.blanks), (1, self.list[at]))
+            found.append((name, at))
+            at += count
+        return found
+
+    def tell_blanks(self) -> None:
+        for name, places in self.blanks.items():
+            told = f"'{shown(name)}' is more words than one, and a name has no blank; write it as one, say as"
+            told += f" '{shown(name.replace(b' ', b'_'))}', wherever it stands{also(len(places) - 1)}"
+            self.tell(places[0], told, places[0] + name.count(b" "))
+
+    # ---- counts and lines
 
     def after_count(self, at: int, end: int, section: Section) -> int:
         """The number of the word after the count of a section, which is read."""
@@ -145,6 +203,7 @@ class Recovery:
             section.count = cursor.number(grammar.COUNT)
         except Fault as fault:
             self.tell_fault(fault, end)
+            cursor.at += fault.greatest is not None
         return cursor.at
 
     def lines(self, first: int, end: int) -> list[tuple[int, int]]:
@@ -156,6 +215,8 @@ class Recovery:
 
     def take(self, keyword: bytes, section: Section) -> None:
         """Adds a section to the part to which it belongs."""
+        if keyword in DECLARING:
+            self.known.update(self.words.words[line[0]] for line in section.lines)
         if keyword in PARTS:
             self.parts.append(Found(PARTS[keyword], section.at, {keyword: section}))
             return
@@ -174,11 +235,13 @@ class Recovery:
             lacking = [it.decode() for it in due if it not in part.sections]
             if lacking:
                 self.tell(part.at, f"this {part.kind} has no section {' and no '.join(lacking)}")
-            elif [it for it in part.sections if it in due] != due:
-                self.tell(
-                    part.at,
-                    f"the sections of this {part.kind} stand in another order than {', '.join(it.decode() for it in due)}",
-                )
+                continue
+            order = [it for it in SECTIONS_OF[part.kind] if it in part.sections]
+            for (keyword, section), due in zip(part.sections.items(), order):
+                if keyword != due:
+                    told = f"{keyword.decode()} stands before {due.decode()}; the order is {', '.join(map(bytes.decode, order))}"
+                    self.tell(section.at, told)
+                    break
 
     def of_kind(self, kind: str) -> list[Found]:
         return [it for it in self.parts if it.kind == kind]
@@ -215,9 +278,22 @@ class Recovery:
         """Tells where there aren't as many week data and solutions as the scenario says."""
         scenario = self.of_kind("scenario")
         weeks = scenario[0].sections.get(b"WEEKS") if scenario else None
-        data, solutions = len(self.of_kind("week data")), len(self.of_kind("solution"))
-        if weeks and not data == solutions == weeks.count:
-            self.tell(weeks.at + 2, f"WEEKS says {weeks.count}, and there are {data} week data and {solutions} solutions")
+        data, solutions = self.of_kind("week data"), self.of_kind("solution")
+        if weeks and not len(data) == len(solutions) == weeks.count:
+            told = f"WEEKS says {weeks.count}, and there are {len(data)} week data and {len(solutions)} solutions"
+            self.tell(weeks.at + 2, f"{told}{self.lacking_weeks(weeks.count, solutions)}")
+
+    def lacking_weeks(self, weeks: int, solutions: list[Found]) -> str:
+        """A clause for the weeks that no solution is of, where some lack."""
+        there = {it.sections[b"SOLUTION"].count for it in solutions}
+        lacking = [str(it) for it in range(weeks) if it not in there]
+        return f"; none is of week {', '.join(lacking)}" if solutions and 0 < len(lacking) < 6 else ""
+
+    def has_all_weeks(self) -> bool:
+        """Whether there are as many solutions as weeks, so that each has the place of one."""
+        scenario = self.of_kind("scenario")
+        weeks = scenario[0].sections.get(b"WEEKS") if scenario else None
+        return weeks is not None and len(self.of_kind("solution")) == weeks.count
 
 
 def a(kind: str) -> str:
@@ -228,8 +304,8 @@ def a(kind: str) -> str:
 def said(fault: Fault, word: bytes | None) -> str:
     """A fault of grammar in words: what is due, and what stands in its place."""
     here = f"'{shown(word)}' stands" if word is not None else "the line ends"
-    if fault.is_range:
-        return f"the number '{shown(word)}' is out of range"
+    if fault.greatest is not None:
+        return f"'{shown(word)}' stands here, and a number from 0 to {fault.greatest} is due"
     due = fault.due if fault.due.isupper() else f"'{fault.due}'" if fault.due in "=()," else f"a {fault.due}"
     like = nearest(word or b"", grammar.DAYS + grammar.LONG_DAYS) if fault.due == "day" else ""
     return f"{due} is due, and {here} here{like}"

@@ -32,6 +32,10 @@ def shown(word: bytes | str) -> str:
     return "".join(it if is_shown(it) else it.encode("unicode_escape").decode() for it in letters)
 
 
+def plural(count: int, what: str) -> str:
+    return f"{count} {what}{'' if count == 1 else 's'}"
+
+
 def columns(text: str) -> int:
     """How many columns of a terminal the text takes."""
     return sum(0 if unicodedata.combining(it) else 2 if unicodedata.east_asian_width(it) in "WF" else 1 for it in text)
@@ -148,6 +152,8 @@ def read_file(name: str, kind: str = "") -> Text:
     try:
         with open(name, "rb") as file:
             return Text(name, file.read(), kind)
+    except IsADirectoryError:
+        raise DeskError(f"{shown(name)}: this is a folder; name the files in it", 3) from None
     except (OSError, ValueError) as why:
         reason = getattr(why, "strerror", None) or str(why)
         raise DeskError(f"{shown(name)}: read failed: {reason}; give the name of a file that can be read", 3) from None
