@@ -1,7 +1,9 @@
 """The command `check`: all that is wrong with texts, each with its file, line and word."""
 import re
+import typing
 
 from desk_lib import breaches, hidden, names, program
+from desk_lib.asks import Asks
 from desk_lib.findings import Finding
 from desk_lib.grammar import MOST_OF, PARTS, Bundle, Fault, Part, Words, read_bundle
 from desk_lib.model import Plan, plan_of
@@ -194,19 +196,20 @@ class Places:
         return Finding(offset, self.words.texts.place(offset, length), message)
 
 
-def accepted(texts: Texts) -> tuple[list[Finding], Bundle]:
-    """What is wrong with texts that the program takes: solutions in the place of another week."""
-    words = Words(texts)
-    bundle = read_bundle(words)
-    return out_of_place(words, bundle.solutions), bundle
+def accepted(texts: Texts, asks_of: typing.Callable[[Plan], Asks | None]) -> list[Finding]:
+    """What is wrong with texts that the program takes: solutions in the place of another week, and what isn't as asked for."""
+    plan = program.plan_in(texts)
+    asks = asks_of(plan)
+    failed = asks.failed(plan.roster)[:-1] if asks else []
+    return out_of_place(plan.words, plan.bundle.solutions) + [Finding(len(texts.joined), None, it) for it in failed]
 
 
-def check(roster: Program, texts: Texts) -> tuple[list[str], int]:
-    """What is told of the texts, and the status."""
+def check(roster: Program, texts: Texts, asks_of: typing.Callable[[Plan], Asks | None]) -> tuple[list[str], int]:
+    """What is told of the texts, and of what else is asked for, and the status."""
     answer = roster.call(["cost"], texts.joined)
     line = answer.last()
     if answer.status == 0:
-        found, _ = accepted(texts)
+        found = accepted(texts, asks_of)
     elif answer.status != 1:
         raise DeskError(f"'roster cost' says: {line}", answer.status)
     else:

@@ -6,7 +6,7 @@ import sys
 import time
 import typing
 
-from desk_lib import check, grid, improve, outputs, page, plot, polish, program, replacing, signals, split, tables
+from desk_lib import asks, check, grid, improve, outputs, page, plot, polish, program, replacing, signals, split, tables, why
 from desk_lib.costs import Costing
 from desk_lib.model import Plan
 from desk_lib.program import Program
@@ -23,7 +23,11 @@ FILES = """\
 The files stand in the program's order (scenario, history, week data, solutions), or are named by --sce, --his,
 --weeks and --sols; without a file, standard input is read. --roster PROGRAM, or the variable DESK_ROSTER, names
 another program than the one of this repository. The status is that of roster: 0 for done, 1 for a refused input,
-2 for a wrong command line, 3 for a failed read or write, and 4 for too little memory."""
+2 for a wrong command line, 3 for a failed read or write, and 4 for too little memory.
+
+--asks names a text of lines such as 'absent Ann 0:Mon 1:Sun' (she doesn't work on these days) and 'pin Ann 0:Mon
+0:Wed..0:Fri' (she does what the roster says now). The format has only requests, so these become off requests and
+wishes of 10 points each, in the week data that 'weeks' writes and in all totals. Where a roster fails them is told."""
 
 IMPROVE = """
 
@@ -32,7 +36,8 @@ it has the very bytes of one run of 'roster improve'. With --polish it has those
 as many searches and that seed, or a cheaper roster. Such a run writes nothing before its end, nor on Ctrl-C; so
 slices of polish go on beside it, from the roster in the file, and each that is cheaper is kept. The log has a line
 for each cheaper roster; it goes to standard error, and on a terminal it is one line that changes. Where something
-else writes the file meanwhile, that stays, and the roster is kept beside it."""
+else writes the file meanwhile, that stays, and the roster is kept beside it. How many days change is no part of the
+penalty, and can't be kept small by it; it is told at the end, and by 'costs --with'."""
 
 
 # What solutions are among the files that are read; and so many seeds are taken at once.
@@ -65,6 +70,7 @@ def files_read(asked: argparse.Namespace) -> list[outputs.Named]:
     found += [(f"the file of --{kind}", name) for kind in KINDS for name in getattr(asked, kind) or ()]
     found = found or [("standard input", 0)]
     found += [("the file of --with", it) for it in getattr(asked, "other", None) or ()]
+    found += [("the file of --asks", asked.asks)] if asked.asks else []
     found += [("the file of --log", asked.log)] if "log" in asked and asked.log and "log" not in asked.writes else []
     named = asked.roster or os.environ.get(program.VARIABLE)
     return [*found, ("the program", named)] if named else found
@@ -124,11 +130,21 @@ def from_input() -> Texts:
         raise DeskError("standard input: read failed; name the files", 3) from why
 
 
-def both_plans(roster: Program, texts: Texts, other: list[str] | None) -> list[tuple[Texts, Plan]]:
-    """The texts with their plan; and before them, where a second roster is given, those with that roster.
+def asks_of(asked: argparse.Namespace, plan: Plan) -> asks.Asks | None:
+    """The absences and pins, where they are given."""
+    return asks.Asks(read_file(asked.asks), plan) if asked.asks else None
 
-    The last is the one to show."""
+
+def both_plans(asked: argparse.Namespace, roster: Program) -> list[tuple[Texts, Plan]]:
+    """The texts with their plan; and after them, where a second roster is given, those with that roster.
+
+    The last is the one to show. What is wrong with it beside what the program tells comes on standard error."""
+    texts, other = texts_of(asked), getattr(asked, "other", None)
     found = [(texts, program.taken(roster, texts))]
+    wanted = asks_of(asked, found[0][1])
+    if wanted:
+        texts = wanted.added_to(texts)
+        found = [(texts, program.taken(roster, texts))]
     if other:
         second = read_files([(it, "") for it in other])
         count, weeks = sum(len(split.HEAD.findall(it.data.replace(b"\r", b""))) for it in second), found[0][1].case.weeks
@@ -140,6 +156,9 @@ def both_plans(roster: Program, texts: Texts, other: list[str] | None) -> list[t
     for it, plan in found:
         for wrong in check.out_of_place(plan.words, plan.bundle.solutions):
             program.warn(f"{wrong.place}: {wrong.message}")
+    if wanted and asked.run is not run_improve:
+        for line in wanted.failed(found[-1][1].roster):
+            program.warn(line)
     return found
 
 
@@ -157,20 +176,20 @@ def costings(roster: Program, pairs: list[tuple[Texts, Plan]]) -> list[Costing]:
 
 
 def run_check(asked: argparse.Namespace, roster: Program) -> int:
-    lines, status = check.check(roster, texts_of(asked))
+    lines, status = check.check(roster, texts_of(asked), lambda plan: asks_of(asked, plan))
     write(lines)
     return status
 
 
 def run_costs(asked: argparse.Namespace, roster: Program) -> int:
-    *before, costing = costings(roster, both_plans(roster, texts_of(asked), asked.other))
+    *before, costing = costings(roster, both_plans(asked, roster))
     write(tables.cost_lines(costing, before[0] if before else None))
     return 0
 
 
 def sheet_of(asked: argparse.Namespace, roster: Program) -> tuple[Sheet, Costing | None, Texts]:
     """What a grid shows: the roster, or the second one with its changes."""
-    pairs = both_plans(roster, texts_of(asked), asked.other)
+    pairs = both_plans(asked, roster)
     *before, costing = costings(roster, pairs)
     old = before[0] if before else None
     return Sheet(costing, old and old.plan.roster, asked.first_week), old, pairs[-1][0]
@@ -194,14 +213,20 @@ def run_page(asked: argparse.Namespace, roster: Program) -> int:
     return 0
 
 
+def run_why(asked: argparse.Namespace, roster: Program) -> int:
+    pairs = both_plans(asked, roster)
+    [costing] = costings(roster, pairs)
+    write(why.why_lines(roster, pairs[0][0], costing, asked.nurse, asked.day))
+    return 0
+
+
 def first_week_words(asked: argparse.Namespace) -> list[str]:
     return ["--from", str(asked.first_week)] if asked.first_week else []
 
 
 def run_improve(asked: argparse.Namespace, roster: Program) -> int:
     end = None if asked.seconds is None else time.monotonic() + asked.seconds
-    texts = texts_of(asked)
-    [(_, plan)] = both_plans(roster, texts, None)
+    [(texts, plan)] = both_plans(asked, roster)
     before, words = texts.before(plan.solutions_offset(), []), first_week_words(asked)
     has_polish = asked.polish is not None or end is not None
     if asked.seeds and not has_polish:
@@ -221,25 +246,40 @@ def run_improve(asked: argparse.Namespace, roster: Program) -> int:
         if has_polish:
             polish.go_on(run, polish.Course(asked.polish, asked.seeds or [asked.seed], asked.slice, end))
 
+    wanted = asks_of(asked, plan)
     improve.finish(run, work)
+    for line in wanted.failed(program.plan_in(run.texts()).roster) if wanted else ():
+        program.warn(line)
     return 0
 
 
 def run_split(asked: argparse.Namespace, roster: Program) -> int:
-    texts = texts_of(asked)
-    pairs = both_plans(roster, texts, asked.other)
-    plan, (chosen, _) = pairs[0][1], pairs[-1]
+    pairs = both_plans(asked, roster)
+    (texts, plan), (chosen, _) = pairs[0], pairs[-1]
     before = texts.before(plan.solutions_offset(), [])
     names = split.names(asked.prefix, plan.case.weeks)
-    check_split(asked, names)
+    check_prefix(asked, names, SOLUTIONS)
     split.split(roster, chosen, before, names, asked.crlf)
     write(shown(it) for it in names)
     return 0
 
 
-def check_split(asked: argparse.Namespace, names: list[str]) -> None:
-    """Refuses to write what is read, but for solutions, and to replace files unless that is asked for."""
-    read = [it for it in files_read(asked) if it[0] != SOLUTIONS]
+def run_weeks(asked: argparse.Namespace, roster: Program) -> int:
+    texts = texts_of(asked)
+    plan = program.taken(roster, texts)
+    names = split.names(asked.prefix, plan.case.weeks)
+    check_prefix(asked, names)
+    wanted = asks.Asks(read_file(asked.asks), plan) if asked.asks else None
+    if not wanted:
+        raise DeskError("weeks: --asks names the text of absences and pins", 2)
+    asks.write_weeks(roster, wanted, texts, names)
+    write(shown(it) for it in names)
+    return 0
+
+
+def check_prefix(asked: argparse.Namespace, names: list[str], but: str = "") -> None:
+    """Refuses to write what is read, but for such files, and to replace files unless that is asked for."""
+    read = [it for it in files_read(asked) if it[0] != but]
     outputs.refuse_inputs([("PREFIX", it) for it in names], read)
     there = [shown(it) for it in names if os.path.lexists(it)]
     if there and not asked.force:
@@ -296,6 +336,7 @@ def with_files(parser: argparse.ArgumentParser) -> None:
     for kind in KINDS:
         count = 1 if kind in ("sce", "his") else "+"
         files.add_argument(f"--{kind}", nargs=count, action="extend", metavar="FILE", help=told[kind])
+    parser.add_argument("--asks", metavar="FILE", help="absences and pins (below)")
     parser.add_argument("--roster", metavar="PROGRAM", help="the program roster, where it isn't that of this repository")
 
 
@@ -391,6 +432,10 @@ def parser_of() -> argparse.ArgumentParser:
     it.add_argument("--bound", action="store_true", help="ask 'roster bound' for a floor, and show it")
     it.add_argument("--out", metavar="FILE", help="the file to write; else standard output")
     with_files(it)
+    it = command(commands, "why", run_why, "tells what it would cost to meet a nurse's request")
+    it.add_argument("nurse", metavar="NURSE", help="the nurse")
+    it.add_argument("day", metavar="DAY", help="the week and the day, as 0:Mon")
+    with_files(it)
     add_improve(commands)
     it = command(commands, "split", run_split, "writes a solution file for each week: PREFIX-0.txt, PREFIX-1.txt and so on")
     it.add_argument("prefix", metavar="PREFIX", help="how the names of the files begin, such as Sol-n030w4")
@@ -398,11 +443,21 @@ def parser_of() -> argparse.ArgumentParser:
     it.add_argument("--force", action="store_true", help="replace the files that are there")
     with_other(it, "its weeks are written")
     with_files(it)
+    told = "writes the week data with the absences and pins of --asks: PREFIX-0.txt, PREFIX-1.txt and so on"
+    it = command(commands, "weeks", run_weeks, told)
+    it.add_argument("prefix", metavar="PREFIX", help="how the names of the files begin")
+    it.add_argument("--force", action="store_true", help="replace the files that are there")
+    with_files(it)
     return parser
 
 
 def run(words: list[str]) -> int:
-    asked = parser_of().parse_args(words)
+    parser = parser_of()
+    asked, more = parser.parse_known_args(words)
+    if any(it.startswith("-") for it in more):
+        parser.error(f"unrecognized arguments: {' '.join(more)}")
+    # (files after an option are files, too)
+    asked.files += more
     check_written(asked)
     return asked.run(asked, program.find(asked.roster))
 

@@ -5,7 +5,7 @@ import sys
 
 from desk_lib.grammar import DAYS
 from desk_lib.sheet import Cell, Cover, Sheet
-from desk_lib.texts import cut, shown
+from desk_lib.texts import cut, plural, shown
 
 NAME, GAP = 14, 2
 # Of a terminal: colours of the shifts in their order, and those of marks.
@@ -109,7 +109,8 @@ class Grid:
         lines = [f"{'  '.join(shifts)}  . off"]
         if self.with_skills:
             lines.append("  ".join(f"{letter} {shown(it)}" for letter, it in zip(sheet.skill_letters, sheet.case.skills)))
-        lines.append("after a day: * changed, ! a request that isn't met, # both")
+        changed = f" ({plural(sheet.changed(), 'day')})" if sheet.is_compared else ""
+        lines.append(f"after a day: * changed{changed}, ! a request that isn't met, # both")
         if sheet.places():
             lines.append(
                 "by shift and skill: how many are there (- below the optimum, ! below the minimum), then minimum-optimum"

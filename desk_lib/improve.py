@@ -4,10 +4,11 @@ import sys
 import time
 import typing
 
-from desk_lib.program import Program, costs_by
+from desk_lib.model import changed_days
+from desk_lib.program import Program, costs_by, plan_in
 from desk_lib.replacing import Replacement, bytes_of, keep_beside, read_back
 from desk_lib.signals import Interrupted, held_back, within_time
-from desk_lib.texts import DeskError, Text, Texts, shown
+from desk_lib.texts import DeskError, Text, Texts, plural, shown
 
 
 class Progress:
@@ -121,6 +122,11 @@ class Run:
             with held_back():
                 self.look(self.solutions, self.told())
 
+    def changes(self) -> str:
+        """On how many days the roster is another than the one that was given."""
+        count = changed_days(plan_in(self.given).roster, plan_in(self.texts()).roster)
+        return f"{plural(count, 'day')} changed"
+
     def told(self) -> str:
         return f"after {self.saved}, which costs {self.total}"
 
@@ -193,4 +199,4 @@ def finish(run: Run, work: typing.Callable[[], None]) -> None:
         raise DeskError(f"{why}{has}", why.status) from None
     finally:
         run.progress.close()
-    run.progress.end(f"{shown(run.out)}: {shown(run.progress.last)}{run.progress.above_floor(run.total)}")
+    run.progress.end(f"{shown(run.out)}: {shown(run.progress.last)}{run.progress.above_floor(run.total)}, {run.changes()}")

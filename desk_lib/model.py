@@ -1,9 +1,13 @@
 """The case and the roster of texts that the program takes. Names are bytes, as they stand there."""
 import dataclasses
+import re
 
 from reckoning import Case, History, Limits, Nurse, Shift
 
-from desk_lib.grammar import ANY, DAYS, Bundle, Part, Words
+from desk_lib.grammar import ANY, DAY_OF, DAYS, Bundle, Part, Words
+from desk_lib.texts import DeskError, plural, shown
+
+DAY = re.compile(rb"(\d{1,3}):([A-Za-z]+)")
 
 # A row has for each day the shift and the skill, or None; a roster has a row for each nurse.
 Choice = tuple[int, int] | None
@@ -115,3 +119,41 @@ def plan_of(words: Words, bundle: Bundle) -> Plan:
 
 def day_name(day: int) -> str:
     return DAYS[day % 7].decode()
+
+
+def day_place(day: int) -> str:
+    return f"week {day // 7} {day_name(day)}"
+
+
+def day_in(word: bytes, weeks: int) -> int:
+    """The day that a word names, as 0:Mon."""
+    told = DAY.fullmatch(word)
+    if not told or told[2] not in DAY_OF:
+        raise DeskError(f"'{shown(word)}' stands here, and a day is due, as 0:Mon", 2)
+    if int(told[1]) >= weeks:
+        raise DeskError(f"'{shown(word)}': the scenario has {plural(weeks, 'week')}, and they count from 0", 2)
+    return 7 * int(told[1]) + DAY_OF[told[2]]
+
+
+def choice_name(case: Case, choice: Choice) -> str:
+    """A choice in words."""
+    return "off" if choice is None else f"{shown(case.shifts[choice[0]].name)} {shown(case.skills[choice[1]])}"
+
+
+def changed_days(before: Roster, after: Roster) -> int:
+    """On how many days of all nurses two rosters differ."""
+    return sum(was != now for rows in zip(before, after) for was, now in zip(*rows))
+
+
+def solutions_of(case: Case, roster: Roster) -> bytes:
+    """The solutions of a roster, as the program takes them."""
+    texts = []
+    for week in range(case.weeks):
+        lines = [
+            b"%s %s %s %s\n" % (nurse.name, DAYS[day % 7], case.shifts[row[day][0]].name, case.skills[row[day][1]])
+            for nurse, row in zip(case.nurses, roster)
+            for day in range(7 * week, 7 * week + 7)
+            if row[day]
+        ]
+        texts.append(b"SOLUTION\n%d %s\n\nASSIGNMENTS = %d\n%s" % (week, case.name, len(lines), b"".join(lines)))
+    return b"\n".join(texts)

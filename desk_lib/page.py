@@ -85,7 +85,7 @@ class Page:
     def told_changes(self) -> str:
         if not self.before:
             return ""
-        count = sum(cell.is_changed for row in self.sheet.rows for cell in row)
+        count = self.sheet.changed()
         return f", {plural(count, 'day')} changed" if count else ", no day changed"
 
     def cards(self) -> str:

@@ -46,12 +46,16 @@ class Sheet:
 
     def __init__(self, costing: Costing, before: Roster | None, first_week: int):
         self.costing, self.case = costing, costing.case
-        self.weeks, self.first_week = range(self.case.weeks), first_week
+        self.weeks, self.first_week, self.is_compared = range(self.case.weeks), first_week, before is not None
         self.shift_letters = letters([it.name for it in self.case.shifts])
         self.skill_letters = [it.lower() for it in letters(self.case.skills)]
         self.rows = [
             [self.cell(number, day, before) for day in range(costing.plan.days)] for number in range(len(self.case.nurses))
         ]
+
+    def changed(self) -> int:
+        """How many days are other than before."""
+        return sum(cell.is_changed for row in self.rows for cell in row)
 
     def cell(self, number: int, day: int, before: Roster | None) -> Cell:
         row = self.costing.plan.roster[number]

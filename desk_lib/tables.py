@@ -1,5 +1,6 @@
 """Tables of costs as they are written on a terminal."""
 from desk_lib.costs import RULES, Costing
+from desk_lib.model import changed_days
 from desk_lib.texts import columns, cut, shown
 
 NAME_WIDTH = 16
@@ -59,4 +60,6 @@ def cost_lines(costing: Costing, before: Costing | None) -> list[str]:
     totals, old = costing.totals_by_rule(), before and before.totals_by_rule()
     lines = aligned(nurse_rows(costing, before))
     lines += ["", *aligned(place_rows(costing, before)), ""]
+    if before:
+        lines.append(f"days changed {changed_days(before.plan.roster, costing.plan.roster)}")
     return lines + [f"{rule} {changed(old and old[rule], number)}" for rule, number in totals.items()]
