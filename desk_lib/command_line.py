@@ -1,5 +1,6 @@
 """The desk's command line: its commands, their options, and how errors are told."""
 import argparse
+import datetime
 import errno
 import os
 import sys
@@ -59,6 +60,14 @@ def write(lines: typing.Iterable[str]) -> None:
         sys.stdout.buffer.flush()
     except OSError as why:
         raise WriteFailed from why
+
+
+def write_text(name: str | None, text: str) -> None:
+    """Writes a text into the file of this name, or else to standard output."""
+    if name and name != "-":
+        replacing.replace_text(name, text.encode())
+    else:
+        write([text.removesuffix("\n")])
 
 
 # ---- what a command works on
@@ -192,7 +201,8 @@ def sheet_of(asked: argparse.Namespace, roster: Program) -> tuple[Sheet, Costing
     pairs = both_plans(asked, roster)
     *before, costing = costings(roster, pairs)
     old = before[0] if before else None
-    return Sheet(costing, old and old.plan.roster, asked.first_week), old, pairs[-1][0]
+    start = getattr(asked, "start", None)
+    return Sheet(costing, old and old.plan.roster, asked.first_week, start), old, pairs[-1][0]
 
 
 def run_grid(asked: argparse.Namespace, roster: Program) -> int:
@@ -205,11 +215,13 @@ def run_page(asked: argparse.Namespace, roster: Program) -> int:
     log = plot.points_in(read_file(asked.log).data, asked.log) if asked.log else []
     sheet, before, texts = sheet_of(asked, roster)
     floor = improve.floor_of(roster, texts, first_week_words(asked)) if asked.bound else None
-    text = page.Page(sheet, before, log, floor).text()
-    if asked.out and asked.out != "-":
-        replacing.replace_text(asked.out, text.encode())
-    else:
-        write([text.rstrip("\n")])
+    write_text(asked.out, page.Page(sheet, before, log, floor).text())
+    return 0
+
+
+def run_csv(asked: argparse.Namespace, roster: Program) -> int:
+    [(_, plan)] = both_plans(asked, roster)
+    write_text(asked.out, tables.csv_text(plan, asked.start))
     return 0
 
 
@@ -300,6 +312,18 @@ def number_in(least: int, greatest: int) -> typing.Callable[[str], int]:
     return number
 
 
+def monday_in(word: str) -> datetime.date:
+    """Reads a date, which has to be a Monday."""
+    try:
+        date = datetime.date.fromisoformat(word)
+    except ValueError:
+        raise argparse.ArgumentTypeError(f"'{shown(word)}' is no date, as 2026-11-02") from None
+    if date.weekday():
+        monday = date - datetime.timedelta(date.weekday())
+        raise argparse.ArgumentTypeError(f"{word} is no Monday, on which weeks begin; that of its week is {monday}")
+    return date
+
+
 def seeds_in(word: str) -> list[int]:
     """Reads the first and the last of several seeds, as 1-8."""
     ends = word.split("-")
@@ -348,6 +372,10 @@ def with_other(parser: argparse.ArgumentParser, told: str) -> None:
         metavar="FILE",
         help=f"a second roster for the same texts, its solutions alone: {told}",
     )
+
+
+def with_start(parser: argparse.ArgumentParser) -> None:
+    parser.add_argument("--start", type=monday_in, metavar="DATE", help="the Monday of week 0, as 2026-11-02: dates are shown")
 
 
 def with_first_week(parser: argparse.ArgumentParser, told: str) -> None:
@@ -428,8 +456,14 @@ def parser_of() -> argparse.ArgumentParser:
     it = command(commands, "page", run_page, "writes the same as one HTML file to look at and to print", writes=("out",))
     with_other(it, "it is shown, with what changed")
     with_first_week(it, "the weeks before V are frozen")
+    with_start(it)
     it.add_argument("--log", metavar="FILE", help="the log of improve: its penalty is drawn")
     it.add_argument("--bound", action="store_true", help="ask 'roster bound' for a floor, and show it")
+    it.add_argument("--out", metavar="FILE", help="the file to write; else standard output")
+    with_files(it)
+    told = "writes the roster as CSV: a line for each nurse, and a column for each day"
+    it = command(commands, "csv", run_csv, told, writes=("out",))
+    with_start(it)
     it.add_argument("--out", metavar="FILE", help="the file to write; else standard output")
     with_files(it)
     it = command(commands, "why", run_why, "tells what it would cost to meet a nurse's request")

@@ -28,6 +28,9 @@ class Plan:
     def days(self) -> int:
         return 7 * self.case.weeks
 
+    def contract_name(self, number: int) -> bytes:
+        return self.words.words[self.bundle.scenario[b"CONTRACTS"].lines[number][0]]
+
     def solutions_offset(self) -> int:
         """The byte at which the first solution begins."""
         return self.words.offset(self.bundle.solutions[0][b"SOLUTION"].at)

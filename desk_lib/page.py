@@ -1,12 +1,15 @@
 """The command `page`: a roster as one HTML file, which needs nothing from elsewhere."""
+import collections
 import html
 import os
+
+from reckoning import SATURDAY, SUNDAY
 
 from desk_lib.costs import RULES, Costing
 from desk_lib.grammar import DAYS
 from desk_lib.model import Choice
 from desk_lib.plot import Plot, Point
-from desk_lib.sheet import Cell, Cover, Sheet
+from desk_lib.sheet import Cover, Sheet, date_name
 from desk_lib.texts import plural, shown
 
 # Weeks side by side in one table.
@@ -21,6 +24,10 @@ MEANING = {
     "S7": "worked weekends",
     "S8": "wishes to work",
 }
+# What the cells below the nurses mean.
+ABOUT_COVER = """<p>Below the nurses stands for each shift and skill how many are there, and under it the minimum and the optimum.
+<span class="key low">1−</span> is fewer than the optimum, which costs 30 for each that is missing (S1).
+<span class="key bad">0!</span> is fewer than the minimum, which no roster may be.</p>"""
 
 
 def escaped(name: bytes | str) -> str:
@@ -54,14 +61,15 @@ class Page:
         self.log, self.floor = log, floor
 
     def text(self) -> str:
-        parts = [self.head(), "<main>", self.grid(), self.costs(), self.staffing(), self.plot(), "</main>", self.foot()]
+        parts = [self.head(), "<main>", self.grid(), self.totals(), self.costs(), self.staffing(), self.plot(), "</main>"]
+        parts.append(self.foot())
         return "\n".join(it for it in parts if it) + "\n"
 
     # ---- above
 
     def head(self) -> str:
         name, case = escaped(self.case.name), self.case
-        links = [("grid", "Grid"), ("nurses", "Costs by nurse"), ("staffing", "Staffing")]
+        links = [("grid", "Grid"), ("totals", "Totals"), ("nurses", "Costs by nurse"), ("staffing", "Staffing")]
         links += [("log", "The run")] if self.log else []
         nav = "".join(f'<a href="#{at}">{told}</a>' for at, told in links)
         frozen = f", weeks before {self.sheet.first_week} frozen" if self.sheet.first_week else ""
@@ -107,7 +115,7 @@ class Page:
         blocks = [
             self.block(self.sheet.weeks[first : first + AT_ONCE]) for first in range(0, len(self.sheet.weeks), AT_ONCE)
         ]
-        return "\n".join(['<section id="grid">', "<h2>Grid</h2>", self.legend(), *blocks, "</section>"])
+        return "\n".join(['<section id="grid">', "<h2>Grid</h2>", self.legend(), ABOUT_COVER, *blocks, "</section>"])
 
     def legend(self) -> str:
         sheet = self.sheet
@@ -130,13 +138,8 @@ class Page:
     def block(self, weeks: range) -> str:
         """A table of some weeks: their heads, the nurses, and the cover."""
         told = f"Weeks {weeks[0]} to {weeks[-1]}" if len(weeks) > 1 else f"Week {weeks[0]}"
-        frozen = {it: " (frozen)" if it < self.sheet.first_week else "" for it in weeks}
-        heads = "".join(f'<th class="week" colspan="7" scope="colgroup">Week {it}{frozen[it]}</th>' for it in weeks)
-        days = "".join(
-            f'<th scope="col"{self.classes(7 * week + day)}>{name.decode()[:2]}</th>'
-            for week in weeks
-            for day, name in enumerate(DAYS)
-        )
+        heads = "".join(f'<th class="week" colspan="7" scope="colgroup">{self.week_name(it)}</th>' for it in weeks)
+        days = "".join(self.day_head(7 * week + day) for week in weeks for day in range(7))
         lines = [
             f'<div class="scroll" tabindex="0" role="region" aria-label="{told}">',
             f'<table class="grid"><caption>{told}</caption>',
@@ -149,6 +152,15 @@ class Page:
         ]
         return "\n".join(lines)
 
+    def week_name(self, week: int) -> str:
+        date = self.sheet.date(7 * week)
+        return f"Week {week}{f' from {date_name(date)}' if date else ''}{' (frozen)' if week < self.sheet.first_week else ''}"
+
+    def day_head(self, day: int) -> str:
+        date = self.sheet.date(day)
+        told = f'{DAYS[day % 7].decode()[:2]}{f"<small>{date.day}</small>" if date else ""}'
+        return f'<th scope="col"{self.classes(day)} title="{self.sheet.day_name(day)}">{told}</th>'
+
     def classes(self, day: int, *more: str) -> str:
         """The classes of a day's cell."""
         found = ["monday"] * (day % 7 == 0) + ["weekend"] * (day % 7 > 4) + ["frozen"] * (day // 7 < self.sheet.first_week)
@@ -158,18 +170,21 @@ class Page:
     def nurse(self, number: int, weeks: range) -> str:
         name = escaped(self.case.nurses[number].name)
         days = range(7 * weeks[0], 7 * weeks[-1] + 7)
-        cells = "".join(f"<td{self.classes(day)}>{self.cell(self.sheet.rows[number][day])}</td>" for day in days)
+        cells = "".join(f"<td{self.classes(day)}>{self.cell(number, day)}</td>" for day in days)
         return f'<tr><th scope="row" title="{name}">{name}</th>{cells}</tr>'
 
-    def cell(self, cell: Cell) -> str:
-        """A day: the shift's letter and the skill's, below it what it was and whether a request isn't met."""
+    def cell(self, number: int, day: int) -> str:
+        """A day: the shift's letter and the skill's, below it what it was and whether a request isn't met. All of it in words is
+        its title."""
+        cell = self.sheet.rows[number][day]
         is_wrong = cell.breaks_request or cell.misses_wish
         classes = ["cell", "off" if cell.choice is None else f"s{cell.choice[0]}"]
         classes += ["changed"] * cell.is_changed + ["request"] * is_wrong
         below = (f"‹{self.letter(cell.before)}" if cell.is_changed else "") + (" !" if is_wrong else "")
         skill = f"<i>{self.sheet.skill_letters[cell.choice[1]]}</i>" if cell.choice else ""
         small = f"<small>{below.strip()}</small>" if below else ""
-        return f'<span class="{" ".join(classes)}">{self.letter(cell.choice)}{skill}{small}</span>'
+        title = escaped(self.sheet.told(number, day))
+        return f'<span class="{" ".join(classes)}" role="img" title="{title}">{self.letter(cell.choice)}{skill}{small}</span>'
 
     def letter(self, choice: Choice) -> str:
         return "·" if choice is None else self.sheet.shift_letters[choice[0]]
@@ -177,15 +192,47 @@ class Page:
     def cover(self, at: tuple[int, int], weeks: range) -> str:
         """A line of the cover of a shift and skill."""
         shift, skill = at
-        cells = "".join(
-            f"<td{self.classes(7 * week + day, *low(it))}>{cover_text(it)}</td>"
-            for week in weeks
-            for day, it in enumerate(self.sheet.covers(at, week))
-        )
+        days = [(7 * week + day, it) for week in weeks for day, it in enumerate(self.sheet.covers(at, week))]
+        cells = "".join(f"<td{self.classes(day, *low(it))}>{self.cover_cell(at, day, it)}</td>" for day, it in days)
         name = f'<span class="key s{shift}">{self.sheet.shift_letters[shift]}</span>{escaped(self.case.skills[skill])}'
         return f'<tr><th scope="row" title="{escaped(self.sheet.place_name(at))}">{name}</th>{cells}</tr>'
 
+    def cover_cell(self, at: tuple[int, int], day: int, cover: Cover) -> str:
+        """How many are there, below it the minimum and the optimum; nothing where none is needed nor there."""
+        if not (cover.have or cover.least or cover.optimum):
+            return ""
+        title = escaped(self.sheet.told_cover(at, day, cover))
+        told = f"{cover.have}{cover.mark().replace('-', '−')}<small>{cover.least}–{cover.optimum}</small>"
+        return f'<span role="img" title="{title}">{told}</span>'
+
     # ---- numbers
+
+    def totals(self) -> str:
+        """What each nurse has: the contract and the skills, the shifts of each kind, assignments and weekends."""
+        shifts = "".join(f'<th scope="col">{escaped(it.name)}</th>' for it in self.case.shifts)
+        rows = "\n".join(self.nurse_totals(number) for number in range(len(self.case.nurses)))
+        return f"""<section id="totals">
+<h2>Contracts and totals</h2>
+<p>Assignments and worked weekends are with those of the history, each with what the contract allows; a ! is outside of it.</p>
+<div class="scroll" tabindex="0" role="region" aria-label="Contracts and totals">
+<table class="numbers"><thead><tr><th scope="col">nurse</th><th scope="col" class="words">contract</th>
+<th scope="col" class="words">skills</th>{shifts}<th scope="col">assignments</th><th scope="col">weekends</th></tr></thead>
+<tbody>
+{rows}
+</tbody></table></div>
+</section>"""
+
+    def nurse_totals(self, number: int) -> str:
+        nurse, row, name = self.case.nurses[number], self.costing.plan.roster[number], escaped(self.case.nurses[number].name)
+        contract, past = self.case.contracts[nurse.contract], nurse.history
+        counts = collections.Counter(choice[0] for choice in row if choice)
+        weekends = sum(any(pair) for pair in zip(row[SATURDAY::7], row[SUNDAY::7]))
+        skills = ", ".join(escaped(self.case.skills[it]) for it in nurse.skills)
+        cells = [f'<td class="words">{escaped(self.costing.plan.contract_name(nurse.contract))}</td>']
+        cells += [f'<td class="words">{skills}</td>', *(number_cell(counts[it], None) for it in range(len(self.case.shifts)))]
+        cells.append(within(past.assignments + sum(counts.values()), *contract.assignments))
+        cells.append(within(past.weekends + weekends, 0, contract.weekends))
+        return f'<tr><th scope="row" title="{name}">{name}</th>{"".join(cells)}</tr>'
 
     def costs(self) -> str:
         heads = "".join(f'<th scope="col" title="{MEANING[rule]}">{rule}</th>' for rule in RULES)
@@ -250,8 +297,8 @@ def low(cover: Cover) -> list[str]:
     return {"!": ["bad"], "-": ["low"]}.get(cover.mark(), [])
 
 
-def cover_text(cover: Cover) -> str:
-    """How many are there, below it the minimum and the optimum; nothing where none is needed nor there."""
-    if not (cover.have or cover.least or cover.optimum):
-        return ""
-    return f"{cover.have}{cover.mark().replace('-', '−')}<small>{cover.least}–{cover.optimum}</small>"
+def within(count: int, least: int, greatest: int) -> str:
+    """A cell with a number and what it may be, which are told apart by a mark where it isn't that."""
+    is_outside = not least <= count <= greatest
+    grade = ' class="bad"' if is_outside else ""
+    return f'<td{grade}>{count}{"!" * is_outside} <small>of {least}–{greatest}</small></td>'

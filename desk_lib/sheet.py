@@ -1,11 +1,17 @@
 """What a grid shows of a roster, on a terminal and on a page: the days of each nurse, and the cover of each day."""
 import dataclasses
+import datetime
 
 from desk_lib.costs import Costing
-from desk_lib.model import Choice, Roster
+from desk_lib.model import Choice, Roster, choice_name, day_place
 from desk_lib.texts import shown
 
 SPARE = "0123456789"
+MONTHS = "Jan Feb Mar Apr May Jun Jul Aug Sep Oct Nov Dec".split()
+
+
+def date_name(date: datetime.date) -> str:
+    return f"{date.day} {MONTHS[date.month - 1]} {date.year}"
 
 
 @dataclasses.dataclass(frozen=True)
@@ -42,10 +48,11 @@ def letters(names: list[bytes]) -> list[str]:
 
 
 class Sheet:
-    """A roster to be shown, compared with another one where that is given. Weeks before `first_week` are frozen."""
+    """A roster to be shown, compared with another one where that is given. Weeks before `first_week` are frozen, and the first
+    begins on the Monday `start` where that is known."""
 
-    def __init__(self, costing: Costing, before: Roster | None, first_week: int):
-        self.costing, self.case = costing, costing.case
+    def __init__(self, costing: Costing, before: Roster | None, first_week: int, start: datetime.date | None = None):
+        self.costing, self.case, self.start = costing, costing.case, start
         self.weeks, self.first_week, self.is_compared = range(self.case.weeks), first_week, before is not None
         self.shift_letters = letters([it.name for it in self.case.shifts])
         self.skill_letters = [it.lower() for it in letters(self.case.skills)]
@@ -62,6 +69,28 @@ class Sheet:
         old = before[number][day] if before else row[day]
         asked, missed = self.costing.breaks_request(number, day, row), self.costing.misses_wish(number, day, row)
         return Cell(row[day], old, old != row[day], asked, missed)
+
+    def date(self, day: int) -> datetime.date | None:
+        return self.start + datetime.timedelta(day) if self.start else None
+
+    def day_name(self, day: int) -> str:
+        """A day in words, with its date where that is known."""
+        date = self.date(day)
+        return day_place(day) + (f", {date_name(date)}" if date else "")
+
+    def told(self, number: int, day: int) -> str:
+        """A day of a nurse in words."""
+        cell, is_frozen = self.rows[number][day], day // 7 < self.first_week
+        parts = [f"{shown(self.case.nurses[number].name)}, {self.day_name(day)}: {choice_name(self.case, cell.choice)}"]
+        parts += [f"before: {choice_name(self.case, cell.before)}"] if cell.is_changed else []
+        parts += ["an off request isn't met"] * cell.breaks_request + ["a wish isn't met"] * cell.misses_wish
+        return "; ".join(parts + ["frozen"] * is_frozen)
+
+    def told_cover(self, at: tuple[int, int], day: int, cover: "Cover") -> str:
+        """The cover of a day in words."""
+        low = {"!": "; below the minimum", "-": "; below the optimum"}.get(cover.mark(), "")
+        place = f"{self.place_name(at)}, {self.day_name(day)}"
+        return f"{place}: {cover.have} there, minimum {cover.least}, optimum {cover.optimum}{low}"
 
     def covers(self, at: tuple[int, int], week: int) -> list[Cover]:
         """The cover of a shift and skill on the days of a week."""

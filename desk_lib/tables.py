@@ -1,6 +1,10 @@
-"""Tables of costs as they are written on a terminal."""
+"""Tables of costs as they are written on a terminal, and the roster as CSV."""
+import csv
+import datetime
+import io
+
 from desk_lib.costs import RULES, Costing
-from desk_lib.model import changed_days
+from desk_lib.model import Plan, changed_days, choice_name, day_place
 from desk_lib.texts import columns, cut, shown
 
 NAME_WIDTH = 16
@@ -63,3 +67,15 @@ def cost_lines(costing: Costing, before: Costing | None) -> list[str]:
     if before:
         lines.append(f"days changed {changed_days(before.plan.roster, costing.plan.roster)}")
     return lines + [f"{rule} {changed(old and old[rule], number)}" for rule, number in totals.items()]
+
+
+def csv_text(plan: Plan, start: datetime.date | None) -> str:
+    """The roster as CSV: a line for each nurse, with what she does on each day; nothing where she is off."""
+    days = range(plan.days)
+    heads = [str(start + datetime.timedelta(day)) if start else day_place(day) for day in days]
+    text = io.StringIO()
+    table = csv.writer(text, lineterminator="\n")
+    table.writerow(["nurse", *heads])
+    for nurse, row in zip(plan.case.nurses, plan.roster):
+        table.writerow([shown(nurse.name), *(choice_name(plan.case, it) if it else "" for it in row)])
+    return text.getvalue()
