@@ -3,8 +3,8 @@
     absent NURSE FROM [TO]      the nurse doesn't work on these days
     pin NURSE DAY..             on these days the nurse does what the roster says now; a day may be FROM..TO
 
-A day is the week and the weekday, as 0:Mon. What follows a '#' is a remark. The competition's format has no such thing, so an absence
-is asked for as an off request, and a pin as a wish or an off request: each of them costs 10 where it isn't met, and a roster may
+A day is the week and the weekday, as 0:Mon. What follows a '#' is a remark. The competition's format has no such thing, so an
+absence is asked for as an off request, and a pin as a wish or an off request: each costs 10 where it isn't met, and a roster may
 well not meet it. So each roster is looked at, and where it fails is told.
 """
 import collections
@@ -165,6 +165,7 @@ def write_weeks(roster: Program, asks: Asks, texts: Texts, names: list[str]) -> 
         new = [stack.enter_context(Replacement(name, it)) for name, it in zip(names, data)]
         back = Texts([*texts.before(first, []).texts, *(Text(it.name, it.read()) for it in new), solutions])
         if roster.call(["cost"], back.joined) != roster.call(["cost"], asks.added_to(texts).joined):
-            raise DeskError(f"{shown(names[0])}: read back they are other week data; nothing is replaced. This is a fault of the desk", 3)
+            told = f"{shown(names[0])}: read back they are other week data; nothing is replaced"
+            raise DeskError(f"{told}. This is a fault of the desk", 3)
         for it in new:
             it.put()

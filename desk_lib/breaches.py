@@ -51,8 +51,9 @@ def skills(plan: Plan) -> collections.abc.Iterator[Breach]:
     for number, (nurse, row) in enumerate(zip(plan.case.nurses, plan.roster)):
         for day, choice in enumerate(row):
             if choice and choice[1] not in nurse.skills:
-                line = f"H4 week {day // 7} {day_name(day)} {shown(nurse.name)}"
-                yield Breach(line, f"{shown(nurse.name)} hasn't the skill {shown(plan.case.skills[choice[1]])}", "H4", day, (number,))
+                name, skill = shown(nurse.name), shown(plan.case.skills[choice[1]])
+                line = f"H4 week {day // 7} {day_name(day)} {name}"
+                yield Breach(line, f"{name} hasn't the skill {skill}", "H4", day, (number,))
 
 
 def all_breaches(plan: Plan) -> list[Breach]:

@@ -186,8 +186,9 @@ class Places:
         """The minimums of weeks that have no assignment."""
         first = self.bundle.solutions[weeks[0]][b"ASSIGNMENTS"].at
         named = ", ".join(map(str, weeks))
-        which = f"week {named} is empty: the solution has" if len(weeks) == 1 else f"weeks {named} are empty: the solutions have"
-        return self.at(first, first + 2, f"H2 {which} no assignment, and none of the {count} minimums is met")
+        which = f"week {named} is empty" if len(weeks) == 1 else f"weeks {named} are empty"
+        told = f"H2 {which}: there is no assignment, and none of the {count} minimums is met"
+        return self.at(first, first + 2, told)
 
     def at(self, first: int, last: int, message: str) -> Finding:
         """A finding of the words from one to another."""

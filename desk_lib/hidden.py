@@ -31,7 +31,11 @@ SIGNS = [
     ),
     (rb";", "a semicolon, which is part of a word and divides none; put a blank in its place", False),
     # (what is found first, a pair, has no group, and is none)
-    (rb"\([^()\n]{0,40}\)|(,)", "a comma, which stands in pairs alone, as (2,5), and divides no words; put a blank in its place", False),
+    (
+        rb"\([^()\n]{0,40}\)|(,)",
+        "a comma, which stands in pairs alone, as (2,5), and divides no words; put a blank in its place",
+        False,
+    ),
 ]
 # How files begin that are no texts, with what they are.
 KINDS = {

@@ -58,7 +58,7 @@ class Progress:
             self.is_shown = True
 
     def end(self, told: str = "") -> None:
-        """Leaves the line that changes as it stands. What the run came to follows on a terminal, and where there is a floor."""
+        """Leaves the line that changes as it stands. What the run came to follows on a terminal, and where a floor is known."""
         if self.is_terminal:
             sys.stderr.write("\n" * self.is_shown + f"{told}\n" * bool(told))
         elif told and self.floor is not None:
@@ -103,7 +103,7 @@ class Run:
             self.solutions, self.there, self.total, self.saved = solutions, solutions, total, what
 
     def look(self, solutions: bytes, told: str) -> None:
-        """Looks whether the file has what this run has put there, or what was there before; else keeps the roster beside it."""
+        """Looks whether the file has what this run has put there, or what was there before. Else keeps the roster beside."""
         if bytes_of(self.out) == self.there:
             return
         name = keep_beside(self.out, solutions)
@@ -130,11 +130,15 @@ class Run:
     def told(self) -> str:
         return f"after {self.saved}, which costs {self.total}"
 
+    def has(self) -> str:
+        """What the file has, where a roster was put there."""
+        return f"{shown(self.out)} has the roster {self.told()}" if self.saved else ""
+
     # ---- rounds
 
     def rounds(self, count: int, end: float | None) -> None:
-        """Makes rounds until one changes nothing, or so many, or until a time; at least one, unless none is allowed. The log is
-        that of one run."""
+        """Makes rounds until one changes nothing, or so many, or until a time; at least one, where one is allowed. The log is that
+        of one run."""
         self.round(1, min(1, count))
         within_time(end, lambda: self.further_rounds(count))
         self.progress.line(self.end)
@@ -191,12 +195,11 @@ def finish(run: Run, work: typing.Callable[[], None]) -> None:
     except Interrupted as end:
         run.progress.end()
         run.look_again()
-        told = f"{shown(run.out)} has the roster {run.told()}" if run.saved else f"no round was over, and {shown(run.out)} is as it was"
-        raise DeskError(f"interrupted; {told}", end.status) from None
+        has = run.has() or f"no round was over, and {shown(run.out)} is as it was"
+        raise DeskError(f"interrupted; {has}", end.status) from None
     except DeskError as why:
         run.progress.end()
-        has = f"; {shown(run.out)} has the roster {run.told()}" if run.saved else ""
-        raise DeskError(f"{why}{has}", why.status) from None
+        raise DeskError("; ".join(filter(None, [str(why), run.has()])), why.status) from None
     finally:
         run.progress.close()
     run.progress.end(f"{shown(run.out)}: {shown(run.progress.last)}{run.progress.above_floor(run.total)}, {run.changes()}")

@@ -25,8 +25,8 @@ MEANING = {
     "S8": "wishes to work",
 }
 # What the cells below the nurses mean.
-ABOUT_COVER = """<p>Below the nurses stands for each shift and skill how many are there, and under it the minimum and the optimum.
-<span class="key low">1−</span> is fewer than the optimum, which costs 30 for each that is missing (S1).
+ABOUT_COVER = """<p>Below the nurses stands for each shift and skill how many are there, and under it the minimum and the
+optimum. <span class="key low">1−</span> is fewer than the optimum, which costs 30 for each that is missing (S1).
 <span class="key bad">0!</span> is fewer than the minimum, which no roster may be.</p>"""
 
 
@@ -174,8 +174,8 @@ class Page:
         return f'<tr><th scope="row" title="{name}">{name}</th>{cells}</tr>'
 
     def cell(self, number: int, day: int) -> str:
-        """A day: the shift's letter and the skill's, below it what it was and whether a request isn't met. All of it in words is
-        its title."""
+        """A day: the shift's letter and the skill's, below it what it was and whether a request isn't met. Its title has all of it
+        in words."""
         cell = self.sheet.rows[number][day]
         is_wrong = cell.breaks_request or cell.misses_wish
         classes = ["cell", "off" if cell.choice is None else f"s{cell.choice[0]}"]

@@ -1,8 +1,8 @@
 """What may follow the rounds of `improve`: whole runs of `polish`, and slices beside them.
 
-A run of `polish` writes its roster at its end alone. So, while whole runs go on, short ones, the slices, begin with the roster in
-the file, one after the other, and each that makes it cheaper is put there. At the end the file has the cheapest roster of all; of
-equally dear ones, that of a whole run, which has the very bytes of one that is made without the desk.
+A run of `polish` writes its roster at its end alone. So, while whole runs go on, short ones, the slices, begin with the roster
+in the file, one after the other, and each that makes it cheaper is put there. At the end the file has the cheapest roster of all;
+of equally dear ones, that of a whole run, which has the very bytes of one that is made without the desk.
 """
 import contextlib
 import dataclasses
@@ -16,8 +16,8 @@ from desk_lib.signals import within_time
 from desk_lib.texts import Texts
 
 MOST_SEARCHES, SEEDS = 10_000_000, 2**32
-# Of slices: searches of the first, seconds of a further one, how much longer it may be than the one before, and how it gives way
-# to whole runs where there are too few processors. Their seeds are far from those of whole runs.
+# Of slices: searches of the first, seconds of a further one, how much longer it may be than the one before, and how it gives
+# way to whole runs where there are too few processors. Their seeds are far from those of whole runs.
 FIRST, SECONDS, GROWTH, NICENESS, SEED_AWAY = 500, 4.0, 4, 10, 2**31
 # Where the time is given: how much of it a whole run is made for, and from how many seconds on one is begun.
 SHARE, WORTHWHILE = 0.8, 2.0
@@ -25,8 +25,8 @@ SHARE, WORTHWHILE = 0.8, 2.0
 
 @dataclasses.dataclass(frozen=True)
 class Course:
-    """How whole runs are made: with how many searches, or as many as the time takes; by which seeds; how many searches a slice has,
-    or as many as take some seconds; and when the time is over."""
+    """How whole runs are made: with how many searches, or as many as the time takes; by which seeds; how many searches a slice
+    has, or as many as take some seconds; and when the time is over."""
 
     searches: int | None
     seeds: list[int]
@@ -118,14 +118,14 @@ class Polish:
         return bool(self.whole_runs())
 
     def next_seed(self) -> int | None:
-        """The seed of the next whole run. Where the time says how much is searched, one run after the other has the next one."""
+        """The seed of the next whole run. Where the time says how much is searched, each run after these has the next one."""
         seeds = self.course.seeds
         if self.begun < len(seeds):
             return seeds[self.begun]
         return seeds[-1] + self.begun + 1 - len(seeds) if self.is_open() and not self.whole_runs() else None
 
     def searches(self) -> int:
-        """How many searches the next whole run has: where the time says it, as many as slices show that it takes; else none."""
+        """How many searches the next whole run has: where the time says it, as many as slices show that it takes."""
         if self.course.searches is not None:
             return self.course.searches
         turns = max(1, -(-(len(self.course.seeds) - self.begun) // len(os.sched_getaffinity(0))))

@@ -39,8 +39,8 @@ OnLine = typing.Callable[[bytes], None]
 class Running:
     """The program at work. Used by `with`, it doesn't go on afterwards.
 
-    The text and the output lie in memory. The program has a session of its own: Ctrl-C is the desk's alone; and it ends with the
-    desk, however that ends.
+    The text and the output lie in memory. The program has a session of its own: Ctrl-C is the desk's alone; and it ends with
+    the desk, however that ends.
     """
 
     def __init__(self, path: str, words: list[str], text: bytes, niceness: int = 0):
@@ -92,7 +92,8 @@ class Running:
         if answer.status < 0:
             raise DeskError(f"'roster {self.words[0]}' was ended by {signal.Signals(-answer.status).name}", 3)
         if answer.status:
-            raise DeskError(f"{located(answer.last(), texts)}; 'desk check' with these files tells all that is wrong", answer.status)
+            told = f"{located(answer.last(), texts)}; 'desk check' with these files tells all that is wrong"
+            raise DeskError(told, answer.status)
         return answer
 
 

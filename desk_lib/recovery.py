@@ -155,8 +155,8 @@ class Recovery:
     # ---- names with blanks
 
     def has_blank(self, keyword: bytes, read: collections.abc.Callable[[Cursor], object], start: int, stop: int) -> bool:
-        """Whether these words of a section can be read where names with blanks are one word each: those that were noted before,
-        and one more, the first and shortest, where names are declared. Notes them."""
+        """Whether these words of a section can be read where names with blanks are one word each: those that were noted
+        before, and one more, the first and shortest, where names are declared. Notes them."""
         if stop - start > LONGEST_LINE:
             return False
         words = self.joined(start, stop)
@@ -181,7 +181,8 @@ class Recovery:
         """These words with their numbers, the names with blanks that were noted as one word each."""
         found, at = [], start
         while at < stop:
-            names = ((count, b" ".join(self.list[at : at + count])) for count in range(LONGEST_NAME, 1, -1) if at + count <= stop)
+            counts = range(min(LONGEST_NAME, stop - at), 1, -1)
+            names = ((count, b" ".join(self.list[at : at + count])) for count in counts)
             count, name = next((it for it in names if it[1] in self.blanks), (1, self.list[at]))
             found.append((name, at))
             at += count
@@ -239,8 +240,8 @@ class Recovery:
             order = [it for it in SECTIONS_OF[part.kind] if it in part.sections]
             for (keyword, section), due in zip(part.sections.items(), order):
                 if keyword != due:
-                    told = f"{keyword.decode()} stands before {due.decode()}; the order is {', '.join(map(bytes.decode, order))}"
-                    self.tell(section.at, told)
+                    told = f"the order is {', '.join(map(bytes.decode, order))}"
+                    self.tell(section.at, f"{keyword.decode()} stands before {due.decode()}; {told}")
                     break
 
     def of_kind(self, kind: str) -> list[Found]:

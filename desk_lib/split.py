@@ -20,7 +20,7 @@ def weeks_in(solutions: bytes) -> list[bytes]:
 
 
 def split(roster: Program, texts: Texts, before: Texts, names: list[str], is_crlf: bool) -> None:
-    """Writes the roster of the texts, of which `before` has all but the solutions, into a file of these names for each week."""
+    """Writes the roster of the texts, of which `before` has all but the solutions, into a file for each week."""
     solutions = roster.ask(["show"], texts).output
     parts = weeks_in(solutions)
     if len(parts) != len(names):

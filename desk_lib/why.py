@@ -79,8 +79,8 @@ def barred(plan: Plan, met: list, nurse: int, day: int) -> str:
     if met:
         return "each has a forbidden succession, or breaks a minimum of another day"
     now = plan.roster[nurse][day]
-    have = reckoning.cover(row[day] for row in plan.roster)[now]
-    return f"the cover of {choice_name(plan.case, now)} would be {have - 1}, and the minimum is {plan.case.needs[now][day].least}"
+    have, least = reckoning.cover(row[day] for row in plan.roster)[now], plan.case.needs[now][day].least
+    return f"the cover of {choice_name(plan.case, now)} would be {have - 1}, and the minimum is {least}"
 
 
 def with_row(roster: Program, texts: Texts, plan: Plan, nurse: int, row: list[Choice]) -> Costing:
