@@ -19,7 +19,8 @@ Looks at rosters, and makes better ones, with the program `roster`.
 
 Every roster and every total comes from `roster`, which is proved; the desk calls it, and adds nothing to what
 is proved. What the desk counts itself, as the costs by nurse, it compares with `roster cost`, and it stops where
-they differ. It writes no roster that `roster` didn't write and read back."""
+they differ. It writes no roster that `roster` didn't write and read back. 'why' alone shows a row of its own search,
+with what `roster` counts of it."""
 FILES = """\
 The files stand in the program's order (scenario, history, week data, solutions), or are named by --sce, --his,
 --weeks and --sols; without a file, standard input is read. --roster PROGRAM, or the variable DESK_ROSTER, names
@@ -439,6 +440,7 @@ def add_improve(commands: typing.Any) -> None:
 
 def parser_of() -> argparse.ArgumentParser:
     parser = Parser(prog="desk", description=ABOUT, epilog=FILES, formatter_class=Formatter, allow_abbrev=False)
+    parser.add_argument("--version", action="store_true", help="tell the version of roster")
     commands = parser.add_subparsers(title="commands", metavar="COMMAND", required=True)
     with_files(
         command(commands, "check", run_check, "tells all that is wrong with the texts, each with its file, line and word")
@@ -488,6 +490,9 @@ def parser_of() -> argparse.ArgumentParser:
 
 def run(words: list[str]) -> int:
     parser = parser_of()
+    if words == ["--version"]:
+        write([shown(program.find(None).call(words, b"").output.rstrip())])
+        return 0
     asked, more = parser.parse_known_args(words)
     if any(it.startswith("-") for it in more):
         parser.error(f"unrecognized arguments: {' '.join(more)}")
