@@ -20,10 +20,16 @@ class TimeOver(BaseException):
     """The time that was given is over."""
 
 
+class Ending:
+    """Whether the desk ends already: a second signal would come while the first is dealt with."""
+
+    is_begun = False
+
+
 def on_signal(number: int, _: object) -> None:
-    # (a second one would come while the first is dealt with)
-    put_all(signal.SIG_IGN)
-    raise Interrupted(128 + number)
+    if not Ending.is_begun:
+        Ending.is_begun = True
+        raise Interrupted(128 + number)
 
 
 def put_all(handler: typing.Any) -> None:
@@ -40,7 +46,9 @@ def take() -> None:
 
 def leave() -> None:
     """From now on such a signal ends the desk without a word."""
-    put_all(signal.SIG_DFL)
+    Ending.is_begun = True
+    with held_back():
+        put_all(signal.SIG_DFL)
 
 
 def on_alarm(*_: object) -> None:
