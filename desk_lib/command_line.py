@@ -12,6 +12,7 @@ from desk_lib.costs import Costing
 from desk_lib.model import Plan
 from desk_lib.program import Program
 from desk_lib.sheet import Sheet
+from desk_lib.signals import within_time
 from desk_lib.texts import KINDS, DeskError, Text, Texts, plural, read_file, shown
 
 ABOUT = """\
@@ -254,7 +255,7 @@ def run_improve(asked: argparse.Namespace, roster: Program) -> int:
 
     def work() -> None:
         if asked.bound:
-            progress.floor = improve.floor_of(roster, texts, words, progress)
+            within_time(end, lambda: progress.know_floor(improve.floor_of(roster, texts, words, progress)))
         run.rounds(asked.rounds, end)
         if has_polish:
             polish.go_on(run, polish.Course(asked.polish, asked.seeds or [asked.seed], asked.slice, end))

@@ -45,6 +45,9 @@ class Progress:
             if self.log:
                 self.log.close()
 
+    def know_floor(self, floor: int) -> None:
+        self.floor = floor
+
     def above_floor(self, total: int) -> str:
         """A clause for the floor, where it is known."""
         return "" if self.floor is None else f", {total - self.floor} above the floor {self.floor}"
@@ -77,11 +80,11 @@ class Run:
         self.out, self.first_week, self.progress = out, first_week, progress
         # (the last line of the last log; and what the file has: what it costs, and after what)
         self.given, self.end, self.total, self.saved = self.texts(), b"", 0, ""
-        # (what the file is to have when it is replaced next)
-        self.there = bytes_of(out)
         # what can't be replaced is told before the first round
         with Replacement(out, b""):
             pass
+        # (what the file is to have when it is replaced next)
+        self.there = bytes_of(out)
 
     def texts(self) -> Texts:
         return Texts([*self.before.texts, Text("the roster so far", self.solutions)])
