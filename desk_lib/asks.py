@@ -2,24 +2,28 @@
 
     absent NURSE FROM [TO]      the nurse doesn't work on these days
     pin NURSE DAY..             on these days the nurse does what the roster says now; a day may be FROM..TO
+    start DATE                  week 0 begins on this Monday; from here on days may be dates
 
 A day is the week and the weekday, as 0:Mon. What follows a '#' is a remark. The competition's format has no such thing, so an
 absence is asked for as an off request, and a pin as a wish or an off request: each costs 10 where it isn't met, and a roster may
 well not meet it. So each roster is looked at, and where it fails is told.
 """
 import collections
+import collections.abc
 import contextlib
 import dataclasses
+import datetime
+import typing
 
 from desk_lib.findings import nearest
 from desk_lib.grammar import DAYS, Part
-from desk_lib.model import Choice, Plan, Roster, choice_name, day_in, day_place
+from desk_lib.model import Choice, Plan, Roster, choice_name, day_in, day_place, monday_in
 from desk_lib.program import Program
 from desk_lib.replacing import Replacement
 from desk_lib.texts import DeskError, Text, Texts, plural, shown
 
 OFF, ON = b"SHIFT_OFF_REQUESTS", b"SHIFT_ON_REQUESTS"
-FORMS = {b"absent": "absent NURSE FROM [TO]", b"pin": "pin NURSE DAY.."}
+FORMS = {b"absent": "absent NURSE FROM [TO]", b"pin": "pin NURSE DAY..", b"start": "start DATE"}
 # What an edit of a text puts in the place of some bytes: from where, how many, and what.
 Edit = tuple[int, int, bytes]
 
@@ -41,17 +45,23 @@ class Asks:
         self.name, self.plan = text.name, plan
         self.nurses = {nurse.name: number for number, nurse in enumerate(plan.case.nurses)}
         self.of_days: dict[tuple[int, int], tuple[Choice, int]] = {}
+        self.start: datetime.date | None = None
         lines = [it.partition(b"#")[0].split() for it in text.data.splitlines()]
-        self.asks = [self.ask(number, words) for number, words in enumerate(lines, 1) if words]
+        asks = [self.ask(number, words) for number, words in enumerate(lines, 1) if words]
+        self.asks = [it for it in asks if it]
 
     def wrong(self, line: int, told: str) -> DeskError:
         return DeskError(f"{shown(self.name)}:{line}: {told}")
 
-    def ask(self, line: int, words: list[bytes]) -> Ask:
+    def ask(self, line: int, words: list[bytes]) -> Ask | None:
+        """What a line asks for, if it does."""
         kind, *rest = words
+        if kind == b"start" and len(rest) == 1:
+            self.start = self.read(line, lambda: monday_in(shown(rest[0])))
+            return None
         if kind not in FORMS:
             raise self.wrong(line, f"'{shown(kind)}' stands here, and {' or '.join(map(shown, FORMS))} is due")
-        if len(rest) < 2 or kind == b"absent" and len(rest) > 3:
+        if kind == b"start" or len(rest) < 2 or kind == b"absent" and len(rest) > 3:
             raise self.wrong(line, f"the form of this line is '{FORMS[kind]}', where a day is as 0:Mon")
         if rest[0] not in self.nurses:
             raise self.wrong(line, f"the scenario has no nurse '{shown(rest[0])}'{nearest(rest[0], self.nurses)}")
@@ -75,8 +85,12 @@ class Asks:
         return days
 
     def day(self, line: int, word: bytes) -> int:
+        return self.read(line, lambda: day_in(word, self.plan.case.weeks, self.start))
+
+    def read(self, line: int, read: collections.abc.Callable[[], typing.Any]) -> typing.Any:
+        """What is read of a line; why it can't be read is told with the line."""
         try:
-            return day_in(word, self.plan.case.weeks)
+            return read()
         except DeskError as why:
             raise self.wrong(line, str(why)) from None
 

@@ -9,7 +9,7 @@ import typing
 
 from desk_lib import asks, check, grid, improve, outputs, page, plot, polish, program, replacing, signals, split, tables, why
 from desk_lib.costs import Costing
-from desk_lib.model import Plan
+from desk_lib.model import Plan, monday_in
 from desk_lib.program import Program
 from desk_lib.sheet import Sheet
 from desk_lib.signals import within_time
@@ -29,8 +29,9 @@ another program than the one of this repository. The status is that of roster: 0
 2 for a wrong command line, 3 for a failed read or write, and 4 for too little memory.
 
 --asks names a text of lines such as 'absent Ann 0:Mon 1:Sun' (she doesn't work on these days) and 'pin Ann 0:Mon
-0:Wed..0:Fri' (she does what the roster says now). The format has only requests, so these become off requests and
-wishes of 10 points each, in the week data that 'weeks' writes and in all totals. Where a roster fails them is told."""
+0:Wed..0:Fri' (she does what the roster says now); after a line such as 'start 2026-11-02' days may be dates. The
+format has only requests, so these become off requests and wishes of 10 points each, in the week data that 'weeks'
+writes and in all totals. Where a roster fails them is told."""
 
 IMPROVE = """
 
@@ -314,16 +315,12 @@ def number_in(least: int, greatest: int) -> typing.Callable[[str], int]:
     return number
 
 
-def monday_in(word: str) -> datetime.date:
+def start_in(word: str) -> datetime.date:
     """Reads a date, which has to be a Monday."""
     try:
-        date = datetime.date.fromisoformat(word)
-    except ValueError:
-        raise argparse.ArgumentTypeError(f"'{shown(word)}' is no date, as 2026-11-02") from None
-    if date.weekday():
-        monday = date - datetime.timedelta(date.weekday())
-        raise argparse.ArgumentTypeError(f"{word} is no Monday, on which weeks begin; that of its week is {monday}")
-    return date
+        return monday_in(word)
+    except DeskError as why:
+        raise argparse.ArgumentTypeError(str(why)) from None
 
 
 def seeds_in(word: str) -> list[int]:
@@ -377,7 +374,7 @@ def with_other(parser: argparse.ArgumentParser, told: str) -> None:
 
 
 def with_start(parser: argparse.ArgumentParser) -> None:
-    parser.add_argument("--start", type=monday_in, metavar="DATE", help="the Monday of week 0, as 2026-11-02: dates are shown")
+    parser.add_argument("--start", type=start_in, metavar="DATE", help="the Monday of week 0, as 2026-11-02: dates are shown")
 
 
 def with_first_week(parser: argparse.ArgumentParser, told: str) -> None:

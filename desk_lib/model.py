@@ -1,5 +1,6 @@
 """The case and the roster of texts that the program takes. Names are bytes, as they stand there."""
 import dataclasses
+import datetime
 import re
 
 from reckoning import Case, History, Limits, Nurse, Shift
@@ -128,14 +129,35 @@ def day_place(day: int) -> str:
     return f"week {day // 7} {day_name(day)}"
 
 
-def day_in(word: bytes, weeks: int) -> int:
-    """The day that a word names, as 0:Mon."""
+def date_in(word: str) -> datetime.date:
+    """The date that a word names."""
+    try:
+        return datetime.date.fromisoformat(word)
+    except ValueError:
+        raise DeskError(f"'{shown(word)}' is no date, as 2026-11-02", 2) from None
+
+
+def monday_in(word: str) -> datetime.date:
+    """The Monday that a word names."""
+    date = date_in(word)
+    if date.weekday():
+        monday = date - datetime.timedelta(date.weekday())
+        raise DeskError(f"{word} is no Monday, on which weeks begin; that of its week is {monday}", 2)
+    return date
+
+
+def day_in(word: bytes, weeks: int, start: datetime.date | None = None) -> int:
+    """The day that a word names, as 0:Mon, or by its date where the first Monday is known."""
     told = DAY.fullmatch(word)
-    if not told or told[2] not in DAY_OF:
+    if told and told[2] in DAY_OF:
+        day = 7 * int(told[1]) + DAY_OF[told[2]]
+    elif start and word[:4].isdigit():
+        day = (date_in(shown(word)) - start).days
+    else:
         raise DeskError(f"'{shown(word)}' stands here, and a day is due, as 0:Mon", 2)
-    if int(told[1]) >= weeks:
+    if not 0 <= day < 7 * weeks:
         raise DeskError(f"'{shown(word)}': the scenario has {plural(weeks, 'week')}, and they count from 0", 2)
-    return 7 * int(told[1]) + DAY_OF[told[2]]
+    return day
 
 
 def choice_name(case: Case, choice: Choice) -> str:

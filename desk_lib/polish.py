@@ -18,9 +18,10 @@ from desk_lib.texts import Texts
 MOST_SEARCHES, SEEDS = 10_000_000, 2**32
 # Of slices: searches of the first, seconds of a further one, how much longer it may be than the one before, and how it gives
 # way to whole runs where there are too few processors. Their seeds are far from those of whole runs.
-FIRST, SECONDS, GROWTH, NICENESS, SEED_AWAY = 500, 4.0, 4, 10, 2**31
-# Where the time is given: how much of it a whole run is made for, and from how many seconds on one is begun.
-SHARE, WORTHWHILE = 0.8, 2.0
+FIRST, SECONDS, GROWTH, NICENESS, SEED_AWAY = 100, 4.0, 4, 10, 2**31
+# Where the time is given: how much of it a whole run is made for, from how many seconds on one is begun, and how long slices go on
+# before it is known how much is searched in a second.
+SHARE, WORTHWHILE, KNOWN = 0.8, 2.0, 0.1
 
 
 @dataclasses.dataclass(frozen=True)
@@ -57,7 +58,8 @@ class Polish:
         self.run, self.course = run, course
         self.least, self.word = run.total, b"settled"
         self.begun, self.slices = 0, 0
-        self.speed: float | None = None
+        # (what slices have searched so far, and in how many seconds)
+        self.searched, self.seconds = 0, 0.0
         self.ended: list[tuple[int, int, Answer]] = []
         self.jobs = selectors.DefaultSelector()
 
@@ -130,7 +132,9 @@ class Polish:
             return self.course.searches
         turns = max(1, -(-(len(self.course.seeds) - self.begun) // len(os.sched_getaffinity(0))))
         seconds = self.left() / turns
-        return int(min(MOST_SEARCHES, SHARE * seconds * self.speed)) if self.speed and seconds > WORTHWHILE else 0
+        if self.seconds < KNOWN or seconds < WORTHWHILE:
+            return 0
+        return min(MOST_SEARCHES, int(SHARE * seconds * self.searched / self.seconds))
 
     # ---- what comes
 
@@ -153,8 +157,9 @@ class Polish:
         if total < self.run.total:
             self.keep(answer, f"slice {job.number} of polish")
             self.tell(b"slice %d %d" % (job.number, total))
-        self.speed = job.searches / took
-        grown = min(GROWTH * job.searches, int(self.speed * SECONDS), MOST_SEARCHES)
+        self.searched += job.searches
+        self.seconds += took
+        grown = min(GROWTH * job.searches, int(SECONDS * job.searches / took), MOST_SEARCHES)
         self.start_slice(self.course.slice_ or max(1, grown))
 
     def take_whole(self, job: Job, answer: Answer) -> None:
