@@ -1,6 +1,6 @@
 -- The floors of one day, as they are set from those of the next day (our own). A line has the floors of one last shift and one run, one
 -- for each run of the shift.
-use Rattle.std.specs.Prelude.{◌≡◌, ◌≢◌, ℕ, ◌+◌, ◌*◌, ◌<◌, ◌≤◌, All, Bool, true, false, if◌then◌else◌, List, length, min, Option, Some, None, is_some, slice_index_or}
+use Rattle.std.specs.Prelude.{◌≡◌, ◌≢◌, ◌⊎◌, ℕ, ◌+◌, ◌*◌, ◌<◌, ◌≤◌, All, Bool, true, false, if◌then◌else◌, List, length, min, Option, Some, None, is_some, slice_index_or}
 use Rattle.roster_instance.specs.declared.choice.Choice.TheVariants.{Off}
 use Rattle.roster_instance.specs.declared.choice.Shift.{Shift}
 use Rattle.roster_instance.specs.Choices.{shift_of}
@@ -118,13 +118,13 @@ begun_place c n u run = line_place (sizes_of c n) (u.0 + 1) run + min 1 (cap (ru
 
 -- the way on with a shift that begins, after a worked day or a day off
 pub record IsWayOf (c : Meaning) (n : ℕ) (rates : Rates) (d : ℕ) (before : Bool) (x : Offer) (u : Shift) (way : Way) : Type 0 where
-  pub price : way.price ≤ apart_of c n rates d before x + shift_run_weight * day_violations (run_of_shift c u.0) 0 true
+  pub price : way.price ≡ apart_of c n rates d before x + shift_run_weight * day_violations (run_of_shift c u.0) 0 true
   pub place : way.place ≡ begun_place c n u 0
 
 -- what an offer costs after a worked day, whatever the last shift, and the way on with its shift
 abbrev pub IsOnward : Meaning → ℕ → Rates → ℕ → Onward → Offer → Option Shift → Type 0
-IsOnward c n rates d onward x None = onward.apart ≤ apart_of c n rates d true x
-IsOnward c n rates d onward x (Some u) = (onward.apart ≤ apart_of c n rates d true x) × IsWayOf c n rates d true x u onward.way
+IsOnward c n rates d onward x None = onward.apart ≡ apart_of c n rates d true x
+IsOnward c n rates d onward x (Some u) = (onward.apart ≡ apart_of c n rates d true x) × IsWayOf c n rates d true x u onward.way
 
 abbrev pub no_onward : Onward
 no_onward = record { apart = most_leave; way = no_way }
@@ -143,6 +143,20 @@ abbrev pub IsWayOn : Meaning → ℕ → Rates → ℕ → Shift → (off stay :
 IsWayOn c n rates d t off stay ways count x None = off ≤ apart_of c n rates d true x
 IsWayOn c n rates d t off stay ways count x (Some u) =
     forbids c.successions (Some t) (Some u) ≡ false → (t.0 ≡ u.0 → stay ≤ apart_of c n rates d true x) × (t.0 ≢ u.0 → HasWay c n rates d x u ways count)
+
+-- a number is what going on by one of the first ways costs, with the floor after it, or the most that a floor leaves
+abbrev pub way_cost : List Way → List ℕ → (more k : ℕ) → ℕ
+way_cost ways next more k = (way_at ways k).price + slice_index_or next ((way_at ways k).place + more) 0
+
+abbrev pub IsLeastWay : List Way → (count : ℕ) → List ℕ → (more least : ℕ) → Type 0
+IsLeastWay ways count next more least = (least ≡ most_leave) ⊎ ((k : ℕ) × (k < count) × (least ≡ way_cost ways next more k))
+
+-- a number is what leaving a last shift costs, with a run of working days, by a day off or by the least way, or the most
+abbrev pub IsLeave : Meaning → FloorDay → AfterShift → (run least leave : ℕ) → Type 0
+IsLeave c day after run least leave =
+    (leave ≡ most_leave)
+    ⊎ ((leave ≡ after.off + working_run_weight * day_violations (contract_of c day.nurse).working run false)
+    ⊎ (leave ≡ least + working_run_weight * day_violations (contract_of c day.nurse).working run true))
 
 -- a way on may be taken: its price is within its bound, and the lines that it leads to are among a day's
 pub record IsOpenWay (z : Sizes) (way : Way) : Type 0 where

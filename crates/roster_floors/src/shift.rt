@@ -6,7 +6,7 @@ ghost use Rattle.roster_instance.specs.Meaning.{contract_of, run_of_shift, shift
 ghost use Rattle.roster_instance.specs.RunLaw.{day_violations};
 ghost use Rattle.roster_rules.specs.Weights.{working_run_weight};
 ghost use Rattle.roster_state.specs.Codes.{sizes_of};
-ghost use Rattle.roster_floors.specs.Lines.{AreLow, AreNext, AreOnward, IsAfterShift, IsFloorDay, UnderCell, last_steps, line_steps, longer, most_floor, most_leave, way_at};
+ghost use Rattle.roster_floors.specs.Lines.{AreLow, AreNext, AreOnward, IsAfterShift, IsFloorDay, IsLeastWay, IsLeave, UnderCell, last_steps, line_steps, longer, most_floor, most_leave, way_at};
 
 use crate::day::FloorDay;
 use crate::line::{LineCosts, set_all, set_line};
@@ -127,6 +127,7 @@ fn run_costs(day: &FloorDay<'_>, after: &AfterShift<'_>, run: usize) -> LineCost
     requires run { run < (sizes_of day.now.case.now day.now.nurse).run }
     ensures off { result.leave ≤ after.now.off + working_run_weight * day_violations (contract_of day.now.case.now day.now.nurse).working run false }
     ensures others { (k : ℕ) → k < after.now.ways.count → result.leave ≤ (way_at after.now.ways.others k).price + slice_index_or after.now.next.now ((way_at after.now.ways.others k).place + longer run (contract_of day.now.case.now day.now.nurse).working * (sizes_of day.now.case.now day.now.nurse).shift_run) 0 + working_run_weight * day_violations (contract_of day.now.case.now day.now.nurse).working run true }
+    ensures met { (least : ℕ) × IsLeastWay after.now.ways.others after.now.ways.count after.now.next.now (longer run (contract_of day.now.case.now day.now.nurse).working * (sizes_of day.now.case.now day.now.nurse).shift_run) least × IsLeave day.now.case.now day.now after.now run least result.leave }
     ensures stay { result.stay ≡ after.now.ways.stay + working_run_weight * day_violations (contract_of day.now.case.now day.now.nurse).working run true }
     ensures run { result.run ≡ run_of_shift day.now.case.now after.now.last.0 }
     ensures within { (result.leave ≤ most_leave) × (result.stay ≤ most_floor) }

@@ -6,7 +6,7 @@ ghost use Rattle.roster_instance.specs.Meaning.{shift_count};
 ghost use Rattle.roster_rules.specs.DayLaw.{splits_more, weekends_more};
 ghost use Rattle.roster_offers.specs.Lists.{IsOfferOf, most_price};
 ghost use Rattle.roster_state.specs.Codes.{sizes_of};
-ghost use Rattle.roster_floors.specs.Lines.{AreLow, AreOnward, IsFloorDay, IsOnward, IsOpenWay, IsWayOf, IsWayOn, apart_of, most_leave, offer_at, way_at};
+ghost use Rattle.roster_floors.specs.Lines.{AreLow, AreOnward, IsFloorDay, IsLeastWay, IsOnward, IsOpenWay, IsWayOf, IsWayOn, apart_of, most_leave, offer_at, way_at};
 
 use crate::day::FloorDay;
 use roster_offers::{MOST_OFFERS, Offer};
@@ -182,6 +182,7 @@ pub(crate) fn least_way(ways: &Ways, more: usize, next: &[u32]) -> u32
     requires place { (k : ℕ) → (way_at ways.now.others k).place + more < length next.now }
     requires low { AreLow next.now }
     ensures least { (k : ℕ) → k < ways.now.count → result ≤ (way_at ways.now.others k).price + slice_index_or next.now ((way_at ways.now.others k).place + more) 0 }
+    ensures met { IsLeastWay ways.now.others ways.now.count next.now more result }
     ensures within { result ≤ most_leave }
 {
     let mut least = MOST_LEAVE;
