@@ -1,8 +1,7 @@
 -- Which fault a failing reader or writer gives, and what a bundle means.
-use Rattle.std.proofs.Common.{◌≡◌, ◌∙◌, ◌∷◌, [], ◌<◌, ℕ, arith, Err, List, Option, None, Some, Result, Ok, ap, length, lit<, refl, subst, sym, true≢false, is_some, true}
+use Rattle.std.proofs.Common.{◌≡◌, ◌∙◌, ◌∷◌, [], ◌<◌, ℕ, Err, List, Option, None, Some, Result, Ok, ap, length, lit<, refl, subst, sym, true≢false, is_some, true}
 use Rattle.std.specs.Prelude.{Contains, IfErr, IfSome, IsErrOf, OnOk, string_bytes}
 use Rattle.std.proofs.lemmas.List.{length-map}
-use Rattle.std.proofs.lemmas.List.Elements.{All-nil}
 use Rattle.roster_text.specs.Grammar.{Spells}
 use Rattle.roster_text.specs.Io.{IsReadFault, Writes, counted, is_read_failure}
 use Rattle.roster_bundle.specs.Limits.{most_bytes}
@@ -19,7 +18,7 @@ use Rattle.roster_instance.specs.declared.fault.CaseFault.{CaseFault}
 use Rattle.roster_instance.specs.declared.fault.CaseFault.TheVariants as case
 use Rattle.roster_case.proofs.Sections.{IsFirst-after}
 use Rattle.roster_rules.specs.declared.fault.HardFault.{HardFault}
-use Rattle.roster_commands.specs.Answer.{Answers, Ends, Input, IsAllowed, IsAnswer, IsBoundReport, IsOutcomeOf, IsPolishReport, IsReportOf, IsUnheld, IsUnread, Leaves, LeavesLog, Logged, Outcome, Output, Report, Reports, SpellsInstance, StopsOutput, StopsReading, Untouched, best_report, bound_report, cost_report, improve_report, outcome_of, plain, polish_report, roster_of}
+use Rattle.roster_commands.specs.Answer.{Answers, Ends, Input, IsAllowed, IsAnswer, IsOutcomeOf, IsPolishReport, IsReportOf, IsUnheld, IsUnread, Leaves, LeavesLog, Logged, Outcome, Output, Report, Reports, SpellsInstance, StopsOutput, StopsReading, Untouched, best_report, bound_report, cost_report, improve_report, outcome_of, plain, polish_report, roster_of}
 use Rattle.roster_commands.specs.Lines.{Text, sizes_text, status_of}
 use Rattle.roster_commands.specs.declared.fault.Fault.{Fault}
 use Rattle.roster_commands.specs.declared.fault.Fault.TheVariants as fault
@@ -28,9 +27,10 @@ use Rattle.roster_request.specs.declared.request.Command.{Command}
 use Rattle.roster_request.specs.declared.request.Command.TheVariants as command
 use Rattle.roster_instance.specs.Rosters.{Rows}
 use Rattle.roster_case.specs.Shown.{weeks_text}
-use Rattle.roster_bound.specs.Worths.{IsLowerBound}
+use Rattle.roster_bound.proofs.FloorLogs.{some_log}
 use Rattle.roster_polish.specs.Polished.{first_run}
 use Rattle.roster_polish.proofs.KickLogs.{unkicked, unkicked_text}
+use Rattle.roster_commands.proofs.FloorReports.{of_floors}
 
 -- ---- a bundle
 
@@ -87,15 +87,6 @@ module _ {R : Type 0} (A : Type 0) (input : Input R) where
 
 -- ---- the bytes are refused by every command
 
--- no floor found is a report of `bound`
-pub no_floor : (rounds from : ℕ) (c : Meaning) (r : Rows) → IsBoundReport rounds from c r (bound_report [] c r)
-no_floor rounds from c r = record {
-  lines = [];
-  is_log = record { floors = All-nil (λ x. IsLowerBound c from r x.bound); rises = tt; within = omega arith };
-  below = λ other fits keeps stays. omega arith;
-  is = refl;
-}
-
 -- a run without a kick is a report of `polish`
 abbrev pub kickless : (from : ℕ) → Meaning → Rows → Report
 kickless from c r = polish_report (first_run c from r).roster (unkicked_text c from r) c r
@@ -116,7 +107,7 @@ some_report command.Cost c r = (cost_report c r, refl)
 some_report command.Sizes c r = (plain (sizes_text c), refl)
 some_report (command.Best nurse from) c r = (best_report (string_bytes nurse) from c r, refl)
 some_report (command.Improve rounds from) c r = (improve_report rounds from c r, refl)
-some_report (command.Bound rounds from) c r = (bound_report [] c r, no_floor rounds from c r)
+some_report (command.Bound rounds from) c r = let some = some_log c from r rounds in (bound_report some.0 c r, of_floors rounds from c r some.0 some.1)
 some_report (command.Polish searches seed from) c r = (kickless from c r, no_kick searches from c r)
 
 pub refused_reading : {W L : Type 0} (output : Output W) (log : Output L) (command : Command) (source : Text) (f : Fault) → StopsReading source f → Untouched output → Untouched log

@@ -1,7 +1,6 @@
--- How `bound` ends: whatever floors were found, they are floors.
-use Rattle.std.proofs.Common.{◌≡◌, [], ◌∷◌, ℕ, All, Err, List, Ok, Result, Some, arith, refl, subst}
+-- How `bound` ends: whatever floors were found, they are floors of rounds.
+use Rattle.std.proofs.Common.{◌≡◌, [], ℕ, Err, Ok, Result, Some, refl, subst}
 use Rattle.std.specs.Prelude.{IfErr, OnOk}
-use Rattle.std.proofs.lemmas.List.Elements.{All-head, All-tail}
 use Rattle.roster_text.specs.Io.{Stops, Writes}
 use Rattle.roster_bundle.specs.declared.bundle.Bundle.{Bundle}
 use Rattle.roster_rules.specs.HardRules.{hard_faults}
@@ -9,43 +8,34 @@ use Rattle.roster_instance.specs.Meaning.{Meaning}
 use Rattle.roster_rules.specs.Penalties.{penalty}
 use Rattle.roster_instance.specs.Rosters.{Rows}
 use Rattle.roster_log.specs.declared.fault.LogFault.{LogFault}
-use Rattle.roster_bound.specs.Floors.{FloorLine, FloorLogStops, IsFloorLog, RaisesFloor, floor_text, last_line, no_line}
-use Rattle.roster_bound.specs.Worths.{IsLowerBound}
+use Rattle.roster_bound.specs.Floors.{FloorLogStops, RaisesFloor, floor_text}
 use Rattle.roster_commands.specs.Answer.{IsBoundReport, IsUnheld, Output, Reports, StopsOutput, Untouched, bound_report, outcome_of}
 use Rattle.roster_commands.specs.Lines.{Text, bound_text}
 use Rattle.roster_commands.specs.declared.fault.Fault.{Fault}
 use Rattle.roster_commands.specs.declared.fault.Fault.TheVariants as fault
-use Rattle.roster_commands.proofs.AnswerLemmas.{no_floor, unheld_ends, unheld_log}
+use Rattle.roster_bound.proofs.FloorLogs.{some_log}
+use Rattle.roster_commands.proofs.AnswerLemmas.{unheld_ends, unheld_log}
+use Rattle.roster_commands.proofs.FloorReports.{of_floors}
 
 module _ (rounds from : ℕ) (c : Meaning) (r : Rows) where
-  IsFloor : FloorLine → Type 0
-  IsFloor x = IsLowerBound c from r x.bound
-
-  last_is_floor : (before : FloorLine) (lines : List FloorLine) → IsFloor before → All IsFloor lines → IsFloor (last_line before lines)
-  last_is_floor before [] first all = first
-  last_is_floor before (x ∷ xs) first all = last_is_floor x xs (All-head IsFloor x xs all) (All-tail IsFloor x xs all)
-
-  -- of some floors
-  of_floors : (lines : List FloorLine) → IsFloorLog c from r rounds lines → IsBoundReport rounds from c r (bound_report lines c r)
-  unfolding IsFloor
-  of_floors lines is_log = record { lines = lines; is_log = is_log; below = last_is_floor no_line lines (λ other fits keeps stays. omega arith) is_log.floors; is = refl }
-
   module _ {W L : Type 0} (output : Output W) (log : Output L) (source : Text) (b : Bundle) where
     -- nothing was found, since the roster is not held
     pub bound_unheld : (f : Fault) → IsUnheld source b (hard_faults c r) f → Untouched output → Untouched log → Reports output log (IsBoundReport rounds from c r) source b (Some f)
-    bound_unheld f h o l = record {
-      report = bound_report [] c r;
-      is = no_floor rounds from c r;
-      ends = unheld_ends output (bound_report [] c r) source b f refl h o;
-      logged = unheld_log log (Some (floor_text c r [])) source b (hard_faults c r) f h l;
-    }
+    bound_unheld f h o l =
+        let some = some_log c from r rounds in
+        record {
+          report = bound_report some.0 c r;
+          is = of_floors rounds from c r some.0 some.1;
+          ends = unheld_ends output (bound_report some.0 c r) source b f refl h o;
+          logged = unheld_log log (Some (floor_text c r some.0)) source b (hard_faults c r) f h l;
+        }
 
     -- the log failed inside the floors
     pub bound_stops : (f : LogFault) → hard_faults c r ≡ [] → FloorLogStops log.contents c from r rounds log.before log.after f → Untouched output
         → Reports output log (IsBoundReport rounds from c r) source b (Some fault.Log)
     bound_stops f kept h o = record {
       report = bound_report h.lines c r;
-      is = of_floors h.lines h.is_log;
+      is = of_floors rounds from c r h.lines h.is_log;
       ends = record { ends = (record { kept = kept; known = refl }, refl); left = o };
       logged = record { sent = h.sent; stops = h.stops };
     }
@@ -57,7 +47,7 @@ module _ (rounds from : ℕ) (c : Meaning) (r : Rows) where
         → Reports output log (IsBoundReport rounds from c r) source b (outcome_of result)
     bound_ends bound (Ok x) kept h ok err = record {
       report = bound_report h.lines c r;
-      is = of_floors h.lines h.is_log;
+      is = of_floors rounds from c r h.lines h.is_log;
       ends = record { ends = record { kept = kept; known = refl }; left = subst (λ n. Writes output.contents output.before output.after (bound_text (penalty c r) n)) h.bound_is ok };
       logged = h.writes;
     }
@@ -70,7 +60,7 @@ module _ (rounds from : ℕ) (c : Meaning) (r : Rows) where
     bound_ends bound (Err fault.Log) kept h ok err = absurd err
     bound_ends bound (Err fault.Output) kept h ok err = record {
       report = bound_report h.lines c r;
-      is = of_floors h.lines h.is_log;
+      is = of_floors rounds from c r h.lines h.is_log;
       ends = record { ends = record { kept = kept; known = refl }; left = subst (λ n. Stops output.contents output.before output.after (bound_text (penalty c r) n)) h.bound_is err };
       logged = h.writes;
     }

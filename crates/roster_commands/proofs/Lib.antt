@@ -1,3 +1,4 @@
+pub mod FloorReports
 pub mod AnswerLemmas
 pub mod RunLemmas
 pub mod BestLemmas

@@ -200,7 +200,8 @@ abbrev pub bound_report : List FloorLine → Meaning → Rows → Report
 bound_report lines c r =
     record (plain (bound_text (penalty c r) (last_line no_line lines).bound)) { is_held = true; broken = hard_faults c r; log = Some (floor_text c r lines) }
 
--- it is of floors under each roster that keeps the hard rules and the days before a week; how high they are isn't said
+-- it is of floors under each roster that keeps the hard rules and the days before a week: bounds of rounds, no less than the first
+-- round's, which is said; how high later ones get isn't
 pub record IsBoundReport (rounds from : ℕ) (c : Meaning) (r : Rows) (p : Report) : Type 0 where
   pub lines : List FloorLine
   pub is_log : IsFloorLog c from r rounds lines
