@@ -4,7 +4,7 @@ use crate::best_tests::{ready, row_of};
 use crate::texts::{RUN_LOG, fill};
 use roster_best::{LastSearches, Workspace, most_steps};
 use roster_case::Held;
-use roster_devices::{AtEnd, ShortWriter};
+use roster_devices::{AtEnd, CallCounter, ShortWriter};
 use roster_rounds::{
     LogFault, Outcome, RunSpace, Step, improve, improve_unless_known, most_extensions, step,
     step_unless_known,
@@ -80,6 +80,25 @@ fn run_unless_known(alloc: Global, log: &mut Log<'_>) -> Result<Left, Fail> {
     }
     let ended = improve_unless_known(&mut held, 100, 0, &mut space, &mut meter, log);
     Ok((held, meter, ended))
+}
+
+/// How many writes the log of a run over mini takes: each word, number and blank and each line's end go out by one, which makes 4 for a
+/// line of one word, 6 for a nurse's and 5 for a round's.
+const RUN_WRITES: u64 = 4 + 6 + 6 + 5 + 6 + 5 + 5 + 4;
+
+#[test]
+fn writes_of_a_log(rt: HostRuntime) -> Result<(), Fail> {
+    let (mut held, mut workspace, mut meter) = ready(rt.alloc(), &[])?;
+    if !workspace.fits(held.case()) || meter.room() < most_extensions(held.case(), 100) {
+        return Err(Fail::new("no room"));
+    }
+    let mut log = Watch::new(CallCounter::new(Vec::new(rt.alloc()), 0));
+    let ended = improve(&mut held, 100, 0, &mut workspace, &mut meter, &mut log);
+    assert!(rt; ended.is_ok());
+    let counter = log.into_inner();
+    assert!(rt; counter.device.as_slice() == RUN_LOG.as_bytes());
+    assert!(rt; counter.calls == RUN_WRITES);
+    Ok(())
 }
 
 /// After how many bytes a log may fail (the first and the last number), and the total and the weeks of Ann and Bob that a run
