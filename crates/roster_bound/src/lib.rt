@@ -7,6 +7,7 @@
 //! that all that it tells is the bound of a round, and no less than the first round's. `improve_worths` gives worths alone.
 #![tactic(auto)]
 
+mod fading;
 mod floors;
 mod laws;
 mod levelled;
@@ -18,6 +19,9 @@ mod rounds;
 mod workspace;
 mod worths;
 
+pub use fading::{
+    Fading, WHOLE, count_rows, follow_cover, lacks_nurses, pay_places, pay_row, take_row,
+};
 pub use floors::{lower_bound, row_floor};
 pub use laws::{bounds_are_rounded_up, no_roster_is_below_the_bound};
 pub use levelled::Levelled;

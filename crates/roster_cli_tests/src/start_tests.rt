@@ -298,13 +298,16 @@ fn asks_for_bound(alloc: Global, words: &[&str], (rounds, from): (u16, u16)) -> 
     matches!(request.command, Command::Bound { rounds: some, from: first } if some == rounds && first == from)
 }
 
-/// Whether the words ask for so many searches, by a seed and from a week on.
-fn asks_for_kicks(alloc: Global, words: &[&str], (searches, seed, from): (u32, u32, u16)) -> bool {
+/// How a run of searches is asked for: how many, by which seed, from which week on, and whether with kicks alone.
+type Asked = (u32, u32, u16, bool);
+
+/// Whether the words ask for such a run of searches.
+fn asks_for_searches(alloc: Global, words: &[&str], (searches, seed, from, kicks): Asked) -> bool {
     let Ok(request) = request_of(alloc, words) else {
         return false;
     };
-    matches!(request.command, Command::Polish { searches: some, seed: begin, from: first }
-        if some == searches && begin == seed && first == from)
+    matches!(request.command, Command::Polish { searches: some, seed: begin, from: first, kicks: alone }
+        if some == searches && begin == seed && first == from && alone == kicks)
 }
 
 #[test]
@@ -329,9 +332,11 @@ fn requests_of_words(rt: HostRuntime) {
         "10000000",
         "--from",
         "3",
+        "--kicks",
     ];
-    assert!(rt; asks_for_kicks(rt.alloc(), &words, (10_000_000, u32::MAX, 3)));
-    assert!(rt; asks_for_kicks(rt.alloc(), &words[..2], (20_000, 1, 0)));
+    let (all, none) = ((10_000_000, u32::MAX, 3, true), (20_000, 1, 0, false));
+    assert!(rt; asks_for_searches(rt.alloc(), &words, all));
+    assert!(rt; asks_for_searches(rt.alloc(), &words[..2], none));
     let too_late = request_of(rt.alloc(), &["roster", "improve", "--from", "53"]);
     assert!(rt; matches!(too_late, Err(CliFault::Usage(_))));
     let above = request_of(rt.alloc(), &["roster", "improve", "--rounds", "1001"]);

@@ -1,5 +1,5 @@
 -- Which fault a failing reader or writer gives, and what a bundle means.
-use Rattle.std.proofs.Common.{◌≡◌, ◌∙◌, ◌∷◌, [], ◌<◌, ℕ, Err, List, Option, None, Some, Result, Ok, ap, length, lit<, refl, subst, sym, true≢false, is_some, true}
+use Rattle.std.proofs.Common.{◌≡◌, ◌∙◌, ◌∷◌, [], ◌<◌, ℕ, Err, List, Option, None, Some, Result, Ok, ap, length, lit<, refl, subst, sym, true≢false, is_some, true, Bool}
 use Rattle.std.specs.Prelude.{Contains, IfErr, IfSome, IsErrOf, OnOk, string_bytes}
 use Rattle.std.proofs.lemmas.List.{length-map}
 use Rattle.roster_text.specs.Grammar.{Spells}
@@ -91,12 +91,12 @@ module _ {R : Type 0} (A : Type 0) (input : Input R) where
 abbrev pub kickless : (from : ℕ) → Meaning → Rows → Report
 kickless from c r = polish_report (first_run c from r).roster (unkicked_text c from r) c r
 
-pub no_kick : (searches from : ℕ) (c : Meaning) (r : Rows) → IsPolishReport searches from c r (kickless from c r)
-no_kick searches from c r = record {
+pub no_kick : (searches from : ℕ) (alone : Bool) (c : Meaning) (r : Rows) → IsPolishReport searches from alone c r (kickless from c r)
+no_kick searches from alone c r = record {
   settled = (first_run c from r).is_settled;
   last = (first_run c from r).roster;
   told = unkicked_text c from r;
-  run = unkicked c from r searches;
+  run = unkicked c from r alone searches;
   is = refl;
 }
 
@@ -108,7 +108,7 @@ some_report command.Sizes c r = (plain (sizes_text c), refl)
 some_report (command.Best nurse from) c r = (best_report (string_bytes nurse) from c r, refl)
 some_report (command.Improve rounds from) c r = (improve_report rounds from c r, refl)
 some_report (command.Bound rounds from) c r = let some = some_log c from r rounds in (bound_report some.0 c r, of_floors rounds from c r some.0 some.1)
-some_report (command.Polish searches seed from) c r = (kickless from c r, no_kick searches from c r)
+some_report (command.Polish searches seed from kicks) c r = (kickless from c r, no_kick searches from kicks c r)
 
 pub refused_reading : {W L : Type 0} (output : Output W) (log : Output L) (command : Command) (source : Text) (f : Fault) → StopsReading source f → Untouched output → Untouched log
     → Answers output log command source (Some f)

@@ -18,8 +18,12 @@ use Rattle.roster_commands.specs.declared.fault.Fault.TheVariants as fault
 use Rattle.roster_commands.proofs.AnswerLemmas.{kickless, no_kick, unheld_ends, unheld_log}
 
 -- a run within fewer kicks is one within more
-more_kicks : {c : Meaning} {from few many : ℕ} {given last : Rows} {settled : Bool} {told : Text} → few ≤ many → IsPolishing c from given few settled last told → IsPolishing c from given many settled last told
+more_kicks : {c : Meaning} {from few many : ℕ} {alone : Bool} {given last : Rows} {settled : Bool} {told : Text} → few ≤ many → IsPolishing c from given few alone settled last told
+    → IsPolishing c from given many alone settled last told
 more_kicks fewer run = record {
+  fade = run.fade;
+  fadeless = run.fadeless;
+  faded = run.faded;
   lines = run.lines;
   is_log = record { reached = run.is_log.reached; falls = run.is_log.falls; within = omega (arith, fewer, run.is_log.within) };
   reached = run.reached;
@@ -30,23 +34,23 @@ more_kicks fewer run = record {
   text_is = run.text_is;
 }
 
-module _ (searches from : ℕ) (c : Meaning) (r : Rows) where
-  of_run : (few : ℕ) → few ≤ searches → (settled : Bool) (last : Rows) (told : Text) → IsPolishing c from r few settled last told → IsPolishReport searches from c r (polish_report last told c r)
+module _ (searches from : ℕ) (alone : Bool) (c : Meaning) (r : Rows) where
+  of_run : (few : ℕ) → few ≤ searches → (settled : Bool) (last : Rows) (told : Text) → IsPolishing c from r few alone settled last told → IsPolishReport searches from alone c r (polish_report last told c r)
   of_run few fewer settled last told run = record { settled = settled; last = last; told = told; run = λ accepted. more_kicks fewer run; is = refl }
 
   module _ {W L : Type 0} (output : Output W) (log : Output L) (source : Text) (b : Bundle) where
     -- no run was made, since the roster is not held
-    pub polish_unheld : (f : Fault) → IsUnheld source b (hard_faults c r) f → Untouched output → Untouched log → Reports output log (IsPolishReport searches from c r) source b (Some f)
+    pub polish_unheld : (f : Fault) → IsUnheld source b (hard_faults c r) f → Untouched output → Untouched log → Reports output log (IsPolishReport searches from alone c r) source b (Some f)
     polish_unheld f h o l = record {
       report = kickless from c r;
-      is = no_kick searches from c r;
+      is = no_kick searches from alone c r;
       ends = unheld_ends output (kickless from c r) source b f refl h o;
       logged = unheld_log log (Some (unkicked_text c from r)) source b (hard_faults c r) f h l;
     }
 
     -- the log failed inside the run
-    pub polish_stops : (few : ℕ) → few ≤ searches → (after : Rows) (f : LogFault) → hard_faults c r ≡ [] → PolishLogStops log.contents c from r few after log.before log.after f → Untouched output
-        → Reports output log (IsPolishReport searches from c r) source b (Some fault.Log)
+    pub polish_stops : (few : ℕ) → few ≤ searches → (after : Rows) (f : LogFault) → hard_faults c r ≡ [] → PolishLogStops log.contents c from r few alone after log.before log.after f → Untouched output
+        → Reports output log (IsPolishReport searches from alone c r) source b (Some fault.Log)
     polish_stops few fewer after f kept h o = record {
       report = polish_report h.last h.text c r;
       is = of_run few fewer h.settled h.last h.text h.run;
@@ -55,10 +59,10 @@ module _ (searches from : ℕ) (c : Meaning) (r : Rows) where
     }
 
     -- the run was made, and its roster written or not
-    pub polish_ends : {X : Type 0} (few : ℕ) → few ≤ searches → (last : Rows) (told : Polished) (result : Result X Fault) → hard_faults c r ≡ [] → Polishes log.contents c from r few last log.before log.after told
+    pub polish_ends : {X : Type 0} (few : ℕ) → few ≤ searches → (last : Rows) (told : Polished) (result : Result X Fault) → hard_faults c r ≡ [] → Polishes log.contents c from r few alone last log.before log.after told
         → OnOk result (Writes output.contents output.before output.after (weeks_text c last))
         → IfErr result (StopsOutput output.contents output.before output.after (weeks_text c last))
-        → Reports output log (IsPolishReport searches from c r) source b (outcome_of result)
+        → Reports output log (IsPolishReport searches from alone c r) source b (outcome_of result)
     polish_ends few fewer last told (Ok x) kept h ok err = record {
       report = polish_report last h.text c r;
       is = of_run few fewer told.settled last h.text h.run;

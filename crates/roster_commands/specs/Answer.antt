@@ -212,12 +212,12 @@ pub record IsBoundReport (rounds from : ℕ) (c : Meaning) (r : Rows) (p : Repor
 abbrev pub polish_report : Rows → Text → Meaning → Rows → Report
 polish_report last told c r = record (plain (weeks_text c last)) { is_held = true; broken = hard_faults c r; log = Some told }
 
--- it is of such a run from a roster that is accepted; how cheap the roster gets isn't said
-pub record IsPolishReport (searches from : ℕ) (c : Meaning) (r : Rows) (p : Report) : Type 0 where
+-- it is of such a run from a roster that is accepted, with kicks alone or with a fade before them; how cheap the roster gets isn't said
+pub record IsPolishReport (searches from : ℕ) (alone : Bool) (c : Meaning) (r : Rows) (p : Report) : Type 0 where
   pub settled : Bool
   pub last : Rows
   pub told : Text
-  pub run : IsAccepted c r → IsPolishing c from r searches settled last told
+  pub run : IsAccepted c r → IsPolishing c from r searches alone settled last told
   pub is : p ≡ polish_report last told c r
 
 -- it is what a command asks of a case and its roster, and writes for them
@@ -228,7 +228,7 @@ IsReportOf command.Sizes c r p = p ≡ plain (sizes_text c)
 IsReportOf (command.Best nurse from) c r p = p ≡ best_report (string_bytes nurse) from c r
 IsReportOf (command.Improve rounds from) c r p = p ≡ improve_report rounds from c r
 IsReportOf (command.Bound rounds from) c r p = IsBoundReport rounds from c r p
-IsReportOf (command.Polish searches seed from) c r p = IsPolishReport searches from c r p
+IsReportOf (command.Polish searches seed from kicks) c r p = IsPolishReport searches from kicks c r p
 
 -- a command that tells nothing of its work
 abbrev pub IsSilent : Command → Type 0

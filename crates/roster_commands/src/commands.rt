@@ -62,11 +62,13 @@ pub(crate) fn report<'a, Out: Write, Log: Write>(
             searches,
             seed,
             from,
+            kicks,
         } => {
             let course = Course {
                 searches: *searches,
                 seed: *seed as u64,
                 from: *from,
+                kicks: *kicks,
             };
             report_polish(alloc, &course, source, instance, output, log)
         }

@@ -1,6 +1,6 @@
 -- A run of kicks: the lines so far are sent.
-use Rattle.std.proofs.Common.{◌≡◌, ◌∙◌, ◌+◌, ◌-◌, ◌<◌, ◌≤◌, ℕ, Bool, true, List, [], ◌∷◌, ◌++◌, Option, ap, append_assoc, append-nil, arith, codes, flat_map, length, length-append, map, refl, subst, sym, zero-add}
-use Rattle.std.specs.Prelude.{if◌then◌else◌}
+use Rattle.std.proofs.Common.{◌≡◌, ◌∙◌, ◌+◌, ◌-◌, ◌<◌, ◌≤◌, ℕ, Bool, true, List, [], ◌∷◌, ◌++◌, None, Option, Some, ap, append_assoc, append-nil, arith, codes, flat_map, length, length-append, map, refl, subst, sym, zero-add}
+use Rattle.std.specs.Prelude.{IfSome, if◌then◌else◌}
 use Rattle.std.proofs.lemmas.Bool.{le-ltb, lt-ltb}
 use Rattle.std.proofs.lemmas.List.{map-append}
 use Rattle.std.proofs.lemmas.List.Concat.{flat_map-append}
@@ -20,7 +20,7 @@ use Rattle.roster_laws.proofs.Runs.{fall, settled_rows}
 use Rattle.roster_rounds.specs.PutIn.{IsAccepted}
 use Rattle.roster_log.specs.declared.fault.LogFault.TheVariants.{LogFailed}
 use Rattle.roster_polish.specs.declared.run.Polished.{Polished}
-use Rattle.roster_polish.specs.Polished.{Falls, IsKickLog, IsPolishing, IsReached, KickLine, PolishLogStops, Polishes, Told, first_run, held_at, kick_line, kicks_text, last_kick, last_line, most_rounds, no_kick, told_kick, told_last, told_lines, told_start}
+use Rattle.roster_polish.specs.Polished.{Falls, IsFaded, IsKickLog, IsPolishing, IsReached, KickLine, PolishLogStops, Polishes, Told, begun, fade_line, fade_text, first_run, held_at, kick_line, kicks_text, last_kick, last_line, most_rounds, no_kick, told_fade, told_kick, told_last, told_lines, told_start}
 use Rattle.roster_polish.specs.Settled.{IsSettled}
 
 -- ---- one line more
@@ -36,6 +36,12 @@ falls_more c before (y ∷ xs) x falls later less = (falls.0, falls.1, falls_mor
 last_is_least : (c : Meaning) (before : KickLine) (xs : List KickLine) → Falls c before xs → penalty c (last_kick before xs).roster ≤ penalty c before.roster
 last_is_least c before [] falls = omega arith
 last_is_least c before (x ∷ xs) falls = omega (arith, falls.1, last_is_least c x xs falls.2)
+
+-- ---- where the kicks begin
+
+begun_reached : (c : Meaning) (from : ℕ) (given first : Rows) (fade : Option Rows) → IfSome fade (IsFaded c from given first) → penalty c (begun fade first) ≤ penalty c first
+begun_reached c from given first None faded = omega arith
+begun_reached c from given first (Some r) faded = faded.no_dearer
 
 -- ---- the roster at a line
 
@@ -53,52 +59,69 @@ held_kicks c (x ∷ xs) rest r more =
     let size : length (kick_line c x ++ flat_map (kick_line c) xs) + more ≡ length (kick_line c x) + (length (flat_map (kick_line c) xs) + more) = omega (arith, length-append (kick_line c x) (flat_map (kick_line c) xs)) in
     ap (λ m. held_at m (told_kick c x ∷ map (told_kick c) xs ++ rest) r) size ∙ held_later (told_kick c x) (map (told_kick c) xs ++ rest) r (length (flat_map (kick_line c) xs) + more) ∙ held_kicks c xs rest r more
 
--- at the line after some kicks
-held_after : (c : Meaning) (given : Rows) (xs : List KickLine) (x : Told) (rest : List Told) (more : ℕ) → more < length x.text → held_at (length (kicks_text c given xs) + more) (told_start c given ∷ map (told_kick c) xs ++ x ∷ rest) given ≡ x.roster
-held_after c given xs x rest more inside =
-    let start : List ℕ = line (codes "start") (penalty c given) in
-    let size : length (start ++ flat_map (kick_line c) xs) + more ≡ length start + (length (flat_map (kick_line c) xs) + more) = omega (arith, length-append start (flat_map (kick_line c) xs)) in
-    ap (λ m. held_at m (told_start c given ∷ map (told_kick c) xs ++ x ∷ rest) given) size ∙ held_later (told_start c given) (map (told_kick c) xs ++ x ∷ rest) given (length (flat_map (kick_line c) xs) + more)
-    ∙ held_kicks c xs (x ∷ rest) given more ∙ held_here x rest given more inside
+held_fade : (c : Meaning) (fade : Option Rows) (rest : List Told) (r : Rows) (more : ℕ) → held_at (length (fade_text c fade) + more) (told_fade c fade ++ rest) r ≡ held_at more rest r
+held_fade c None rest r more = ap (λ m. held_at m rest r) (zero-add more)
+held_fade c (Some faded) rest r more = held_later (record { text = fade_line c faded; roster = faded }) rest r more
 
-told_more : (c : Meaning) (given : Rows) (xs : List KickLine) (x : KickLine) (settled : Bool) (last : Rows) → told_start c given ∷ map (told_kick c) xs ++ told_kick c x ∷ told_last c settled last ∷ [] ≡ told_lines c given (xs ++ x ∷ []) settled last
-told_more c given xs x settled last =
-    ap (λ those. told_start c given ∷ those) (sym (append_assoc (map (told_kick c) xs) (told_kick c x ∷ []) (told_last c settled last ∷ [])) ∙ ap (λ those. those ++ told_last c settled last ∷ []) (sym (map-append (told_kick c) xs (x ∷ []))))
+-- at the line after some kicks
+held_after : (c : Meaning) (given : Rows) (fade : Option Rows) (xs : List KickLine) (x : Told) (rest : List Told) (more : ℕ) → more < length x.text
+    → held_at (length (kicks_text c given fade xs) + more) (told_start c given ∷ (told_fade c fade ++ (map (told_kick c) xs ++ x ∷ rest))) given ≡ x.roster
+held_after c given fade xs x rest more inside =
+    let start : List ℕ = line (codes "start") (penalty c given) in
+    let kicks : List ℕ = flat_map (kick_line c) xs in
+    let those : List Told = told_fade c fade ++ (map (told_kick c) xs ++ x ∷ rest) in
+    let size : length (start ++ (fade_text c fade ++ kicks)) + more ≡ length start + (length (fade_text c fade) + (length kicks + more)) = omega (arith, length-append start (fade_text c fade ++ kicks), length-append (fade_text c fade) kicks) in
+    ap (λ m. held_at m (told_start c given ∷ those) given) size ∙ held_later (told_start c given) those given (length (fade_text c fade) + (length kicks + more))
+    ∙ held_fade c fade (map (told_kick c) xs ++ x ∷ rest) given (length kicks + more) ∙ held_kicks c xs (x ∷ rest) given more ∙ held_here x rest given more inside
+
+told_more : (c : Meaning) (given : Rows) (fade : Option Rows) (xs : List KickLine) (x : KickLine) (settled : Bool) (last : Rows)
+    → told_start c given ∷ (told_fade c fade ++ (map (told_kick c) xs ++ told_kick c x ∷ told_last c settled last ∷ [])) ≡ told_lines c given fade (xs ++ x ∷ []) settled last
+told_more c given fade xs x settled last =
+    ap (λ those. told_start c given ∷ (told_fade c fade ++ those)) (sym (append_assoc (map (told_kick c) xs) (told_kick c x ∷ []) (told_last c settled last ∷ [])) ∙ ap (λ those. those ++ told_last c settled last ∷ []) (sym (map-append (told_kick c) xs (x ∷ []))))
 
 -- ---- the first line
 
-pub first_text : (c : Meaning) (given : Rows) (total : ℕ) → total ≡ penalty c given → line (codes "start") total ≡ kicks_text c given []
+pub first_text : (c : Meaning) (given : Rows) (total : ℕ) → total ≡ penalty c given → line (codes "start") total ≡ kicks_text c given None []
 first_text c given total e = ap (line (codes "start")) e ∙ sym (append-nil (line (codes "start") (penalty c given)))
+
+-- the log of a run that keeps neither a fade nor a kick
+abbrev pub unkicked_text : Meaning → ℕ → Rows → List ℕ
+unkicked_text c from given = kicks_text c given None [] ++ last_line c (first_run c from given).is_settled (first_run c from given).roster
 
 -- ---- the kicks made so far
 
-pub record Underway {W : Type 0} (contents : W → Option (List ℕ)) (c : Meaning) (from : ℕ) (given : Rows) (old mid : Watched W) (made sent : ℕ) (settled : Bool) (kept : Rows) : Type 0 where
+pub record Underway {W : Type 0} (contents : W → Option (List ℕ)) (c : Meaning) (from : ℕ) (given : Rows) (alone : Bool) (old mid : Watched W) (made sent : ℕ) (settled : Bool) (kept : Rows) : Type 0 where
+  pub fade : Option Rows
+  pub fadeless : alone ≡ true → fade ≡ None
+  pub faded : IfSome fade (IsFaded c from given (first_run c from given).roster)
   pub lines : List KickLine
-  pub is_log : IsKickLog c from given (first_run c from given).roster made lines
-  pub as_told : penalty c kept ≡ penalty c (last_kick (no_kick (first_run c from given).roster) lines).roster
+  pub is_log : IsKickLog c from given (begun fade (first_run c from given).roster) made lines
+  pub as_told : penalty c kept ≡ penalty c (last_kick (no_kick (begun fade (first_run c from given).roster)) lines).roster
   pub is_settled : settled ≡ true → IsSettled c from kept
   pub surely : (first_run c from given).is_settled ≡ true → settled ≡ true
-  pub sends : Sends contents old mid 0 sent (kicks_text c given lines)
+  pub sends : Sends contents old mid 0 sent (kicks_text c given fade lines)
 
-module _ (c : Meaning) (from : ℕ) (given : Rows) where
+module _ (c : Meaning) (from : ℕ) (given : Rows) (alone : Bool) where
   abbrev IsLine : KickLine → Type 0
   IsLine x = IsReached c from given x.roster × IsSettled c from x.roster
 
   abbrev first : Rows
   first = (first_run c from given).roster
 
-  no_log : (made : ℕ) → IsKickLog c from given first made []
-  no_log made = record { reached = All-nil IsLine; falls = tt; within = omega arith }
+  no_log : (begin : Rows) (made : ℕ) → IsKickLog c from given begin made []
+  no_log begin made = record { reached = All-nil IsLine; falls = tt; within = omega arith }
 
   first_settled : (first_run c from given).is_settled ≡ true → IsSettled c from first
   first_settled end = settled_rows c from most_rounds given end
 
-  later_log : (made next : ℕ) (lines : List KickLine) → made ≤ next → IsKickLog c from given first made lines → IsKickLog c from given first next lines
-  later_log made next lines h p = let within : (last_kick (no_kick first) lines).kick ≤ made = p.within in record { reached = p.reached; falls = p.falls; within = omega arith }
+  later_log : (begin : Rows) (made next : ℕ) (lines : List KickLine) → made ≤ next → IsKickLog c from given begin made lines → IsKickLog c from given begin next lines
+  later_log begin made next lines h p = let within : (last_kick (no_kick begin) lines).kick ≤ made = p.within in record { reached = p.reached; falls = p.falls; within = omega arith }
 
   -- no roster of a log is dearer than the given one
-  no_dearer_than : (lines : List KickLine) (kept : Rows) → Falls c (no_kick first) lines → penalty c kept ≡ penalty c (last_kick (no_kick first) lines).roster → penalty c kept ≤ penalty c given
-  no_dearer_than lines kept falls told = omega (arith, told, last_is_least c (no_kick first) lines falls, fall c (best_row c from) most_rounds given)
+  pub no_dearer_than : (fade : Option Rows) → IfSome fade (IsFaded c from given first) → (lines : List KickLine) (kept : Rows) → Falls c (no_kick (begun fade first)) lines
+      → penalty c kept ≡ penalty c (last_kick (no_kick (begun fade first)) lines).roster → penalty c kept ≤ penalty c given
+  no_dearer_than fade faded lines kept falls told =
+      omega (arith, told, last_is_least c (no_kick (begun fade first)) lines falls, begun_reached c from given first fade faded, fall c (best_row c from) most_rounds given)
 
   -- ---- a run without a kick
 
@@ -108,16 +131,16 @@ module _ (c : Meaning) (from : ℕ) (given : Rows) where
     stays = run_keeps c (best_row c from) (FrozenDaysStay c from given) (steps_stay c from given) most_rounds given (stays_self c from given);
   }
 
-  abbrev pub unkicked_text : List ℕ
-  unkicked_text = kicks_text c given [] ++ last_line c (first_run c from given).is_settled first
-
-  pub unkicked : (kicks : ℕ) → IsAccepted c given → IsPolishing c from given kicks (first_run c from given).is_settled first unkicked_text
+  pub unkicked : (kicks : ℕ) → IsAccepted c given → IsPolishing c from given kicks alone (first_run c from given).is_settled first (unkicked_text c from given)
   unkicked kicks accepted = record {
+    fade = None;
+    fadeless = λ e. refl;
+    faded = tt;
     lines = [];
-    is_log = no_log kicks;
+    is_log = no_log first kicks;
     reached = first_kept accepted;
     as_told = refl;
-    no_dearer = no_dearer_than [] first tt refl;
+    no_dearer = no_dearer_than None tt [] first tt refl;
     is_settled = first_settled;
     surely = λ end. end;
     text_is = refl;
@@ -127,16 +150,20 @@ module _ (c : Meaning) (from : ℕ) (given : Rows) where
     first_line : List ℕ
     first_line = line (codes "start") (penalty c given)
 
-    text_more : (xs : List KickLine) (x : KickLine) → kicks_text c given xs ++ kick_line c x ≡ kicks_text c given (xs ++ x ∷ [])
+    text_more : (fade : Option Rows) (xs : List KickLine) (x : KickLine) → kicks_text c given fade xs ++ kick_line c x ≡ kicks_text c given fade (xs ++ x ∷ [])
     unfolding first_line
-    text_more xs x =
-        append_assoc first_line (flat_map (kick_line c) xs) (kick_line c x)
-        ∙ ap (λ text. first_line ++ text) (ap (λ text. flat_map (kick_line c) xs ++ text) (sym (append-nil (kick_line c x))) ∙ sym (flat_map-append (kick_line c) xs (x ∷ [])))
+    text_more fade xs x =
+        append_assoc first_line (fade_text c fade ++ flat_map (kick_line c) xs) (kick_line c x)
+        ∙ ap (λ text. first_line ++ text) (append_assoc (fade_text c fade) (flat_map (kick_line c) xs) (kick_line c x))
+        ∙ ap (λ text. first_line ++ (fade_text c fade ++ text)) (ap (λ text. flat_map (kick_line c) xs ++ text) (sym (append-nil (kick_line c x))) ∙ sym (flat_map-append (kick_line c) xs (x ∷ [])))
 
-    pub underway_first : (new : Watched W) (sent : ℕ) → Sends contents old new 0 sent (kicks_text c given []) → Underway contents c from given old new 0 sent (first_run c from given).is_settled first
+    pub underway_first : (new : Watched W) (sent : ℕ) → Sends contents old new 0 sent (kicks_text c given None []) → Underway contents c from given alone old new 0 sent (first_run c from given).is_settled first
     underway_first new sent sends = record {
+      fade = None;
+      fadeless = λ e. refl;
+      faded = tt;
       lines = [];
-      is_log = no_log 0;
+      is_log = no_log first 0;
       as_told = refl;
       is_settled = first_settled;
       surely = λ end. end;
@@ -144,29 +171,89 @@ module _ (c : Meaning) (from : ℕ) (given : Rows) where
     }
 
     -- the start's line broke off
-    pub start_breaks : (kicks : ℕ) (new : Watched W) (fault : WriteFault) → IsAccepted c given → BreaksIn contents old new 0 (kicks_text c given []) fault → PolishLogStops contents c from given kicks given old new (LogFailed (sent_of fault))
+    pub start_breaks : (kicks : ℕ) (new : Watched W) (fault : WriteFault) → IsAccepted c given → BreaksIn contents old new 0 (kicks_text c given None []) fault → PolishLogStops contents c from given kicks alone given old new (LogFailed (sent_of fault))
     unfolding unkicked
     start_breaks kicks new fault accepted p = record {
       settled = (first_run c from given).is_settled;
       last = first;
-      text = unkicked_text;
+      text = unkicked_text c from given;
       run = unkicked kicks accepted;
       sent = p.sent;
-      stops = StopsAt-append contents old new (kicks_text c given []) (last_line c (first_run c from given).is_settled first) p.sent p.stops;
+      stops = StopsAt-append contents old new (kicks_text c given None []) (last_line c (first_run c from given).is_settled first) p.sent p.stops;
       counted = ap (λ f. LogFailed (sent_of f)) p.counted ∙ ap (λ n. LogFailed (saturated n)) (zero-add p.sent);
       held = sym (held_here (told_start c given) (told_last c (first_run c from given).is_settled first ∷ []) given p.sent (subst (λ text. p.sent < length text) (append-nil (line (codes "start") (penalty c given))) p.stops.left));
       reached = record { accepted = accepted; stays = stays_self c from given };
     }
 
-    module _ (mid : Watched W) (made sent : ℕ) (settled : Bool) (kept : Rows) (p : Underway contents c from given old mid made sent settled kept) where
+    -- ---- a fade that is kept
+
+    module _ (mid : Watched W) (sent : ℕ) (sends : Sends contents old mid 0 sent (kicks_text c given None [])) (next : Rows) (fades : alone ≡ true → ⊥) (faded : IsFaded c from given first next) where
+      fade_more : kicks_text c given None [] ++ fade_line c next ≡ kicks_text c given (Some next) []
+      unfolding first_line
+      fade_more = append_assoc first_line [] (fade_line c next) ∙ ap (λ text. first_line ++ text) (sym (append-nil (fade_line c next)))
+
+      pub underway_faded : (new : Watched W) (after : ℕ) → Sends contents mid new sent after (fade_line c next) → Underway contents c from given alone old new 0 after true next
+      underway_faded new after q = record {
+        fade = Some next;
+        fadeless = λ e. absurd (fades e);
+        faded = faded;
+        lines = [];
+        is_log = no_log next 0;
+        as_told = refl;
+        is_settled = λ e. faded.is_settled;
+        surely = λ end. refl;
+        sends = subst (Sends contents old new 0 after) fade_more (Sends-append contents old mid new 0 sent after (kicks_text c given None []) (fade_line c next) sends q);
+      }
+
+      -- its line broke off
+      pub fade_breaks : (kicks : ℕ) (new : Watched W) (fault : WriteFault) → BreaksIn contents mid new sent (fade_line c next) fault → PolishLogStops contents c from given kicks alone next old new (LogFailed (sent_of fault))
+      unfolding first_line
+      fade_breaks kicks new fault q =
+          let front : sent ≡ saturated (0 + length (kicks_text c given None [])) = sends.counted in
+          let count : saturated (sent + q.sent) ≡ saturated (length (kicks_text c given None []) + q.sent) = omega arith in
+          let whole : List Told = told_lines c given (Some next) [] true next in
+          let size : length (kicks_text c given None []) + q.sent ≡ length first_line + q.sent = ap (λ text. length text + q.sent) (append-nil first_line) in
+          record {
+            settled = true;
+            last = next;
+            text = kicks_text c given (Some next) [] ++ last_line c true next;
+            run = record {
+              fade = Some next;
+              fadeless = λ e. absurd (fades e);
+              faded = faded;
+              lines = [];
+              is_log = no_log next kicks;
+              reached = faded.reached;
+              as_told = refl;
+              no_dearer = no_dearer_than (Some next) faded [] next tt refl;
+              is_settled = λ e. faded.is_settled;
+              surely = λ end. refl;
+              text_is = refl;
+            };
+            sent = length (kicks_text c given None []) + q.sent;
+            stops = StopsAt-append contents old new (kicks_text c given (Some next) []) (last_line c true next) (length (kicks_text c given None []) + q.sent)
+                (subst (λ text. StopsAt contents old new text (length (kicks_text c given None []) + q.sent)) fade_more (StopsAt-after contents old mid new (kicks_text c given None []) (fade_line c next) q.sent sends.writes q.stops));
+            counted = ap (λ f. LogFailed (sent_of f)) q.counted ∙ ap LogFailed count;
+            held = sym (ap (λ m. held_at m whole given) size ∙ held_later (told_start c given) (told_fade c (Some next) ++ told_last c true next ∷ []) given q.sent
+                ∙ held_here (record { text = fade_line c next; roster = next }) (told_last c true next ∷ []) given q.sent q.stops.left);
+            reached = faded.reached;
+          }
+
+    module _ (mid : Watched W) (made sent : ℕ) (settled : Bool) (kept : Rows) (p : Underway contents c from given alone old mid made sent settled kept) where
+      abbrev begin : Rows
+      begin = begun p.fade first
+
       pub underway_no_dearer : penalty c kept ≤ penalty c given
-      underway_no_dearer = no_dearer_than p.lines kept p.is_log.falls p.as_told
+      underway_no_dearer = no_dearer_than p.fade p.faded p.lines kept p.is_log.falls p.as_told
 
       -- a kick that left the roster as dear
-      pub underway_same : (now : Bool) (next : Rows) → penalty c next ≡ penalty c kept → (now ≡ true → IsSettled c from next) → (settled ≡ true → now ≡ true) → Underway contents c from given old mid (made + 1) sent now next
+      pub underway_same : (now : Bool) (next : Rows) → penalty c next ≡ penalty c kept → (now ≡ true → IsSettled c from next) → (settled ≡ true → now ≡ true) → Underway contents c from given alone old mid (made + 1) sent now next
       underway_same now next same is_settled still = record {
+        fade = p.fade;
+        fadeless = p.fadeless;
+        faded = p.faded;
         lines = p.lines;
-        is_log = later_log made (made + 1) p.lines (omega arith) p.is_log;
+        is_log = later_log begin made (made + 1) p.lines (omega arith) p.is_log;
         as_told = same ∙ p.as_told;
         is_settled = is_settled;
         surely = λ end. still (p.surely end);
@@ -180,93 +267,102 @@ module _ (c : Meaning) (from : ℕ) (given : Rows) where
         abbrev lines_then : List KickLine
         lines_then = p.lines ++ one ∷ []
 
-        more_log : IsKickLog c from given first (made + 1) lines_then
+        more_log : IsKickLog c from given begin (made + 1) lines_then
         more_log =
-            let within : (last_kick (no_kick first) p.lines).kick ≤ made = p.is_log.within in
+            let within : (last_kick (no_kick begin) p.lines).kick ≤ made = p.is_log.within in
             record {
               reached = All-append IsLine p.lines (one ∷ []) p.is_log.reached (All-cons IsLine one [] (reached, is_settled) (All-nil IsLine));
-              falls = falls_more c (no_kick first) p.lines one p.is_log.falls (omega arith) (omega (arith, less, p.as_told));
-              within = omega (arith, ap (λ (y : KickLine). y.kick) (last_is (no_kick first) p.lines one));
+              falls = falls_more c (no_kick begin) p.lines one p.is_log.falls (omega arith) (omega (arith, less, p.as_told));
+              within = omega (arith, ap (λ (y : KickLine). y.kick) (last_is (no_kick begin) p.lines one));
             }
 
-        told_then : penalty c next ≡ penalty c (last_kick (no_kick first) lines_then).roster
-        told_then = sym (ap (λ (y : KickLine). penalty c y.roster) (last_is (no_kick first) p.lines one))
+        told_then : penalty c next ≡ penalty c (last_kick (no_kick begin) lines_then).roster
+        told_then = sym (ap (λ (y : KickLine). penalty c y.roster) (last_is (no_kick begin) p.lines one))
 
         -- a kick that left it cheaper
-        pub underway_cheaper : (new : Watched W) (after : ℕ) → Sends contents mid new sent after (kick_line c one) → Underway contents c from given old new (made + 1) after true next
+        pub underway_cheaper : (new : Watched W) (after : ℕ) → Sends contents mid new sent after (kick_line c one) → Underway contents c from given alone old new (made + 1) after true next
         underway_cheaper new after q = record {
+          fade = p.fade;
+          fadeless = p.fadeless;
+          faded = p.faded;
           lines = lines_then;
           is_log = more_log;
           as_told = told_then;
           is_settled = λ e. is_settled;
           surely = λ end. refl;
-          sends = subst (Sends contents old new 0 after) (text_more p.lines one) (Sends-append contents old mid new 0 sent after (kicks_text c given p.lines) (kick_line c one) p.sends q);
+          sends = subst (Sends contents old new 0 after) (text_more p.fade p.lines one) (Sends-append contents old mid new 0 sent after (kicks_text c given p.fade p.lines) (kick_line c one) p.sends q);
         }
 
         -- its line broke off
-        pub cheaper_breaks : (kicks : ℕ) (new : Watched W) (fault : WriteFault) → made < kicks → BreaksIn contents mid new sent (kick_line c one) fault → PolishLogStops contents c from given kicks next old new (LogFailed (sent_of fault))
+        pub cheaper_breaks : (kicks : ℕ) (new : Watched W) (fault : WriteFault) → made < kicks → BreaksIn contents mid new sent (kick_line c one) fault → PolishLogStops contents c from given kicks alone next old new (LogFailed (sent_of fault))
         cheaper_breaks kicks new fault inside q =
-            let front : sent ≡ saturated (0 + length (kicks_text c given p.lines)) = p.sends.counted in
-            let count : saturated (sent + q.sent) ≡ saturated (length (kicks_text c given p.lines) + q.sent) = omega arith in
+            let front : sent ≡ saturated (0 + length (kicks_text c given p.fade p.lines)) = p.sends.counted in
+            let count : saturated (sent + q.sent) ≡ saturated (length (kicks_text c given p.fade p.lines) + q.sent) = omega arith in
             record {
               settled = true;
               last = next;
-              text = kicks_text c given lines_then ++ last_line c true next;
+              text = kicks_text c given p.fade lines_then ++ last_line c true next;
               run = record {
+                fade = p.fade;
+                fadeless = p.fadeless;
+                faded = p.faded;
                 lines = lines_then;
-                is_log = later_log (made + 1) kicks lines_then (omega arith) more_log;
+                is_log = later_log begin (made + 1) kicks lines_then (omega arith) more_log;
                 reached = reached;
-                no_dearer = no_dearer_than lines_then next more_log.falls told_then;
+                no_dearer = no_dearer_than p.fade p.faded lines_then next more_log.falls told_then;
                 as_told = told_then;
                 is_settled = λ e. is_settled;
                 surely = λ end. refl;
                 text_is = refl;
               };
-              sent = length (kicks_text c given p.lines) + q.sent;
-              stops = StopsAt-append contents old new (kicks_text c given lines_then) (last_line c true next) (length (kicks_text c given p.lines) + q.sent)
-                  (subst (λ text. StopsAt contents old new text (length (kicks_text c given p.lines) + q.sent)) (text_more p.lines one) (StopsAt-after contents old mid new (kicks_text c given p.lines) (kick_line c one) q.sent p.sends.writes q.stops));
+              sent = length (kicks_text c given p.fade p.lines) + q.sent;
+              stops = StopsAt-append contents old new (kicks_text c given p.fade lines_then) (last_line c true next) (length (kicks_text c given p.fade p.lines) + q.sent)
+                  (subst (λ text. StopsAt contents old new text (length (kicks_text c given p.fade p.lines) + q.sent)) (text_more p.fade p.lines one) (StopsAt-after contents old mid new (kicks_text c given p.fade p.lines) (kick_line c one) q.sent p.sends.writes q.stops));
               counted = ap (λ f. LogFailed (sent_of f)) q.counted ∙ ap LogFailed count;
-              held = sym (subst (λ those. held_at (length (kicks_text c given p.lines) + q.sent) those given ≡ next) (told_more c given p.lines one true next) (held_after c given p.lines (told_kick c one) (told_last c true next ∷ []) q.sent q.stops.left));
+              held = sym (subst (λ those. held_at (length (kicks_text c given p.fade p.lines) + q.sent) those given ≡ next) (told_more c given p.fade p.lines one true next) (held_after c given p.fade p.lines (told_kick c one) (told_last c true next ∷ []) q.sent q.stops.left));
               reached = reached;
             }
 
       -- ---- the end
 
       abbrev whole : List ℕ
-      whole = kicks_text c given p.lines ++ last_line c settled kept
+      whole = kicks_text c given p.fade p.lines ++ last_line c settled kept
 
-      abbrev ended : (kicks : ℕ) → made ≤ kicks → IsReached c from given kept → IsPolishing c from given kicks settled kept whole
+      abbrev ended : (kicks : ℕ) → made ≤ kicks → IsReached c from given kept → IsPolishing c from given kicks alone settled kept whole
       ended kicks few reached = record {
+        fade = p.fade;
+        fadeless = p.fadeless;
+        faded = p.faded;
         lines = p.lines;
-        is_log = later_log made kicks p.lines few p.is_log;
+        is_log = later_log begin made kicks p.lines few p.is_log;
         reached = reached;
         as_told = p.as_told;
-        no_dearer = no_dearer_than p.lines kept p.is_log.falls p.as_told;
+        no_dearer = no_dearer_than p.fade p.faded p.lines kept p.is_log.falls p.as_told;
         is_settled = p.is_settled;
         surely = p.surely;
         text_is = refl;
       }
 
-      pub ends : (kicks : ℕ) (new : Watched W) (after : ℕ) (told : Polished) → made ≤ kicks → IsReached c from given kept → told.settled ≡ settled → told.total ≡ penalty c kept → Sends contents mid new sent after (last_line c settled kept) → Polishes contents c from given kicks kept old new told
+      pub ends : (kicks : ℕ) (new : Watched W) (after : ℕ) (told : Polished) → made ≤ kicks → IsReached c from given kept → told.settled ≡ settled → told.total ≡ penalty c kept → Sends contents mid new sent after (last_line c settled kept) → Polishes contents c from given kicks alone kept old new told
       ends kicks new after told few reached settled_is total_is q = record {
         text = whole;
-        run = subst (λ b. IsPolishing c from given kicks b kept whole) (sym settled_is) (ended kicks few reached);
-        writes = (Sends-append contents old mid new 0 sent after (kicks_text c given p.lines) (last_line c settled kept) p.sends q).writes;
+        run = subst (λ b. IsPolishing c from given kicks alone b kept whole) (sym settled_is) (ended kicks few reached);
+        writes = (Sends-append contents old mid new 0 sent after (kicks_text c given p.fade p.lines) (last_line c settled kept) p.sends q).writes;
         total = total_is;
       }
 
-      pub end_breaks : (kicks : ℕ) (new : Watched W) (fault : WriteFault) → made ≤ kicks → IsReached c from given kept → BreaksIn contents mid new sent (last_line c settled kept) fault → PolishLogStops contents c from given kicks kept old new (LogFailed (sent_of fault))
+      pub end_breaks : (kicks : ℕ) (new : Watched W) (fault : WriteFault) → made ≤ kicks → IsReached c from given kept → BreaksIn contents mid new sent (last_line c settled kept) fault → PolishLogStops contents c from given kicks alone kept old new (LogFailed (sent_of fault))
       end_breaks kicks new fault few reached q =
-          let front : sent ≡ saturated (0 + length (kicks_text c given p.lines)) = p.sends.counted in
-          let count : saturated (sent + q.sent) ≡ saturated (length (kicks_text c given p.lines) + q.sent) = omega arith in
+          let front : sent ≡ saturated (0 + length (kicks_text c given p.fade p.lines)) = p.sends.counted in
+          let count : saturated (sent + q.sent) ≡ saturated (length (kicks_text c given p.fade p.lines) + q.sent) = omega arith in
           record {
             settled = settled;
             last = kept;
             text = whole;
             run = ended kicks few reached;
-            sent = length (kicks_text c given p.lines) + q.sent;
-            stops = StopsAt-after contents old mid new (kicks_text c given p.lines) (last_line c settled kept) q.sent p.sends.writes q.stops;
+            sent = length (kicks_text c given p.fade p.lines) + q.sent;
+            stops = StopsAt-after contents old mid new (kicks_text c given p.fade p.lines) (last_line c settled kept) q.sent p.sends.writes q.stops;
             counted = ap (λ f. LogFailed (sent_of f)) q.counted ∙ ap LogFailed count;
-            held = sym (held_after c given p.lines (told_last c settled kept) [] q.sent q.stops.left);
+            held = sym (held_after c given p.fade p.lines (told_last c settled kept) [] q.sent q.stops.left);
             reached = reached;
           }

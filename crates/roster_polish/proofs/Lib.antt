@@ -1,5 +1,6 @@
 pub mod KickRows
 pub mod Steps
 pub mod Keeping
+pub mod FadeRows
 pub mod KickLogs
 pub mod Passes

@@ -1,5 +1,5 @@
 -- What a run of kicks comes to, and what its log tells (our own).
-use Rattle.std.specs.Prelude.{◌≡◌, ℕ, zero, suc, ◌+◌, ◌-◌, ◌*◌, ◌⊎◌, ◌<◌, ◌≤◌, All, Bool, true, List, [], ◌∷◌, ◌++◌, codes, decimal, flat_map, if◌then◌else◌, length, map, nat_lt, Option}
+use Rattle.std.specs.Prelude.{◌≡◌, ℕ, zero, suc, ◌+◌, ◌-◌, ◌*◌, ◌⊎◌, ◌<◌, ◌≤◌, All, Bool, true, List, [], ◌∷◌, ◌++◌, codes, decimal, flat_map, if◌then◌else◌, length, map, nat_lt, IfSome, None, Option, Some}
 use Rattle.roster_text.specs.Io.{StopsAt, Watched, Writes, saturated}
 use Rattle.roster_instance.specs.Meaning.{Meaning, day_count, nurse_count}
 use Rattle.roster_instance.specs.Rosters.{Rows, fits_case}
@@ -42,13 +42,18 @@ settling_searches c from given = rounds_made c from most_rounds given * nurse_co
 
 -- ---- the memory of a run
 
--- room for floors, what true searches told at last and of the kept roster, nine numbers for each day, and a roster of the case
+-- room for floors, what true searches told at last and of the kept roster, nine numbers for each day, and a roster of the case; for a
+-- fade what each place pays, a roster more, and an order of the nurses
 pub record FitsPolish (c : Meaning) (w : PolishSpace) : Type 0 where
   pub floor : FitsFloor c w.floor
   pub known : IsKnown c w.last
   pub kept_known : IsKnown c w.kept_last
   pub dearer : length w.dearer.items ≡ 9 * day_count c
   pub kept : fits_case c w.kept ≡ true
+  pub pays : w.pays.days ≡ day_count c
+  pub faded : fits_case c w.faded ≡ true
+  pub count : length w.order.items ≡ nurse_count c
+  pub order : All (λ n. n < nurse_count c) w.order.items
 
 -- and how many from whatever roster
 abbrev pub first_searches : Meaning → ℕ
@@ -65,12 +70,23 @@ pub record IsReached (c : Meaning) (from : ℕ) (given r : Rows) : Type 0 where
   pub accepted : IsAccepted c r
   pub stays : FrozenDaysStay c from given r
 
+-- the roster that is kept after a fade: it may be kept, it is settled, and no dearer than where the first settling led
+pub record IsFaded (c : Meaning) (from : ℕ) (given first r : Rows) : Type 0 where
+  pub reached : IsReached c from given r
+  pub is_settled : IsSettled c from r
+  pub no_dearer : penalty c r ≤ penalty c first
+
+-- where the kicks begin: at that roster, or where the first settling led if no fade is kept
+abbrev pub begun : Option Rows → Rows → Rows
+begun None first = first
+begun (Some r) first = r
+
 -- a line of the log: a kick, and the roster that was kept after it
 pub record KickLine : Type 0 where
   pub kick : ℕ
   pub roster : Rows
 
--- before the first kick: where the first settling led
+-- before the first kick: where the kicks begin
 abbrev pub no_kick : Rows → KickLine
 no_kick first = record { kick = 0; roster = first }
 
@@ -90,13 +106,20 @@ pub record IsKickLog (c : Meaning) (from : ℕ) (given first : Rows) (kicks : �
   pub falls : Falls c (no_kick first) lines
   pub within : (last_kick (no_kick first) lines).kick ≤ kicks
 
--- ---- the text: the penalty of the given roster, of each that is cheaper after a kick, and of the last
+-- ---- the text: the penalty of the given roster, of the one after a fade, of each that is cheaper after a kick, and of the last
+
+abbrev pub fade_line : Meaning → Rows → List ℕ
+fade_line c r = line (codes "fade") (penalty c r)
+
+abbrev pub fade_text : Meaning → Option Rows → List ℕ
+fade_text c None = []
+fade_text c (Some r) = fade_line c r
 
 abbrev pub kick_line : Meaning → KickLine → List ℕ
 kick_line c x = line (codes "kick " ++ decimal x.kick) (penalty c x.roster)
 
-abbrev pub kicks_text : Meaning → Rows → List KickLine → List ℕ
-kicks_text c given lines = line (codes "start") (penalty c given) ++ flat_map (kick_line c) lines
+abbrev pub kicks_text : Meaning → Rows → Option Rows → List KickLine → List ℕ
+kicks_text c given fade lines = line (codes "start") (penalty c given) ++ (fade_text c fade ++ flat_map (kick_line c) lines)
 
 abbrev pub last_line : Meaning → Bool → Rows → List ℕ
 last_line c settled r = line (if settled then codes "settled" else codes "stopped") (penalty c r)
@@ -108,6 +131,10 @@ pub record Told : Type 0 where
   pub text : List ℕ
   pub roster : Rows
 
+abbrev pub told_fade : Meaning → Option Rows → List Told
+told_fade c None = []
+told_fade c (Some r) = record { text = fade_line c r; roster = r } ∷ []
+
 abbrev pub told_kick : Meaning → KickLine → Told
 told_kick c x = record { text = kick_line c x; roster = x.roster }
 
@@ -117,8 +144,8 @@ told_start c given = record { text = line (codes "start") (penalty c given); ros
 abbrev pub told_last : Meaning → Bool → Rows → Told
 told_last c settled last = record { text = last_line c settled last; roster = last }
 
-abbrev pub told_lines : Meaning → Rows → List KickLine → Bool → Rows → List Told
-told_lines c given lines settled last = told_start c given ∷ map (told_kick c) lines ++ told_last c settled last ∷ []
+abbrev pub told_lines : Meaning → Rows → Option Rows → List KickLine → Bool → Rows → List Told
+told_lines c given fade lines settled last = told_start c given ∷ (told_fade c fade ++ (map (told_kick c) lines ++ told_last c settled last ∷ []))
 
 -- where so many bytes went out, the roster of the first line that didn't wholly go out
 abbrev pub held_at : ℕ → List Told → Rows → Rows
@@ -127,33 +154,37 @@ held_at sent (x ∷ xs) r = if nat_lt sent (length x.text) then x.roster else he
 
 -- ---- a run
 
--- from the given roster to the last, by kicks from where the first settling led; the last roster is as dear as the last line says,
--- and settled where that is said, as it surely is where the first settling came to its end; with this log
-pub record IsPolishing (c : Meaning) (from : ℕ) (given : Rows) (kicks : ℕ) (settled : Bool) (last : Rows) (text : List ℕ) : Type 0 where
+-- from the given roster to the last, by a fade, unless kicks alone are asked for, and by kicks, from where the first settling led;
+-- the last roster is as dear as the last line says, and settled where that is said, as it surely is where the first settling came to
+-- its end; with this log
+pub record IsPolishing (c : Meaning) (from : ℕ) (given : Rows) (kicks : ℕ) (alone settled : Bool) (last : Rows) (text : List ℕ) : Type 0 where
+  pub fade : Option Rows
+  pub fadeless : alone ≡ true → fade ≡ None
+  pub faded : IfSome fade (IsFaded c from given (first_run c from given).roster)
   pub lines : List KickLine
-  pub is_log : IsKickLog c from given (first_run c from given).roster kicks lines
+  pub is_log : IsKickLog c from given (begun fade (first_run c from given).roster) kicks lines
   pub reached : IsReached c from given last
-  pub as_told : penalty c last ≡ penalty c (last_kick (no_kick (first_run c from given).roster) lines).roster
+  pub as_told : penalty c last ≡ penalty c (last_kick (no_kick (begun fade (first_run c from given).roster)) lines).roster
   pub no_dearer : penalty c last ≤ penalty c given
   pub is_settled : settled ≡ true → IsSettled c from last
   pub surely : (first_run c from given).is_settled ≡ true → settled ≡ true
-  pub text_is : text ≡ kicks_text c given lines ++ last_line c settled last
+  pub text_is : text ≡ kicks_text c given fade lines ++ last_line c settled last
 
 -- the log of a run went out, and the answer is what it came to
-pub record Polishes {W : Type 0} (contents : W → Option (List ℕ)) (c : Meaning) (from : ℕ) (given : Rows) (kicks : ℕ) (after : Rows) (old new : Watched W) (told : Polished) : Type 0 where
+pub record Polishes {W : Type 0} (contents : W → Option (List ℕ)) (c : Meaning) (from : ℕ) (given : Rows) (kicks : ℕ) (alone : Bool) (after : Rows) (old new : Watched W) (told : Polished) : Type 0 where
   pub text : List ℕ
-  pub run : IsPolishing c from given kicks told.settled after text
+  pub run : IsPolishing c from given kicks alone told.settled after text
   pub writes : Writes contents old new text
   pub total : told.total ≡ penalty c after
 
 -- just the first bytes of the log of a run went out, and the roster is that of the line at which the log failed
-pub record PolishLogStops {W : Type 0} (contents : W → Option (List ℕ)) (c : Meaning) (from : ℕ) (given : Rows) (kicks : ℕ) (after : Rows) (old new : Watched W) (fault : LogFault) : Type 0 where
+pub record PolishLogStops {W : Type 0} (contents : W → Option (List ℕ)) (c : Meaning) (from : ℕ) (given : Rows) (kicks : ℕ) (alone : Bool) (after : Rows) (old new : Watched W) (fault : LogFault) : Type 0 where
   pub settled : Bool
   pub last : Rows
   pub text : List ℕ
-  pub run : IsPolishing c from given kicks settled last text
+  pub run : IsPolishing c from given kicks alone settled last text
   pub sent : ℕ
   pub stops : StopsAt contents old new text sent
   pub counted : fault ≡ LogFailed (saturated sent)
-  pub held : after ≡ held_at sent (told_lines c given run.lines settled last) given
+  pub held : after ≡ held_at sent (told_lines c given run.fade run.lines settled last) given
   pub reached : IsReached c from given after

@@ -14,18 +14,20 @@ ghost use Rattle.roster_polish.specs.Settled.{IsSettled, Spends, extensions_of};
 use crate::offers::{Kick, offers_of_days};
 use crate::random::Random;
 use crate::searches::Searches;
-use crate::settle::{Aim, settle_in};
+use crate::settle::Aim;
 use crate::space::PolishSpace;
+use crate::stay::stay_if_no_dearer;
 use roster_best::Workspace;
 use roster_case::Held;
 use roster_offers::RowSearch;
 use roster_state::Meter;
 
-/// What kicks take: searches, and random numbers.
+/// What a fade and kicks take: searches, and random numbers; and how many passes the fade makes, none where there is no fade.
 #[derive(Clone, Copy)]
 pub(crate) struct Kicking {
     pub(crate) searches: Searches,
     pub(crate) random: Random,
+    pub(crate) passes: u32,
 }
 
 /// What is drawn for a kick: whether its prices are those by worths, its weeks, how many of a hundred prices are raised, and by how
@@ -61,21 +63,10 @@ pub(crate) fn try_kick(
     ensures fits { FitsPolish held.old.case space.new }
 {
     held.keeps_rules();
-    let before = held.total();
+    let most = held.total();
     let first = kick_nurses(held, kicking, space, meter);
-    let aim = Aim {
-        first,
-        most: before,
-    };
-    let settled = settle_in(held, aim, &mut kicking.searches, space, meter);
-    if settled && held.total() <= before {
-        space.keep(held);
-        true
-    } else {
-        held.replace_rows(&space.kept);
-        space.last.put(&space.kept_last);
-        false
-    }
+    let aim = Aim { first, most };
+    stay_if_no_dearer(held, aim, &mut kicking.searches, space, meter)
 }
 
 /// Gives one to three nurses the best rows by the prices of a kick, and answers the nurse after the last of them.

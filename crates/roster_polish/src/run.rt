@@ -1,6 +1,6 @@
 //! A run of kicks.
 
-ghost use Rattle.std.specs.Prelude.{◌≡◌, ◌+◌, ◌*◌, ◌≤◌, true, codes, if◌then◌else◌, IfErr, IfOk};
+ghost use Rattle.std.specs.Prelude.{◌≡◌, ◌+◌, ◌*◌, ◌<◌, ◌≤◌, true, codes, if◌then◌else◌, IfErr, IfOk};
 ghost use Rattle.roster_bundle.specs.Limits.{greatest_u64};
 ghost use Rattle.roster_instance.specs.Limits.{most_nurses};
 ghost use Rattle.roster_laws.specs.FrozenDays.{FrozenDaysStay};
@@ -8,6 +8,7 @@ ghost use Rattle.roster_rules.specs.Penalties.{penalty};
 ghost use Rattle.roster_polish.specs.Polished.{FitsPolish, PolishLogStops, Polishes, first_searches, settling_searches};
 ghost use Rattle.roster_polish.specs.Settled.{extensions_of};
 
+use crate::fade::try_fade;
 use crate::kick::{Kicking, try_kick};
 use crate::log::log_kick;
 use crate::random::Random;
@@ -21,13 +22,14 @@ use roster_state::Meter;
 use roster_text::Watch;
 use std::io::Write;
 
-/// How a run is made: how many searches it may take beside those of the first settling, what its random numbers begin with, and the
-/// week before which all is frozen.
+/// How a run is made: how many searches it may take beside those of the first settling, what its random numbers begin with, the week
+/// before which all is frozen, and whether it makes kicks alone, and no fade.
 #[derive(Clone, Copy, Debug, PartialEq, Eq)]
 pub struct Course {
     pub searches: u32,
     pub seed: u64,
     pub from: u16,
+    pub kicks: bool,
 }
 
 /// How a run ended: whether it is sure that no nurse has a cheaper row, and the penalty at the end.
@@ -37,9 +39,9 @@ pub struct Polished {
     pub total: u64,
 }
 
-/// Settles a roster, and then kicks a few nurses at a time out of their rows and settles it again, as long as searches are left. Where
-/// the roster is then no dearer, it stays. Each kick that left it cheaper has a line in the log, which goes out as it is made. It takes
-/// no memory.
+/// Settles a roster, fades it and settles it again, and then kicks a few nurses at a time out of their rows and settles it again, as
+/// long as searches are left. Where the roster is then no dearer, it stays. A fade that stayed and each kick that left it cheaper have a
+/// line in the log, which goes out as it is made. It takes no memory.
 ///
 /// # Errors
 ///
@@ -55,8 +57,8 @@ pub fn polish<W: Write>(
     requires fits { FitsPolish held.old.case space.old }
     requires room { meter.old + extensions_of held.old.case (course.now.searches + first_searches held.old.case) ≤ greatest_u64 }
     ensures case { held.new.case ≡ held.old.case }
-    ensures ok { IfOk result (Polishes W.contents held.old.case course.now.from held.old.roster course.now.searches held.new.roster log.old log.new) }
-    ensures err { IfErr result (PolishLogStops W.contents held.old.case course.now.from held.old.roster course.now.searches held.new.roster log.old log.new) }
+    ensures ok { IfOk result (Polishes W.contents held.old.case course.now.from held.old.roster course.now.searches course.now.kicks held.new.roster log.old log.new) }
+    ensures err { IfErr result (PolishLogStops W.contents held.old.case course.now.from held.old.roster course.now.searches course.now.kicks held.new.roster log.old log.new) }
     ensures no_dearer { penalty held.old.case held.new.roster ≤ penalty held.old.case held.old.roster }
     ensures frozen { FrozenDaysStay held.old.case course.now.from held.old.roster held.new.roster }
     ensures counted { meter.new ≤ meter.old + extensions_of held.old.case (course.now.searches + settling_searches held.old.case course.now.from held.old.roster) }
@@ -66,6 +68,11 @@ pub fn polish<W: Write>(
     let mut sent = log_word(log, 0, b"start", held.total())?;
     let mut settled = settle_first(held, course.from, space, meter);
     let mut kicking = begin(held, course, space, meter);
+    if try_fade(held, &mut kicking, space, meter) {
+        settled = true;
+        held.keeps_rules();
+        sent = log_word(log, sent, b"fade", held.total())?;
+    }
     for kicks_before in 0..course.searches {
         if kicking.searches.left == 0 {
             break;
@@ -94,34 +101,52 @@ fn end_word(settled: bool) -> &'static [u8]
     if settled { b"settled" } else { b"stopped" }
 }
 
-/// Improves the worths by which kicks price, with half of the searches at most, and keeps the roster.
+/// Improves the worths from which a fade begins and by which kicks price, with half of the searches at most, and keeps the roster.
 fn begin(held: &Held, course: &Course, space: &mut PolishSpace, meter: &mut Meter) -> Kicking
     requires fits { FitsPolish held.now.case space.old }
     requires room { meter.old + extensions_of held.now.case course.now.searches ≤ greatest_u64 }
     ensures kept { space.new.kept ≡ held.now.roster }
     ensures from { result.searches.from ≡ course.now.from }
+    ensures fadeless { course.now.kicks ≡ true → result.passes ≡ 0 }
     ensures counted { meter.new + extensions_of held.now.case result.searches.left ≤ meter.old + extensions_of held.now.case course.now.searches }
     ensures fits { FitsPolish held.now.case space.new }
 {
     held.case().keeps_limits();
     let nurses = held.case().nurses() as u32;
-    let rounds = rounds_within(course.searches, nurses);
+    let parts = if course.kicks { 2 } else { 4 };
+    let rounds = rounds_within(course.searches, parts, nurses);
     improve_worths(held, rounds as u16, course.from, &mut space.floor, meter);
     space.keep(held);
+    let left = course.searches - rounds * nurses;
     Kicking {
         searches: Searches {
-            left: (course.searches - rounds * nurses) as u64,
+            left: left as u64,
             from: course.from,
         },
         random: Random::of_seed(course.seed),
+        passes: passes_within(course, left, nurses),
     }
 }
 
-/// How many rounds over all nurses the worths are improved: a hundred, or as many as take half of the searches.
-fn rounds_within(searches: u32, nurses: u32) -> u32
-    requires { nurses ≤ most_nurses }
+/// How many rounds over all nurses the worths are improved: a hundred, or as many as take one of so many parts of the searches.
+fn rounds_within(searches: u32, parts: u32, nurses: u32) -> u32
+    requires parts { 0 < parts }
+    requires few { parts ≤ 4 }
+    requires nurses { nurses ≤ most_nurses }
     ensures few { result ≤ 100 }
     ensures within { result * nurses ≤ searches }
 {
-    (searches / (2 * nurses.max(1))).min(100)
+    (searches / (parts * nurses.max(1))).min(100)
+}
+
+/// How many passes over all nurses a fade makes: none for kicks alone, or else as many as take the searches that are left but for 3 of
+/// a hundred.
+fn passes_within(course: &Course, left: u32, nurses: u32) -> u32
+    ensures { course.now.kicks ≡ true → result ≡ 0 }
+{
+    if course.kicks {
+        return 0;
+    }
+    let spare = course.searches as u64 * 3 / 100;
+    left.saturating_sub(spare as u32) / nurses.max(1)
 }

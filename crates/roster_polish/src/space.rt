@@ -1,23 +1,26 @@
 //! The memory of a run.
 
-ghost use Rattle.std.specs.Prelude.{◌≡◌, IfOk};
+ghost use Rattle.std.specs.Prelude.{◌≡◌, ◌<◌, ◌≤◌, ℕ, All, IfOk, length};
 ghost use Rattle.roster_polish.specs.Polished.{FitsPolish};
 
 use roster_best::{BestFault, LastSearches};
-use roster_bound::FloorWorkspace;
+use roster_bound::{FloorWorkspace, Worths, count_rows};
 use roster_case::{Held, Roster};
 use std::alloc::Global;
 
 /// What a run writes into: what a run that raises a floor does, with the workspace of its searches; what the last of them tell; by
-/// how much each shift of a day is dearer in a kick; and the rows of the roster that is kept, with what the last searches told of it.
-/// Beside the memory of a floor and of the last searches, twice, that is nine bytes a day and a copy of the rows. One serves one run
-/// after another.
+/// how much each shift of a day is dearer in a kick; the rows of the roster that is kept, with what the last searches told of it; and
+/// what each place pays in a fade, its rows, and the order of its nurses. Beside the memory of a floor and of the last searches, twice,
+/// that is 265 bytes a day, eight a nurse, and two copies of the rows. One serves one run after another.
 pub struct PolishSpace {
     pub(crate) floor: FloorWorkspace,
     pub(crate) last: LastSearches,
     pub(crate) dearer: Vec<u8>,
     pub(crate) kept: Roster,
     pub(crate) kept_last: LastSearches,
+    pub(crate) pays: Worths,
+    pub(crate) faded: Roster,
+    pub(crate) order: Vec<usize>,
 }
 
 // By hand, so that who drops it has one call to prove.
@@ -29,12 +32,15 @@ impl Drop for PolishSpace {
             dearer: _,
             kept: _,
             kept_last: _,
+            pays: _,
+            faded: _,
+            order: _,
         } = self;
     }
 }
 
 impl PolishSpace {
-    /// Room for runs from rosters of a held one's case, by at most sixteen growths and one for each nurse.
+    /// Room for runs from rosters of a held one's case, by at most nineteen growths and two for each nurse.
     ///
     /// # Errors
     ///
@@ -49,6 +55,9 @@ impl PolishSpace {
             dearer: vec![in alloc; 0; 9 * held.case().days() as usize]?,
             kept: held.roster().copy(alloc)?,
             kept_last: LastSearches::for_case(alloc, held.case())?,
+            pays: Worths::even(alloc, held.case(), 0)?,
+            faded: held.roster().copy(alloc)?,
+            order: vec![in alloc; 0; held.case().nurses()]?,
         })
     }
 
@@ -60,5 +69,27 @@ impl PolishSpace {
     {
         self.kept.put_rows(held.roster());
         self.kept_last.put(&self.last);
+    }
+
+    /// Begins a fade from a roster: its rows are counted, and the nurses stand in their order.
+    pub(crate) fn begin_fade(&mut self, held: &Held)
+        requires { FitsPolish held.now.case self.old }
+        ensures kept { self.new.kept ≡ self.old.kept }
+        ensures faded { self.new.faded ≡ held.now.roster }
+        ensures fits { FitsPolish held.now.case self.new }
+    {
+        self.faded.put_rows(held.roster());
+        count_rows(held.case(), held.roster(), &mut self.floor);
+        put_in_order(&mut self.order);
+    }
+}
+
+/// Puts each number in its place.
+fn put_in_order(order: &mut [usize])
+    ensures count { length order.new ≡ length order.old }
+    ensures each { (end : ℕ) → length order.old ≤ end → All (λ n. n < end) order.old → All (λ n. n < end) order.new }
+{
+    for place in 0..order.len() {
+        order[place] = place;
     }
 }

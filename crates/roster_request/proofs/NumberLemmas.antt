@@ -549,14 +549,14 @@ pub meets_searches : (words : List Text) → fault_of program words ≡ [] → M
 unfolding Among is_one_of
 meets_searches =
     let no = another_in with_searches HasSearches in
-    let polish_has = searches_at polish_shape ((λ f. refl), ((λ f. absurd (true≢false (sym f))), ((λ f. absurd (true≢false (sym f))), ((λ f. absurd (true≢false (sym f))), ((λ f. absurd (true≢false (sym f))), tt))))) (inl refl) in
+    let polish_has = searches_at polish_shape ((λ f. refl), ((λ f. absurd (true≢false (sym f))), ((λ f. absurd (true≢false (sym f))), ((λ f. absurd (true≢false (sym f))), ((λ f. absurd (true≢false (sym f))), ((λ f. absurd (true≢false (sym f))), tt)))))) (inl refl) in
     words_meet with_searches HasSearches (no 0 refl, (no 1 refl, (no 2 refl, (no 3 refl, (no 4 refl, (no 5 refl, (polish_has, (no 7 refl, tt))))))))
 
 pub meets_seed : (words : List Text) → fault_of program words ≡ [] → Meets with_searches HasSeed (subcommand_of program words)
 unfolding Among is_one_of
 meets_seed =
     let no = another_in with_searches HasSeed in
-    let polish_has = seed_at polish_shape ((λ f. absurd (true≢false (sym f))), ((λ f. refl), ((λ f. absurd (true≢false (sym f))), ((λ f. absurd (true≢false (sym f))), ((λ f. absurd (true≢false (sym f))), tt))))) (inr (inl refl)) in
+    let polish_has = seed_at polish_shape ((λ f. absurd (true≢false (sym f))), ((λ f. refl), ((λ f. absurd (true≢false (sym f))), ((λ f. absurd (true≢false (sym f))), ((λ f. absurd (true≢false (sym f))), ((λ f. absurd (true≢false (sym f))), tt)))))) (inr (inl refl)) in
     words_meet with_searches HasSeed (no 0 refl, (no 1 refl, (no 2 refl, (no 3 refl, (no 4 refl, (no 5 refl, (polish_has, (no 7 refl, tt))))))))
 
 pub meets_from : (words : List Text) → fault_of program words ≡ [] → Meets with_from HasFrom (subcommand_of program words)
@@ -566,7 +566,7 @@ meets_from =
     let best_has = from_at best_shape ((λ f. absurd (true≢false (sym f))), ((λ f. refl), ((λ f. absurd (true≢false (sym f))), ((λ f. absurd (true≢false (sym f))), tt)))) (inr (inl refl)) in
     let improve_has = from_at improve_shape ((λ f. absurd (true≢false (sym f))), ((λ f. refl), ((λ f. absurd (true≢false (sym f))), ((λ f. absurd (true≢false (sym f))), tt)))) (inr (inl refl)) in
     let bound_has = from_at bound_shape ((λ f. absurd (true≢false (sym f))), ((λ f. refl), ((λ f. absurd (true≢false (sym f))), ((λ f. absurd (true≢false (sym f))), tt)))) (inr (inl refl)) in
-    let polish_has = from_at polish_shape ((λ f. absurd (true≢false (sym f))), ((λ f. absurd (true≢false (sym f))), ((λ f. refl), ((λ f. absurd (true≢false (sym f))), ((λ f. absurd (true≢false (sym f))), tt))))) (inr (inr (inl refl))) in
+    let polish_has = from_at polish_shape ((λ f. absurd (true≢false (sym f))), ((λ f. absurd (true≢false (sym f))), ((λ f. absurd (true≢false (sym f))), ((λ f. refl), ((λ f. absurd (true≢false (sym f))), ((λ f. absurd (true≢false (sym f))), tt)))))) (inr (inr (inr (inl refl)))) in
     words_meet with_from HasFrom (no 0 refl, (no 1 refl, (no 2 refl, (best_has, (improve_has, (bound_has, (polish_has, (no 7 refl, tt))))))))
 
 -- ---- the number

@@ -54,6 +54,10 @@ searches_rule = number_rule (codes "searches") most_searches (codes "20000")
 abbrev pub seed_rule : Rule
 seed_rule = number_rule (codes "seed") most_seed (codes "1")
 
+-- kicks alone, where this is among the words
+abbrev pub kicks_rule : Rule
+kicks_rule = record (new_rule (codes "kicks")) { long = Some (codes "kicks"); action = Some action.SetTrue }
+
 -- the first week that may change
 abbrev pub from_rule : Rule
 from_rule = number_rule (codes "from") most_from (codes "0")
@@ -78,7 +82,7 @@ abbrev pub commands : List Shape
 commands =
     (command_of (codes "show")).top ∷ (command_of (codes "cost")).top ∷ (command_of (codes "sizes")).top
     ∷ (own_command_of (nurse_rule ∷ from_rule ∷ []) (codes "best")).top ∷ (own_command_of (rounds_rule ∷ from_rule ∷ []) (codes "improve")).top
-    ∷ (own_command_of (rounds_rule ∷ from_rule ∷ []) (codes "bound")).top ∷ (own_command_of (searches_rule ∷ seed_rule ∷ from_rule ∷ []) (codes "polish")).top ∷ []
+    ∷ (own_command_of (rounds_rule ∷ from_rule ∷ []) (codes "bound")).top ∷ (own_command_of (searches_rule ∷ seed_rule ∷ kicks_rule ∷ from_rule ∷ []) (codes "polish")).top ∷ []
 
 -- the program's definition for clap
 abbrev pub program : App
@@ -92,7 +96,7 @@ name_of command.Sizes = codes "sizes"
 name_of (command.Best nurse from) = codes "best"
 name_of (command.Improve rounds from) = codes "improve"
 name_of (command.Bound rounds from) = codes "bound"
-name_of (command.Polish searches seed from) = codes "polish"
+name_of (command.Polish searches seed from kicks) = codes "polish"
 
 -- it is the name of one of these commands
 abbrev pub IsNameOf : List Shape → Text → Type 0
@@ -154,12 +158,19 @@ pub record IsNumberOf (name : Text) (number : ℕ) (rows : List Row) : Type 0 wh
   pub fits : number < 2 ^ 32
   pub value : number ≡ digits_value 10 (without_leading_plus text)
 
+-- it is whether this flag was given, by the text that clap reads for it: none, or one of two
+pub record IsFlag (name : Text) (is_given : Bool) (rows : List Row) : Type 0 where
+  pub none : one_of name rows ≡ None → is_given ≡ false
+  pub yes : one_of name rows ≡ Some (codes "true") → is_given ≡ true
+  pub no : one_of name rows ≡ Some (codes "false") → is_given ≡ false
+
 -- the command's own arguments are those among its matches
 abbrev pub HasArguments : Command → List Row → Type 0
 HasArguments (command.Best nurse from) rows = (first_of (codes "nurse") rows ≡ Some (string_bytes nurse)) × IsNumberOf (codes "from") from rows
 HasArguments (command.Improve rounds from) rows = IsNumberOf (codes "rounds") rounds rows × IsNumberOf (codes "from") from rows
 HasArguments (command.Bound rounds from) rows = IsNumberOf (codes "rounds") rounds rows × IsNumberOf (codes "from") from rows
-HasArguments (command.Polish searches seed from) rows = IsNumberOf (codes "searches") searches rows × IsNumberOf (codes "seed") seed rows × IsNumberOf (codes "from") from rows
+HasArguments (command.Polish searches seed from kicks) rows =
+    IsNumberOf (codes "searches") searches rows × IsNumberOf (codes "seed") seed rows × IsNumberOf (codes "from") from rows × IsFlag (codes "kicks") kicks rows
 HasArguments _ rows = Unit {0}
 
 -- the rounds or searches of a command that has some are within their limit, and its first week within that of weeks
@@ -167,7 +178,7 @@ abbrev pub IsInRange : Command → Type 0
 IsInRange (command.Best nurse from) = from ≤ most_from
 IsInRange (command.Improve rounds from) = (rounds ≤ most_rounds) × (from ≤ most_from)
 IsInRange (command.Bound rounds from) = (rounds ≤ most_rounds) × (from ≤ most_from)
-IsInRange (command.Polish searches seed from) = (searches ≤ most_searches) × (from ≤ most_from)
+IsInRange (command.Polish searches seed from kicks) = (searches ≤ most_searches) × (from ≤ most_from)
 IsInRange _ = Unit {0}
 
 -- the command that was met, by its name and its matches, is that of the request, with its arguments and its files

@@ -3,11 +3,11 @@
 ghost use Rattle.std.specs.Prelude.{◌≡◌, [], ◌∷◌, codes, drop, IfOk, IsOkAnd, false, true};
 ghost use Rattle.std.specs.List.{fold};
 ghost use Rattle.clap.specs.Words.{app_of, new_app, rule_of, with_rule, with_subcommand};
-ghost use Rattle.roster_request.specs.CommandLine.{bare, command_of, commands, files_rule, from_rule, number_rule, nurse_rule, own_command_of, program, rounds_rule, searches_rule, seed_rule, value_rule};
+ghost use Rattle.roster_request.specs.CommandLine.{bare, command_of, commands, files_rule, from_rule, kicks_rule, number_rule, nurse_rule, own_command_of, program, rounds_rule, searches_rule, seed_rule, value_rule};
 
 use crate::texts::{
     ABOUT, BEST, BEST_HELP, BOUND, BOUND_HELP, COST, COST_HELP, EXAMPLES, FIRST_WEEK, IMPROVE,
-    IMPROVE_HELP, NURSE_NAME, POLISH, POLISH_HELP, ROUND_COUNT, SEARCH_COUNT, SEED_NUMBER, SHOW,
+    IMPROVE_HELP, KICKS_ALONE, NURSE_NAME, POLISH, POLISH_HELP, ROUND_COUNT, SEARCH_COUNT, SEED_NUMBER, SHOW,
     SHOW_HELP, SIZES, SIZES_HELP, TEXTS,
 };
 use clap::builder::ValueParser;
@@ -19,6 +19,9 @@ pub(crate) const FILES: &str = "FILE";
 
 /// The name by which the nurse of a command is asked for.
 pub(crate) const NURSE: &str = "nurse";
+
+/// The name by which kicks alone are asked for.
+pub(crate) const KICKS: &str = "kicks";
 
 /// A number that a command may be given: by the option `name`, from 0 to `most`, and `default` where it isn't given. The help calls it
 /// `value`, and says `help` about it.
@@ -151,11 +154,12 @@ fn rounds_command<'a>(alloc: Global, name: &'a str, about: &'a str, help: &'a st
 
 /// The command `polish`.
 fn polish_command<'a>(alloc: Global) -> Made<'a>
-    ensures { IfOk result (λ c. app_of c ≡ own_command_of (searches_rule ∷ seed_rule ∷ from_rule ∷ []) (codes "polish")) }
+    ensures { IfOk result (λ c. app_of c ≡ own_command_of (searches_rule ∷ seed_rule ∷ kicks_rule ∷ from_rule ∷ []) (codes "polish")) }
 {
     let command = Ok(command(alloc, "polish", POLISH, POLISH_HELP));
     let with_searches = with_number(alloc, command, SEARCHES);
-    with_weeks(alloc, with_number(alloc, with_searches, SEED))
+    let with_seed = with_number(alloc, with_searches, SEED);
+    with_weeks(alloc, with_kicks(alloc, with_seed))
 }
 
 /// A command before its arguments, with what its help says.
@@ -177,6 +181,13 @@ fn with_number<'a>(alloc: Global, command: Made<'a>, option: NumberOption) -> Ma
     ensures { IfOk result (λ c. IsOkAnd command.entry (λ before. app_of c ≡ with_rule (app_of before) (number_rule option.name.now option.most option.default.now))) }
 {
     command?.arg(number_arg(alloc, option))
+}
+
+/// A command that may be asked for kicks alone.
+fn with_kicks<'a>(alloc: Global, command: Made<'a>) -> Made<'a>
+    ensures { IfOk result (λ c. IsOkAnd command.entry (λ before. app_of c ≡ with_rule (app_of before) kicks_rule)) }
+{
+    command?.arg(kicks_arg(alloc))
 }
 
 /// A command that reads any number of files.
@@ -207,6 +218,17 @@ fn nurse_arg<'a>(alloc: Global) -> Arg<'a>
     value_arg(alloc, NURSE, "NAME")
         .required(true)
         .help(NURSE_NAME)
+}
+
+/// Kicks alone.
+fn kicks_arg<'a>(alloc: Global) -> Arg<'a>
+    ensures rule { rule_of result ≡ kicks_rule }
+    ensures local { result.global ≡ false }
+{
+    Arg::new(alloc, KICKS)
+        .long(KICKS)
+        .action(ArgAction::SetTrue)
+        .help(KICKS_ALONE)
 }
 
 /// A number that may be left out.

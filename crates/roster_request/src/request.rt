@@ -22,9 +22,15 @@ pub enum Command {
     /// Writes a number that no roster costs less than: none that keeps the hard rules and the weeks before week `from` as they stand.
     /// It is the best that so many rounds find.
     Bound { rounds: u16, from: u16 },
-    /// Writes the solutions after a run that settles the roster and then kicks nurses out of their rows, again and again, as long as
-    /// so many searches allow. The seed decides what each kick is. The weeks before week `from` stay as they are.
-    Polish { searches: u32, seed: u32, from: u16 },
+    /// Writes the solutions after a run that settles the roster, fades it, unless `kicks` asks for kicks alone, and then kicks nurses out
+    /// of their rows, again and again, as long as so many searches allow. The seed decides what each kick is, and in which order a
+    /// fade takes the nurses. The weeks before week `from` stay as they are.
+    Polish {
+        searches: u32,
+        seed: u32,
+        from: u16,
+        kicks: bool,
+    },
 }
 
 /// A command with the files that it reads, in order. With none it reads standard input.

@@ -184,33 +184,44 @@ pub(crate) const SEARCH_COUNT: &str =
     "After the first settling the run takes so many searches at most, 0 to 10000000";
 
 pub(crate) const SEED_NUMBER: &str =
-    "What the random numbers of the kicks begin with, 0 to 4294967295";
+    "What the random numbers of the run begin with, 0 to 4294967295";
 
-pub(crate) const POLISH: &str = "Make the rosters cheaper by kicks, and write them";
+pub(crate) const KICKS_ALONE: &str =
+    "Make kicks alone and no fade, so that fewer rows change for what they cost";
+
+pub(crate) const POLISH: &str = "Make the rosters much cheaper, and write them";
 
 pub(crate) const POLISH_HELP: &str =
     "A roster is settled where no nurse has a cheaper row while the others keep
 theirs. 'roster improve' ends there, if its rounds are enough. This command
-settles the roster too, and then makes kicks, as long as searches are left. A
-kick gives one to three nurses the best rows by other prices, on the days of one
-to four weeks, and settles the roster again. Where it settles, and is no dearer
-than before the kick, it stays; else, also where no search is left, the one from
-before comes back.
+settles the roster too. Then it makes a fade, unless --kicks is given, and
+kicks, as long as searches are left.
+  fade  Nurse by nurse, in pass after pass, the best rows by prices that turn
+        from those of 'roster bound' into the true ones. Most rows change.
+  kick  One to three nurses get the best rows by other prices, on the days of
+        one to four weeks.
+After a fade and after each kick the roster is settled again. Where it settles,
+keeps the hard rules, and is no dearer than before, it stays; else, also where
+no search is left, the one from before comes back.
 
 The hard rules are asked first, as for 'roster cost', and the rosters written
 keep them too. To standard error goes a log, each line as soon as it is known:
   start 3150     what the roster costs before the run
-  kick 853 920   kick 853 made it cheaper: it costs 920 now. A kick that doesn't
+  fade 770       the fade stayed: it costs 770 now. A fade that doesn't stay has
+                 no line.
+  kick 85 765    kick 85 made it cheaper: it costs 765 now. A kick that doesn't
                  make it cheaper has no line.
-  settled 920    what the rosters written cost. They are settled.
+  settled 765    what the rosters written cost. They are settled.
 In place of 'settled' stands 'stopped' where the first settling was not at its
-end after 1,000,000 rounds, and no kick was kept.
+end after 1,000,000 rounds, and neither the fade nor a kick stayed.
 
 A search is one for the best row of a nurse. The first settling takes as many as
 it needs, in up to 1,000,000 rounds. After it the run takes at most as many as
---searches allows: up to a half of them to find prices, and the others for
-kicks. With --searches 0 there is no kick. The same texts, --searches, --seed
-and --from give the same rosters. It pays to try several seeds.
+--searches allows: up to a quarter of them to find prices, most of the others
+for the fade, and what is left for kicks. With --kicks it is up to a half to find
+prices, and the others for kicks. With --searches 0 there is neither. The same
+texts, --searches, --seed, --kicks and --from give the same rosters. It pays to
+try several seeds.
 
 With --from V the weeks 0 to V - 1 are frozen: each nurse's days in them stay as
 they stand. All weeks are read, and count for what the roster costs. Where V is
@@ -224,6 +235,7 @@ Examples:
   roster polish examples/ward.txt > better.txt
   roster polish --searches 200000 --seed 7 examples/ward.txt > better.txt
   roster polish --from 2 examples/ward.txt > better.txt
+  roster polish --kicks examples/ward.txt > better.txt
 
 The files are read one after another, in the order given. Without a file, the
 texts are read from standard input.";

@@ -2,10 +2,10 @@
 
 ghost use Rattle.std.specs.Prelude.{◌≡◌, ◌≢◌, ◌≤◌, [], Some, codes, IfOk, IfErr, OnOk, IsSomeAnd, is_some, true, map, string_bytes};
 ghost use Rattle.clap.specs.Words.{fault_of, first_of, found_of, kind_of, rows_of, subcommand_rows_of};
-ghost use Rattle.roster_request.specs.CommandLine.{HasArguments, HasFrom, HasNumber, HasNurse, HasRounds, HasSearches, HasSeed, HasText, IsAsked, IsAskedIn, IsInRange, IsNameOf, IsNumberOf, IsOneOf, Meets, Refuses, TellsKind, commands, files_in, name_of, program, with_from, with_rounds, with_searches};
+ghost use Rattle.roster_request.specs.CommandLine.{HasArguments, HasFrom, HasNumber, HasNurse, HasRounds, HasSearches, HasSeed, HasText, IsAsked, IsAskedIn, IsFlag, IsInRange, IsNameOf, IsNumberOf, IsOneOf, Meets, Refuses, TellsKind, commands, files_in, name_of, program, with_from, with_rounds, with_searches};
 ghost use Rattle.roster_request.specs.Limits.{most_from, most_rounds, most_searches};
 
-use crate::program::{FILES, FROM, NURSE, NumberOption, ROUNDS, SEARCHES, SEED, program};
+use crate::program::{FILES, FROM, KICKS, NURSE, NumberOption, ROUNDS, SEARCHES, SEED, program};
 use crate::request::{CliFault, Command, Request};
 use crate::texts::EXAMPLES;
 use clap::ArgMatches;
@@ -81,6 +81,7 @@ fn command_in(alloc: Global, name: &str, given: &ArgMatches<'_>) -> Result<Comma
             searches: searches_of(given),
             seed: seed_of(given),
             from: from_of(given),
+            kicks: kicks_of(given),
         }),
         _ => unreachable!(),
     }
@@ -121,6 +122,13 @@ fn seed_of(given: &ArgMatches<'_>) -> u32
     ensures { IsNumberOf (codes "seed") result (rows_of (found_of given.now)) }
 {
     number_of(given, SEED)
+}
+
+/// Whether kicks alone are asked for.
+fn kicks_of(given: &ArgMatches<'_>) -> bool
+    ensures { IsFlag (codes "kicks") result (rows_of (found_of given.now)) }
+{
+    given.get_flag(KICKS)
 }
 
 /// The first week that may change.

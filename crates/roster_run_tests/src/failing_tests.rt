@@ -67,7 +67,7 @@ const ANSWERS: [Answer; 7] = [
     },
 ];
 
-/// The command of a name: `best` is for Ann, `improve` makes 100 rounds at most, `bound` makes one, and `polish` no kick.
+/// The command of a name: `best` is for Ann, `improve` makes 100 rounds at most, `bound` makes one, and `polish` no search.
 fn command_of(alloc: Global, name: &str) -> Result<Command, AllocError> {
     Ok(match name {
         "show" => Command::Show,
@@ -82,6 +82,7 @@ fn command_of(alloc: Global, name: &str) -> Result<Command, AllocError> {
             searches: 0,
             seed: 1,
             from: 0,
+            kicks: false,
         },
         _ => Command::Improve {
             rounds: 100,

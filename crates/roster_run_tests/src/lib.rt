@@ -6,4 +6,4 @@ mod failing_tests;
 #[cfg(test)]
 mod hostile_tests;
 #[cfg(test)]
-mod seed_tests;
+mod polish_tests;

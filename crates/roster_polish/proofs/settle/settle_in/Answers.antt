@@ -29,5 +29,9 @@ returns c =
         kept_known = fits.kept_known;
         dearer = fits.dearer;
         kept = fits.kept;
+        pays = fits.pays;
+        faded = fits.faded;
+        count = fits.count;
+        order = fits.order;
       };
     }

@@ -22,5 +22,9 @@ returns c =
         kept_known = c.put.ensures.known c.args.held.now.case c.requires.known;
         dearer = c.requires.dearer;
         kept = subst (λ (rows : Rows). fits_case c.args.held.now.case rows ≡ true) (sym kept) c.roster.ensures.fits;
+        pays = c.requires.pays;
+        faded = c.requires.faded;
+        count = c.requires.count;
+        order = c.requires.order;
       };
     }

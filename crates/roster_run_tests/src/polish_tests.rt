@@ -1,9 +1,9 @@
-//! What the seed of a run of kicks decides, which no contract says.
+//! Runs of kicks and of a fade: what the seed decides, which no contract says, and a log that fails after each byte.
 
 use roster_commands::run;
 use roster_devices::{AtEnd, ShortWriter};
 use roster_request::{Command, Request};
-use roster_tests::texts::changed;
+use roster_tests::texts::{changed, fill};
 use roster_text::Watch;
 use std::alloc::{AllocError, Global};
 use std::test::Fail;
@@ -32,40 +32,65 @@ const BEGIN: &str = "start 70\nkick ";
 /// How it ends where nothing is left to be saved.
 const END: &str = "settled 0\n";
 
-/// The log of a run over them by a seed; none where the status isn't 0.
-fn log_of(alloc: Global, seed: u32) -> Result<Option<Vec<u8>>, AllocError> {
+/// What a fade leads to, by any seed.
+const FADED: &str = "start 70\nfade 0\nsettled 0\n";
+
+/// The status of a run over them by a seed, with kicks alone or with a fade, and what a log with so much room has then.
+fn run_by(
+    alloc: Global,
+    seed: u32,
+    kicks: bool,
+    room: usize,
+) -> Result<(u8, Vec<u8>), AllocError> {
     let request = Request {
         command: Command::Polish {
             searches: 300,
             seed,
             from: 0,
+            kicks,
         },
         files: Vec::new(alloc),
     };
     let text = changed(alloc, &CROSSED)?;
     let (mut output_room, mut log_room) = ([0; 500], [0; 500]);
+    let log_room = &mut log_room[..room.min(500)];
     let mut input = Watch::new(text.as_bytes());
     let mut output = Watch::new(ShortWriter::new(&mut output_room, AtEnd::Fail));
-    let mut log = Watch::new(ShortWriter::new(&mut log_room, AtEnd::Fail));
-    if run(alloc, &request, &mut input, &mut output, &mut log) != 0 {
-        return Ok(None);
-    }
-    Ok(Some(Vec::from_slice(alloc, log.into_inner().written())?))
+    let mut log = Watch::new(ShortWriter::new(log_room, AtEnd::Fail));
+    let status = run(alloc, &request, &mut input, &mut output, &mut log);
+    Ok((
+        status,
+        Vec::from_slice(alloc, log.into_inner().written())?,
+    ))
 }
 
 #[test]
 fn a_seed_decides_the_kicks(rt: HostRuntime) -> Result<(), Fail> {
     let alloc = rt.alloc();
-    let (first, again) = (log_of(alloc, 1)?, log_of(alloc, 1)?);
-    let (Some(first), Some(again), Some(other)) = (first, again, log_of(alloc, 3)?) else {
-        return Err(Fail::new("a status"));
-    };
-    assert!(rt; first == again);
-    assert!(rt; first != other);
+    let (status, first) = run_by(alloc, 1, true, 500)?;
+    let (_, again) = run_by(alloc, 1, true, 500)?;
+    let (_, other) = run_by(alloc, 3, true, 500)?;
+    assert!(rt; status == 0);
+    assert!(rt; first.as_slice() == again.as_slice());
+    assert!(rt; first.as_slice() != other.as_slice());
     // Kicks are kept by either seed, and in the end nobody works on a day that the other one wants.
     for log in [first, other] {
         assert!(rt; log.starts_with(BEGIN.as_bytes()));
         assert!(rt; log.ends_with(END.as_bytes()));
+    }
+    Ok(())
+}
+
+#[test]
+fn a_fade_whose_log_fails_after_each_byte(rt: HostRuntime) -> Result<(), Fail> {
+    let alloc = rt.alloc();
+    for seed in [1, 3] {
+        let (status, log) = run_by(alloc, seed, false, FADED.len())?;
+        assert!(rt; status == 0 && log.as_slice() == FADED.as_bytes(), "{seed}");
+    }
+    for room in 0..FADED.len() {
+        let (status, log) = run_by(alloc, 1, false, room)?;
+        assert!(rt; status == 3 && fill(log.as_slice(), FADED, room), "{room}");
     }
     Ok(())
 }

@@ -1,0 +1,210 @@
+//! What places pay in a fade: their worths, which turn into the true prices step by step.
+
+ghost use Rattle.std.specs.Prelude.{◌≡◌, ◌*◌, ◌<◌, ◌≤◌, IfSome, length};
+ghost use Rattle.roster_instance.specs.Meaning.{day_count};
+ghost use Rattle.roster_bound.specs.Tables.{most_fine};
+ghost use Rattle.roster_bound.specs.Workspaces.{FitsFloor};
+
+use crate::moves::count_row;
+use crate::workspace::FloorWorkspace;
+use crate::worths::{MOST_WORTH, PARTS, Worths};
+use roster_rules::weights::STAFFING;
+use roster_rules::{Case, Choice, Limits, Roster, Shift, Skill};
+
+/// How far a fade has come: how much of what a place pays is its worth, in 1024ths, and how many points a place pays besides as long
+/// as it is below its minimum. The rest is what a missing nurse costs, where one is missing to the optimum.
+#[derive(Clone, Copy)]
+pub struct Fading {
+    pub share: u32,
+    pub missing: u32,
+}
+
+/// The share where a place pays its worth alone.
+pub const WHOLE: u32 = 1024;
+
+/// How far a worth moves at most, half a point in 256ths.
+const HALF: u32 = PARTS / 2;
+
+/// Counts the rows of a roster at their places, and no others.
+pub fn count_rows(case: &Case, roster: &Roster, floor: &mut FloorWorkspace)
+    requires { FitsFloor case.now floor.old }
+    ensures { FitsFloor case.now floor.new }
+{
+    floor.rows.forget();
+    for nurse in 0..case.nurses() {
+        count_row(roster.row(nurse), &mut floor.rows.cover);
+    }
+}
+
+/// Moves the worth of each place that asks for nurses by a share of half a point: up where one is missing, down where there are too
+/// many.
+pub fn follow_cover(case: &Case, share: u32, floor: &mut FloorWorkspace)
+    requires { FitsFloor case.now floor.old }
+    ensures { FitsFloor case.now floor.new }
+{
+    let step = HALF * share.min(WHOLE) / WHOLE;
+    for place in 0..64 * case.days() as usize {
+        let need = need_at(case, place);
+        let nurses = floor.rows.cover[place];
+        let fine = floor.worths.fine_at(place);
+        floor
+            .worths
+            .put_fine(place, followed(need, nurses, fine, step));
+    }
+}
+
+/// Lets each place pay what it does in a fade by the rows that are counted.
+pub fn pay_places(case: &Case, fading: Fading, floor: &FloorWorkspace, pays: &mut Worths)
+    requires fits { FitsFloor case.now floor.now }
+    requires days { pays.old.days ≡ day_count case.now }
+    ensures days { pays.new.days ≡ pays.old.days }
+{
+    for place in 0..64 * case.days() as usize {
+        pay_place(case, place, fading, floor, pays);
+    }
+}
+
+/// Counts a row at its places no more, and lets these pay what they do without it.
+pub fn take_row(
+    case: &Case,
+    row: &[Choice],
+    fading: Fading,
+    floor: &mut FloorWorkspace,
+    pays: &mut Worths,
+)
+    requires fits { FitsFloor case.now floor.old }
+    requires days { pays.old.days ≡ day_count case.now }
+    ensures fits { FitsFloor case.now floor.new }
+    ensures days { pays.new.days ≡ pays.old.days }
+{
+    for day in 0..row.len() {
+        if let Some(place) = place_of(case, row, day) {
+            floor.rows.cover[place] = floor.rows.cover[place].saturating_sub(1);
+            pay_place(case, place, fading, floor, pays);
+        }
+    }
+}
+
+/// Lets the places of a row, which is counted there, pay what they do with it.
+pub fn pay_row(
+    case: &Case,
+    row: &[Choice],
+    fading: Fading,
+    floor: &FloorWorkspace,
+    pays: &mut Worths,
+)
+    requires fits { FitsFloor case.now floor.now }
+    requires days { pays.old.days ≡ day_count case.now }
+    ensures days { pays.new.days ≡ pays.old.days }
+{
+    for day in 0..row.len() {
+        if let Some(place) = place_of(case, row, day) {
+            pay_place(case, place, fading, floor, pays);
+        }
+    }
+}
+
+/// Whether some place is below its minimum by the rows that are counted.
+pub fn lacks_nurses(case: &Case, floor: &FloorWorkspace) -> bool
+    requires { FitsFloor case.now floor.now }
+{
+    for place in 0..64 * case.days() as usize {
+        if floor.rows.cover[place] < need_at(case, place).least {
+            return true;
+        }
+    }
+    false
+}
+
+/// The place of a day of a row; none where the nurse is off, or the case has no such day.
+fn place_of(case: &Case, row: &[Choice], day: usize) -> Option<usize>
+    requires { day < length row.now }
+    ensures { IfSome result (λ place. place < 64 * day_count case.now) }
+{
+    let Choice::Work(shift, skill) = row[day] else {
+        return None;
+    };
+    let within = 8 * shift.0 as usize + skill.0 as usize;
+    let place = day.saturating_mul(64).saturating_add(within);
+    if place < 64 * case.days() as usize {
+        Some(place)
+    } else {
+        None
+    }
+}
+
+/// Minimum and optimum of a place.
+fn need_at(case: &Case, place: usize) -> Limits
+    requires { place < 64 * day_count case.now }
+{
+    case.keeps_limits();
+    let (day, shift, skill) = (place / 64, place % 64 / 8, place % 8);
+    case.need(day as u16, Shift(shift as u8), Skill(skill as u8))
+}
+
+/// A worth that follows its place: nurses are wanted to the optimum as long as it is no more than a missing one costs, and else to
+/// the minimum.
+fn followed(need: Limits, nurses: u16, fine: u32, step: u32) -> u32 {
+    let wanted = if fine <= PARTS * STAFFING {
+        need.least.max(need.greatest)
+    } else {
+        need.least
+    };
+    if need.least == 0 && need.greatest == 0 {
+        fine
+    } else if nurses < wanted {
+        fine.saturating_add(step)
+    } else if nurses > wanted {
+        fine.saturating_sub(step)
+    } else {
+        fine
+    }
+}
+
+/// Lets a place pay what it does in a fade.
+fn pay_place(case: &Case, place: usize, fading: Fading, floor: &FloorWorkspace, pays: &mut Worths)
+    requires place { place < 64 * day_count case.now }
+    requires fits { FitsFloor case.now floor.now }
+    requires days { pays.old.days ≡ day_count case.now }
+    ensures days { pays.new.days ≡ pays.old.days }
+{
+    let need = need_at(case, place);
+    let nurses = floor.rows.cover[place];
+    let fine = floor.worths.fine_at(place);
+    pays.put_fine(place, faded_pay(need, nurses, fine, fading));
+}
+
+/// What a place pays, in 256ths of a point: a share of its worth, and the rest of what a nurse more is good for.
+fn faded_pay(need: Limits, nurses: u16, fine: u32, fading: Fading) -> u32 {
+    let lacking = if nurses < need.greatest { STAFFING } else { 0 };
+    let missing = if nurses < need.least {
+        fading.missing
+    } else {
+        0
+    };
+    let gain = PARTS as u64 * (lacking as u64 + missing as u64);
+    let share = fading.share.min(WHOLE) as u64;
+    let all = fine as u64 * share + gain * (WHOLE as u64 - share) + WHOLE as u64 / 2;
+    (all / WHOLE as u64).min(MOST_FINE as u64) as u32
+}
+
+/// The most that a place pays, in 256ths of a point.
+const MOST_FINE: u32 = PARTS * MOST_WORTH as u32;
+
+impl Worths {
+    /// What a place pays, in 256ths of a point.
+    fn fine_at(&self, place: usize) -> u32
+        requires { place < 64 * self.now.days }
+        ensures { result ≤ most_fine }
+    {
+        self.fine[place]
+    }
+
+    /// Lets a place pay so many 256ths of a point, or the most that a place pays.
+    fn put_fine(&mut self, place: usize, fine: u32)
+        requires { place < 64 * self.old.days }
+        ensures { self.new.days ≡ self.old.days }
+    {
+        self.fine[place] = fine.min(MOST_FINE);
+    }
+}

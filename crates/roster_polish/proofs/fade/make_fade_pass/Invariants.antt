@@ -1,0 +1,14 @@
+use Rattle.std.proofs.Common.{◌≡◌}
+use Rattle.roster_laws.specs.FrozenDays.{FrozenDaysStay}
+use Rattle.roster_polish.specs.Polished.{FitsPolish}
+use Rattle.roster_polish.specs.Settled.{Spends}
+use Rattle.roster_polish.proofs.fade.make_fade_pass.Given as goal
+
+abbrev pub invariant-loop-place : goal.invariant-loop-place
+invariant-loop-place l = record {
+  kept : l.space.kept ≡ l.fn.space.kept;
+  frozen : FrozenDaysStay l.fn.held.case l.fn.kicking.searches.from l.fn.held.roster l.space.faded;
+  from : l.kicking.searches.from ≡ l.fn.kicking.searches.from;
+  spends : Spends l.fn.held.case l.fn.meter l.fn.kicking.searches.left l.meter l.kicking.searches.left;
+  fits : FitsPolish l.fn.held.case l.space;
+}
