@@ -49,6 +49,7 @@ returns-clause-fits c =
         worths = floor.worths;
         wanted = floor.wanted;
         had = floor.had;
+        pays = floor.pays;
       };
       known = before.known;
       kept_known = before.kept_known;
