@@ -139,14 +139,23 @@ fn rounds_within(searches: u32, parts: u32, nurses: u32) -> u32
     (searches / (parts * nurses.max(1))).min(100)
 }
 
-/// How many passes over all nurses a fade makes: none for kicks alone, or else as many as take the searches that are left but for 3 of
-/// a hundred.
+/// How many passes over all nurses a fade makes: none for kicks alone, or else as many as take the searches that are left, but for 3 of
+/// a hundred of all, or for ten passes where that is more. Below a hundred passes it may end below a minimum: then half of all searches
+/// are kept for kicks.
 fn passes_within(course: &Course, left: u32, nurses: u32) -> u32
+    requires { nurses ≤ most_nurses }
     ensures { course.now.kicks ≡ true → result ≡ 0 }
 {
     if course.kicks {
         return 0;
     }
-    let spare = course.searches as u64 * 3 / 100;
-    left.saturating_sub(spare as u32) / nurses.max(1)
+    let spare = (course.searches / 100 * 3).max(10 * nurses);
+    let passes = left.saturating_sub(spare) / nurses.max(1);
+    if passes >= MANY_PASSES {
+        return passes;
+    }
+    left.saturating_sub(course.searches / 2) / nurses.max(1)
 }
+
+/// So many passes lead from the worths to the true prices without haste.
+const MANY_PASSES: u32 = 100;

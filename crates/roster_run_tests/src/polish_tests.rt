@@ -44,7 +44,7 @@ fn run_by(
 ) -> Result<(u8, Vec<u8>), AllocError> {
     let request = Request {
         command: Command::Polish {
-            searches: 300,
+            searches: if kicks { 300 } else { 100 },
             seed,
             from: 0,
             kicks,
