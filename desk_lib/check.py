@@ -106,18 +106,17 @@ def of_program(texts: Texts, line: str) -> Finding:
         if fault.told() == told[2] and (mine.file, mine.line) == (place.file, place.line):
             offset, place = words.offset(fault.at), mine
         return Finding(offset, place, told[2])
-    return of_count(words, bundle) if told[2] == OUT_OF_LIMITS else Finding(offset, place, told[2])
+    return told[2] == OUT_OF_LIMITS and of_count(words, bundle) or Finding(offset, place, told[2])
 
 
-def of_count(words: Words, bundle: Bundle) -> Finding:
-    """A count that is out of its limits, with these."""
+def of_count(words: Words, bundle: Bundle) -> Finding | None:
+    """The first count that is out of its limits, with these."""
     for keyword, most in MOST_OF.items():
         section = bundle.scenario[keyword]
         if not 1 <= section.count <= most:
-            break
-    at = section.at + 2
-    told = f"{OUT_OF_LIMITS}: {section.keyword} is {section.count}, and may be 1 to {most}"
-    return Finding(words.offset(at), words.place(at), told)
+            at, told = section.at + 2, f"{OUT_OF_LIMITS}: {section.keyword} is {section.count}, and may be 1 to {most}"
+            return Finding(words.offset(at), words.place(at), told)
+    return None
 
 
 def of_nurse(texts: Texts, line: str) -> Finding:

@@ -9,6 +9,7 @@ import typing
 
 from desk_lib import asks, check, grid, improve, outputs, page, plot, polish, program, replacing, signals, split, tables, why
 from desk_lib.costs import Costing
+from desk_lib.grammar import WORD
 from desk_lib.model import Plan, monday_in
 from desk_lib.program import Program
 from desk_lib.sheet import Sheet
@@ -158,13 +159,7 @@ def both_plans(asked: argparse.Namespace, roster: Program) -> list[tuple[Texts, 
         texts = wanted.added_to(texts)
         found = [(texts, program.taken(roster, texts))]
     if other:
-        second = read_files([(it, "") for it in other])
-        count, weeks = sum(len(split.HEAD.findall(it.data.replace(b"\r", b""))) for it in second), found[0][1].case.weeks
-        if count != weeks:
-            told = f"--with {' '.join(map(shown, other))}: {plural(count, 'solution')} for {plural(weeks, 'week')}"
-            raise DeskError(f"{told}; give those of all weeks, in one file, or in several with --with before each", 1)
-        after = texts.before(found[0][1].solutions_offset(), second)
-        found.append((after, program.taken(roster, after)))
+        found.append(with_second(roster, *found[0], other))
     for it, plan in found:
         for wrong in check.out_of_place(plan.words, plan.bundle.solutions):
             program.warn(f"{wrong.place}: {wrong.message}")
@@ -172,6 +167,20 @@ def both_plans(asked: argparse.Namespace, roster: Program) -> list[tuple[Texts, 
         for line in wanted.failed(found[-1][1].roster):
             program.warn(line)
     return found
+
+
+def with_second(roster: Program, texts: Texts, plan: Plan, names: list[str]) -> tuple[Texts, Plan]:
+    """The texts with the solutions of these files, and their plan."""
+    second = read_files([(it, "") for it in names])
+    after = texts.before(plan.solutions_offset(), second)
+    try:
+        return after, program.taken(roster, after)
+    except DeskError:
+        count, weeks = sum(WORD.findall(it.data).count(b"SOLUTION") for it in second), plan.case.weeks
+        if count == weeks:
+            raise
+        told = f"--with {' '.join(map(shown, names))}: {plural(count, 'solution')} for {plural(weeks, 'week')}"
+        raise DeskError(f"{told}; give those of all weeks, in one file, or in several with --with before each") from None
 
 
 def costings(roster: Program, pairs: list[tuple[Texts, Plan]]) -> list[Costing]:
@@ -284,7 +293,7 @@ def run_weeks(asked: argparse.Namespace, roster: Program) -> int:
     plan = program.taken(roster, texts)
     names = split.names(asked.prefix, plan.case.weeks)
     check_prefix(asked, names)
-    wanted = asks.Asks(read_file(asked.asks), plan) if asked.asks else None
+    wanted = asks_of(asked, plan)
     if not wanted:
         raise DeskError("weeks: --asks names the text of absences and pins", 2)
     asks.write_weeks(roster, wanted, texts, names)

@@ -67,7 +67,7 @@ class Polish:
         """Makes all runs. The log has a line for each roster that is cheaper than all before."""
         try:
             self.start_slice(self.course.slice_ or FIRST)
-            while self.start_whole_runs() or self.is_open():
+            while (self.start_whole_runs() or self.is_open()) and not self.is_least():
                 for key, _ in self.jobs.select(1.0):
                     self.take(key.data)
                 self.show()
@@ -92,8 +92,12 @@ class Polish:
         return None if self.course.end is None else self.course.end - time.monotonic()
 
     def is_open(self) -> bool:
-        """Whether something may still come: where the time says how much is searched, until it is over."""
+        """Whether the time says how much is searched, so that something may come until it is over."""
         return self.course.searches is None
+
+    def is_least(self) -> bool:
+        """Whether no roster can be cheaper, so that the time needn't be waited for."""
+        return self.is_open() and self.run.total <= (self.run.progress.floor or 0)
 
     # ---- what is begun
 
@@ -165,7 +169,7 @@ class Polish:
     def take_whole(self, job: Job, answer: Answer) -> None:
         total = number_of(answer.log[-1])
         self.ended.append((total, job.number, answer))
-        if len(self.course.seeds) > 1:
+        if len(self.course.seeds) > 1 or self.is_open():
             self.run.progress.line(b"seed %d %d" % (job.seed, total))
         if total <= self.run.total:
             self.keep(answer, f"polish with the seed {job.seed}")
