@@ -79,7 +79,10 @@ def barred(plan: Plan, met: list, nurse: int, day: int) -> str:
     if met:
         return "each has a forbidden succession, or breaks a minimum of another day"
     now = plan.roster[nurse][day]
-    have, least = reckoning.cover(row[day] for row in plan.roster)[now], plan.case.needs[now][day].least
+    have, needs = reckoning.cover(row[day] for row in plan.roster)[now], plan.case.needs.get(now)
+    least = needs[day].least if needs else 0
+    if now is None or have > least:
+        return "no choice of the day is all that is asked for"
     return f"the cover of {choice_name(plan.case, now)} would be {have - 1}, and the minimum is {least}"
 
 
