@@ -157,7 +157,7 @@ class Recovery:
     def has_blank(self, keyword: bytes, read: collections.abc.Callable[[Cursor], object], start: int, stop: int) -> bool:
         """Whether these words of a section can be read where names with blanks are one word each: those that were noted
         before, and one more, the first and shortest, where names are declared. Notes them."""
-        if stop - start > LONGEST_LINE:
+        if not 0 < stop - start <= LONGEST_LINE:
             return False
         words = self.joined(start, stop)
         counts = range(1, LONGEST_NAME + 1 if keyword in DECLARING else 2)
