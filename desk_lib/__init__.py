@@ -10,7 +10,8 @@
 | costs, tables, breaches | what each nurse costs by rule, and where a hard rule is broken |
 | check, findings, hidden, recovery, names | all that is wrong with texts |
 | sheet, grid, page, plot | a roster to look at, on a terminal and in a browser |
-| improve, polish, split, replacing, outputs, signals | rosters that are written, what they may not replace, and what ends that early |
+| improve, polish, split, replacing, signals | rosters that are written, and what ends that early |
+| outputs | what may not be written |
 | asks, why | absences and pins, and what it would cost to meet a request |
 
 Every roster and every total is the program's. What is counted here is compared with the program before it is shown.

@@ -5,8 +5,8 @@
     start DATE                  week 0 begins on this Monday; from here on days may be dates
 
 A day is the week and the weekday, as 0:Mon. What follows a '#' is a remark. The competition's format has no such thing, so an
-absence is asked for as an off request, and a pin as a wish or an off request: each costs 10 where it isn't met, and a roster may
-well not meet it. So each roster is looked at, and where it fails is told.
+absence is asked for as an off request, and a pin as a wish or an off request: each costs 10 where it isn't met, and a roster
+may well not meet it. So each roster is looked at, and where it fails is told.
 """
 import collections
 import collections.abc

@@ -7,7 +7,7 @@ import sys
 import time
 import typing
 
-from desk_lib import asks, check, grid, improve, outputs, page, plot, polish, program, replacing, signals, split, tables, why
+from desk_lib import asks, check, grid, improve, outputs, page, plot, polish, program, replacing, signals, split, tables
 from desk_lib.costs import Costing
 from desk_lib.grammar import WORD
 from desk_lib.model import Plan, monday_in
@@ -15,6 +15,7 @@ from desk_lib.program import Program
 from desk_lib.sheet import Sheet
 from desk_lib.signals import within_time
 from desk_lib.texts import KINDS, DeskError, Text, Texts, plural, read_file, shown
+from desk_lib.why import why_lines
 
 ABOUT = """\
 Looks at rosters, and makes better ones, with the program `roster`.
@@ -240,7 +241,7 @@ def run_csv(asked: argparse.Namespace, roster: Program) -> int:
 def run_why(asked: argparse.Namespace, roster: Program) -> int:
     pairs = both_plans(asked, roster)
     [costing] = costings(roster, pairs)
-    write(why.why_lines(roster, pairs[0][0], costing, asked.nurse, asked.day))
+    write(why_lines(roster, pairs[0][0], costing, asked.nurse, asked.day))
     return 0
 
 
@@ -262,6 +263,10 @@ def run_improve(asked: argparse.Namespace, roster: Program) -> int:
         program.warn(f"{told}, and nothing can change")
     progress = improve.Progress(asked.log)
     run = improve.Run(roster, before, texts.joined[plan.solutions_offset() :], asked.out, words, progress)
+    for it in texts.texts:
+        if outputs.identity(it.name) == outputs.identity(asked.out):
+            # (it may have changed since it was read)
+            run.there = it.data
 
     def work() -> None:
         if asked.bound:

@@ -61,7 +61,7 @@ class Progress:
             self.is_shown = True
 
     def end(self, told: str = "") -> None:
-        """Leaves the line that changes as it stands. What the run came to follows on a terminal, and where a floor is known."""
+        """Leaves the line that changes as it is. What the run came to follows on a terminal, and where a floor is known."""
         if self.is_terminal:
             sys.stderr.write("\n" * self.is_shown + f"{told}\n" * bool(told))
         elif told and self.floor is not None:
@@ -140,8 +140,8 @@ class Run:
     # ---- rounds
 
     def rounds(self, count: int, end: float | None) -> None:
-        """Makes rounds until one changes nothing, or so many, or until a time; at least one, where one is allowed. The log is that
-        of one run."""
+        """Makes rounds until one changes nothing, or so many, or until a time; at least one, where one is allowed. The log is
+        that of one run."""
         self.round(1, min(1, count))
         within_time(end, lambda: self.further_rounds(count))
         self.progress.line(self.end)

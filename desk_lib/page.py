@@ -174,8 +174,8 @@ class Page:
         return f'<tr><th scope="row" title="{name}">{name}</th>{cells}</tr>'
 
     def cell(self, number: int, day: int) -> str:
-        """A day: the shift's letter and the skill's, below it what it was and whether a request isn't met. Its title has all of it
-        in words."""
+        """A day: the shift's letter and the skill's, below it what it was and whether a request isn't met. Its title has all
+        of it in words."""
         cell = self.sheet.rows[number][day]
         is_wrong = cell.breaks_request or cell.misses_wish
         classes = ["cell", "off" if cell.choice is None else f"s{cell.choice[0]}"]

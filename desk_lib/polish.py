@@ -1,8 +1,8 @@
 """What may follow the rounds of `improve`: whole runs of `polish`, and slices beside them.
 
 A run of `polish` writes its roster at its end alone. So, while whole runs go on, short ones, the slices, begin with the roster
-in the file, one after the other, and each that makes it cheaper is put there. At the end the file has the cheapest roster of all;
-of equally dear ones, that of a whole run, which has the very bytes of one that is made without the desk.
+in the file, one after the other, and each that makes it cheaper is put there. At the end the file has the cheapest roster of
+all; of equally dear ones, that of a whole run, which has the very bytes of one that is made without the desk.
 """
 import contextlib
 import dataclasses
@@ -19,8 +19,8 @@ MOST_SEARCHES, SEEDS = 10_000_000, 2**32
 # Of slices: searches of the first, seconds of a further one, how much longer it may be than the one before, and how it gives
 # way to whole runs where there are too few processors. Their seeds are far from those of whole runs.
 FIRST, SECONDS, GROWTH, NICENESS, SEED_AWAY = 100, 4.0, 4, 10, 2**31
-# Where the time is given: how much of it a whole run is made for, from how many seconds on one is begun, and how long slices go on
-# before it is known how much is searched in a second.
+# Where the time is given: how much of it a whole run is made for, from how many seconds on one is begun, and how long slices go
+# on before it is known how much is searched in a second.
 SHARE, WORTHWHILE, KNOWN = 0.8, 2.0, 0.1
 
 

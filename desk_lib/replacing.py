@@ -93,6 +93,18 @@ class Replacement:
         except OSError as why:
             raise failed(self.name, why) from None
         self.beside = ""
+        # (some file systems can't)
+        with contextlib.suppress(OSError):
+            sync(os.path.dirname(self.path))
+
+
+def sync(folder: str) -> None:
+    """Has the names of a folder written to the disk."""
+    handle = os.open(folder, os.O_RDONLY)
+    try:
+        os.fsync(handle)
+    finally:
+        os.close(handle)
 
 
 def mode_of_new() -> int:
