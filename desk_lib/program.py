@@ -39,8 +39,8 @@ OnLine = typing.Callable[[bytes], None]
 class Running:
     """The program at work. Used by `with`, it doesn't go on afterwards.
 
-    The text and the output lie in memory. The program has a session of its own: Ctrl-C is the desk's alone; and it ends with
-    the desk, however that ends.
+    The text and the output lie in memory. The program has a process group of its own: Ctrl-C is the desk's alone; and it ends
+    with the desk, however that ends.
     """
 
     def __init__(self, path: str, words: list[str], text: bytes, niceness: int = 0):
@@ -49,9 +49,9 @@ class Running:
         with open(os.memfd_create("input"), "w+b") as given:
             given.write(text)
             given.seek(0)
-            how = {"stdin": given, "stdout": self.output, "stderr": subprocess.PIPE, "start_new_session": True}
+            how = {"stdin": given, "stdout": self.output, "stderr": subprocess.PIPE, "bufsize": 0}
             try:
-                self.ran = subprocess.Popen([path, *words], bufsize=0, preexec_fn=lambda: tie_to(desk, niceness), **how)
+                self.ran = subprocess.Popen([path, *words], preexec_fn=lambda: tie_to(desk, niceness), **how)
             except OSError as why:
                 raise DeskError(f"{shown(path)} can't be run: {why.strerror}; --roster names the program", 3) from None
 
@@ -102,6 +102,8 @@ def tie_to(desk: int, niceness: int) -> None:
     LIBC.prctl(SET_DEATH_SIGNAL, signal.SIGKILL)
     if os.getppid() != desk:
         os._exit(1)
+    # (with a session of its own it would be as nice as any)
+    os.setpgid(0, 0)
     os.nice(niceness)
 
 
