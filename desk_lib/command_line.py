@@ -444,7 +444,7 @@ def add_improve(commands: typing.Any) -> None:
         help="a run of polish by each seed from A to B, as many at once as there are processors; the cheapest roster is"
         " kept, and the log tells what each comes to",
     )
-    told = "searches of a slice (as many as take some 4 seconds if not given)"
+    told = "searches of a slice (as many as take some 3 seconds if not given)"
     parser.add_argument("--slice", type=searches, metavar="M", help=told)
     parser.add_argument("--log", metavar="FILE", help="write the log to this file, too; 'page --log' draws it")
     with_files(parser)

@@ -18,7 +18,7 @@ from desk_lib.texts import Texts
 MOST_SEARCHES, SEEDS = 10_000_000, 2**32
 # Of slices: searches of the first, seconds of a further one, how much longer it may be than the one before, and how it gives
 # way to whole runs where there are too few processors. Their seeds are far from those of whole runs.
-FIRST, SECONDS, GROWTH, NICENESS, SEED_AWAY = 100, 4.0, 4, 10, 2**31
+FIRST, SECONDS, GROWTH, NICENESS, SEED_AWAY = 100, 3.0, 4, 10, 2**31
 # Where the time is given: how much of it a whole run is made for, from how many seconds on one is begun, and how long slices go
 # on before it is known how much is searched in a second.
 SHARE, WORTHWHILE, KNOWN = 0.8, 2.0, 0.1
