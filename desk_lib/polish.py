@@ -21,7 +21,7 @@ MOST_SEARCHES, SEEDS = 10_000_000, 2**32
 FIRST, SECONDS, GROWTH, NICENESS, SEED_AWAY = 100, 3.0, 4, 10, 2**31
 # Where the time is given: how much of it a whole run is made for, from how many seconds on one is begun, and how long slices go
 # on before it is known how much is searched in a second.
-SHARE, WORTHWHILE, KNOWN = 0.8, 2.0, 0.1
+SHARE, WORTHWHILE, KNOWN = 0.7, 2.0, 0.1
 
 
 @dataclasses.dataclass(frozen=True)
@@ -58,8 +58,8 @@ class Polish:
         self.run, self.course = run, course
         self.least, self.word = run.total, b"settled"
         self.begun, self.slices = 0, 0
-        # (what slices have searched so far, and in how many seconds)
-        self.searched, self.seconds = 0, 0.0
+        # (how much is searched in a second, as far as it is known, and how long that was looked at)
+        self.speed, self.seconds = 0.0, 0.0
         self.ended: list[tuple[int, int, Answer]] = []
         self.jobs = selectors.DefaultSelector()
 
@@ -105,7 +105,7 @@ class Polish:
         run = self.run
         texts = run.texts() if is_slice else run.given
         words = ["polish", "--searches", str(searches), "--seed", str(seed % SEEDS), *run.first_week]
-        running = run.roster.start(words, texts.joined, NICENESS if is_slice else 0)
+        running = run.roster.start(words, texts.joined, NICENESS if is_slice and self.whole_runs() else 0)
         job = Job(number, seed % SEEDS, searches, is_slice, texts, running)
         self.jobs.register(running.ran.stderr, selectors.EVENT_READ, job)
 
@@ -131,14 +131,14 @@ class Polish:
         return seeds[-1] + self.begun + 1 - len(seeds) if self.is_open() and not self.whole_runs() else None
 
     def searches(self) -> int:
-        """How many searches the next whole run has: where the time says it, as many as slices show that it takes."""
+        """How many searches the next whole run has: where the time says it, as many as take a share of what is left."""
         if self.course.searches is not None:
             return self.course.searches
         turns = max(1, -(-(len(self.course.seeds) - self.begun) // len(os.sched_getaffinity(0))))
         seconds = self.left() / turns
         if self.seconds < KNOWN or seconds < WORTHWHILE:
             return 0
-        return min(MOST_SEARCHES, int(SHARE * seconds * self.searched / self.seconds))
+        return max(1, min(MOST_SEARCHES, int(SHARE * seconds * self.speed)))
 
     # ---- what comes
 
@@ -161,13 +161,14 @@ class Polish:
         if total < self.run.total:
             self.keep(answer, f"slice {job.number} of polish")
             self.tell(b"slice %d %d" % (job.number, total))
-        self.searched += job.searches
-        self.seconds += took
+        if not self.begun:
+            # (short ones tell too little of it, and those beside whole runs are slower)
+            self.speed, self.seconds = max(self.speed, job.searches / took), self.seconds + took
         grown = min(GROWTH * job.searches, int(SECONDS * job.searches / took), MOST_SEARCHES)
         self.start_slice(self.course.slice_ or max(1, grown))
 
     def take_whole(self, job: Job, answer: Answer) -> None:
-        total = number_of(answer.log[-1])
+        total, self.speed = number_of(answer.log[-1]), job.searches / job.seconds()
         self.ended.append((total, job.number, answer))
         if len(self.course.seeds) > 1 or self.is_open():
             self.run.progress.line(b"seed %d %d" % (job.seed, total))
