@@ -7,7 +7,7 @@ from desk_lib.texts import DeskError, shown
 WIDTH, HEIGHT, LEFT, RIGHT, TOP, BOTTOM = 720, 260, 56, 78, 24, 36
 # So far apart are texts beside each other, and below each other.
 BESIDE, BELOW = 22, 15
-LINE = re.compile(rb"(start|round|settled|stopped|kick|slice|seed|\d+)(?: (.*))? (\d+)", re.S)
+LINE = re.compile(rb"(start|round|settled|stopped|fade|kick|slice|seed|\d+)(?: (.*))? (\d+)", re.S)
 
 
 @dataclasses.dataclass(frozen=True)

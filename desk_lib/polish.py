@@ -145,7 +145,7 @@ class Polish:
     def take(self, job: Job) -> None:
         """Takes the lines that have come of a run, and its roster where it is over."""
         for line in job.running.lines():
-            if line.startswith(b"kick ") and not job.is_slice:
+            if line.startswith((b"fade ", b"kick ")) and not job.is_slice:
                 self.tell(line)
         if job.running.is_over:
             self.jobs.unregister(job.running.ran.stderr)
