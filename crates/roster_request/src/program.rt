@@ -7,8 +7,8 @@ ghost use Rattle.roster_request.specs.CommandLine.{bare, command_of, commands, f
 
 use crate::texts::{
     ABOUT, BEST, BEST_HELP, BOUND, BOUND_HELP, COST, COST_HELP, EXAMPLES, FIRST_WEEK, IMPROVE,
-    IMPROVE_HELP, KICKS_ALONE, NURSE_NAME, POLISH, POLISH_HELP, ROUND_COUNT, SEARCH_COUNT, SEED_NUMBER, SHOW,
-    SHOW_HELP, SIZES, SIZES_HELP, TEXTS,
+    IMPROVE_HELP, KICKS_ALONE, NURSE_NAME, POLISH, POLISH_HELP, ROUND_COUNT, SEARCH_COUNT,
+    SEED_NUMBER, SHOW, SHOW_HELP, SIZES, SIZES_HELP, TEXTS,
 };
 use clap::builder::ValueParser;
 use clap::{Arg, ArgAction, Command};

@@ -15,13 +15,22 @@ pub enum Command {
     Sizes,
     /// Writes the solutions with the best row of the nurse of this name put in, also where it isn't cheaper. The weeks before week
     /// `from` stay as they are.
-    Best { nurse: String, from: u16 },
+    Best {
+        nurse: String,
+        from: u16,
+    },
     /// Writes the solutions after a run of the improver of at most so many rounds. The weeks before week `from`
     /// stay as they are.
-    Improve { rounds: u16, from: u16 },
+    Improve {
+        rounds: u16,
+        from: u16,
+    },
     /// Writes a number that no roster costs less than: none that keeps the hard rules and the weeks before week `from` as they stand.
     /// It is the best that so many rounds find.
-    Bound { rounds: u16, from: u16 },
+    Bound {
+        rounds: u16,
+        from: u16,
+    },
     /// Writes the solutions after a run that settles the roster, fades it, unless `kicks` asks for kicks alone, and then kicks nurses out
     /// of their rows, again and again, as long as so many searches allow. The seed decides what each kick is, and in which order a
     /// fade takes the nurses. The weeks before week `from` stay as they are.

@@ -36,12 +36,7 @@ const END: &str = "settled 0\n";
 const FADED: &str = "start 70\nfade 0\nsettled 0\n";
 
 /// The status of a run over them by a seed, with kicks alone or with a fade, and what a log with so much room has then.
-fn run_by(
-    alloc: Global,
-    seed: u32,
-    kicks: bool,
-    room: usize,
-) -> Result<(u8, Vec<u8>), AllocError> {
+fn run_by(alloc: Global, seed: u32, kicks: bool, room: usize) -> Result<(u8, Vec<u8>), AllocError> {
     let request = Request {
         command: Command::Polish {
             searches: if kicks { 300 } else { 100 },
@@ -58,10 +53,7 @@ fn run_by(
     let mut output = Watch::new(ShortWriter::new(&mut output_room, AtEnd::Fail));
     let mut log = Watch::new(ShortWriter::new(log_room, AtEnd::Fail));
     let status = run(alloc, &request, &mut input, &mut output, &mut log);
-    Ok((
-        status,
-        Vec::from_slice(alloc, log.into_inner().written())?,
-    ))
+    Ok((status, Vec::from_slice(alloc, log.into_inner().written())?))
 }
 
 #[test]

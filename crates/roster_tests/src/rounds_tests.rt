@@ -179,7 +179,14 @@ fn nurses_who_are_known_take_no_search(rt: HostRuntime) -> Result<(), Fail> {
     for searched in [true, false] {
         for nurse in 0..2 {
             let before = meter.count();
-            let step = step_unless_known(&mut held, nurse, 0, &mut workspace, &mut last, &mut meter);
+            let step = step_unless_known(
+                &mut held,
+                nurse,
+                0,
+                &mut workspace,
+                &mut last,
+                &mut meter,
+            );
             assert!(rt; !step.changed, "{nurse}");
             assert!(rt; (meter.count() > before) == searched, "{nurse} {searched}");
         }
