@@ -45,7 +45,7 @@ fn command_of(plan: &Plan) -> Command
     ensures cost { (bundles : ℕ) → plan.now.work ≡ work.Cost bundles → result ≡ command.Cost }
     ensures improve { (rounds : ℕ) → plan.now.work ≡ work.Improve rounds → result ≡ command.Improve rounds 0 }
     ensures bound { (rounds : ℕ) → plan.now.work ≡ work.Bound rounds → result ≡ command.Bound rounds 0 }
-    ensures polish { (searches : ℕ) → plan.now.work ≡ work.Polish searches → result ≡ command.Polish searches plan.now.size.seed 0 false }
+    ensures polish { (searches : ℕ) → plan.now.work ≡ work.Polish searches → result ≡ command.Polish searches plan.now.size.seed 0 true }
 {
     match plan.work {
         Work::Show { .. } => Command::Show,
@@ -56,7 +56,7 @@ fn command_of(plan: &Plan) -> Command
             searches,
             seed: plan.size.seed,
             from: 0,
-            kicks: false,
+            kicks: true,
         },
     }
 }
