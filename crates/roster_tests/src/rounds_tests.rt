@@ -1,5 +1,7 @@
 //! A step and runs of the improver.
 
+ghost use Rattle.roster_best.specs.Known.{IsKnown};
+
 use crate::best_tests::{ready, row_of};
 use crate::texts::{RUN_LOG, fill};
 use roster_best::{LastSearches, Workspace, most_steps};
@@ -159,37 +161,47 @@ fn the_same_run_with_fewer_searches(rt: HostRuntime) -> Result<(), Fail> {
     Ok(())
 }
 
+/// Whether a nurse's step takes a search; none where it changes the roster, or cannot be made.
+fn takes_search(
+    held: &mut Held,
+    nurse: usize,
+    workspace: &mut Workspace,
+    last: &mut LastSearches,
+    meter: &mut Meter,
+) -> Option<bool>
+    requires { IsKnown held.old.case last.old }
+    ensures { IsKnown held.new.case last.new }
+{
+    let can_search = nurse < held.case().nurses() && workspace.fits(held.case());
+    if !can_search || meter.room() < most_steps(held.case(), nurse) {
+        return None;
+    }
+    let before = meter.count();
+    let step = step_unless_known(held, nurse, 0, workspace, last, meter);
+    if step.changed {
+        return None;
+    }
+    Some(meter.count() > before)
+}
+
 #[test]
 fn nurses_who_are_known_take_no_search(rt: HostRuntime) -> Result<(), Fail> {
     let alloc = rt.alloc();
     let mut log_room = [0; 80];
     let mut log = Watch::new(ShortWriter::new(&mut log_room, AtEnd::Fail));
-    let (mut held, mut meter, ended) = run(alloc, &mut log)?;
-    let settled = ended.is_ok() && held.case().nurses() == 2;
-    let (Ok(mut workspace), Ok(mut last)) = (
-        Workspace::for_case(alloc, held.case()),
-        LastSearches::for_case(alloc, held.case()),
-    ) else {
-        return Err(Fail::new("no space"));
+    let (mut held, mut meter, _) = run(alloc, &mut log)?;
+    let Ok(mut workspace) = Workspace::for_case(alloc, held.case()) else {
+        return Err(Fail::new("no workspace"));
     };
-    if !settled || meter.room() < most_extensions(held.case(), 2) {
-        return Err(Fail::new("no room"));
-    }
+    let Ok(mut last) = LastSearches::for_case(alloc, held.case()) else {
+        return Err(Fail::new("no room for what searches tell"));
+    };
     // The first search for a nurse tells that no row is cheaper, and as long as no row changes, that is known.
-    for searched in [true, false] {
-        for nurse in 0..2 {
-            let before = meter.count();
-            let step = step_unless_known(
-                &mut held,
-                nurse,
-                0,
-                &mut workspace,
-                &mut last,
-                &mut meter,
-            );
-            assert!(rt; !step.changed, "{nurse}");
-            assert!(rt; (meter.count() > before) == searched, "{nurse} {searched}");
-        }
-    }
+    let ann = takes_search(&mut held, 0, &mut workspace, &mut last, &mut meter);
+    let bob = takes_search(&mut held, 1, &mut workspace, &mut last, &mut meter);
+    assert!(rt; ann == Some(true) && bob == Some(true));
+    let ann = takes_search(&mut held, 0, &mut workspace, &mut last, &mut meter);
+    let bob = takes_search(&mut held, 1, &mut workspace, &mut last, &mut meter);
+    assert!(rt; ann == Some(false) && bob == Some(false));
     Ok(())
 }
