@@ -221,7 +221,8 @@ it needs, in up to 1,000,000 rounds. After it the run takes at most as many as
 for the fade, and what is left for kicks. With --kicks it is up to a half to find
 prices, and the others for kicks. With --searches 0 there is neither. The same
 texts, --searches, --seed, --kicks and --from give the same rosters. It pays to
-try several seeds.
+try several seeds. A run that is ended by Ctrl-C leaves no rosters, as they are
+written at its end.
 
 With --from V the weeks 0 to V - 1 are frozen: each nurse's days in them stay as
 they stand. All weeks are read, and count for what the roster costs. Where V is
