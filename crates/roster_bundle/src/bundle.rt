@@ -243,6 +243,13 @@ pub struct Request {
     pub day: Day,
 }
 
+/// An absence: a nurse doesn't work on a day.
+#[derive(Clone, Copy)]
+pub struct Absence {
+    pub nurse: Token,
+    pub day: Day,
+}
+
 /// What one week asks for.
 #[derive(Drop)]
 pub struct WeekData {
@@ -251,6 +258,8 @@ pub struct WeekData {
     pub off_requests: Listed<Request>,
     /// The wishes to work, where the week has their section.
     pub on_requests: Option<Listed<Request>>,
+    /// The absences, where the week has their section.
+    pub absences: Option<Listed<Absence>>,
 }
 
 /// A nurse works a shift with a skill on a day.

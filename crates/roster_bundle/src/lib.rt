@@ -6,8 +6,9 @@ mod token;
 mod view;
 
 pub use bundle::{
-    Assignment, Bundle, Contract, Day, History, Items, Listed, Number, Nurse, NurseHistory, Pair,
-    Request, Requirement, Scenario, ShiftType, Solution, Succession, WeekData, WeekPairs,
+    Absence, Assignment, Bundle, Contract, Day, History, Items, Listed, Number, Nurse,
+    NurseHistory, Pair, Request, Requirement, Scenario, ShiftType, Solution, Succession, WeekData,
+    WeekPairs,
 };
 pub use token::Token;
 pub use view::SolutionView;

@@ -9,6 +9,7 @@ pub mod WeekTableLemmas
 pub mod HistoryLemmas
 pub mod PutRows
 pub mod RequestLemmas
+pub mod AbsenceLemmas
 pub mod FlagLemmas
 pub mod ScenarioLemmas
 mod CaseLemmas

@@ -20,7 +20,7 @@ use Rattle.roster_instance.proofs.TableLemmas.{is_at-other, is_at-same}
 -- ---- lists made by numbers
 
 module _ {X : Type 0} (n : ℕ) where
-  all_alike : (x : X) → replicate n x ≡ map (λ _. x) (range_with_len 0 n)
+  pub all_alike : (x : X) → replicate n x ≡ map (λ _. x) (range_with_len 0 n)
   all_alike x = fill_by_all (λ _. x) (replicate n x) n x (length-replicate n x) (λ k within. get_or-replicate n k x x within)
 
   list_alike : (f g : ℕ → X) (d : X) → ((i : ℕ) → f i ≡ g i) → map f (range_with_len 0 n) ≡ map g (range_with_len 0 n)
@@ -28,7 +28,7 @@ module _ {X : Type 0} (n : ℕ) where
       (λ i within. get_or-map-range_with_len f 0 n i i d within (omega arith) ∙ same i)
 
   -- the element at p is written
-  element-written : (f g : ℕ → X) (p : ℕ) (x : X) → x ≡ g p → ((i : ℕ) → i ≢ p → g i ≡ f i) → map g (range_with_len 0 n) ≡ set (map f (range_with_len 0 n)) p x
+  pub element-written : (f g : ℕ → X) (p : ℕ) (x : X) → x ≡ g p → ((i : ℕ) → i ≢ p → g i ≡ f i) → map g (range_with_len 0 n) ≡ set (map f (range_with_len 0 n)) p x
   element-written f g p x here elsewhere = sym (fill_by_all g (set list p x) n x (length-set list p x ∙ count) (λ i within. at i within (cases_eq i p)))
     where
       list : List X

@@ -2,6 +2,7 @@
 -- line stands, are our profile).
 use Rattle.std.specs.Prelude.{ℕ, ◌+◌, ◌*◌, ◌/◌, ◌%◌, Bool, not, ◌&&◌, ◌==◌, if◌then◌else◌, List, [], ◌∷◌, length, map, codes, Option, Some, None, option_and_then, option_map, slice_index_or, unwrap_or}
 use Rattle.std.specs.List.{list_any, range_with_len}
+use Rattle.roster_bundle.specs.declared.bundle.Absence.{Absence}
 use Rattle.roster_bundle.specs.declared.bundle.Assignment.{Assignment}
 use Rattle.roster_bundle.specs.declared.bundle.Bundle.{Bundle}
 use Rattle.roster_bundle.specs.declared.bundle.Contract.{Contract}
@@ -125,17 +126,28 @@ requests_at source nurses shifts qs p = record {
 unfoldable pub requests_meant : List ℕ → Names → Names → List Request → List DayRequests
 requests_meant source nurses shifts qs = map (requests_at source nurses shifts qs) (range_with_len 0 (7 * length nurses))
 
+-- for each nurse and weekday whether a line has them
+abbrev pub place_of_absence : List ℕ → Names → Absence → Option ℕ
+place_of_absence source nurses a = option_map (λ n. 7 * n + weekday a.day) (found source nurses a.nurse)
+
+abbrev pub has_line : List ℕ → Names → List Absence → ℕ → Bool
+has_line source nurses lines p = list_any (λ a. is_at p (place_of_absence source nurses a)) lines
+
+unfoldable pub absences_meant : List ℕ → Names → List Absence → List Bool
+absences_meant source nurses lines = map (has_line source nurses lines) (range_with_len 0 (7 * length nurses))
+
 -- the lines of a section that may be absent: without it there are none
 abbrev pub lines_of : {T : Type 0} → Option (Listed T) → List T
 lines_of None = []
 lines_of (Some section) = section.items
 
--- a week: its needs and its requests
+-- a week: its needs, its requests and its absences
 abbrev pub week_meant : List ℕ → Names → Names → Names → WeekData → WeekFacts
 week_meant source shifts skills nurses w = record {
   needs = needs_meant source shifts skills w.requirements;
   off_requests = requests_meant source nurses shifts w.off_requests.items;
   wishes = requests_meant source nurses shifts (lines_of w.on_requests);
+  absences = absences_meant source nurses (lines_of w.absences);
 }
 
 -- ---- the case

@@ -17,11 +17,12 @@ pub record NurseFacts : Type 0 where
   pub skills : List Skill
 
 -- a week: at place 8 s + k the requirements of shift s and skill k from Monday to Sunday, where a line has them; at place
--- 7 n + w what the off requests of nurse n for weekday w name, and what the wishes to work name
+-- 7 n + w what the off requests of nurse n for weekday w name, what the wishes to work name, and whether the nurse is absent
 pub record WeekFacts : Type 0 where
   pub needs : List (Option (List Limits))
   pub off_requests : List DayRequests
   pub wishes : List DayRequests
+  pub absences : List Bool
 
 -- `runs` has the days in a row of each shift; `successions`, for each shift that has such a line, which shifts may not
 -- follow; `past` what stands in the history of each nurse
@@ -81,7 +82,7 @@ abbrev pub no_requests : DayRequests
 no_requests = record { any = false; shifts = replicate 8 false }
 
 abbrev pub no_week : WeekFacts
-no_week = record { needs = []; off_requests = []; wishes = [] }
+no_week = record { needs = []; off_requests = []; wishes = []; absences = [] }
 
 -- how many days in a row a shift is to be worked
 abbrev pub run_of_shift : Meaning → ℕ → Limits
@@ -137,6 +138,10 @@ has_wish c n d s = slice_index_or (wishes_of c n d).shifts s false
 -- a wish to work names this nurse and day, and `Any` for the shift
 abbrev pub has_wish_for_any : Meaning → ℕ → ℕ → Bool
 has_wish_for_any c n d = (wishes_of c n d).any
+
+-- the nurse is absent on the day
+abbrev pub is_absent : Meaning → ℕ → ℕ → Bool
+is_absent c n d = slice_index_or (week_of c d).absences (7 * n + d % 7) false
 
 -- ---- the history (profile: of a line whose last shift is `None` only the days off count, else only the two other runs)
 

@@ -1,15 +1,15 @@
-//! The data of the weeks: requirements, off requests and wishes to work.
+//! The data of the weeks: requirements, off requests, wishes to work, and absences.
 
 ghost use Rattle.std.specs.Prelude.{◌≡◌, ◌*◌, ◌<◌, ℕ, List, [], IfOk, IfErr, OnOk, codes, false, flat_map, length, map, replicate, slice_index_or, slice_set, true};
 ghost use Rattle.std.specs.Option.{option_map_or};
 ghost use Rattle.roster_bundle.specs.Weekdays.{weekday};
 ghost use Rattle.roster_bundle.specs.declared.bundle.WeekData.{WeekData};
 ghost use Rattle.roster_instance.specs.CaseParts.{known_of};
-ghost use Rattle.roster_instance.specs.Bundles.{limits_of_week, lines_of, needs_meant, requests_meant, week_meant};
+ghost use Rattle.roster_instance.specs.Bundles.{absences_meant, limits_of_week, lines_of, needs_meant, requests_meant, week_meant};
 ghost use Rattle.roster_instance.specs.Checking.{IsFirst};
 ghost use Rattle.roster_instance.specs.Faults.{each};
 ghost use Rattle.roster_instance.specs.Meaning.{no_limits, no_requests};
-ghost use Rattle.roster_instance.specs.Refusals.{Known, request_faults, requirement_faults, week_faults};
+ghost use Rattle.roster_instance.specs.Refusals.{Known, absence_faults, request_faults, requirement_faults, week_faults};
 
 use crate::fault::CaseFault;
 use crate::history::check_instance;
@@ -17,15 +17,17 @@ use crate::rules::{DayRequests, Limits};
 use crate::scenario::{Scenario, limits_of};
 use crate::section::{Section, add_all};
 use crate::table::Table;
-use roster_bundle::{Day, Listed, Request, Requirement, WeekData, WeekPairs};
+use roster_bundle::{Absence, Day, Listed, Request, Requirement, WeekData, WeekPairs};
 use std::alloc::{AllocError, Global};
 use std::marker::Model;
 
-/// A week: what each shift and skill needs, and what the off requests and the wishes of each nurse name on each weekday.
+/// A week: what each shift and skill needs, and for each nurse and weekday what the off requests and the wishes name, and
+/// whether the nurse is absent.
 pub(crate) struct Week {
     needs: Table<[Limits; 7]>,
     off_requests: Vec<DayRequests>,
     wishes: Vec<DayRequests>,
+    absences: Vec<bool>,
 }
 
 // By hand, so that who lets a week go has one call to prove.
@@ -35,6 +37,7 @@ impl Drop for Week {
             needs: _,
             off_requests: _,
             wishes: _,
+            absences: _,
         } = self;
     }
 }
@@ -44,7 +47,7 @@ impl Model for Week {
 
     ghost Value = { WeekFacts };
 
-    ghost view = { λ w. record { needs = w.needs; off_requests = w.off_requests.items; wishes = w.wishes.items } };
+    ghost view = { λ w. record { needs = w.needs; off_requests = w.off_requests.items; wishes = w.wishes.items; absences = w.absences.items } };
 }
 
 impl Week {
@@ -78,6 +81,16 @@ impl Week {
         match self.wishes.get(place) {
             Some(requests) => *requests,
             None => DayRequests::default(),
+        }
+    }
+
+    /// Whether a place has an absence.
+    pub(crate) fn is_absent(&self, place: usize) -> bool
+        ensures { result ≡ slice_index_or self.now.absences place false }
+    {
+        match self.absences.get(place) {
+            Some(absent) => *absent,
+            None => false,
         }
     }
 }
@@ -247,13 +260,72 @@ fn requests_of(
 }
 
 /// The lines of a section that may be absent.
-fn lines_of(section: &Option<Listed<Request>>) -> &[Request]
+fn lines_of<T>(section: &Option<Listed<T>>) -> &[T]
     ensures { result.now ≡ lines_of section.now }
 {
     match section {
         Some(section) => section.items.as_slice(),
         None => &[],
     }
+}
+
+// ---- absences
+
+#[derive(Drop)]
+struct AbsenceSection<'a> {
+    source: &'a [u8],
+    scenario: &'a Scenario,
+    absences: Vec<bool>,
+}
+
+impl<'a> Section<Absence> for AbsenceSection<'a> {
+    ghost About = { Known };
+
+    ghost about = { λ s. known_of s.source.now s.scenario.now };
+
+    ghost faults = { λ k earlier a. absence_faults k.source k.nurses a };
+
+    ghost built = { λ s earlier. s.absences.items ≡ absences_meant s.source.now s.scenario.now.nurses earlier };
+
+    fn add(&mut self, absence: &Absence) -> Result<(), CaseFault> {
+        let nurse = self.scenario.nurses.number(self.source, absence.nurse)?;
+        mark_absent(&mut self.absences, 7 * nurse + weekday(absence.day));
+        Ok(())
+    }
+}
+
+fn mark_absent(absences: &mut [bool], place: usize)
+    ensures { absences.new ≡ slice_set absences.old place true }
+{
+    if place < absences.len() {
+        absences[place] = true;
+    }
+}
+
+/// So many places without an absence.
+fn no_absences(alloc: Global, places: usize) -> Result<Vec<bool>, AllocError>
+    ensures { IfOk result (λ absences. absences.items ≡ replicate places false) }
+{
+    vec![in alloc; false; places]
+}
+
+fn absences_of(
+    alloc: Global,
+    source: &[u8],
+    scenario: &Scenario,
+    lines: &[Absence],
+) -> Result<Vec<bool>, CaseFault>
+    ensures meant { IfOk result (λ absences. absences.items ≡ absences_meant source.now scenario.now.nurses lines.now) }
+    ensures none { OnOk result (flat_map (absence_faults source.now scenario.now.nurses) lines.now ≡ []) }
+    ensures first { IfErr result (IsFirst (flat_map (absence_faults source.now scenario.now.nurses) lines.now)) }
+{
+    let mut section = AbsenceSection {
+        source,
+        scenario,
+        absences: no_absences(alloc, 7 * scenario.nurses.len())?,
+    };
+    add_all(&mut section, lines)?;
+    Ok(section.absences)
 }
 
 // ---- weeks
@@ -295,10 +367,17 @@ impl<'a> Section<WeekData> for WeekSection<'a> {
             self.scenario,
             lines_of(&week.on_requests),
         )?;
+        let absences = absences_of(
+            self.alloc,
+            self.source,
+            self.scenario,
+            lines_of(&week.absences),
+        )?;
         self.weeks.push(Week {
             needs,
             off_requests,
             wishes,
+            absences,
         })?;
         Ok(())
     }
