@@ -1,18 +1,19 @@
 -- The hard rules (INRC-II), and the list of their breaches in order: missing nurses by day, shift and skill; then
 -- forbidden successions by nurse and day, also from the history's last shift to day 0 (profile); then skills that a nurse
--- lacks, by nurse and day. That a nurse works one shift a day holds of each roster by its form.
-use Rattle.std.specs.Prelude.{◌≡◌, ℕ, ◌-◌, Bool, true, not, ◌==◌, nat_lt, List, [], ◌++◌, if◌then◌else◌, Option}
+-- lacks, by nurse and day; then work of absent nurses, by nurse and day (our own). That a nurse works one shift a day holds
+-- of each roster by its form.
+use Rattle.std.specs.Prelude.{◌≡◌, ℕ, ◌-◌, Bool, true, not, ◌&&◌, ◌==◌, nat_lt, List, [], ◌++◌, if◌then◌else◌, Option}
 use Rattle.std.specs.List.{list_any}
 use Rattle.roster_instance.specs.declared.choice.Choice.{Choice}
 use Rattle.roster_instance.specs.declared.choice.Choice.TheVariants.{Off, Work}
 use Rattle.roster_instance.specs.declared.choice.Shift.{Shift}
 use Rattle.roster_instance.specs.declared.choice.Skill.{Skill}
 use Rattle.roster_rules.specs.declared.fault.HardFault.{HardFault}
-use Rattle.roster_rules.specs.declared.fault.HardFault.TheVariants.{H2, H3, H4}
+use Rattle.roster_rules.specs.declared.fault.HardFault.TheVariants.{H2, H3, H4, Absent}
 use Rattle.roster_instance.specs.Counting.{all_below}
 use Rattle.roster_instance.specs.Days.{Days, shift_on}
 use Rattle.roster_instance.specs.Faults.{fault_if, below, is_none_of}
-use Rattle.roster_instance.specs.Meaning.{Meaning, day_count, forbids, shift_count, skill_count, nurse_count, shift_at, skill_at, nurse_at, past_of, last_shift, minimum}
+use Rattle.roster_instance.specs.Meaning.{Meaning, day_count, forbids, is_absent, shift_count, skill_count, nurse_count, shift_at, skill_at, nurse_at, past_of, last_shift, minimum}
 use Rattle.roster_instance.specs.Rosters.{Row, Rows, choice_on, row_of, days_of_nurse, cover}
 
 -- the shift before a day: on day 0 the history's last
@@ -24,7 +25,16 @@ abbrev pub is_able : List Skill → Choice → Bool
 is_able skills Off = true
 is_able skills (Work s k) = list_any (λ own. own.0 == k.0) skills
 
--- ---- a nurse's row: a day that breaks the successions, a day that the nurse is able to work so, and both over m days
+-- who is absent on a day doesn't work
+abbrev pub is_here : Meaning → ℕ → ℕ → Choice → Bool
+is_here c n d Off = true
+is_here c n d (Work s k) = not (is_absent c n d)
+
+-- the nurse may do so on the day, by skills and absences
+abbrev pub may_take : Meaning → ℕ → ℕ → Choice → Bool
+may_take c n d choice = is_able (nurse_at c n).skills choice && is_here c n d choice
+
+-- ---- a nurse's row: a day that breaks the successions, a day that the nurse is able and here to work so, and each over m days
 
 abbrev pub breaks_succession : Meaning → ℕ → Days → ℕ → Bool
 breaks_succession c n days d = forbids c.successions (shift_before (last_shift (past_of c n).border) days d) (shift_on days d)
@@ -39,6 +49,13 @@ is_able_on c n row d = is_able (nurse_at c n).skills (choice_on row d)
 -- on each of m days the nurse has the skill
 abbrev pub keeps_skills : Meaning → ℕ → Row → ℕ → Bool
 keeps_skills c n row m = all_below m (is_able_on c n row)
+
+abbrev pub is_here_on : Meaning → ℕ → Row → ℕ → Bool
+is_here_on c n row d = is_here c n d (choice_on row d)
+
+-- none of m days is worked in an absence
+abbrev pub keeps_absences : Meaning → ℕ → Row → ℕ → Bool
+keeps_absences c n row m = all_below m (is_here_on c n row)
 
 -- ---- the breaches
 
@@ -64,9 +81,16 @@ skill_fault c r n d = fault_if (not (is_able_on c n (row_of r n) d)) (H4 n d)
 abbrev pub skill_faults : Meaning → Rows → List HardFault
 skill_faults c r = below (nurse_count c) (λ n. below (day_count c) (λ d. skill_fault c r n d))
 
+abbrev pub absence_fault : Meaning → Rows → ℕ → ℕ → List HardFault
+absence_fault c r n d = fault_if (not (is_here_on c n (row_of r n) d)) (Absent n d)
+
+-- work of absent nurses, by nurse and day
+abbrev pub absence_faults : Meaning → Rows → List HardFault
+absence_faults c r = below (nurse_count c) (λ n. below (day_count c) (λ d. absence_fault c r n d))
+
 -- all breaches in order
 unfoldable pub hard_faults : Meaning → Rows → List HardFault
-hard_faults c r = staffing_faults c r ++ succession_faults c r ++ skill_faults c r
+hard_faults c r = staffing_faults c r ++ succession_faults c r ++ skill_faults c r ++ absence_faults c r
 
 -- as a test
 abbrev pub keeps_hard : Meaning → Rows → Bool

@@ -27,4 +27,10 @@ pub enum HardFault {
         nurse: usize,
         day: u16,
     },
+    /// The nurse is absent on a day of work.
+    #[error("work of absent nurse {nurse} on day {day}")]
+    Absent {
+        nurse: usize,
+        day: u16,
+    },
 }

@@ -15,7 +15,7 @@ mod rows;
 pub mod weights;
 mod wishes;
 
-pub use able::{is_able, last_shift};
+pub use able::{is_able, is_here, last_shift, may_take};
 pub use fault::HardFault;
 pub use laws::{runs_grow_by_a_day, runs_of_a_row_grow_by_a_day, weekends_grow_by_a_day};
 pub use penalties::Costs;
