@@ -6,7 +6,7 @@ use Rattle.roster_rules.specs.AllowedRows.{keeps_frozen_day, keeps_frozen_days}
 use Rattle.roster_instance.specs.Choices.{days_of}
 use Rattle.roster_instance.specs.Counting.{all_below}
 use Rattle.roster_instance.specs.Faults.{below, fault_if, is_none_of}
-use Rattle.roster_rules.specs.HardRules.{breaks_succession, hard_faults, is_able_on, keeps_hard, keeps_skills, keeps_successions, skill_faults, staffing_faults, succession_faults}
+use Rattle.roster_rules.specs.HardRules.{absence_faults, breaks_succession, hard_faults, is_able_on, is_here_on, keeps_absences, keeps_hard, keeps_skills, keeps_successions, may_take, skill_faults, staffing_faults, succession_faults}
 use Rattle.roster_instance.specs.Meaning.{Meaning, day_count, nurse_count, shift_count, skill_count, minimum}
 use Rattle.roster_instance.specs.Rosters.{Row, Rows, choice_on, cover, days_of_nurse, row_of, with_row}
 use Rattle.roster_laws.specs.OneRow.{is_offered_row, is_open, is_open_row, keeps_by_parts, others}
@@ -40,8 +40,10 @@ not_not false = refl
 pub keeps_hard-parts : (c : Meaning) (r : Rows) → keeps_hard c r ≡ keeps_by_parts c r
 unfolding hard_faults
 keeps_hard-parts c r =
-    none_of_both (staffing_faults c r ++ succession_faults c r) (skill_faults c r)
-    ∙ ap₂ (λ a b. a && b) (none_of_both (staffing_faults c r) (succession_faults c r) ∙ ap₂ (λ a b. a && b) minimums successions) skills
+    none_of_both (staffing_faults c r ++ succession_faults c r ++ skill_faults c r) (absence_faults c r)
+    ∙ ap₂ (λ a b. a && b)
+    (none_of_both (staffing_faults c r ++ succession_faults c r) (skill_faults c r)
+    ∙ ap₂ (λ a b. a && b) (none_of_both (staffing_faults c r) (succession_faults c r) ∙ ap₂ (λ a b. a && b) minimums successions) skills) absences
   where
     minimums : is_none_of (staffing_faults c r) ≡ all_below (day_count c) (λ d. meets c d (cover r d))
     minimums = none_below (day_count c) _ _ (λ d. none_below (shift_count c) _ _ (λ s. none_below (skill_count c) _ _ (λ k. none_where_not (nat_lt (cover r d s k) (minimum c d s k)) _)))
@@ -52,18 +54,21 @@ keeps_hard-parts c r =
     skills : is_none_of (skill_faults c r) ≡ all_below (nurse_count c) (λ n. keeps_skills c n (row_of r n) (day_count c))
     skills = none_below (nurse_count c) _ _ (λ n. none_below (day_count c) _ _ (λ d. none_where_not _ _ ∙ not_not (is_able_on c n (row_of r n) d)))
 
+    absences : is_none_of (absence_faults c r) ≡ all_below (nurse_count c) (λ n. keeps_absences c n (row_of r n) (day_count c))
+    absences = none_below (nurse_count c) _ _ (λ n. none_below (day_count c) _ _ (λ d. none_where_not _ _ ∙ not_not (is_here_on c n (row_of r n) d)))
+
 -- ---- one row replaced
 
-and_turned : (m f a : Bool) → (m && f && a) ≡ ((a && m) && f)
-and_turned true true a = and_true a
-  where
-    and_true : (b : Bool) → b ≡ (b && true && true)
-    and_true true = refl
-    and_true false = refl
-and_turned true false true = refl
-and_turned true false false = refl
-and_turned false f true = refl
-and_turned false f false = refl
+and_turned : (m f a h : Bool) → (m && f && a && h) ≡ (((a && h) && m) && f)
+and_turned true true true true = refl
+and_turned true true true false = refl
+and_turned true true false h = refl
+and_turned true false true true = refl
+and_turned true false true false = refl
+and_turned true false false h = refl
+and_turned false f true true = refl
+and_turned false f true false = refl
+and_turned false f false h = refl
 
 module _ (c : Meaning) (r : Rows) (keeps : keeps_hard c r ≡ true) (n : ℕ) (within : n < length r) (inside : n < nurse_count c) (row : Row) where
   -- a rule of each nurse, which the others keep already
@@ -77,11 +82,13 @@ module _ (c : Meaning) (r : Rows) (keeps : keeps_hard c r ≡ true) (n : ℕ) (w
       let D = day_count c in
       let met : ℕ → Bool = λ d. meets c d (with_choice (others r n d) (choice_on row d)) in
       let rules = and_parts _ _ (sym (keeps_hard-parts c r) ∙ keeps) in
-      let each = and_parts _ _ rules.0 in
+      let three = and_parts _ _ rules.0 in
+      let each = and_parts _ _ three.0 in
       keeps_hard-parts c (with_row r n row)
-      ∙ (λ i. all_below D (λ d. meets c d (λ s k. cover-with_row r n within row d s k i)) && of_one (λ m own. keeps_successions c m (days_of own) D) each.1 i && of_one (λ m own. keeps_skills c m own D) rules.1 i)
-      ∙ and_turned (all_below D met) (keeps_successions c n (days_of row) D) (keeps_skills c n row D)
-      ∙ ap (λ b. b && keeps_successions c n (days_of row) D) (sym (all_both D (is_able_on c n row) met))
+      ∙ (λ i. all_below D (λ d. meets c d (λ s k. cover-with_row r n within row d s k i)) && of_one (λ m own. keeps_successions c m (days_of own) D) each.1 i && of_one (λ m own. keeps_skills c m own D) three.1 i && of_one (λ m own. keeps_absences c m own D) rules.1 i)
+      ∙ and_turned (all_below D met) (keeps_successions c n (days_of row) D) (keeps_skills c n row D) (keeps_absences c n row D)
+      ∙ ap (λ b. (b && all_below D met) && keeps_successions c n (days_of row) D) (sym (all_both D (is_able_on c n row) (is_here_on c n row)))
+      ∙ ap (λ b. b && keeps_successions c n (days_of row) D) (sym (all_both D (λ d. may_take c n d (choice_on row d)) met))
       ∙ sym (all_both D (λ d. is_open c r n d (choice_on row d)) (λ d. not (breaks_succession c n (days_of row) d)))
 
   -- ---- and keeps the frozen days: where each choice is offered

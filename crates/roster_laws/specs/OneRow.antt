@@ -3,10 +3,10 @@ use Rattle.std.specs.Prelude.{ℕ, ◌+◌, Bool, not, ◌&&◌, ◌==◌, [], l
 use Rattle.roster_instance.specs.declared.choice.Choice.{Choice}
 use Rattle.roster_instance.specs.Choices.{days_of, shift_of}
 use Rattle.roster_instance.specs.Counting.{all_below, sum_below}
-use Rattle.roster_instance.specs.Meaning.{Meaning, day_count, nurse_at, nurse_count}
+use Rattle.roster_instance.specs.Meaning.{Meaning, day_count, nurse_count}
 use Rattle.roster_instance.specs.Rosters.{Row, Rows, choice_on, cover, days_of_nurse, row_of, with_row}
 use Rattle.roster_rules.specs.AllowedRows.{keeps_frozen_day}
-use Rattle.roster_rules.specs.HardRules.{breaks_succession, is_able, keeps_skills, keeps_successions}
+use Rattle.roster_rules.specs.HardRules.{breaks_succession, keeps_absences, keeps_skills, keeps_successions, may_take}
 use Rattle.roster_rules.specs.Penalties.{nurse_cost, request_cost_on, staffing_cost_by}
 use Rattle.roster_laws.specs.Staffing.{meets, with_choice}
 
@@ -30,16 +30,17 @@ prices c r n row = sum_below (length row) (λ d. price c r n d (choice_on row d)
 
 -- ---- the hard rules
 
--- no minimum is missed, and the row of each nurse keeps the successions and the skills
+-- no minimum is missed, and the row of each nurse keeps the successions, the skills and the absences
 abbrev pub keeps_by_parts : Meaning → Rows → Bool
 keeps_by_parts c r =
     all_below (day_count c) (λ d. meets c d (cover r d))
     && all_below (nurse_count c) (λ n. keeps_successions c n (days_of_nurse r n) (day_count c))
     && all_below (nurse_count c) (λ n. keeps_skills c n (row_of r n) (day_count c))
+    && all_below (nurse_count c) (λ n. keeps_absences c n (row_of r n) (day_count c))
 
--- a choice is open where the nurse has the skill, and no minimum of the day is missed with it
+-- a choice is open where the nurse has the skill and isn't absent, and no minimum of the day is missed with it
 abbrev pub is_open : Meaning → Rows → ℕ → ℕ → Choice → Bool
-is_open c r n d choice = is_able (nurse_at c n).skills choice && meets c d (with_choice (others r n d) choice)
+is_open c r n d choice = may_take c n d choice && meets c d (with_choice (others r n d) choice)
 
 -- each choice of a row is open on its day, and may follow the one before it
 abbrev pub is_open_row : Meaning → Rows → ℕ → Row → ℕ → Bool
