@@ -2,17 +2,18 @@
 
 ghost use Rattle.std.specs.Prelude.{◌≡◌, ◌<◌, true, nat_lt, Option};
 ghost use Rattle.roster_instance.specs.Faults.{below, fault_if, first_fault};
-ghost use Rattle.roster_rules.specs.HardRules.{hard_faults, shift_before, skill_fault, skill_faults, staffing_fault, staffing_faults, succession_fault, succession_faults};
+ghost use Rattle.roster_rules.specs.HardRules.{absence_fault, absence_faults, hard_faults, shift_before, skill_fault, skill_faults, staffing_fault, staffing_faults, succession_fault, succession_faults};
 ghost use Rattle.roster_rules.specs.declared.fault.HardFault.TheVariants.{H2};
 ghost use Rattle.roster_instance.specs.Meaning.{day_count, nurse_at, nurse_count, past_of, shift_at, shift_count, skill_at, skill_count, forbids, minimum};
 ghost use Rattle.roster_instance.specs.Rosters.{choice_on, cover, days_of_nurse, fits_case, row_of};
 
 use crate::staffing::{covers, place};
 use roster_instance::{Case, Roster, Shift, Skill};
-use roster_rules::{HardFault, is_able, last_shift};
+use roster_rules::{HardFault, is_able, is_here, last_shift};
 
 /// The first breach of the hard rules: first too few nurses, by day, shift and skill; then forbidden successions, by nurse and
-/// day; then skills that a nurse lacks, by nurse and day. None where the roster keeps them all.
+/// day; then skills that a nurse lacks, by nurse and day; then work of absent nurses, by nurse and day. None where the roster
+/// keeps them all.
 #[tactic(auto, using(roster_rules::proofs::HardLemmas::first_fault_of_both), unfolding(roster_rules::specs::HardRules::hard_faults))]
 pub fn first_hard(case: &Case, roster: &Roster) -> Option<HardFault>
     requires { fits_case case.now roster.now ≡ true }
@@ -22,7 +23,10 @@ pub fn first_hard(case: &Case, roster: &Roster) -> Option<HardFault>
         Some(fault) => Some(fault),
         None => match first_succession(case, roster) {
             Some(fault) => Some(fault),
-            None => first_unskilled(case, roster),
+            None => match first_unskilled(case, roster) {
+                Some(fault) => Some(fault),
+                None => first_absent(case, roster),
+            },
         },
     }
 }
@@ -136,6 +140,36 @@ fn unskilled_of(case: &Case, roster: &Roster, nurse: usize) -> Option<HardFault>
     for day in 0..case.days() {
         if !is_able(skills, row[day as usize]) {
             return Some(HardFault::H4 { nurse, day });
+        }
+    }
+    None
+}
+
+// ---- absences
+
+#[tactic(auto, using(roster_rules::proofs::HardLemmas::below_more))]
+fn first_absent(case: &Case, roster: &Roster) -> Option<HardFault>
+    requires { fits_case case.now roster.now ≡ true }
+    ensures { result ≡ first_fault (absence_faults case.now roster.now) }
+{
+    for nurse in 0..case.nurses() {
+        if let Some(fault) = absent_of(case, roster, nurse) {
+            return Some(fault);
+        }
+    }
+    None
+}
+
+#[tactic(auto, using(roster_rules::proofs::HardLemmas::below_more))]
+fn absent_of(case: &Case, roster: &Roster, nurse: usize) -> Option<HardFault>
+    requires fitting { fits_case case.now roster.now ≡ true }
+    requires within { nurse < nurse_count case.now }
+    ensures { result ≡ first_fault (below (day_count case.now) (λ d. absence_fault case.now roster.now nurse d)) }
+{
+    let row = roster.row(nurse);
+    for day in 0..case.days() {
+        if !is_here(case, nurse, day, row[day as usize]) {
+            return Some(HardFault::Absent { nurse, day });
         }
     }
     None
