@@ -7,7 +7,7 @@ ghost use Rattle.roster_laws.specs.OneRow.{is_open, is_open_row, others};
 ghost use Rattle.roster_laws.specs.Staffing.{meets, with_choice};
 
 use crate::held::Held;
-use roster_rules::{Choice, Shift, Skill, choice_on, is_able, last_shift};
+use roster_rules::{Choice, Shift, Skill, choice_on, last_shift, may_take};
 
 /// Whether each choice of a row of the case is open on its day and may follow the one before it.
 pub(crate) fn is_open_row(held: &Held, nurse: usize, row: &[Choice]) -> bool
@@ -35,13 +35,13 @@ fn may_follow(held: &Held, nurse: usize, day: u16, last: Option<Shift>, choice: 
     is_open(held, nurse, day, choice) && !held.case().forbids_next(last, choice.shift())
 }
 
-/// Whether the nurse has the skill, and no minimum of the day is missed with the choice.
+/// Whether the nurse has the skill and isn't absent, and no minimum of the day is missed with the choice.
 fn is_open(held: &Held, nurse: usize, day: u16, choice: Choice) -> bool
     requires nurse { nurse < nurse_count held.now.case }
     requires day { day < day_count held.now.case }
     ensures { result ≡ is_open held.now.case held.now.roster nurse day choice }
 {
-    is_able(held.case().skills_of(nurse), choice) && meets(held, nurse, day, choice)
+    may_take(held.case(), nurse, day, choice) && meets(held, nurse, day, choice)
 }
 
 fn meets(held: &Held, nurse: usize, day: u16, choice: Choice) -> bool
