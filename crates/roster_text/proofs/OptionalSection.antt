@@ -203,19 +203,21 @@ module _ {B : Type 0} (V IsElse IsSo : B → Type 0) (pat : B → List Pattern) 
 
 -- ---- a section that may be absent, and then a part that begins with a keyword
 
--- the part begins with this keyword
-pub record BeginsWith (k : Keyword) (ps : List Pattern) : Type 0 where
+-- the part begins with a place where this keyword is due, and with a text other than the section's keyword
+pub record BeginsOther (k due : Keyword) (ps : List Pattern) : Type 0 where
+  pub text : List ℕ
   pub rest : List Pattern
-  pub is : ps ≡ fixed (what.Keyword k) (keyword_text k) ∷ rest
+  pub is : ps ≡ fixed (what.Keyword due) text ∷ rest
+  pub other : text ≡ keyword_text k → ⊥
 
 -- the items, where the section is there
 abbrev listed_or : {A : Type 0} → Listed A → Option (Listed A) → Listed A
 listed_or d None = d
 listed_or d (Some xs) = xs
 
-module _ {A B : Type 0} (pat : A → List Pattern) (read : List Seen → Read A) (item : Reader every pat read) (k after : Keyword) (other : keyword_text after ≡ keyword_text k → ⊥)
+module _ {A B : Type 0} (pat : A → List Pattern) (read : List Seen → Read A) (item : Reader every pat read) (k after : Keyword)
     (V : B → Type 0) (get : B → Option (Listed A)) (patB : B → List Pattern) (then_at : Option (Listed A) → List Seen → Read B)
-    (begins : (b : B) → V b → BeginsWith after (patB b))
+    (begins : (b : B) → V b → BeginsOther k after (patB b))
     (rest : (x : Option (Listed A)) → Reader (λ b. V b × (get b ≡ x)) patB (then_at x)) where
   abbrev both : B → List Pattern
   both b = optional_section k after pat (get b) ++ patB b
@@ -268,11 +270,11 @@ module _ {A B : Type 0} (pat : A → List Pattern) (read : List Seen → Read A)
   begins_absent b v =
       let x = begins b v.0 in
       record {
-        next = fixed (what.Keyword after) (keyword_text after);
+        next = fixed (what.Keyword after) x.text;
         rest = x.rest;
         is = ap (λ (o : Option (Listed A)). optional_section k after pat o ++ patB b) v.1 ∙ x.is;
         labelled = refl;
-        other = λ t fits e. other (sym fits ∙ e);
+        other = λ t fits e. x.other (sym fits ∙ e);
       }
 
   begins_there : (b : B) → IsThere b → BeginsSo (what.Keyword after) (keyword_text k) (both b)

@@ -4,6 +4,7 @@ use Rattle.std.specs.Prelude.{◌≡◌, ◌≤◌, ◌⊎◌, ℕ, Bool, true, 
 use Rattle.std.specs.List.{flat_map, list_all}
 use Rattle.std.specs.Char.{is_ascii_digit}
 use Rattle.std.specs.Str.Parse.{digits_value}
+use Rattle.roster_bundle.specs.declared.bundle.Absence.{Absence}
 use Rattle.roster_bundle.specs.declared.bundle.Assignment.{Assignment}
 use Rattle.roster_bundle.specs.declared.bundle.Bundle.{Bundle}
 use Rattle.roster_bundle.specs.declared.bundle.Contract.{Contract}
@@ -171,13 +172,17 @@ requirement r = parts (named r.shift ∷ named r.skill ∷ week_pairs r.days ∷
 abbrev pub request : Request → List Pattern
 request r = parts (named r.nurse ∷ named r.shift ∷ (day r.day ∷ []) ∷ [])
 
+abbrev pub absence : Absence → List Pattern
+absence a = parts (named a.nurse ∷ (day a.day ∷ []) ∷ [])
+
 -- by the keyword of the part after the week
 abbrev pub week_data : Keyword → WeekData → List Pattern
 week_data after w = parts (
     key keyword.WeekData ∷ named w.scenario
     ∷ key keyword.Requirements ∷ lines_until keyword.ShiftOffRequests what.Name requirement w.requirements
     ∷ rest_of_section request w.off_requests
-    ∷ optional_section keyword.ShiftOnRequests after request w.on_requests ∷ [])
+    ∷ optional_section keyword.ShiftOnRequests after request w.on_requests
+    ∷ optional_section keyword.Absences after absence w.absences ∷ [])
 
 -- the keyword after a week: that of the weeks that follow, or of the solutions
 abbrev pub after_week : List WeekData → Keyword

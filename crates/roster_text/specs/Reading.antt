@@ -3,6 +3,7 @@ use Rattle.std.specs.Prelude.{◌≡◌, ℕ, zero, suc, Bool, false, ◌&&◌, 
 use Rattle.std.specs.List.{find}
 use Rattle.std.specs.Str.{bytes_eq}
 use Rattle.std.specs.Str.Parse.{digits_value}
+use Rattle.roster_bundle.specs.declared.bundle.Absence.{Absence}
 use Rattle.roster_bundle.specs.declared.bundle.Assignment.{Assignment}
 use Rattle.roster_bundle.specs.declared.bundle.Bundle.{Bundle}
 use Rattle.roster_bundle.specs.declared.bundle.Contract.{Contract}
@@ -279,6 +280,12 @@ request_at ts = do
   day ← day_at shift.1
   Ok (record { nurse = nurse.0; shift = shift.0; day = day.0 }, day.1)
 
+unfoldable pub absence_at : List Seen → Read Absence
+absence_at ts = do
+  nurse ← name_at ts
+  day ← day_at nurse.1
+  Ok (record { nurse = nurse.0; day = day.0 }, day.1)
+
 unfoldable pub week_data_at : List Seen → Read WeekData
 week_data_at ts = do
   a ← key_at keyword.WeekData ts
@@ -287,7 +294,8 @@ week_data_at ts = do
   requirements ← until_at requirement_at keyword.ShiftOffRequests b.1
   off ← listed_at request_at requirements.1
   on ← optional_at keyword.ShiftOnRequests request_at off.1
-  Ok (record { scenario = scenario.0; requirements = requirements.0; off_requests = off.0; on_requests = on.0 }, on.1)
+  absences ← optional_at keyword.Absences absence_at on.1
+  Ok (record { scenario = scenario.0; requirements = requirements.0; off_requests = off.0; on_requests = on.0; absences = absences.0 }, absences.1)
 
 -- ---- the solutions
 

@@ -22,6 +22,7 @@ pub enum Keyword {
     Requirements,
     ShiftOffRequests,
     ShiftOnRequests,
+    Absences,
     Solution,
     Assignments,
 }
@@ -47,6 +48,7 @@ impl Keyword {
             Keyword::Requirements => "REQUIREMENTS",
             Keyword::ShiftOffRequests => "SHIFT_OFF_REQUESTS",
             Keyword::ShiftOnRequests => "SHIFT_ON_REQUESTS",
+            Keyword::Absences => "ABSENCES",
             Keyword::Solution => "SOLUTION",
             Keyword::Assignments => "ASSIGNMENTS",
         }
