@@ -13,7 +13,7 @@ use Rattle.roster_instance.specs.declared.choice.Skill.{Skill}
 use Rattle.roster_instance.specs.Choices.{all_choices, days_of, same_choice, shift_of}
 use Rattle.roster_rules.specs.AllowedRows.{is_frozen, keeps_frozen_day}
 use Rattle.roster_instance.specs.Counting.{one_if, sum_below}
-use Rattle.roster_rules.specs.HardRules.{breaks_succession, is_able, keeps_hard}
+use Rattle.roster_rules.specs.HardRules.{breaks_succession, is_able, is_here, keeps_hard, may_take}
 use Rattle.roster_instance.specs.Limits.{most_shifts, most_skills, most_small}
 use Rattle.roster_instance.specs.Meaning.{Meaning, day_count, nurse_at, nurse_count, optimum, shift_at, shift_count, skill_at, skill_count}
 use Rattle.roster_rules.specs.Penalties.{breaks_off_request, meets_wishes, staffing_cost_by}
@@ -120,9 +120,9 @@ module _ (c : Meaning) (n : ℕ) (offered : ℕ → Choice → Bool) (price : �
 -- an offered choice is one that the nurse is able to do
 offered_able : (c : Meaning) (from : ℕ) (r : Rows) (n d : ℕ) (x : Choice) → is_offered c from r n d x ≡ true → is_able (nurse_at c n).skills x ≡ true
 offered_able c from r n d x e =
-    let able : Bool = is_able (nurse_at c n).skills x in
+    let may : Bool = may_take c n d x in
     let met : Bool = meets c d (with_choice (others r n d) x) in
-    (and_parts able met (and_parts (able && met) (keeps_frozen_day from r n d x) e).0).0
+    (and_parts (is_able (nurse_at c n).skills x) (is_here c n d x) (and_parts may met (and_parts (may && met) (keeps_frozen_day from r n d x) e).0).0).0
 
 module _ (c : Meaning) (from : ℕ) (r : Rows) (n d : ℕ) where
   pub offers_few : length (offers_of c from r n d) ≤ choice_count c n
