@@ -1,9 +1,9 @@
 -- The offers of a day, choice by choice.
-use Rattle.std.proofs.Common.{◌≡◌, ◌∙◌, ◌+◌, ◌-◌, ◌*◌, ◌<◌, ◌&&◌, ◌==◌, ◌⊎◌, inl, inr, ℕ, Bool, true, false, ap, ap₂, append-nil, append_assoc, arith, refl, sym, List, [], ◌∷◌, ◌++◌, filter, if◌then◌else◌, length, map, nat_lt, slice_index_or, slice_set, None, Option, Some}
+use Rattle.std.proofs.Common.{◌≡◌, ◌∙◌, ◌+◌, ◌-◌, ◌*◌, ◌<◌, ◌&&◌, ◌==◌, ◌⊎◌, inl, inr, ℕ, Bool, true, false, ap, ap₂, append-nil, append_assoc, arith, refl, sym, List, [], ◌∷◌, ◌++◌, filter, if◌then◌else◌, length, map, nat_lt, not, replicate, slice_index_or, slice_set, None, Option, Some}
 use Rattle.std.specs.Option.{option_to_list}
 use Rattle.std.specs.List.{flat_map, list_any, range_with_len}
-use Rattle.std.proofs.lemmas.Bool.{and_parts, cases_eq, eqb-true}
-use Rattle.std.proofs.lemmas.List.{get_or-set_other, get_or-set_same, map-append}
+use Rattle.std.proofs.lemmas.Bool.{and_parts, and_right, cases_eq, eqb-true}
+use Rattle.std.proofs.lemmas.List.{get_or-replicate, get_or-set_other, get_or-set_same, map-append}
 use Rattle.std.proofs.lemmas.List.Elements.{filter-append}
 use Rattle.roster_bundle.proofs.Ranges.{flat_map-range_more, range_with_len_more}
 use Rattle.roster_instance.specs.declared.choice.Choice.{Choice}
@@ -12,10 +12,10 @@ use Rattle.roster_instance.specs.declared.choice.Shift.{Shift}
 use Rattle.roster_instance.specs.declared.choice.Skill.{Skill}
 use Rattle.roster_instance.specs.Choices.{shift_of}
 use Rattle.roster_instance.specs.Counting.{one_if}
-use Rattle.roster_instance.specs.Meaning.{Meaning, day_count, minimum, nurse_at, nurse_count, optimum, shift_at, shift_count, skill_at, skill_count}
+use Rattle.roster_instance.specs.Meaning.{Meaning, day_count, minimum, nurse_count, optimum, shift_at, shift_count, skill_at, skill_count}
 use Rattle.roster_instance.specs.Rosters.{Rows, choice_on, cover, fits_case, row_of}
 use Rattle.roster_instance.proofs.RosterFacts.{has_row}
-use Rattle.roster_rules.specs.HardRules.{is_able, keeps_hard}
+use Rattle.roster_rules.specs.HardRules.{keeps_hard, may_take}
 use Rattle.roster_rules.specs.Penalties.{request_cost_on}
 use Rattle.roster_rules.specs.Weights.{staffing_weight}
 use Rattle.roster_laws.specs.OneRow.{is_open, others}
@@ -41,6 +41,14 @@ able_more skills able m here inside before is k h = go (cases_eq k m)
     go : (k ≡ m) ⊎ (k ≡ m → ⊥) → slice_index_or (slice_set able m here) k false ≡ list_any (λ own. own.0 == k) skills
     go (inl e) = ap (λ j. slice_index_or (slice_set able m here) j false) e ∙ get_or-set_same able m here false inside ∙ is ∙ ap (λ j. list_any (λ own. own.0 == j) skills) (sym e)
     go (inr e) = get_or-set_other able m k here false e ∙ before k (omega arith)
+
+-- who is absent may work with no skill, and who isn't with the skills that the nurse has
+pub none_able : (k : ℕ) (own away : Bool) → k < 8 → away ≡ true → slice_index_or (replicate 8 false) k false ≡ (own && not away)
+none_able k own away few e = get_or-replicate 8 k false false few ∙ sym (and_right own (not away) (ap not e))
+
+pub and_here : (own away : Bool) → away ≡ false → own ≡ (own && not away)
+and_here true away e = sym (ap not e)
+and_here false away e = refl
 
 module _ (c : Meaning) (r : Rows) (n d : ℕ) where
   -- ---- the list grows choice by choice
@@ -83,25 +91,25 @@ module _ (c : Meaning) (r : Rows) (n d : ℕ) where
 
   -- ---- one choice
 
-  not_offered : (choice : Choice) (able : Bool) → able ≡ is_able (nurse_at c n).skills choice → able ≡ false → None ≡ offered choice
+  not_offered : (choice : Choice) (able : Bool) → able ≡ may_take c n d choice → able ≡ false → None ≡ offered choice
   not_offered choice able able_is not_so =
       ap (λ b. if b && meets c d (with_choice (others r n d) choice) then Some (offer_of c r n d choice) else None) (sym not_so ∙ able_is)
 
   pub offer_is : (choice : Choice) (least most asked : ℕ)
-      → is_able (nurse_at c n).skills choice ≡ true
+      → may_take c n d choice ≡ true
       → least ≡ lacking c (minimum c d) (with_choice (others r n d) choice)
       → most ≡ lacking c (optimum c d) (with_choice (others r n d) choice)
       → asked ≡ request_cost_on c n d (shift_of choice)
       → (if least == 0 then Some (record { choice = choice; price = staffing_weight * most + asked }) else None) ≡ offered choice
   offer_is choice least most asked able least_is most_is asked_is =
       let have : ℕ → ℕ → ℕ = with_choice (others r n d) choice in
-      let able_so : true ≡ is_able (nurse_at c n).skills choice = sym able in
+      let able_so : true ≡ may_take c n d choice = sym able in
       let met = ap (λ m. m == 0) least_is ∙ sym (meets-lacking c d have) in
       let staffed = ap (λ m. staffing_weight * m) most_is ∙ sym (staffing-lacking c d have) in
       (λ i. if able_so i && met i then Some (record { choice = choice; price = staffed i + asked_is i }) else None)
 
-  -- a skill that the nurse lacks
-  pub offers_skill_not : (start old : List Offer) (s k : ℕ) (able : Bool) → able ≡ is_able (nurse_at c n).skills (Work (shift_at s) (skill_at k)) → able ≡ false
+  -- a skill that the nurse lacks, or an absence
+  pub offers_skill_not : (start old : List Offer) (s k : ℕ) (able : Bool) → able ≡ may_take c n d (Work (shift_at s) (skill_at k)) → able ≡ false
       → old ≡ start ++ offers_among (of_shift s k) → old ≡ start ++ offers_among (of_shift s (k + 1))
   offers_skill_not start old s k able able_is not_so so_far =
       offers_skill start old old s k None so_far (sym (append-nil old)) (not_offered (Work (shift_at s) (skill_at k)) able able_is not_so)
@@ -144,6 +152,6 @@ module _ (c : Meaning) (r : Rows) (n d : ℕ) where
   pub none_missed : fits_case c r ≡ true → keeps_hard c r ≡ true → n < nurse_count c → d < day_count c → 0 ≡ lacking c (minimum c d) (cover r d)
   none_missed fits keeps n_in d_in =
       let own : Choice = choice_on (row_of r n) d in
-      let met = (and_parts (is_able (nurse_at c n).skills own) (meets c d (with_choice (others r n d) own)) (present_open c 0 r n d fits keeps n_in d_in)).1 in
+      let met = (and_parts (may_take c n d own) (meets c d (with_choice (others r n d) own)) (present_open c 0 r n d fits keeps n_in d_in)).1 in
       let none : lacking c (minimum c d) (with_choice (others r n d) own) ≡ 0 = eqb-true _ 0 (sym (meets-lacking c d (with_choice (others r n d) own)) ∙ met) in
       sym none ∙ lacking_all (has_row c r n fits n_in) own refl (minimum c d)

@@ -1,6 +1,6 @@
 //! What a nurse may do on a day, with its price.
 
-ghost use Rattle.std.specs.Prelude.{◌≡◌, ◌+◌, ◌-◌, ◌*◌, ◌<◌, ◌≤◌, ◌++◌, ◌==◌, if◌then◌else◌, ℕ, [], ◌∷◌, length, nat_lt, slice_index_or, false, true, Option, Some, None};
+ghost use Rattle.std.specs.Prelude.{◌≡◌, ◌+◌, ◌-◌, ◌*◌, ◌<◌, ◌≤◌, ◌++◌, ◌&&◌, ◌==◌, not, if◌then◌else◌, ℕ, [], ◌∷◌, length, nat_lt, slice_index_or, false, true, Option, Some, None};
 ghost use Rattle.std.specs.List.{list_any};
 ghost use Rattle.std.specs.Option.{option_to_list};
 ghost use Rattle.roster_instance.specs.declared.choice.Choice.TheVariants.{Off, Work};
@@ -8,10 +8,10 @@ ghost use Rattle.roster_instance.specs.declared.choice.Shift.{Shift};
 ghost use Rattle.roster_instance.specs.Choices.{shift_of};
 ghost use Rattle.roster_instance.specs.Counting.{one_if};
 ghost use Rattle.roster_instance.specs.Limits.{most_shifts, most_skills, most_small};
-ghost use Rattle.roster_instance.specs.Meaning.{day_count, minimum, nurse_at, nurse_count, optimum, shift_count, skill_count};
+ghost use Rattle.roster_instance.specs.Meaning.{day_count, is_absent, minimum, nurse_at, nurse_count, optimum, shift_count, skill_count};
 ghost use Rattle.roster_instance.specs.Rosters.{choice_on, is_choice_of, row_of};
 ghost use Rattle.roster_rules.specs.AllowedRows.{is_frozen};
-ghost use Rattle.roster_rules.specs.HardRules.{is_able};
+ghost use Rattle.roster_rules.specs.HardRules.{may_take};
 ghost use Rattle.roster_rules.specs.Penalties.{request_cost_on};
 ghost use Rattle.roster_rules.specs.Weights.{off_request_weight, wish_weight};
 ghost use Rattle.roster_laws.specs.OneRow.{is_open, others};
@@ -32,7 +32,7 @@ struct Lacking {
 }
 
 /// What a nurse may do on a day while the others' rows stay, in the order of the choices: to be off, or to work a shift with one
-/// of the nurse's skills; each only where no minimum of the day is missed with it. The price is that of the day's staffing with
+/// of the nurse's skills, where the nurse isn't absent; each only where no minimum of the day is missed with it. The price is that of the day's staffing with
 /// this choice, of an off request against it, and of a wish to work that it doesn't meet. The days of the weeks before week `from`
 /// are frozen: on these the nurse may do only what the roster says. Every `from` is allowed.
 pub fn choices(held: &Held, nurse: usize, day: u16, from: u16) -> ArrayVec<Offer, MOST_CHOICES>
@@ -81,7 +81,7 @@ fn open_choices(held: &Held, nurse: usize, day: u16) -> ArrayVec<Offer, MOST_CHO
     let shifts = case.shifts();
     let skills = case.skills();
     let without = lacking_without(held, nurse, day);
-    let able = able_by_skill(case, nurse);
+    let able = able_by_skill(case, nurse, day);
     let wished = has_some_wish(case, nurse, day);
     let asked = cost_of_requests(case, nurse, day, None, wished);
     let mut offers = ArrayVec::new();
@@ -110,19 +110,23 @@ fn push_some(offers: &mut ArrayVec<Offer, MOST_CHOICES>, offer: Option<Offer>)
     }
 }
 
-/// For each skill of the case whether the nurse has it.
-fn able_by_skill(case: &Case, nurse: usize) -> [bool; 8]
-    ensures { (k : ℕ) → k < skill_count case.now → slice_index_or result k false ≡ list_any (λ own. own.0 == k) (nurse_at case.now nurse).skills }
+/// For each skill of the case whether the nurse has it and isn't absent on the day.
+fn able_by_skill(case: &Case, nurse: usize, day: u16) -> [bool; 8]
+    requires { nurse < nurse_count case.now }
+    ensures { (k : ℕ) → k < skill_count case.now → slice_index_or result k false ≡ (list_any (λ own. own.0 == k) (nurse_at case.now nurse).skills && not (is_absent case.now nurse day)) }
 {
     case.keeps_limits();
     let mut able = [false; 8];
+    if case.is_absent(nurse, day) {
+        return able;
+    }
     for skill in 0..case.skills() {
         able[skill as usize] = is_able(case.skills_of(nurse), Choice::Work(Shift(0), Skill(skill)));
     }
     able
 }
 
-/// A choice that the nurse is able to do with its price, where it is open, by what the day lacks without the nurse and what the
+/// A choice that the nurse may take with its price, where it is open, by what the day lacks without the nurse and what the
 /// requests cost.
 fn offered(
     held: &Held,
@@ -135,7 +139,7 @@ fn offered(
     requires nurse { nurse < nurse_count held.now.case }
     requires day { day < day_count held.now.case }
     requires choice { is_choice_of held.now.case choice ≡ true }
-    requires able { is_able (nurse_at held.now.case nurse).skills choice ≡ true }
+    requires able { may_take held.now.case nurse day choice ≡ true }
     requires minimum { without.minimum ≡ lacking held.now.case (minimum held.now.case day) (others held.now.roster nurse day) }
     requires optimum { without.optimum ≡ lacking held.now.case (optimum held.now.case day) (others held.now.roster nurse day) }
     requires within { without.optimum ≤ 1 + most_shifts * most_skills * most_small }

@@ -1,6 +1,6 @@
-use Rattle.std.proofs.Common.{◌≡◌, ◌∙◌, ◌<◌, ◌==◌, ap, arith, false, slice_index_or}
+use Rattle.std.proofs.Common.{◌≡◌, ◌∙◌, ◌<◌, ◌&&◌, ◌==◌, ap, arith, false, not, slice_index_or}
 use Rattle.std.specs.List.{list_any}
-use Rattle.roster_instance.specs.Meaning.{Meaning, nurse_at, shift_count, skill_count}
+use Rattle.roster_instance.specs.Meaning.{Meaning, is_absent, nurse_at, shift_count, skill_count}
 use Rattle.roster_best.proofs.OfferLemmas.{of_shifts, offers_among, offers_shift, offers_skill, offers_skill_not}
 use Rattle.roster_best.proofs.offer.open_choices.Goals as goal
 use Rattle.roster_best.proofs.offer.open_choices.Goals.{then-able-skill, else-able-skill}
@@ -17,7 +17,7 @@ loop-skill-preserved c =
     let skill = c.loop-skill.skill in
     let before = c.loop-skill.invariant in
     let inside : skill < skill_count c.case-case.result.now = omega (arith, c.loop-skill-test.true, c.skills-skills.ensures.count) in
-    let able = c.able_by_skill-able.ensures skill inside ∙ ap (λ (m : Meaning). list_any (λ own. own.0 == skill) (nurse_at m n).skills) c.case-case.ensures in
+    let able = c.able_by_skill-able.ensures skill inside ∙ ap (λ (m : Meaning). list_any (λ own. own.0 == skill) (nurse_at m n).skills && not (is_absent m n d)) c.case-case.ensures in
     elim c.if-able-skill.branch [
       | then-able-skill w ↦ rw w.offers-is (record {
         so_far = offers_skill k r n d start old w.push_some-then-able-skill.new.offers.items shift skill w.offered-offer.result before.so_far w.push_some-then-able-skill.ensures.items w.offered-offer.ensures;

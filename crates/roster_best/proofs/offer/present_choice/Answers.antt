@@ -3,8 +3,7 @@ use Rattle.std.proofs.lemmas.Bool.{and_parts}
 use Rattle.roster_instance.specs.declared.choice.Choice.{Choice}
 use Rattle.roster_instance.specs.declared.choice.Choice.TheVariants.{Off}
 use Rattle.roster_instance.specs.Rosters.{choice_on, row_of}
-use Rattle.roster_instance.specs.Meaning.{nurse_at}
-use Rattle.roster_rules.specs.HardRules.{is_able}
+use Rattle.roster_rules.specs.HardRules.{may_take}
 use Rattle.roster_laws.specs.OneRow.{others}
 use Rattle.roster_laws.specs.Staffing.{meets, with_choice}
 use Rattle.roster_offers.proofs.OfferLaws.{present_open}
@@ -17,8 +16,8 @@ offered-requires-clause-able c =
     let rows = c.args.held.now.roster in
     let own : Choice = choice_on (row_of rows c.args.nurse) c.args.day in
     let is_so = present_open k 0 rows c.args.nurse c.args.day c.keeps_rules.ensures.fits c.keeps_rules.ensures.keeps c.requires.nurse c.requires.day in
-    ap (is_able (nurse_at k c.args.nurse).skills) (ap (λ (row : List Choice). choice_on row c.args.day) c.row.ensures.row)
-    ∙ (and_parts (is_able (nurse_at k c.args.nurse).skills own) (meets k c.args.day (with_choice (others rows c.args.nurse c.args.day) own)) is_so).0
+    ap (may_take k c.args.nurse c.args.day) (ap (λ (row : List Choice). choice_on row c.args.day) c.row.ensures.row)
+    ∙ (and_parts (may_take k c.args.nurse c.args.day own) (meets k c.args.day (with_choice (others rows c.args.nurse c.args.day) own)) is_so).0
 
 pub returns : goal.returns
 returns c =
