@@ -9,7 +9,7 @@ use Rattle.roster_instance.specs.declared.choice.Choice.TheVariants.{Off, Work}
 use Rattle.roster_instance.specs.Choices.{all_choices, all_rows, days_of, same_choice, shift_of}
 use Rattle.roster_instance.specs.Counting.{all_below, one_if, sum_below}
 use Rattle.roster_instance.specs.Levels.{levelled}
-use Rattle.roster_rules.specs.HardRules.{keeps_hard, keeps_skills, keeps_successions}
+use Rattle.roster_rules.specs.HardRules.{keeps_absences, keeps_hard, keeps_skills, keeps_successions}
 use Rattle.roster_instance.specs.Meaning.{Meaning, day_count, minimum, nurse_count, optimum, shift_at, shift_count, skill_at, skill_count}
 use Rattle.roster_rules.specs.AllowedRows.{is_frozen, keeps_frozen_day, keeps_frozen_days}
 use Rattle.roster_rules.specs.Penalties.{nurse_cost, off_request_cost_on, penalty, request_cost, request_cost_on, staffing_cost, wish_cost_on}
@@ -145,8 +145,11 @@ module _ (c : Meaning) (from : ℕ) (given : Rows) (w : PlaceWorths) (are : AreW
   nurses : length r ≡ nurse_count c
   nurses = eqb-true (length r) (nurse_count c) (and_parts (length r == nurse_count c) (list_all (is_row_of c) r) fits).0
 
+  all_rules : (all_below (day_count c) (λ d. meets c d (cover r d)) && all_below (nurse_count c) (λ n. keeps_successions c n (days_of_nurse r n) (day_count c)) && all_below (nurse_count c) (λ n. keeps_skills c n (row_of r n) (day_count c)) ≡ true) × (all_below (nurse_count c) (λ n. keeps_absences c n (row_of r n) (day_count c)) ≡ true)
+  all_rules = and_parts _ _ (sym (keeps_hard-parts c r) ∙ keeps)
+
   rules : (all_below (day_count c) (λ d. meets c d (cover r d)) && all_below (nurse_count c) (λ n. keeps_successions c n (days_of_nurse r n) (day_count c)) ≡ true) × (all_below (nurse_count c) (λ n. keeps_skills c n (row_of r n) (day_count c)) ≡ true)
-  rules = and_parts _ _ (sym (keeps_hard-parts c r) ∙ keeps)
+  rules = and_parts _ _ all_rules.0
 
   two_rules : (all_below (day_count c) (λ d. meets c d (cover r d)) ≡ true) × (all_below (nurse_count c) (λ n. keeps_successions c n (days_of_nurse r n) (day_count c)) ≡ true)
   two_rules = and_parts _ _ rules.0
@@ -181,9 +184,10 @@ module _ (c : Meaning) (from : ℕ) (given : Rows) (w : PlaceWorths) (are : AreW
     pub worked : can_work c from given n (row_of r n) ≡ true
     worked =
         let skills : Bool = keeps_skills c n (row_of r n) (day_count c) in
+        let absences : Bool = keeps_absences c n (row_of r n) (day_count c) in
         let successions : Bool = keeps_successions c n (days_of_nurse r n) (day_count c) in
-        and_from (skills && successions) (keeps_frozen_days c from given n (row_of r n))
-        (and_from skills successions (all_elim (nurse_count c) (λ n. keeps_skills c n (row_of r n) (day_count c)) rules.1 n inside) (all_elim (nurse_count c) (λ n. keeps_successions c n (days_of_nurse r n) (day_count c)) two_rules.1 n inside)) frozen_kept
+        and_from (skills && absences && successions) (keeps_frozen_days c from given n (row_of r n))
+        (and_from (skills && absences) successions (and_from skills absences (all_elim (nurse_count c) (λ n. keeps_skills c n (row_of r n) (day_count c)) rules.1 n inside) (all_elim (nurse_count c) (λ n. keeps_absences c n (row_of r n) (day_count c)) all_rules.1 n inside)) (all_elim (nurse_count c) (λ n. keeps_successions c n (days_of_nurse r n) (day_count c)) two_rules.1 n inside)) frozen_kept
 
     among : (k : Meaning) → own_rows k from given n ≡ own_rows c from given n → Contains (own_rows k from given n) (row_of r n)
     among k same =

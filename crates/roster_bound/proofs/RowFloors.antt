@@ -11,7 +11,7 @@ use Rattle.roster_instance.specs.declared.choice.Choice.{Choice}
 use Rattle.roster_instance.specs.declared.choice.Choice.TheVariants.{Off, Work}
 use Rattle.roster_rules.specs.AllowedRows.{first_least, keeps_frozen_day, keeps_frozen_days}
 use Rattle.roster_instance.specs.Choices.{all_choices, all_rows, days_of, shift_of}
-use Rattle.roster_rules.specs.HardRules.{breaks_succession, is_able, is_able_on, keeps_hard}
+use Rattle.roster_rules.specs.HardRules.{breaks_succession, is_able, is_able_on, is_here, is_here_on, keeps_hard, keeps_successions, may_take}
 use Rattle.roster_instance.specs.Meaning.{Meaning, day_count, nurse_at, nurse_count}
 use Rattle.roster_rules.specs.Penalties.{breaks_off_request, meets_wishes}
 use Rattle.roster_rules.specs.Prefix.{due, summary_of}
@@ -79,10 +79,11 @@ module _ (c : Meaning) (from : ℕ) (given : Rows) (w : PlaceWorths) (free : ℕ
   kept : (row : Row) → length row ≡ day_count c → can_work c from given n row ≡ offered_row_by c n can row (length row)
   kept row days =
       let D = day_count c in
-      let able : ℕ → Bool = is_able_on c n row in
+      let able : ℕ → Bool = λ d. may_take c n d (choice_on row d) in
       let follows : ℕ → Bool = λ d. not (breaks_succession c n (days_of row) d) in
       let stays : ℕ → Bool = λ d. keeps_frozen_day from given n d (choice_on row d) in
-      ap (λ b. b && keeps_frozen_days c from given n row) (sym (all_both D able follows))
+      ap (λ b. (b && keeps_successions c n (days_of row) D) && keeps_frozen_days c from given n row) (sym (all_both D (is_able_on c n row) (is_here_on c n row)))
+      ∙ ap (λ b. b && keeps_frozen_days c from given n row) (sym (all_both D able follows))
       ∙ sym (all_both D (λ d. able d && follows d) stays)
       ∙ all_same D (λ d. (able d && follows d) && stays d) (λ d. (able d && stays d) && follows d) (λ d h. last_two (able d) (follows d) (stays d))
       ∙ sym (ap (offered_row_by c n can row) days)
@@ -135,7 +136,7 @@ module _ (c : Meaning) (from : ℕ) (given : Rows) (w : PlaceWorths) (free : ℕ
     day_offers d within = record {
       of_case = by_shift_all (IsOfferOf c) (offers_by_worth c from given w free n d) (offers_of_case d);
       some = by_shift_some (offers_by_worth c from given w free n d) (offers_some d within);
-      few = omega (arith, by_shift_fewer (offers_by_worth c from given w free n d), offers_few_of c n can (price_with c w free n) (λ e x is. (and_parts (is_able (nurse_at c n).skills x) (keeps_frozen_day from given n e x) is).0) d);
+      few = omega (arith, by_shift_fewer (offers_by_worth c from given w free n d), offers_few_of c n can (price_with c w free n) (λ e x is. (and_parts (is_able (nurse_at c n).skills x) (is_here c n e x) (and_parts (may_take c n e x) (keeps_frozen_day from given n e x) is).0).0) d);
     }
 
     -- ---- over a table of these offers

@@ -2,10 +2,10 @@
 use Rattle.std.specs.Prelude.{◌≡◌, ℕ, ◌<◌, Bool, ◌&&◌, List, length}
 use Rattle.arrayvec.specs.ArrayVec.{ArrayVec}
 use Rattle.roster_instance.specs.declared.choice.Choice.{Choice}
-use Rattle.roster_instance.specs.Meaning.{Meaning, day_count, nurse_at}
+use Rattle.roster_instance.specs.Meaning.{Meaning, day_count}
 use Rattle.roster_instance.specs.Rosters.{Rows}
 use Rattle.roster_rules.specs.AllowedRows.{keeps_frozen_day}
-use Rattle.roster_rules.specs.HardRules.{is_able}
+use Rattle.roster_rules.specs.HardRules.{may_take}
 use Rattle.roster_offers.specs.declared.offer.Offer.{Offer}
 use Rattle.roster_offers.specs.Offers.{cheapest_by_shift, offers_by}
 use Rattle.roster_offers.specs.Lists.{offers_on}
@@ -13,7 +13,7 @@ use Rattle.roster_bound.specs.Worths.{PlaceWorths, price_with}
 
 -- the nurse has the skill, and on a frozen day it is the given choice
 abbrev pub can_do : Meaning → ℕ → Rows → (n d : ℕ) → Choice → Bool
-can_do c from given n d choice = is_able (nurse_at c n).skills choice && keeps_frozen_day from given n d choice
+can_do c from given n d choice = may_take c n d choice && keeps_frozen_day from given n d choice
 
 -- all that the nurse can do on a day, with its price, by a price for days off
 abbrev pub offers_by_worth : Meaning → ℕ → Rows → PlaceWorths → (free n d : ℕ) → List Offer

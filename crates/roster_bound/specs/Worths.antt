@@ -13,7 +13,7 @@ use Rattle.roster_instance.specs.Limits.{most_small}
 use Rattle.roster_instance.specs.Meaning.{Meaning, contract_of, day_count, minimum, nurse_count, optimum, past_of, shift_count, skill_count}
 use Rattle.roster_instance.specs.Rosters.{Row, Rows, choice_on, days_of_nurse, fits_case}
 use Rattle.roster_rules.specs.AllowedRows.{first_least, keeps_frozen_days}
-use Rattle.roster_rules.specs.HardRules.{keeps_hard, keeps_skills, keeps_successions}
+use Rattle.roster_rules.specs.HardRules.{keeps_absences, keeps_hard, keeps_skills, keeps_successions}
 use Rattle.roster_rules.specs.Penalties.{extra_cost, missing_cost, own_cost, penalty, request_cost_on, total_of}
 use Rattle.roster_rules.specs.Weights.{assignment_weight, shift_run_weight, staffing_weight}
 use Rattle.roster_laws.specs.FrozenDays.{FrozenDaysStay}
@@ -75,9 +75,9 @@ price_with c w free n d choice = price_by c w n d choice + free_price free choic
 abbrev pub row_cost_by : Meaning → PlaceWorths → (free n : ℕ) → Row → ℕ
 row_cost_by c w free n row = own_cost c n (days_of row) + sum_below (length row) (λ d. price_with c w free n d (choice_on row d))
 
--- the nurse has the skills for the row, no shift of it is forbidden by the one before, and it agrees with the given one on each frozen day
+-- the nurse has the skills for the row, no absence is worked, no shift of it is forbidden by the one before, and it agrees with the given one on each frozen day
 abbrev pub can_work : Meaning → ℕ → Rows → ℕ → Row → Bool
-can_work c from given n row = keeps_skills c n row (day_count c) && keeps_successions c n (days_of row) (day_count c) && keeps_frozen_days c from given n row
+can_work c from given n row = keeps_skills c n row (day_count c) && keeps_absences c n row (day_count c) && keeps_successions c n (days_of row) (day_count c) && keeps_frozen_days c from given n row
 
 abbrev pub own_rows : Meaning → ℕ → Rows → ℕ → List Row
 own_rows c from given n = filter (can_work c from given n) (all_rows (all_choices c) (day_count c))

@@ -17,7 +17,7 @@ ghost use Rattle.roster_bound.specs.Worths.{earned, free_price, most_worth, pric
 use crate::worths::{MOST_WORTH, Worths};
 use arrayvec::ArrayVec;
 use roster_offers::{MOST_CHOICES, Offer, request_cost};
-use roster_rules::{Case, Choice, Roster, Shift, Skill, choice_on, is_able};
+use roster_rules::{Case, Choice, Roster, Shift, Skill, choice_on, may_take};
 
 /// What a nurse's floor is reckoned by: a case, what its places pay, a roster of which the days before week `from` stay, and what a
 /// day off costs besides, in points.
@@ -74,7 +74,7 @@ fn offered(terms: &Terms<'_>, nurse: usize, day: u16, choice: Choice, asked: u32
     requires within { asked ≤ off_request_weight + wish_weight }
     ensures { result ≡ (if can_do terms.now.case.now terms.now.from terms.now.given.now nurse day choice then Some (offer_at (price_with terms.now.case.now (worths_of terms.now.worths.now) terms.now.free nurse) day choice) else None) }
 {
-    let able = is_able(terms.case.skills_of(nurse), choice);
+    let able = may_take(terms.case, nurse, day, choice);
     let kept = keeps_frozen_day(terms, nurse, day, choice);
     let pay = earned(terms, day, choice);
     let price = (MOST_WORTH - pay) as u32 + asked + free_price(terms, choice);
