@@ -16,7 +16,7 @@ use Rattle.roster_instance.specs.Sizes.{choice_count, state_count}
 use Rattle.roster_instance.specs.declared.fault.CaseFault.{CaseFault}
 use Rattle.roster_instance.specs.declared.fault.CaseFault.TheVariants as case
 use Rattle.roster_rules.specs.declared.fault.HardFault.{HardFault}
-use Rattle.roster_rules.specs.declared.fault.HardFault.TheVariants.{H2, H3, H4}
+use Rattle.roster_rules.specs.declared.fault.HardFault.TheVariants.{H2, H3, H4, Absent}
 use Rattle.roster_rules.specs.declared.penalties.Costs.{Costs}
 use Rattle.roster_reports.specs.declared.names.BreachNames.{BreachNames}
 
@@ -68,6 +68,7 @@ AreNamesOf source b (H2 day shift skill have need) names =
     (names.shift.now ≡ slice_index_or (shift_names source b) shift.0 []) × (names.skill.now ≡ slice_index_or (skill_names source b) skill.0 [])
 AreNamesOf source b (H3 nurse day) names = names.nurse.now ≡ slice_index_or (nurse_names source b) nurse []
 AreNamesOf source b (H4 nurse day) names = names.nurse.now ≡ slice_index_or (nurse_names source b) nurse []
+AreNamesOf source b (Absent nurse day) names = names.nurse.now ≡ slice_index_or (nurse_names source b) nurse []
 
 -- nurses are missing to a minimum on a weekday of a week
 abbrev pub missing_line : ℕ → Text → BreachNames → ℕ → ℕ → Text
@@ -79,6 +80,7 @@ abbrev pub hard_line : HardFault → BreachNames → Text
 hard_line (H2 day shift skill have need) names = missing_line (day / 7) (weekday_text (day % 7)) names have need
 hard_line (H3 number day) names = nurse_day_line (codes "H3") (day / 7) (weekday_text (day % 7)) names.nurse.now
 hard_line (H4 number day) names = nurse_day_line (codes "H4") (day / 7) (weekday_text (day % 7)) names.nurse.now
+hard_line (Absent number day) names = nurse_day_line (codes "absent") (day / 7) (weekday_text (day % 7)) names.nurse.now
 
 -- ---- reports
 

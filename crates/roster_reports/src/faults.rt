@@ -103,6 +103,9 @@ pub fn write_hard_line<Log: Write>(
         HardFault::H4 { day, .. } => {
             write_nurse_day(b"H4", day / 7, &weekday_text(day % 7), names.nurse, log)
         }
+        HardFault::Absent { day, .. } => {
+            write_nurse_day(b"absent", day / 7, &weekday_text(day % 7), names.nurse, log)
+        }
     }
 }
 

@@ -36,7 +36,9 @@ pub fn names_of<'a>(source: &'a [u8], bundle: &Bundle, fault: HardFault) -> Brea
             shift: shift_name(source, bundle, shift),
             skill: skill_name(source, bundle, skill),
         },
-        HardFault::H3 { nurse, .. } | HardFault::H4 { nurse, .. } => BreachNames {
+        HardFault::H3 { nurse, .. }
+        | HardFault::H4 { nurse, .. }
+        | HardFault::Absent { nurse, .. } => BreachNames {
             nurse: nurse_name(source, bundle, nurse),
             shift: &[],
             skill: &[],
