@@ -9,7 +9,7 @@ use Rattle.roster_instance.specs.Faults.{first_fault, is_none_of}
 use Rattle.roster_instance.specs.Meaning.{Meaning, day_count, nurse_count}
 use Rattle.roster_instance.specs.Rosters.{Row, Rows, choice_on, fits_case, is_choice_of, is_row_of, row_of, with_row}
 use Rattle.roster_rules.specs.AllowedRows.{keeps_frozen_day, keeps_frozen_days}
-use Rattle.roster_rules.specs.HardRules.{hard_faults, keeps_hard, keeps_skills, keeps_successions}
+use Rattle.roster_rules.specs.HardRules.{hard_faults, keeps_absences, keeps_hard, keeps_skills, keeps_successions}
 use Rattle.roster_rules.specs.declared.fault.HardFault.{HardFault}
 use Rattle.roster_rules.proofs.FirstLeast as least
 use Rattle.roster_rules.proofs.RosterFacts.{row-length}
@@ -32,7 +32,7 @@ module _ (c : Meaning) (from : ℕ) (given : Rows) (w : PlaceWorths) (free n : �
 
   pub found_stays : keeps_frozen_days c from given n row ≡ true
   found_stays =
-      (and_parts (keeps_skills c n row (day_count c) && keeps_successions c n (days_of row) (day_count c)) (keeps_frozen_days c from given n row)
+      (and_parts (keeps_skills c n row (day_count c) && keeps_absences c n row (day_count c) && keeps_successions c n (days_of row) (day_count c)) (keeps_frozen_days c from given n row)
       (kept_passes (can_work c from given n) (all_rows (all_choices c) (day_count c)) row among)).1
 
 -- a row put into a roster that keeps the frozen days of a given one

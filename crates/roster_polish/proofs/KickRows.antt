@@ -13,7 +13,7 @@ use Rattle.roster_instance.specs.Small.{HasSmallNumbers}
 use Rattle.roster_instance.specs.Meaning.{Meaning, day_count, nurse_at, nurse_count, shift_count, skill_count}
 use Rattle.roster_instance.specs.Rosters.{Row, Rows, choice_on, fits_case, is_choice_of, is_row_of, row_of, with_row}
 use Rattle.roster_rules.specs.AllowedRows.{is_frozen, keeps_frozen_day, keeps_frozen_days, row_keeps}
-use Rattle.roster_rules.specs.HardRules.{breaks_succession, is_able, keeps_hard}
+use Rattle.roster_rules.specs.HardRules.{breaks_succession, is_able, is_here, keeps_hard, may_take}
 use Rattle.roster_rules.proofs.RosterFacts.{has_row, row_fits}
 use Rattle.roster_laws.specs.OneRow.{is_offered, is_open, is_open_row}
 use Rattle.roster_laws.specs.Staffing.{meets, with_choice}
@@ -80,7 +80,9 @@ module _ (c : Meaning) (r : Rows) (n : ℕ) (kick : Kick) where
   -- ---- the offers of a day
 
   able : (d : ℕ) (x : Choice) → offered d x ≡ true → is_able (nurse_at c n).skills x ≡ true
-  able d x is = (and_parts (is_able (nurse_at c n).skills x) (meets c d (with_choice (others r n d) x)) (and_parts (is_open c r n d x) (keeps_frozen_day (from_on kick d) r n d x) is).0).0
+  able d x is =
+      (and_parts (is_able (nurse_at c n).skills x) (is_here c n d x)
+      (and_parts (may_take c n d x) (meets c d (with_choice (others r n d) x)) (and_parts (is_open c r n d x) (keeps_frozen_day (from_on kick d) r n d x) is).0).0).0
 
   priced_of_case : (d : ℕ) → All (IsOfferOf c) (offers_by c offered priced d)
   priced_of_case d =
