@@ -25,12 +25,13 @@ a_nurse = record { contract = 0; skills = skill_at 0 ∷ [] }
 abbrev pub off_for : ℕ → Option Past
 off_for days = Some (record { border = Free days; assignments = 0; weekends = 0 })
 
--- a week that wants one nurse at best on each day, for each of these places, and without requests
+-- a week that wants one nurse at best on each day, for each of these places, without requests and absences
 abbrev pub week_wanting : List Bool → ℕ → WeekFacts
 week_wanting places nurses = record {
   needs = map (λ wanted. if wanted then Some (replicate 7 (limits 0 1)) else None) places;
   off_requests = replicate (7 * nurses) no_requests;
   wishes = replicate (7 * nurses) no_requests;
+  absences = replicate (7 * nurses) false;
 }
 
 -- each day wants one nurse on Early at best, and Early may not follow Night

@@ -1,4 +1,4 @@
--- The small instance, where minimums, successions, the history or skills leave a nurse few rows.
+-- The small instance, where minimums, successions, the history, skills or absences leave a nurse few rows.
 use Rattle.std.specs.Prelude.{ℕ, true, false, List, [], ◌∷◌, ◌++◌, codes, map, replicate, take, if◌then◌else◌, Some, None}
 use Rattle.std.specs.List.{range_with_len}
 use Rattle.roster_instance.specs.declared.choice.Choice.{Choice}
@@ -8,15 +8,20 @@ use Rattle.roster_instance.specs.Meaning.{Meaning, no_requests, shift_at, skill_
 use Rattle.roster_run_examples.specs.Mini.{a_nurse, free_week, is_among, limits, mini_of_one_shift, off_for}
 use Rattle.roster_instance.specs.Rosters.{Row}
 
--- these days need a nurse at least
-abbrev pub needing : List ℕ → Meaning
-needing days = record mini_of_one_shift {
+-- these days need a nurse at least, and Ann is absent on those
+abbrev pub needing_without_ann : List ℕ → List ℕ → Meaning
+needing_without_ann days away = record mini_of_one_shift {
   weeks = record {
     needs = Some (map (λ d. limits (if is_among days d then 1 else 0) 1) (range_with_len 0 7)) ∷ replicate 63 None;
     off_requests = replicate 14 no_requests;
     wishes = replicate 14 no_requests;
+    absences = map (is_among away) (range_with_len 0 7) ++ replicate 7 false;
   } ∷ [];
 }
+
+-- these days need a nurse at least
+abbrev pub needing : List ℕ → Meaning
+needing days = needing_without_ann days []
 
 -- Early may not follow Early
 abbrev pub resting : Meaning → Meaning

@@ -4,9 +4,9 @@
 ghost use Rattle.std.specs.Prelude.{◌≡◌, [], ◌∷◌, Some, None, codes, filter, flat_map, map, true, false};
 ghost use Rattle.roster_instance.specs.declared.choice.Choice.TheVariants.{Off};
 ghost use Rattle.roster_rules.specs.Improver.{line_of, log_of, run};
-ghost use Rattle.roster_run_examples.specs.Mini.{all_free, ann, early_but, early_on, early_shift, free_week, mini, mini_of_one_shift};
+ghost use Rattle.roster_run_examples.specs.Mini.{all_free, ann, bob, early_but, early_on, early_shift, free_week, mini, mini_of_one_shift};
 ghost use Rattle.roster_rules.specs.AllowedRows.{allowed_rows, best_row, penalty_with, row_keeps};
-ghost use Rattle.roster_run_examples.specs.Tight.{after_shift, beginning, early_as_head, needing, night_shift, resting, unskilled, with_heads};
+ghost use Rattle.roster_run_examples.specs.Tight.{after_shift, beginning, early_as_head, needing, needing_without_ann, night_shift, resting, unskilled, with_heads};
 
 /// From Monday to Friday a nurse is needed, and Bob is off: Ann can choose her weekend. The row that is the best without minimums
 /// is not allowed. Where Bob works on Tuesday Ann can be off on that day too.
@@ -36,6 +36,16 @@ pub fn rows_that_skills_exclude()
     ensures best { best_row (unskilled (needing (1 ∷ []))) 0 (free_week ∷ early_on (1 ∷ []) ∷ []) ann ≡ Some free_week }
     ensures nothing_allowed { allowed_rows (unskilled (needing (1 ∷ []))) 0 all_free ann ≡ [] }
     ensures none { best_row (unskilled (needing (1 ∷ []))) 0 all_free ann ≡ None }
+{}
+
+/// Ann is absent from Monday to Friday: she can choose her weekend. Where a nurse is needed in an absence and Bob is off, no row of
+/// hers is allowed.
+pub fn rows_that_absences_exclude()
+    ensures allowed { allowed_rows (needing_without_ann [] (0 ∷ 1 ∷ 2 ∷ 3 ∷ 4 ∷ [])) 0 all_free ann ≡ free_week ∷ early_on (6 ∷ []) ∷ early_on (5 ∷ []) ∷ early_on (5 ∷ 6 ∷ []) ∷ [] }
+    ensures best { best_row (needing_without_ann [] (0 ∷ 1 ∷ 2 ∷ 3 ∷ 4 ∷ [])) 0 all_free ann ≡ Some (early_on (5 ∷ 6 ∷ [])) }
+    ensures penalty_of_the_best { penalty_with (needing_without_ann [] (0 ∷ 1 ∷ 2 ∷ 3 ∷ 4 ∷ [])) all_free ann (early_on (5 ∷ 6 ∷ [])) ≡ 310 }
+    ensures nothing_allowed { allowed_rows (needing_without_ann (0 ∷ []) (0 ∷ [])) 0 all_free ann ≡ [] }
+    ensures of_ann_alone { filter (row_keeps (needing_without_ann [] (1 ∷ [])) all_free bob) (early_on (1 ∷ []) ∷ early_on (2 ∷ []) ∷ []) ≡ early_on (1 ∷ []) ∷ early_on (2 ∷ []) ∷ [] }
 {}
 
 /// Night forbids Early on the next day, also the night before the first Monday. A head can't work as a nurse. And a row has a choice
