@@ -16,9 +16,9 @@ Contract = collections.namedtuple("Contract", "assignments working off weekends 
 Nurse = collections.namedtuple("Nurse", "name contract skills history")
 History = collections.namedtuple("History", "assignments weekends last of_last working off")
 # Of a case `shifts` has the name and the limits of each, `skills` the names, `forbidden` the pairs of shifts, `needs` for each
-# shift and skill a minimum and an optimum for each day, `requests` and `wishes` a nurse, a shift or None for any, and a day. A day
-# counts from the first Monday.
-Case = collections.namedtuple("Case", "name weeks shifts skills forbidden contracts nurses needs requests wishes")
+# shift and skill a minimum and an optimum for each day, `requests` and `wishes` a nurse, a shift or None for any, and a day,
+# `absences` a nurse and a day. A day counts from the first Monday.
+Case = collections.namedtuple("Case", "name weeks shifts skills forbidden contracts nurses needs requests wishes absences")
 Shift = collections.namedtuple("Shift", "name limits")
 
 
@@ -115,7 +115,10 @@ def penalty(case, roster):
     return sum(costs(case, roster).values())
 
 
-# ---- the best row
+# ---- the hard rules
+
+
+Breach = collections.namedtuple("Breach", "rule day line")
 
 
 def follows(case, nurse, shifts):
@@ -124,16 +127,63 @@ def follows(case, nurse, shifts):
     return not any(pair in case.forbidden for pair in zip(before, shifts))
 
 
+def missed_minimums(case, roster):
+    """H2, by day, shift and skill."""
+    for day in days_of(case):
+        covers = cover(row[day] for row in roster)
+        for (shift, skill), need in sorted(case.needs.items()):
+            if covers[shift, skill] < need[day].least:
+                place = f"{case.shifts[shift].name} {case.skills[skill]}"
+                told = f"{place}: {covers[shift, skill]} of {need[day].least}"
+                yield Breach("H2", day, f"H2 week {day // 7} {DAYS[day % 7]} {told}")
+
+
+def breaks_succession(case, number, row, day):
+    before = row[day - 1] and row[day - 1][0] if day else case.nurses[number].history.last
+    return (before, row[day] and row[day][0]) in case.forbidden
+
+
+def lacks_skill(case, number, row, day):
+    return row[day] is not None and row[day][1] not in case.nurses[number].skills
+
+
+def works_absent(case, number, row, day):
+    return row[day] is not None and (number, day) in case.absences
+
+
+def breaches_of_rows(case, roster):
+    """The days on which rows break H3, H4 and absences: one rule after the other, each by nurse and day."""
+    for rule, is_broken in {"H3": breaks_succession, "H4": lacks_skill, "absent": works_absent}.items():
+        for number, row in enumerate(roster):
+            for day in days_of(case):
+                if is_broken(case, number, row, day):
+                    yield Breach(rule, day, f"{rule} week {day // 7} {DAYS[day % 7]} {case.nurses[number].name}")
+
+
+def breaches(case, roster):
+    """Where a roster breaks a hard rule, H1 left out: in the order in which the program looks, with the lines that tell it."""
+    return [*missed_minimums(case, roster), *breaches_of_rows(case, roster)]
+
+
+# ---- the best row
+
+
+def choices_of(case, number, day):
+    """What a nurse may do on a day by her skills and absences, in the order of choices."""
+    if (number, day) in case.absences:
+        return [None]
+    return [None, *((shift, skill) for shift in range(len(case.shifts)) for skill in sorted(case.nurses[number].skills))]
+
+
 def offers_of(case, roster, number, first_week=0):
     """For each day what the minimums leave to a nurse, in the order of choices, with its price there. On the days before the first
     week that may change that is the present choice alone."""
-    skills = sorted(case.nurses[number].skills)
-    choices = [None, *((shift, skill) for shift in range(len(case.shifts)) for skill in skills)]
     offers = []
     for day in days_of(case):
+        choices = choices_of(case, number, day)
         others = [row[day] for other, row in enumerate(roster) if other != number]
-        covers = {choice: cover([*others, choice]) for choice in choices}
-        free = choices if day // 7 >= first_week else [roster[number][day]]
+        free = choices if day // 7 >= first_week else [it for it in choices if it == roster[number][day]]
+        covers = {choice: cover([*others, choice]) for choice in free}
         offered = [choice for choice in free if meets_minimums(case, day, covers[choice])]
         offers.append([(it, staffing(case, day, covers[it]) + request_cost(case, number, day, it)) for it in offered])
     return offers
@@ -239,14 +289,13 @@ def first_pay(case, roster, number):
 
 
 def nurse_floor(case, roster, number, worths, pay, first_week=0):
-    """The least that a nurse costs less what her places pay: over all rows with her skills and without a forbidden succession, where
-    each assignment costs alike and is paid for, and over all totals that she can get, which cost what they do less that. On the days
-    before a week she does what the roster says. And the first of the cheapest of these rows."""
+    """The least that a nurse costs less what her places pay: over all rows with her skills and absences and without a forbidden
+    succession, where each assignment costs alike and is paid for, and over all totals that she can get, which cost what they do less
+    that. On the days before a week she does what the roster says. And the first of the cheapest of these rows."""
     nurse, days = case.nurses[number], len(days_of(case))
-    choices = [None, *((shift, skill) for shift in range(len(case.shifts)) for skill in sorted(nurse.skills))]
     worth = lambda day, choice: worths[choice][day] if choice in worths else 0
     price = lambda day, choice: request_cost(case, number, day, choice) - worth(day, choice) - (15 + pay) * bool(choice)
-    free = lambda day: choices if day // 7 >= first_week else [roster[number][day]]
+    free = lambda day: choices_of(case, number, day) if day // 7 >= first_week else [roster[number][day]]
     cost, row = cheapest_row(levelled(case), number, [[(it, price(day, it)) for it in free(day)] for day in days_of(case)])
     before = nurse.history.assignments
     totals = range(before, before + days + 1)
@@ -465,7 +514,7 @@ def scenario_of(words):
     for _ in range(words.number("NURSES", "=")):
         nurse, contract = words.names(2)
         nurses.append(Nurse(nurse, of_contract[contract], [skills.index(it) for it in words.names(words.number())], None))
-    return Case(name, weeks, shifts, skills, forbidden, contracts, nurses, {}, set(), set())
+    return Case(name, weeks, shifts, skills, forbidden, contracts, nurses, {}, set(), set(), set())
 
 
 def read(text):
@@ -474,7 +523,7 @@ def read(text):
     case = scenario_of(words)
     shift_of = {shift.name: number for number, shift in enumerate(case.shifts)}
     nurse_of = {nurse.name: number for number, nurse in enumerate(case.nurses)}
-    nurses, needs, requests, wishes = list(case.nurses), {}, set(), set()
+    nurses, needs, requests, wishes, absences = list(case.nurses), {}, set(), set(), set()
     words.next("HISTORY", "0", case.name)
     for _ in nurses:
         number = nurse_of[words.next()]
@@ -492,10 +541,13 @@ def read(text):
             for _ in range(words.number(*(["SHIFT_ON_REQUESTS"] if asked is wishes else []), "=")):
                 nurse, shift, day = words.names(3)
                 asked.add((nurse_of[nurse], shift_of.get(shift), 7 * week + DAYS.index(day[:3])))
+        for _ in range(words.number("ABSENCES", "=") if words.left[0] == "ABSENCES" else 0):
+            nurse, day = words.names(2)
+            absences.add((nurse_of[nurse], 7 * week + DAYS.index(day[:3])))
     roster = [[None] * (7 * case.weeks) for _ in nurses]
     for week in range(case.weeks):
         words.next("SOLUTION")  # the week's number, which nothing depends on
         for _ in range(words.number(case.name, "ASSIGNMENTS", "=")):
             nurse, day, shift, skill = words.names(4)
             roster[nurse_of[nurse]][7 * week + DAYS.index(day[:3])] = shift_of[shift], case.skills.index(skill)
-    return case._replace(nurses=nurses, needs=needs, requests=requests, wishes=wishes), roster
+    return case._replace(nurses=nurses, needs=needs, requests=requests, wishes=wishes, absences=absences), roster
