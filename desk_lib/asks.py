@@ -1,12 +1,13 @@
 """Absences and pins: a text of the planner's own, and the week data that the desk makes of it.
 
-    absent NURSE FROM [TO]      the nurse doesn't work on these days
+    absent NURSE FROM [TO]      the nurse can't work on these days: a hard rule
+    off NURSE FROM [TO]         the nurse asks to be off on these days
     pin NURSE DAY..             on these days the nurse does what the roster says now; a day may be FROM..TO
     start DATE                  week 0 begins on this Monday; from here on days may be dates
 
-A day is the week and the weekday, as 0:Mon. What follows a '#' is a remark. The competition's format has no such thing, so an
-absence is asked for as an off request, and a pin as a wish or an off request: each costs 10 where it isn't met, and a roster
-may well not meet it. So each roster is looked at, and where it fails is told.
+A day is the week and the weekday, as 0:Mon. What follows a '#' is a remark. An absence becomes a line of the section ABSENCES. A
+day off is asked for by an off request, and a pin by a wish or an off request: each costs 10 where it isn't met, and a roster may
+well not meet it. So each roster is looked at, and where it fails is told.
 """
 import collections
 import collections.abc
@@ -16,14 +17,21 @@ import datetime
 import typing
 
 from desk_lib.findings import nearest
-from desk_lib.grammar import DAYS, Part
+from desk_lib.grammar import DAYS, Part, Section
 from desk_lib.model import Choice, Plan, Roster, choice_name, day_in, day_place, monday_in
-from desk_lib.program import Program
+from desk_lib.program import Program, plan_in
 from desk_lib.replacing import Replacement
 from desk_lib.texts import DeskError, Text, Texts, plural, shown
 
-OFF, ON = b"SHIFT_OFF_REQUESTS", b"SHIFT_ON_REQUESTS"
-FORMS = {b"absent": "absent NURSE FROM [TO]", b"pin": "pin NURSE DAY..", b"start": "start DATE"}
+OFF, ON, ABSENT = b"SHIFT_OFF_REQUESTS", b"SHIFT_ON_REQUESTS", b"ABSENCES"
+FORMS = {
+    b"absent": "absent NURSE FROM [TO]",
+    b"off": "off NURSE FROM [TO]",
+    b"pin": "pin NURSE DAY..",
+    b"start": "start DATE",
+}
+# Those that name a first and a last day.
+SPANS = (b"absent", b"off")
 # What an edit of a text puts in the place of some bytes: from where, how many, and what.
 Edit = tuple[int, int, bytes]
 
@@ -37,6 +45,10 @@ class Ask:
     nurse: int
     days: dict[int, Choice]
 
+    def remedy(self) -> str:
+        """What keeps it."""
+        return "'desk improve --plan' makes a roster that keeps it" if self.kind == "absent" else "change it by hand"
+
 
 class Asks:
     """The asks of a text, for a plan."""
@@ -49,6 +61,7 @@ class Asks:
         lines = [it.partition(b"#")[0].split() for it in text.data.splitlines()]
         asks = [self.ask(number, words) for number, words in enumerate(lines, 1) if words]
         self.asks = [it for it in asks if it]
+        self.absences = {(it.nurse, day) for it in self.asks if it.kind == "absent" for day in it.days}
 
     def wrong(self, line: int, told: str) -> DeskError:
         return DeskError(f"{shown(self.name)}:{line}: {told}")
@@ -61,12 +74,12 @@ class Asks:
             return None
         if kind not in FORMS:
             raise self.wrong(line, f"'{shown(kind)}' stands here, and {' or '.join(map(shown, FORMS))} is due")
-        if kind == b"start" or len(rest) < 2 or kind == b"absent" and len(rest) > 3:
+        if kind == b"start" or len(rest) < 2 or kind in SPANS and len(rest) > 3:
             raise self.wrong(line, f"the form of this line is '{FORMS[kind]}', where a day is as 0:Mon")
         if rest[0] not in self.nurses:
             raise self.wrong(line, f"the scenario has no nurse '{shown(rest[0])}'{nearest(rest[0], self.nurses)}")
         nurse = self.nurses[rest[0]]
-        if kind == b"absent":
+        if kind in SPANS:
             days = dict.fromkeys(self.span(line, rest[1], rest[-1]))
         else:
             ends = [it.partition(b"..") for it in rest[1:]]
@@ -97,45 +110,47 @@ class Asks:
     # ---- the week data
 
     def lines(self, week: int) -> dict[bytes, list[bytes]]:
-        """The lines of requests that a week gets, by the section."""
+        """The lines that a week gets, by the section."""
         found: dict[bytes, list[bytes]] = collections.defaultdict(list)
         case = self.plan.case
         for (nurse, day), (choice, _) in sorted(self.of_days.items(), key=lambda it: it[0]):
             if day // 7 == week:
-                shift = b"Any" if choice is None else case.shifts[choice[0]].name
-                found[OFF if choice is None else ON].append(b"%s %s %s" % (case.nurses[nurse].name, shift, DAYS[day % 7]))
+                is_absent, shift = (nurse, day) in self.absences, b"Any" if choice is None else case.shifts[choice[0]].name
+                words = [case.nurses[nurse].name, *([] if is_absent else [shift]), DAYS[day % 7]]
+                found[ABSENT if is_absent else OFF if choice is None else ON].append(b" ".join(words))
         return found
 
     def edits(self, part: Part, more: dict[bytes, list[bytes]], end: bytes) -> list[Edit]:
-        """What gives a week these lines, each after `end`."""
-        words = self.plan.words
-        found, after = [], part[OFF]
-        for keyword in (OFF, ON):
+        """What gives a week these lines, each after `end`. A section that it hasn't comes after the one before it."""
+        found, after = [], b""
+        for keyword in (ABSENT, ON, OFF):
             new = b"".join(end + it for it in more[keyword])
             if keyword in part:
-                after = part[keyword]
-                at = after.at + 2
-                if new:
-                    count = b"%d" % (after.count + len(more[keyword]))
-                    found.append((words.offset(at), len(words.words[at]), count + new))
+                found += self.edits_of(part[keyword], len(more[keyword]), new, after)
+                after = b""
             elif new:
-                # (the last word of the off requests is their count, or the day of the last)
-                at = after.lines[-1][0] + 2 if after.lines else after.at + 2
-                new = b"%s%s = %d%s" % (end, ON, len(more[keyword]), new)
-                if found and not after.lines:
-                    found[-1] = (*found[-1][:2], found[-1][2] + new)
-                else:
-                    found.append((words.offset(at) + len(words.words[at]), 0, new))
+                after = b"%s%s = %d%s%s" % (end, keyword, len(more[keyword]), new, after)
+        return found
+
+    def edits_of(self, section: Section, count: int, new: bytes, after: bytes) -> list[Edit]:
+        """What gives a section so many lines more, and sections after it. New lines come before those that are there."""
+        words, at = self.plan.words, section.at + 2
+        if not section.lines:
+            new, after = new + after, b""
+        found = [(words.offset(at), len(words.words[at]), b"%d%s" % (section.count + count, new))] if new else []
+        if after:
+            first, *rest = section.lines[-1]
+            found.append((words.offset(first + len(rest)) + len(words.words[first + len(rest)]), 0, after))
         return found
 
     def added_to(self, texts: Texts) -> Texts:
-        """The texts with all requests. They stand in lines that are there, so that the others keep their numbers."""
+        """The texts with all that is asked for. It stands in lines that are there, so that the others keep their numbers."""
         weeks = self.plan.bundle.weeks
         edits = [it for week, part in enumerate(weeks) for it in self.edits(part, self.lines(week), b" ")]
         return Texts([edited(it, start, edits) for it, start in zip(texts.texts, texts.starts)], texts.is_stream)
 
     def week_data(self, texts: Texts) -> list[bytes]:
-        """The week data with the requests, as texts of their own."""
+        """The week data with all that is asked for, as texts of their own."""
         bundle, found = self.plan.bundle, []
         heads = [it[b"WEEK_DATA"].at for it in bundle.weeks] + [bundle.solutions[0][b"SOLUTION"].at]
         for week, part in enumerate(bundle.weeks):
@@ -155,7 +170,7 @@ class Asks:
             if days:
                 told = ", ".join(f"{day_place(day)} {choice_name(self.plan.case, roster[ask.nurse][day])}" for day in days)
                 name = shown(self.plan.case.nurses[ask.nurse].name)
-                found.append(f"{shown(self.name)}:{ask.line}: {ask.kind} {name} isn't kept: {told}; change it by hand")
+                found.append(f"{shown(self.name)}:{ask.line}: {ask.kind} {name} isn't kept: {told}; {ask.remedy()}")
         whole = sum(len(it.days) for it in self.asks)
         return [*found, f"{shown(self.name)}: {whole - count} of {plural(whole, 'day')} as asked for"]
 
@@ -170,15 +185,16 @@ def edited(text: Text, start: int, edits: list[Edit]) -> Text:
 
 
 def write_weeks(roster: Program, asks: Asks, texts: Texts, names: list[str]) -> None:
-    """Writes the week data with the requests into files of these names, once the program has read all of them back and counts
-    what it does of the texts as the desk passes them on."""
+    """Writes the week data with all that is asked for into files of these names, once all of them are read back: by the desk as
+    the case that it passes on, and by the program, which answers the same to both."""
     plan, data = asks.plan, asks.week_data(texts)
     first = plan.words.offset(plan.bundle.weeks[0][b"WEEK_DATA"].at)
     solutions = Text("the solutions", texts.joined[plan.solutions_offset() :])
     with contextlib.ExitStack() as stack:
         new = [stack.enter_context(Replacement(name, it)) for name, it in zip(names, data)]
         back = Texts([*texts.before(first, []).texts, *(Text(it.name, it.read()) for it in new), solutions])
-        if roster.call(["cost"], back.joined) != roster.call(["cost"], asks.added_to(texts).joined):
+        passed = asks.added_to(texts)
+        if plan_in(back).case != plan_in(passed).case or roster.call(["cost"], back.joined) != roster.call(["cost"], passed.joined):
             told = f"{shown(names[0])}: read back they are other week data; nothing is replaced"
             raise DeskError(f"{told}. This is a fault of the desk", 3)
         for it in new:

@@ -1,10 +1,11 @@
-"""Every place where a roster breaks H2 to H4, in the words and in the order of the program, and what is broken there."""
+"""Every place where a roster breaks H2 to H4 or an absence, in the words and in the order of the program, and what is broken
+there."""
 import collections.abc
 import dataclasses
 
 from reckoning import cover
 
-from desk_lib.model import Plan, day_name
+from desk_lib.model import Plan, choice_name, day_name
 from desk_lib.texts import shown
 
 
@@ -56,5 +57,15 @@ def skills(plan: Plan) -> collections.abc.Iterator[Breach]:
                 yield Breach(line, f"{name} hasn't the skill {skill}", "H4", day, (number,))
 
 
+def absences(plan: Plan) -> collections.abc.Iterator[Breach]:
+    """Worked days of absent nurses, by nurse and day."""
+    for number, day in sorted(plan.case.absences):
+        choice = plan.roster[number][day]
+        if choice:
+            name = shown(plan.case.nurses[number].name)
+            line = f"absent week {day // 7} {day_name(day)} {name}"
+            yield Breach(line, f"{name} is absent, and the roster has {choice_name(plan.case, choice)}", "absent", day, (number,))
+
+
 def all_breaches(plan: Plan) -> list[Breach]:
-    return [*minimums(plan), *successions(plan), *skills(plan)]
+    return [*minimums(plan), *successions(plan), *skills(plan), *absences(plan)]

@@ -11,8 +11,10 @@ from desk_lib.program import Answer, Program
 from desk_lib.recovery import Recovery
 from desk_lib.texts import DeskError, Texts, plural, shown
 
-BREACH = re.compile(r"H[234] week \d+ ")
+BREACH = re.compile(r"(H[234]|absent) week \d+ ")
 OUT_OF_LIMITS = "count out of limits"
+# What is said where nothing but what `plan` mends is broken.
+PLAN = "; 'desk improve --plan' can make a roster that keeps the hard rules"
 
 
 def out_of_place(words: Words, parts: list[Part]) -> list[Finding]:
@@ -65,7 +67,8 @@ def refused_text(texts: Texts, line: str) -> list[Finding]:
         # (else a right one may stand in the place of one that lacks)
         found += out_of_place(words, [it.sections for it in recovery.of_kind("solution")])
     if found and not causes and all(it.message.startswith("H1 ") for it in found):
-        found += breach_findings(words, read_bundle(words))
+        plan = plan_of(words, read_bundle(words))
+        found += breach_findings(plan, breaches.all_breaches(plan))
     hiding |= {it.line_key() for it in causes}
     found = causes + [it for it in found if it.place is None or it.line_key() not in hiding]
     found = sorted({(it.line_key(), it.message): it for it in reversed(found)}.values(), key=lambda it: it.offset)
@@ -133,22 +136,10 @@ def of_nurse(texts: Texts, line: str) -> Finding:
     return Finding(-1, None, line)
 
 
-def all_breaches(texts: Texts, line: str) -> list[Finding]:
-    """Every breach of H2 to H4, of which the program's is the first; solutions in a wrong place before them."""
-    words = Words(texts)
-    bundle = read_bundle(words)
-    told = breaches.all_breaches(plan_of(words, bundle))
-    first = told[0].line if told else "nothing"
-    if first != line:
-        raise DeskError(f"'roster cost' says '{line}', and the desk '{first}'; this is a fault of the desk", 3)
-    return out_of_place(words, bundle.solutions) + breach_findings(words, bundle)
-
-
-def breach_findings(words: Words, bundle: Bundle) -> list[Finding]:
-    """Every breach of H2 to H4; for the minimums of empty weeks one together, before the others."""
-    plan = plan_of(words, bundle)
-    told, places = breaches.all_breaches(plan), Places(plan, bundle)
-    empty = [week for week, part in enumerate(bundle.solutions) if not part[b"ASSIGNMENTS"].lines]
+def breach_findings(plan: Plan, told: list[breaches.Breach]) -> list[Finding]:
+    """The breaches of a plan, each at its words; for the minimums of empty weeks one together, before the others."""
+    places = Places(plan)
+    empty = [week for week, part in enumerate(plan.bundle.solutions) if not part[b"ASSIGNMENTS"].lines]
     of_empty = [it for it in told if it.rule == "H2" and it.day // 7 in empty]
     found = [places.of_empty(empty, len(of_empty))] if of_empty else []
     return found + [places.finding(it) for it in told if it not in of_empty]
@@ -157,17 +148,17 @@ def breach_findings(words: Words, bundle: Bundle) -> list[Finding]:
 class Places:
     """Finds the words at which a roster breaks a rule."""
 
-    def __init__(self, plan: Plan, bundle: Bundle):
-        self.words, self.case, self.bundle = plan.words, plan.case, bundle
+    def __init__(self, plan: Plan):
+        self.words, self.case, self.bundle = plan.words, plan.case, plan.bundle
         named = self.words.words
         self.needs = {
             (week, named[shift], named[skill]): shift
-            for week, part in enumerate(bundle.weeks)
+            for week, part in enumerate(self.bundle.weeks)
             for shift, skill, _ in part[b"REQUIREMENTS"].lines
         }
         self.assignments = {
             (week, named[nurse], day): nurse
-            for week, part in enumerate(bundle.solutions)
+            for week, part in enumerate(self.bundle.solutions)
             for nurse, day, *_ in part[b"ASSIGNMENTS"].lines
         }
 
@@ -178,7 +169,7 @@ class Places:
             # after the shift and the skill stand seven pairs of five words each
             first = self.needs[week, self.case.shifts[shift].name, self.case.skills[skill]] + 2 + 5 * weekday
             return self.at(first, first + 4, f"{breach.line}: {breach.more}")
-        first = self.assignments[week, self.case.nurses[breach.of[0]].name, weekday] + (2 if breach.rule == "H3" else 3)
+        first = self.assignments[week, self.case.nurses[breach.of[0]].name, weekday] + (3 if breach.rule == "H4" else 2)
         return self.at(first, first, f"{breach.line}: {breach.more}")
 
     def of_empty(self, weeks: list[int], count: int) -> Finding:
@@ -196,26 +187,30 @@ class Places:
         return Finding(offset, self.words.texts.place(offset, length), message)
 
 
-def accepted(texts: Texts, asks_of: typing.Callable[[Plan], Asks | None]) -> list[Finding]:
-    """What is wrong with texts that the program takes: solutions in the place of another week, and what isn't as asked for."""
-    plan = program.plan_in(texts)
-    asks = asks_of(plan)
-    failed = asks.failed(plan.roster)[:-1] if asks else []
-    return out_of_place(plan.words, plan.bundle.solutions) + [Finding(len(texts.joined), None, it) for it in failed]
+def failed(plan: Plan, asks: Asks | None, end: int) -> list[Finding]:
+    """What of a roster isn't as asked for."""
+    return [Finding(end, None, it) for it in (asks.failed(plan.roster)[:-1] if asks else [])]
 
 
 def check(roster: Program, texts: Texts, asks_of: typing.Callable[[Plan], Asks | None]) -> tuple[list[str], int]:
     """What is told of the texts, and of what else is asked for, and the status."""
-    answer = roster.call(["cost"], texts.joined)
-    line = answer.last()
-    if answer.status == 0:
-        found = accepted(texts, asks_of)
-    elif answer.status != 1:
+    answer, more = roster.call(["cost"], texts.joined), ""
+    line = answer.last() if answer.status else "nothing"
+    if answer.status not in (0, 1):
         raise DeskError(f"'roster cost' says: {line}", answer.status)
+    if answer.status and not BREACH.match(line):
+        found = refused_text(texts, line)
     else:
-        found = all_breaches(texts, line) if BREACH.match(line) else refused_text(texts, line)
-    told = [line for it in found for line in it.lines()]
-    return [*told, summary(texts, answer, len(found))], answer.status or int(bool(found))
+        plan = program.plan_in(texts)
+        told = breaches.all_breaches(plan)
+        first = told[0].line if told else "nothing"
+        if first != line:
+            raise DeskError(f"'roster cost' says '{line}', and the desk '{first}'; this is a fault of the desk", 3)
+        misplaced = out_of_place(plan.words, plan.bundle.solutions)
+        found = misplaced + breach_findings(plan, told) + failed(plan, asks_of(plan), len(texts.joined))
+        more = PLAN if told and not misplaced and all(it.rule != "H4" for it in told) else ""
+    lines = [line for it in found for line in it.lines()]
+    return [*lines, summary(texts, answer, len(found)) + more], answer.status or int(bool(found))
 
 
 def summary(texts: Texts, answer: Answer, count: int) -> str:

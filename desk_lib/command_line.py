@@ -9,7 +9,7 @@ import typing
 
 from desk_lib import asks, check, grid, improve, outputs, page, plot, polish, program, replacing, signals, split, tables
 from desk_lib.costs import Costing
-from desk_lib.grammar import WORD
+from desk_lib.grammar import WORD, Cursor, Fault, Words, read_part
 from desk_lib.model import Plan, monday_in
 from desk_lib.program import Program
 from desk_lib.sheet import Sheet
@@ -30,10 +30,11 @@ The files stand in the program's order (scenario, history, week data, solutions)
 another program than the one of this repository. The status is that of roster: 0 for done, 1 for a refused input,
 2 for a wrong command line, 3 for a failed read or write, and 4 for too little memory.
 
---asks names a text of lines such as 'absent Ann 0:Mon 1:Sun' (she doesn't work on these days) and 'pin Ann 0:Mon
-0:Wed..0:Fri' (she does what the roster says now); after a line such as 'start 2026-11-02' days may be dates. The
-format has only requests, so these become off requests and wishes of 10 points each, in the week data that 'weeks'
-writes and in all totals. Where a roster fails them is told."""
+--asks names a text of lines such as 'absent Ann 0:Mon 1:Sun' (she can't work on these days), 'off Ann 2:Sat 2:Sun'
+(she asks to be off) and 'pin Ann 0:Mon 0:Wed..0:Fri' (she does what the roster says now); after a line such as
+'start 2026-11-02' days may be dates. An absence is a hard rule: a roster in which Ann works then is refused, and
+'improve --plan' makes another. The others become off requests and wishes of 10 points each. All of it is in the week
+data that 'weeks' writes and in all totals. Where a roster fails it is told."""
 
 IMPROVE = """
 
@@ -43,7 +44,12 @@ as many searches and that seed, or a cheaper roster. Such a run writes nothing b
 slices of polish go on beside it, from the roster in the file, and each that is cheaper is kept. The log has a line
 for each cheaper roster; it goes to standard error, and on a terminal it is one line that changes. Where something
 else writes the file meanwhile, that stays, and the roster is kept beside it. How many days change is no part of the
-penalty, and can't be kept small by it; it is told at the end, and by 'costs --with'."""
+penalty, and can't be kept small by it; it is told at the end, and by 'costs --with'.
+
+With --plan the roster given may break minimums, successions and absences on days that may change, and --sols may be
+left out: then nobody works yet. In the place of the rounds 'roster plan' makes a roster that keeps the hard rules,
+with as many searches as --polish says, or as --seconds leaves time for. The log's line 'missing M' tells how many
+nurses the minimums miss before. --polish and --seconds go on from that roster."""
 
 
 # What solutions are among the files that are read; and so many seeds are taken at once.
@@ -113,14 +119,16 @@ def texts_of(asked: argparse.Namespace) -> Texts:
         second = "; one of the second roster has --with before it" if getattr(asked, "other", None) else ""
         raise DeskError(f"{told}{second}", 2)
     lacking = [f"--{kind}" for kind, names in by_kind.items() if not names]
-    if lacking:
+    is_new = lacking == ["--sols"] and getattr(asked, "plan", False)
+    if lacking and not is_new:
         told = f"without {' and without '.join(lacking)}: --sce, --his, --weeks and --sols name all files together"
-        first = "; roster needs a roster to begin with" if "--sols" in lacking else ""
+        first = "; roster needs a roster to begin with, which 'improve --plan' makes" if "--sols" in lacking else ""
         raise DeskError(f"{told}{first}", 2)
     for kind in ("sce", "his"):
         if len(by_kind[kind]) > 1:
             raise DeskError(f"--{kind} names {' and '.join(map(shown, by_kind[kind]))}; give one file", 2)
-    return Texts(read_files([(name, kind) for kind, names in by_kind.items() for name in names]))
+    read = read_files([(name, kind) for kind, names in by_kind.items() for name in names or ()])
+    return Texts([*read, *no_solutions(read[0])] if is_new else read)
 
 
 def read_files(named: list[tuple[str, str]]) -> list[Text]:
@@ -135,6 +143,18 @@ def read_files(named: list[tuple[str, str]]) -> list[Text]:
         others = f"; nor can {' and '.join(shown(it) for it, _ in failed[1:])} be read" if failed[1:] else ""
         raise DeskError(f"{failed[0][1]}{others}", 3)
     return found
+
+
+def no_solutions(scenario: Text) -> list[Text]:
+    """Solutions in which nobody works. Where the scenario can't be read there are none, and the program tells why."""
+    try:
+        words = Words(Texts([scenario]))
+        part = read_part(Cursor(words.words), "scenario")
+    except Fault:
+        return []
+    name = words.words[part[b"SCENARIO"].lines[0][0]]
+    empty = [b"SOLUTION\n%d %s\n\nASSIGNMENTS = 0\n" % (week, name) for week in range(part[b"WEEKS"].count)]
+    return [Text("no solutions", b"\n".join(empty))]
 
 
 def from_input() -> Texts:
@@ -256,8 +276,8 @@ def run_improve(asked: argparse.Namespace, roster: Program) -> int:
     has_polish = asked.polish is not None or end is not None
     if asked.seeds and not has_polish:
         raise DeskError("--seeds: these are the seeds of polish; say how long by --polish or --seconds", 2)
-    if has_polish:
-        roster.must_know("polish")
+    for it in ["plan"] * asked.plan + ["polish"] * has_polish:
+        roster.must_know(it)
     if asked.first_week >= plan.case.weeks:
         told = f"--from {asked.first_week}: the roster has {plural(plan.case.weeks, 'week')}, so all days are frozen"
         program.warn(f"{told}, and nothing can change")
@@ -268,12 +288,17 @@ def run_improve(asked: argparse.Namespace, roster: Program) -> int:
             # (it may have changed since it was read)
             run.there = it.data
 
+    seeds = asked.seeds or [asked.seed]
+
     def work() -> None:
+        if asked.plan:
+            run.plan(asked.polish, seeds[0], end)
         if asked.bound:
-            within_time(end, lambda: progress.know_floor(improve.floor_of(roster, texts, words, progress)))
-        run.rounds(asked.rounds, end)
+            within_time(end, lambda: progress.know_floor(improve.floor_of(roster, run.texts(), words, progress)))
+        if not asked.plan:
+            run.rounds(asked.rounds, end)
         if has_polish:
-            polish.go_on(run, polish.Course(asked.polish, asked.seeds or [asked.seed], asked.slice, end))
+            polish.go_on(run, polish.Course(asked.polish, seeds, asked.slice, end))
 
     wanted = asks_of(asked, plan)
     improve.finish(run, work)
@@ -422,6 +447,11 @@ def add_improve(commands: typing.Any) -> None:
     )
     parser.add_argument(
         "--rounds", type=number_in(0, 1000), default=100, metavar="N", help="make at most so many rounds (100 if not given)"
+    )
+    parser.add_argument(
+        "--plan",
+        action="store_true",
+        help="in the place of rounds, ask 'roster plan' for a roster that keeps the hard rules, whatever the one given breaks",
     )
     with_first_week(parser, "the days before week V stay as they are")
     parser.add_argument(

@@ -226,6 +226,10 @@ def request_line(cursor: Cursor) -> Line:
     return cursor.name(), cursor.name(), cursor.day()
 
 
+def absence_line(cursor: Cursor) -> Line:
+    return cursor.name(), cursor.day()
+
+
 def solution_head(cursor: Cursor, section: Section) -> None:
     cursor.word("SOLUTION")
     at = cursor.at
@@ -252,15 +256,18 @@ READERS: dict[bytes, Reader] = {
     b"REQUIREMENTS": until("REQUIREMENTS", b"SHIFT_OFF_REQUESTS", need_line),
     b"SHIFT_OFF_REQUESTS": counted("SHIFT_OFF_REQUESTS", request_line),
     b"SHIFT_ON_REQUESTS": counted("SHIFT_ON_REQUESTS", request_line),
+    b"ABSENCES": counted("ABSENCES", absence_line),
     b"SOLUTION": solution_head,
     b"ASSIGNMENTS": counted("ASSIGNMENTS", assignment_line),
 }
 SECTIONS_OF = {
     "scenario": b"SCENARIO WEEKS SKILLS SHIFT_TYPES FORBIDDEN_SHIFT_TYPES_SUCCESSIONS CONTRACTS NURSES".split(),
     "history": b"HISTORY NURSE_HISTORY".split(),
-    "week data": b"WEEK_DATA REQUIREMENTS SHIFT_OFF_REQUESTS SHIFT_ON_REQUESTS".split(),
+    "week data": b"WEEK_DATA REQUIREMENTS SHIFT_OFF_REQUESTS SHIFT_ON_REQUESTS ABSENCES".split(),
     "solution": b"SOLUTION ASSIGNMENTS".split(),
 }
+# Those that may be absent.
+OPTIONAL = {b"SHIFT_ON_REQUESTS", b"ABSENCES"}
 # A part that was read: its sections by their keywords.
 Part = dict[bytes, Section]
 
@@ -287,7 +294,7 @@ def read_part(cursor: Cursor, kind: str, nurses: int | None = None) -> Part:
     """A part, all of it."""
     part = {}
     for keyword in SECTIONS_OF[kind]:
-        if keyword != b"SHIFT_ON_REQUESTS" or cursor.peek() == keyword:
+        if keyword not in OPTIONAL or cursor.peek() == keyword:
             part[keyword] = read_section(cursor, keyword, nurses)
     return part
 

@@ -81,7 +81,7 @@ class Grid:
         mark = ("*" if cell.is_changed else "") + ("!" if cell.breaks_request or cell.misses_wish else "")
         mark = "#" if len(mark) == 2 else mark
         if cell.choice is None:
-            return self.padded("." + mark, CHANGED if cell.is_changed else "")
+            return self.padded(("x" if cell.is_absent else ".") + mark, CHANGED if cell.is_changed else "")
         shift, skill = cell.choice
         text = self.sheet.shift_letters[shift] + (self.sheet.skill_letters[skill] if self.with_skills else "")
         return self.padded(text + mark, SHIFT_COLOURS[shift] + (f";{CHANGED}" if cell.is_changed else ""))
@@ -106,7 +106,7 @@ class Grid:
             f"{self.paint(letter, code)} {shown(it.name)}"
             for letter, code, it in zip(sheet.shift_letters, SHIFT_COLOURS, sheet.case.shifts)
         ]
-        lines = [f"{'  '.join(shifts)}  . off"]
+        lines = [f"{'  '.join(shifts)}  . off{'  x absent' if sheet.case.absences else ''}"]
         if self.with_skills:
             lines.append("  ".join(f"{letter} {shown(it)}" for letter, it in zip(sheet.skill_letters, sheet.case.skills)))
         changed = f" ({plural(sheet.changed(), 'day')})" if sheet.is_compared else ""

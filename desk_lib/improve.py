@@ -1,14 +1,20 @@
-"""The command `improve`: rounds one at a time, the file replaced after each. desk_lib/polish.py has what may follow."""
+"""The command `improve`: rounds one at a time, the file replaced after each, or in their place a roster of `plan`.
+desk_lib/polish.py has what may follow."""
+import collections.abc
 import contextlib
 import sys
 import time
 import typing
 
 from desk_lib.model import changed_days
-from desk_lib.program import Program, costs_by, plan_in
+from desk_lib.program import Answer, Program, costs_by, plan_in, refusal
 from desk_lib.replacing import Replacement, bytes_of, keep_beside, read_back
 from desk_lib.signals import Interrupted, held_back, within_time
 from desk_lib.texts import DeskError, Text, Texts, plural, shown
+
+
+# How many searches `plan` is given one after the other where the time alone says how many.
+TRIES = [1_000 * 4**it for it in range(7)]
 
 
 class Progress:
@@ -60,6 +66,13 @@ class Progress:
             sys.stderr.flush()
             self.is_shown = True
 
+    def show_word(self, what: str) -> None:
+        """The line that changes, where there is no penalty yet."""
+        if self.is_terminal:
+            sys.stderr.write(f"\r{what}, {time.monotonic() - self.began:.0f} s\x1b[K")
+            sys.stderr.flush()
+            self.is_shown = True
+
     def end(self, told: str = "") -> None:
         """Leaves the line that changes as it is. What the run came to follows on a terminal, and where a floor is known."""
         if self.is_terminal:
@@ -80,6 +93,8 @@ class Run:
         self.out, self.first_week, self.progress = out, first_week, progress
         # (the last line of the last log; and what the file has: what it costs, and after what)
         self.given, self.end, self.total, self.saved = self.texts(), b"", 0, ""
+        # (what `polish` begins with; and what is told where nothing was put into the file)
+        self.begun, self.lacking = self.given, "no round was over"
         # what can't be replaced is told before the first round
         with Replacement(out, b""):
             pass
@@ -160,6 +175,36 @@ class Run:
         self.save(answer.output, number_of(answer.log[-1]), f"round {number}" if count else "no round")
         self.end = answer.log[-1]
 
+    # ---- a roster of `plan`
+
+    def plan(self, searches: int | None, seed: int, end: float | None) -> None:
+        """Begins with a roster that keeps the hard rules, whatever the one that was given breaks. Where neither a number of
+        searches nor a time is given, the program says how many."""
+        self.lacking, found = "no roster was found", []
+        counts = TRIES if searches is None and end is not None else [searches]
+        within_time(end, lambda: found.extend(self.planned(counts, seed)))
+        if not found:
+            raise DeskError("the time is over, and no roster that keeps the hard rules was found; give more, or need less")
+        for line in found[0].log[:-1]:
+            # (the first has no penalty)
+            self.progress.line(line.replace(b"start ", b"missing "))
+        self.save(found[0].output, number_of(found[0].log[-1]), "plan")
+        self.end, self.begun = found[0].log[-1], self.texts()
+        self.progress.line(self.end)
+
+    def planned(self, counts: collections.abc.Sequence[int | None], seed: int) -> list[Answer]:
+        """The first answer with a roster, of runs with so many searches."""
+        self.progress.show_word("a roster that keeps the hard rules is looked for")
+        for searches in counts:
+            words = ["plan", "--seed", str(seed), *([] if searches is None else ["--searches", str(searches)]), *self.first_week]
+            answer = self.roster.call(words, self.given.joined)
+            if answer.status == 0:
+                return [answer]
+            if answer.status != 1 or not answer.last().startswith("H2 "):
+                raise refusal("plan", answer, self.given)
+        told = f"no roster that keeps the hard rules was found, and the nearest has '{answer.last()}'"
+        raise DeskError(f"{told}; give more searches by --polish, more --seconds, or need less")
+
     def tell(self, line: bytes, number: int) -> None:
         """Passes on a line of a round's log, with the number of that round."""
         words = line.split(b" ")
@@ -198,7 +243,7 @@ def finish(run: Run, work: typing.Callable[[], None]) -> None:
     except Interrupted as end:
         run.progress.end()
         run.look_again()
-        has = run.has() or f"no round was over, and {shown(run.out)} is as it was"
+        has = run.has() or f"{run.lacking}, and {shown(run.out)} is as it was"
         raise DeskError(f"interrupted; {has}", end.status) from None
     except DeskError as why:
         run.progress.end()

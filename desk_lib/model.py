@@ -90,6 +90,12 @@ def requests_of(names: Numbers, weeks: list[Part], keyword: bytes) -> set[tuple[
     return found
 
 
+def absences_of(names: Numbers, weeks: list[Part]) -> set[tuple[int, int]]:
+    """The absences of all weeks: the nurse and the day."""
+    lines = [(week, line) for week, part in enumerate(weeks) if b"ABSENCES" in part for line in part[b"ABSENCES"].lines]
+    return {(names.nurse(nurse), 7 * week + day) for week, (nurse, day) in lines}
+
+
 def roster_of(names: Numbers, solutions: list[Part]) -> Roster:
     roster: Roster = [[None] * (7 * len(solutions)) for _ in names.nurses]
     for week, part in enumerate(solutions):
@@ -117,6 +123,7 @@ def plan_of(words: Words, bundle: Bundle) -> Plan:
         needs=needs_of(names, bundle.weeks),
         requests=requests_of(names, bundle.weeks, b"SHIFT_OFF_REQUESTS"),
         wishes=requests_of(names, bundle.weeks, b"SHIFT_ON_REQUESTS"),
+        absences=absences_of(names, bundle.weeks),
     )
     return Plan(case, roster_of(names, bundle.solutions), words, bundle)
 

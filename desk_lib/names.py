@@ -116,6 +116,8 @@ class Names:
             for nurse, shift, _ in self.lines(part, keyword):
                 self.look_up(nurse, self.nurses, "nurse")
                 self.look_up(shift, {*self.shifts, ANY}, "shift")
+        for nurse, _ in self.lines(part, b"ABSENCES"):
+            self.look_up(nurse, self.nurses, "nurse")
 
     def of_solutions(self, parts: list[Found]) -> None:
         for week, found in enumerate(parts):

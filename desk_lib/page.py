@@ -124,6 +124,7 @@ class Page:
             for at, (letter, it) in enumerate(zip(sheet.shift_letters, self.case.shifts))
         ]
         items.append('<span class="key off">·</span>off')
+        items += ['<span class="key off">×</span>absent'] if self.case.absences else []
         items += [
             f'<span class="key">{letter}</span>{escaped(it)}' for letter, it in zip(sheet.skill_letters, self.case.skills)
         ]
@@ -184,7 +185,8 @@ class Page:
         skill = f"<i>{self.sheet.skill_letters[cell.choice[1]]}</i>" if cell.choice else ""
         small = f"<small>{below.strip()}</small>" if below else ""
         title = escaped(self.sheet.told(number, day))
-        return f'<span class="{" ".join(classes)}" role="img" title="{title}">{self.letter(cell.choice)}{skill}{small}</span>'
+        letter = "×" if cell.is_absent and not cell.choice else self.letter(cell.choice)
+        return f'<span class="{" ".join(classes)}" role="img" title="{title}">{letter}{skill}{small}</span>'
 
     def letter(self, choice: Choice) -> str:
         return "·" if choice is None else self.sheet.shift_letters[choice[0]]

@@ -7,7 +7,9 @@ from desk_lib.texts import DeskError, shown
 WIDTH, HEIGHT, LEFT, RIGHT, TOP, BOTTOM = 720, 260, 56, 78, 24, 36
 # So far apart are texts beside each other, and below each other.
 BESIDE, BELOW = 22, 15
-LINE = re.compile(rb"(start|round|settled|stopped|fade|kick|slice|seed|\d+)(?: (.*))? (\d+)", re.S)
+LINE = re.compile(rb"(start|missing|round|settled|stopped|fade|kick|slice|seed|\d+)(?: (.*))? (\d+)", re.S)
+# What lines tell that isn't what the roster costs: how many nurses the minimums miss, and what a run by another seed comes to.
+OTHERS = (b"missing", b"seed")
 
 
 @dataclasses.dataclass(frozen=True)
@@ -30,8 +32,7 @@ def points_in(log: bytes, name: str) -> list[Point]:
                 f"{shown(name)}:{number}: no line of a log: '{shown(line[:40])}'; --log wants what improve wrote on standard"
                 " error"
             )
-        # (what a run by another seed comes to isn't what the roster costs)
-        if told[1] != b"seed":
+        if told[1] not in OTHERS:
             found.append(Point(told[1].decode(), int(told[3])))
     if not found:
         raise DeskError(f"{shown(name)}: the log is empty; --log wants what improve wrote on standard error")

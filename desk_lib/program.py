@@ -87,14 +87,19 @@ class Running:
     def taken(self, texts: Texts) -> Answer:
         """As `answer`, and a refusal is an error that names the file."""
         answer = self.answer()
-        if answer.status == 2:
-            raise unknown(" ".join(self.words))
-        if answer.status < 0:
-            raise DeskError(f"'roster {self.words[0]}' was ended by {signal.Signals(-answer.status).name}", 3)
         if answer.status:
-            told = f"{located(answer.last(), texts)}; 'desk check' with these files tells all that is wrong"
-            raise DeskError(told, answer.status)
+            raise refusal(" ".join(self.words), answer, texts)
         return answer
+
+
+def refusal(words: str, answer: Answer, texts: Texts) -> DeskError:
+    """What is told where the program with these words answers another status than 0."""
+    if answer.status == 2:
+        return unknown(words)
+    if answer.status < 0:
+        return DeskError(f"'roster {words.split()[0]}' was ended by {signal.Signals(-answer.status).name}", 3)
+    told = f"{located(answer.last(), texts)}; 'desk check' with these files tells all that is wrong"
+    return DeskError(told, answer.status)
 
 
 def tie_to(desk: int, niceness: int) -> None:
@@ -177,7 +182,7 @@ def known(program: Program) -> Program:
 
 
 def taken(program: Program, texts: Texts) -> Plan:
-    """The plan of texts of which the program refuses nothing but breaches of H2 to H4."""
+    """The plan of texts of which the program refuses nothing but breaches of H2 to H4 and of absences."""
     program.ask(["show"], texts)
     return plan_in(texts)
 

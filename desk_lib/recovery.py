@@ -21,6 +21,7 @@ LINES = {
     b"REQUIREMENTS": grammar.need_line,
     b"SHIFT_OFF_REQUESTS": grammar.request_line,
     b"SHIFT_ON_REQUESTS": grammar.request_line,
+    b"ABSENCES": grammar.absence_line,
     b"ASSIGNMENTS": grammar.assignment_line,
 }
 # So many faults are told, and for the first of them a keyword is looked for that a word may be meant to be.
@@ -232,7 +233,7 @@ class Recovery:
     def check_parts(self) -> None:
         """Tells of sections that parts lack or have in another order."""
         for part in self.parts:
-            due = [it for it in SECTIONS_OF[part.kind] if it != b"SHIFT_ON_REQUESTS"]
+            due = [it for it in SECTIONS_OF[part.kind] if it not in grammar.OPTIONAL]
             lacking = [it.decode() for it in due if it not in part.sections]
             if lacking:
                 self.tell(part.at, f"this {part.kind} has no section {' and no '.join(lacking)}")

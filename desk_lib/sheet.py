@@ -16,13 +16,15 @@ def date_name(date: datetime.date) -> str:
 
 @dataclasses.dataclass(frozen=True)
 class Cell:
-    """A day of a nurse: the choice, whether it is another than before, and what of the requests it doesn't meet."""
+    """A day of a nurse: the choice, whether it is another than before, what of the requests it doesn't meet, and whether the nurse
+    is absent."""
 
     choice: Choice
     before: Choice
     is_changed: bool
     breaks_request: bool
     misses_wish: bool
+    is_absent: bool
 
 
 @dataclasses.dataclass(frozen=True)
@@ -68,7 +70,7 @@ class Sheet:
         row = self.costing.plan.roster[number]
         old = before[number][day] if before else row[day]
         asked, missed = self.costing.breaks_request(number, day, row), self.costing.misses_wish(number, day, row)
-        return Cell(row[day], old, old != row[day], asked, missed)
+        return Cell(row[day], old, old != row[day], asked, missed, (number, day) in self.case.absences)
 
     def date(self, day: int) -> datetime.date | None:
         return self.start + datetime.timedelta(day) if self.start else None
@@ -84,7 +86,7 @@ class Sheet:
         parts = [f"{shown(self.case.nurses[number].name)}, {self.day_name(day)}: {choice_name(self.case, cell.choice)}"]
         parts += [f"before: {choice_name(self.case, cell.before)}"] if cell.is_changed else []
         parts += ["an off request isn't met"] * cell.breaks_request + ["a wish isn't met"] * cell.misses_wish
-        return "; ".join(parts + ["frozen"] * is_frozen)
+        return "; ".join(parts + ["absent"] * cell.is_absent + ["frozen"] * is_frozen)
 
     def told_cover(self, at: tuple[int, int], day: int, cover: "Cover") -> str:
         """The cover of a day in words."""

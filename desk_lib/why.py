@@ -76,6 +76,8 @@ def why_lines(roster: Program, texts: Texts, costing: Costing, name: str, word: 
 
 def barred(plan: Plan, met: list, nurse: int, day: int) -> str:
     """Why no row can be had, where these choices of the day would meet the request."""
+    if (nurse, day) in plan.case.absences:
+        return "this is a day of an absence"
     if met:
         return "each has a forbidden succession, or breaks a minimum of another day"
     now = plan.roster[nurse][day]
