@@ -165,6 +165,27 @@ def breaches(case, roster):
     return [*missed_minimums(case, roster), *breaches_of_rows(case, roster)]
 
 
+# ---- what 'plan' begins with
+
+
+def emptied(roster, first_week):
+    """The roster in which nobody works from a week on."""
+    return [[choice if day // 7 < first_week else None for day, choice in enumerate(row)] for row in roster]
+
+
+def lacking(case, roster):
+    """How many nurses the minimums miss."""
+    covers = [cover(of_day) for of_day in zip(*roster)]
+    return sum(max(0, need[day].least - covers[day][at]) for at, need in case.needs.items() for day in days_of(case))
+
+
+def unplannable(case, roster, first_week):
+    """What 'plan' can't mend: missing skills, and then what rows break before a week. In the order in which it is told."""
+    found = list(breaches_of_rows(case, roster))
+    frozen = [it for it in found if it.rule != "H4" and it.day // 7 < first_week]
+    return [it for it in found if it.rule == "H4"] + frozen
+
+
 # ---- the best row
 
 
