@@ -2,11 +2,16 @@
 there."""
 import collections.abc
 import dataclasses
+import re
 
 from reckoning import cover
 
 from desk_lib.model import Plan, choice_name, day_name
 from desk_lib.texts import shown
+
+
+# How the line of a breach begins.
+BREACH = re.compile(r"(H[234]|absent) week \d+ ")
 
 
 @dataclasses.dataclass(frozen=True)

@@ -11,7 +11,6 @@ from desk_lib.program import Answer, Program
 from desk_lib.recovery import Recovery
 from desk_lib.texts import DeskError, Texts, plural, shown
 
-BREACH = re.compile(r"(H[234]|absent) week \d+ ")
 OUT_OF_LIMITS = "count out of limits"
 # What is said where nothing but what `plan` mends is broken.
 PLAN = "; 'desk improve --plan' can make a roster that keeps the hard rules"
@@ -198,7 +197,7 @@ def check(roster: Program, texts: Texts, asks_of: typing.Callable[[Plan], Asks |
     line = answer.last() if answer.status else "nothing"
     if answer.status not in (0, 1):
         raise DeskError(f"'roster cost' says: {line}", answer.status)
-    if answer.status and not BREACH.match(line):
+    if answer.status and not breaches.BREACH.match(line):
         found = refused_text(texts, line)
     else:
         plan = program.plan_in(texts)

@@ -49,7 +49,7 @@ penalty, and can't be kept small by it; it is told at the end, and by 'costs --w
 With --plan the roster given may break minimums, successions and absences on days that may change, and --sols may be
 left out: then nobody works yet. In the place of the rounds 'roster plan' makes a roster that keeps the hard rules,
 with as many searches as --polish says, or as --seconds leaves time for. The log's line 'missing M' tells how many
-nurses the minimums miss before. --polish and --seconds go on from that roster."""
+nurses the minimums miss before, absent ones aside. --polish and --seconds go on from that roster."""
 
 
 # What solutions are among the files that are read; and so many seeds are taken at once.

@@ -168,14 +168,10 @@ def breaches(case, roster):
 # ---- what 'plan' begins with
 
 
-def emptied(roster, first_week):
-    """The roster in which nobody works from a week on."""
-    return [[choice if day // 7 < first_week else None for day, choice in enumerate(row)] for row in roster]
-
-
 def lacking(case, roster):
-    """How many nurses the minimums miss."""
-    covers = [cover(of_day) for of_day in zip(*roster)]
+    """How many nurses the minimums miss, where absent ones don't count."""
+    here = [[None if (number, day) in case.absences else choice for day, choice in enumerate(row)] for number, row in enumerate(roster)]
+    covers = [cover(of_day) for of_day in zip(*here)]
     return sum(max(0, need[day].least - covers[day][at]) for at, need in case.needs.items() for day in days_of(case))
 
 
