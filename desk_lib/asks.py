@@ -5,9 +5,9 @@
     pin NURSE DAY..             on these days the nurse does what the roster says now; a day may be FROM..TO
     start DATE                  week 0 begins on this Monday; from here on days may be dates
 
-A day is the week and the weekday, as 0:Mon. What follows a '#' is a remark. An absence becomes a line of the section ABSENCES. A
-day off is asked for by an off request, and a pin by a wish or an off request: each costs 10 where it isn't met, and a roster may
-well not meet it. So each roster is looked at, and where it fails is told.
+A day is the week and the weekday, as 0:Mon. What follows a '#' is a remark. An absence becomes a line of the section ABSENCES.
+A day off is asked for by an off request, and a pin by a wish or an off request: each costs 10 where it isn't met, and a roster
+may well not meet it. So each roster is looked at, and where it fails is told.
 """
 import collections
 import collections.abc
@@ -185,8 +185,8 @@ def edited(text: Text, start: int, edits: list[Edit]) -> Text:
 
 
 def write_weeks(roster: Program, asks: Asks, texts: Texts, names: list[str]) -> None:
-    """Writes the week data with all that is asked for into files of these names, once all of them are read back: by the desk as
-    the case that it passes on, and by the program, which answers the same to both."""
+    """Writes the week data with all that is asked for into files of these names, once all of them are read back: by the desk
+    as the case that it passes on, and by the program, which answers the same to both."""
     plan, data = asks.plan, asks.week_data(texts)
     first = plan.words.offset(plan.bundle.weeks[0][b"WEEK_DATA"].at)
     solutions = Text("the solutions", texts.joined[plan.solutions_offset() :])
@@ -194,7 +194,8 @@ def write_weeks(roster: Program, asks: Asks, texts: Texts, names: list[str]) -> 
         new = [stack.enter_context(Replacement(name, it)) for name, it in zip(names, data)]
         back = Texts([*texts.before(first, []).texts, *(Text(it.name, it.read()) for it in new), solutions])
         passed = asks.added_to(texts)
-        if plan_in(back).case != plan_in(passed).case or roster.call(["cost"], back.joined) != roster.call(["cost"], passed.joined):
+        answers = (roster.call(["cost"], it.joined) for it in (back, passed))
+        if plan_in(back).case != plan_in(passed).case or next(answers) != next(answers):
             told = f"{shown(names[0])}: read back they are other week data; nothing is replaced"
             raise DeskError(f"{told}. This is a fault of the desk", 3)
         for it in new:

@@ -67,9 +67,9 @@ def absences(plan: Plan) -> collections.abc.Iterator[Breach]:
     for number, day in sorted(plan.case.absences):
         choice = plan.roster[number][day]
         if choice:
-            name = shown(plan.case.nurses[number].name)
+            name, works = shown(plan.case.nurses[number].name), choice_name(plan.case, choice)
             line = f"absent week {day // 7} {day_name(day)} {name}"
-            yield Breach(line, f"{name} is absent, and the roster has {choice_name(plan.case, choice)}", "absent", day, (number,))
+            yield Breach(line, f"{name} is absent, and the roster has {works}", "absent", day, (number,))
 
 
 def all_breaches(plan: Plan) -> list[Breach]:

@@ -197,7 +197,8 @@ class Run:
         """The first answer with a roster, of runs with so many searches."""
         self.progress.show_word("a roster that keeps the hard rules is looked for")
         for searches in counts:
-            words = ["plan", "--seed", str(seed), *([] if searches is None else ["--searches", str(searches)]), *self.first_week]
+            of_searches = [] if searches is None else ["--searches", str(searches)]
+            words = ["plan", "--seed", str(seed), *of_searches, *self.first_week]
             answer = self.roster.call(words, self.given.joined)
             if answer.status == 0:
                 return [answer]
