@@ -374,6 +374,9 @@ bound_shape = get_or subs 5 help_shape
 abbrev polish_shape : Shape
 polish_shape = get_or subs 6 help_shape
 
+abbrev plan_shape : Shape
+plan_shape = get_or subs 7 help_shape
+
 -- an argument that is a number, as clap completes its rule
 abbrev number : Text → ℕ → Text → Rule
 number name most default = record (get_or improve_shape.rules 0 rounds_rule) { id = name; long = Some name; parser = Some (parser.Signed (pos 0) (pos most)); defaults = default ∷ [] }
@@ -543,21 +546,23 @@ meets_rounds =
     let no = another_in with_rounds HasRounds in
     let improve_has = rounds_at improve_shape ((λ f. refl), ((λ f. absurd (true≢false (sym f))), ((λ f. absurd (true≢false (sym f))), ((λ f. absurd (true≢false (sym f))), tt)))) (inl refl) in
     let bound_has = rounds_at bound_shape ((λ f. refl), ((λ f. absurd (true≢false (sym f))), ((λ f. absurd (true≢false (sym f))), ((λ f. absurd (true≢false (sym f))), tt)))) (inl refl) in
-    words_meet with_rounds HasRounds (no 0 refl, (no 1 refl, (no 2 refl, (no 3 refl, (improve_has, (bound_has, (no 6 refl, (no 7 refl, tt))))))))
+    words_meet with_rounds HasRounds (no 0 refl, (no 1 refl, (no 2 refl, (no 3 refl, (improve_has, (bound_has, (no 6 refl, (no 7 refl, (no 8 refl, tt)))))))))
 
 pub meets_searches : (words : List Text) → fault_of program words ≡ [] → Meets with_searches HasSearches (subcommand_of program words)
 unfolding Among is_one_of
 meets_searches =
     let no = another_in with_searches HasSearches in
     let polish_has = searches_at polish_shape ((λ f. refl), ((λ f. absurd (true≢false (sym f))), ((λ f. absurd (true≢false (sym f))), ((λ f. absurd (true≢false (sym f))), ((λ f. absurd (true≢false (sym f))), ((λ f. absurd (true≢false (sym f))), tt)))))) (inl refl) in
-    words_meet with_searches HasSearches (no 0 refl, (no 1 refl, (no 2 refl, (no 3 refl, (no 4 refl, (no 5 refl, (polish_has, (no 7 refl, tt))))))))
+    let plan_has = searches_at plan_shape ((λ f. refl), ((λ f. absurd (true≢false (sym f))), ((λ f. absurd (true≢false (sym f))), ((λ f. absurd (true≢false (sym f))), ((λ f. absurd (true≢false (sym f))), tt))))) (inl refl) in
+    words_meet with_searches HasSearches (no 0 refl, (no 1 refl, (no 2 refl, (no 3 refl, (no 4 refl, (no 5 refl, (polish_has, (plan_has, (no 8 refl, tt)))))))))
 
 pub meets_seed : (words : List Text) → fault_of program words ≡ [] → Meets with_searches HasSeed (subcommand_of program words)
 unfolding Among is_one_of
 meets_seed =
     let no = another_in with_searches HasSeed in
     let polish_has = seed_at polish_shape ((λ f. absurd (true≢false (sym f))), ((λ f. refl), ((λ f. absurd (true≢false (sym f))), ((λ f. absurd (true≢false (sym f))), ((λ f. absurd (true≢false (sym f))), ((λ f. absurd (true≢false (sym f))), tt)))))) (inr (inl refl)) in
-    words_meet with_searches HasSeed (no 0 refl, (no 1 refl, (no 2 refl, (no 3 refl, (no 4 refl, (no 5 refl, (polish_has, (no 7 refl, tt))))))))
+    let plan_has = seed_at plan_shape ((λ f. absurd (true≢false (sym f))), ((λ f. refl), ((λ f. absurd (true≢false (sym f))), ((λ f. absurd (true≢false (sym f))), ((λ f. absurd (true≢false (sym f))), tt))))) (inr (inl refl)) in
+    words_meet with_searches HasSeed (no 0 refl, (no 1 refl, (no 2 refl, (no 3 refl, (no 4 refl, (no 5 refl, (polish_has, (plan_has, (no 8 refl, tt)))))))))
 
 pub meets_from : (words : List Text) → fault_of program words ≡ [] → Meets with_from HasFrom (subcommand_of program words)
 unfolding Among is_one_of
@@ -567,7 +572,8 @@ meets_from =
     let improve_has = from_at improve_shape ((λ f. absurd (true≢false (sym f))), ((λ f. refl), ((λ f. absurd (true≢false (sym f))), ((λ f. absurd (true≢false (sym f))), tt)))) (inr (inl refl)) in
     let bound_has = from_at bound_shape ((λ f. absurd (true≢false (sym f))), ((λ f. refl), ((λ f. absurd (true≢false (sym f))), ((λ f. absurd (true≢false (sym f))), tt)))) (inr (inl refl)) in
     let polish_has = from_at polish_shape ((λ f. absurd (true≢false (sym f))), ((λ f. absurd (true≢false (sym f))), ((λ f. absurd (true≢false (sym f))), ((λ f. refl), ((λ f. absurd (true≢false (sym f))), ((λ f. absurd (true≢false (sym f))), tt)))))) (inr (inr (inr (inl refl)))) in
-    words_meet with_from HasFrom (no 0 refl, (no 1 refl, (no 2 refl, (best_has, (improve_has, (bound_has, (polish_has, (no 7 refl, tt))))))))
+    let plan_has = from_at plan_shape ((λ f. absurd (true≢false (sym f))), ((λ f. absurd (true≢false (sym f))), ((λ f. refl), ((λ f. absurd (true≢false (sym f))), ((λ f. absurd (true≢false (sym f))), tt))))) (inr (inr (inl refl))) in
+    words_meet with_from HasFrom (no 0 refl, (no 1 refl, (no 2 refl, (best_has, (improve_has, (bound_has, (polish_has, (plan_has, (no 8 refl, tt)))))))))
 
 -- ---- the number
 

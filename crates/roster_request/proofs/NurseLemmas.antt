@@ -334,7 +334,10 @@ all_give = (
           (λ named. absurd (other_name (codes "improve") refl named)),
           (
             (λ named. absurd (other_name (codes "bound") refl named)),
-            ((λ named. absurd (other_name (codes "polish") refl named)), ((λ named. absurd (other_name (codes "help") refl named)), tt)),
+            (
+              (λ named. absurd (other_name (codes "polish") refl named)),
+              ((λ named. absurd (other_name (codes "plan") refl named)), ((λ named. absurd (other_name (codes "help") refl named)), tt)),
+            ),
           ),
         ),
       ),

@@ -46,7 +46,7 @@ number_rule name most default = record (value_rule name) {
 abbrev pub rounds_rule : Rule
 rounds_rule = number_rule (codes "rounds") most_rounds (codes "100")
 
--- how many searches a run of kicks may make
+-- how many searches a run may make
 abbrev pub searches_rule : Rule
 searches_rule = number_rule (codes "searches") most_searches (codes "20000")
 
@@ -82,7 +82,8 @@ abbrev pub commands : List Shape
 commands =
     (command_of (codes "show")).top ∷ (command_of (codes "cost")).top ∷ (command_of (codes "sizes")).top
     ∷ (own_command_of (nurse_rule ∷ from_rule ∷ []) (codes "best")).top ∷ (own_command_of (rounds_rule ∷ from_rule ∷ []) (codes "improve")).top
-    ∷ (own_command_of (rounds_rule ∷ from_rule ∷ []) (codes "bound")).top ∷ (own_command_of (searches_rule ∷ seed_rule ∷ kicks_rule ∷ from_rule ∷ []) (codes "polish")).top ∷ []
+    ∷ (own_command_of (rounds_rule ∷ from_rule ∷ []) (codes "bound")).top ∷ (own_command_of (searches_rule ∷ seed_rule ∷ kicks_rule ∷ from_rule ∷ []) (codes "polish")).top
+    ∷ (own_command_of (searches_rule ∷ seed_rule ∷ from_rule ∷ []) (codes "plan")).top ∷ []
 
 -- the program's definition for clap
 abbrev pub program : App
@@ -97,6 +98,7 @@ name_of (command.Best nurse from) = codes "best"
 name_of (command.Improve rounds from) = codes "improve"
 name_of (command.Bound rounds from) = codes "bound"
 name_of (command.Polish searches seed from kicks) = codes "polish"
+name_of (command.Plan searches seed from) = codes "plan"
 
 -- it is the name of one of these commands
 abbrev pub IsNameOf : List Shape → Text → Type 0
@@ -131,15 +133,15 @@ abbrev pub IsOneOf : List Text → Text → Type 0
 IsOneOf [] name = ⊥
 IsOneOf (first ∷ rest) name = (name ≡ first) ⊎ IsOneOf rest name
 
--- the commands that make rounds, that which makes searches, and those that leave some weeks as they are
+-- the commands that make rounds, those that make as many searches as they are asked for, and those that leave some weeks as they are
 abbrev pub with_rounds : List Text
 with_rounds = codes "improve" ∷ codes "bound" ∷ []
 
 abbrev pub with_searches : List Text
-with_searches = codes "polish" ∷ []
+with_searches = codes "polish" ∷ codes "plan" ∷ []
 
 abbrev pub with_from : List Text
-with_from = codes "best" ∷ codes "polish" ∷ with_rounds
+with_from = codes "best" ∷ codes "polish" ∷ codes "plan" ∷ with_rounds
 
 -- where one of these commands was met, its matches have the number
 abbrev pub Meets : List Text → (List Row → Type 0) → Option (Text × List Row) → Type 0
@@ -171,6 +173,7 @@ HasArguments (command.Improve rounds from) rows = IsNumberOf (codes "rounds") ro
 HasArguments (command.Bound rounds from) rows = IsNumberOf (codes "rounds") rounds rows × IsNumberOf (codes "from") from rows
 HasArguments (command.Polish searches seed from kicks) rows =
     IsNumberOf (codes "searches") searches rows × IsNumberOf (codes "seed") seed rows × IsNumberOf (codes "from") from rows × IsFlag (codes "kicks") kicks rows
+HasArguments (command.Plan searches seed from) rows = IsNumberOf (codes "searches") searches rows × IsNumberOf (codes "seed") seed rows × IsNumberOf (codes "from") from rows
 HasArguments _ rows = Unit {0}
 
 -- the rounds or searches of a command that has some are within their limit, and its first week within that of weeks
@@ -179,6 +182,7 @@ IsInRange (command.Best nurse from) = from ≤ most_from
 IsInRange (command.Improve rounds from) = (rounds ≤ most_rounds) × (from ≤ most_from)
 IsInRange (command.Bound rounds from) = (rounds ≤ most_rounds) × (from ≤ most_from)
 IsInRange (command.Polish searches seed from kicks) = (searches ≤ most_searches) × (from ≤ most_from)
+IsInRange (command.Plan searches seed from) = (searches ≤ most_searches) × (from ≤ most_from)
 IsInRange _ = Unit {0}
 
 -- the command that was met, by its name and its matches, is that of the request, with its arguments and its files

@@ -5,7 +5,7 @@ use Rattle.std.specs.Prelude.{ℕ}
 abbrev pub most_rounds : ℕ
 most_rounds = 1000
 
--- the most searches that a run of kicks may be asked for
+-- the most searches that a run may be asked for
 abbrev pub most_searches : ℕ
 most_searches = 10000000
 

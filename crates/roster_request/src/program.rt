@@ -7,8 +7,8 @@ ghost use Rattle.roster_request.specs.CommandLine.{bare, command_of, commands, f
 
 use crate::texts::{
     ABOUT, BEST, BEST_HELP, BOUND, BOUND_HELP, COST, COST_HELP, EXAMPLES, FIRST_WEEK, IMPROVE,
-    IMPROVE_HELP, KICKS_ALONE, NURSE_NAME, POLISH, POLISH_HELP, ROUND_COUNT, SEARCH_COUNT,
-    SEED_NUMBER, SHOW, SHOW_HELP, SIZES, SIZES_HELP, TEXTS,
+    IMPROVE_HELP, KICKS_ALONE, NURSE_NAME, PLAN, PLAN_HELP, POLISH, POLISH_HELP, ROUND_COUNT,
+    SEARCH_COUNT, SEED_NUMBER, SHOW, SHOW_HELP, SIZES, SIZES_HELP, TEXTS,
 };
 use clap::builder::ValueParser;
 use clap::{Arg, ArgAction, Command};
@@ -43,7 +43,7 @@ pub(crate) const ROUNDS: NumberOption = NumberOption {
     help: ROUND_COUNT,
 };
 
-/// How many searches a run of kicks may make.
+/// How many searches a run may make.
 pub(crate) const SEARCHES: NumberOption = NumberOption {
     name: "searches",
     value: "N",
@@ -92,7 +92,8 @@ fn with_search_commands<'a>(alloc: Global, program: Made<'a>) -> Made<'a>
     let with_improve = with_command(with_best, improve);
     let bound = rounds_command(alloc, "bound", BOUND, BOUND_HELP);
     let with_bound = with_command(with_improve, bound);
-    with_command(with_bound, polish_command(alloc))
+    let with_polish = with_command(with_bound, polish_command(alloc));
+    with_command(with_polish, plan_command(alloc))
 }
 
 /// The program before its commands.
@@ -156,10 +157,25 @@ fn rounds_command<'a>(alloc: Global, name: &'a str, about: &'a str, help: &'a st
 fn polish_command<'a>(alloc: Global) -> Made<'a>
     ensures { IfOk result (λ c. app_of c ≡ own_command_of (searches_rule ∷ seed_rule ∷ kicks_rule ∷ from_rule ∷ []) (codes "polish")) }
 {
-    let command = Ok(command(alloc, "polish", POLISH, POLISH_HELP));
+    let searching = searching_command(alloc, "polish", POLISH, POLISH_HELP);
+    with_weeks(alloc, with_kicks(alloc, searching))
+}
+
+/// The command `plan`.
+fn plan_command<'a>(alloc: Global) -> Made<'a>
+    ensures { IfOk result (λ c. app_of c ≡ own_command_of (searches_rule ∷ seed_rule ∷ from_rule ∷ []) (codes "plan")) }
+{
+    let searching = searching_command(alloc, "plan", PLAN, PLAN_HELP);
+    with_weeks(alloc, searching)
+}
+
+/// A command with a number of searches and a seed, before its other arguments.
+fn searching_command<'a>(alloc: Global, name: &'a str, about: &'a str, help: &'a str) -> Made<'a>
+    ensures { IfOk result (λ c. app_of c ≡ with_rule (with_rule (new_app name.now) searches_rule) seed_rule) }
+{
+    let command = Ok(command(alloc, name, about, help));
     let with_searches = with_number(alloc, command, SEARCHES);
-    let with_seed = with_number(alloc, with_searches, SEED);
-    with_weeks(alloc, with_kicks(alloc, with_seed))
+    with_number(alloc, with_searches, SEED)
 }
 
 /// A command before its arguments, with what its help says.

@@ -40,6 +40,13 @@ pub enum Command {
         from: u16,
         kicks: bool,
     },
+    /// Writes solutions that keep the hard rules, made anew from whatever solutions it was given, and then settled and polished as
+    /// `Polish` does, with those of so many searches that are left. The weeks before week `from` stay as they are.
+    Plan {
+        searches: u32,
+        seed: u32,
+        from: u16,
+    },
 }
 
 /// A command with the files that it reads, in order. With none it reads standard input.

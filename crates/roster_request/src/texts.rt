@@ -2,8 +2,8 @@
 
 pub(crate) const ABOUT: &str =
     "Reads the texts of a nurse rostering instance, and writes its rosters, what they cost, how \
-    much a search takes, the rosters with the best row of a nurse, better rosters, or what no \
-    roster costs less than.";
+    much a search takes, the rosters with the best row of a nurse, better rosters or new ones, or \
+    what no roster costs less than.";
 
 pub(crate) const TEXTS: &str =
     "The texts of the instance: the scenario, the history, and then the weeks and the rosters, in \
@@ -181,7 +181,7 @@ The files are read one after another, in the order given. Without a file, the
 texts are read from standard input.";
 
 pub(crate) const SEARCH_COUNT: &str =
-    "After the first settling the run takes so many searches at most, 0 to 10000000";
+    "Apart from the first settling the run takes so many searches at most, 0 to 10000000";
 
 pub(crate) const SEED_NUMBER: &str =
     "What the random numbers of the run begin with, 0 to 4294967295";
@@ -241,6 +241,54 @@ Examples:
 The files are read one after another, in the order given. Without a file, the
 texts are read from standard input.";
 
+pub(crate) const PLAN: &str = "Make new rosters that keep the hard rules, and write them";
+
+pub(crate) const PLAN_HELP: &str =
+    "Makes a roster that keeps the hard rules, from whatever solutions are given.
+They may be empty, miss minimums, have forbidden successions, or let a nurse
+work on a day of absence, as where weeks aren't planned yet, or a nurse has
+fallen ill. Refused as ever are a second shift on a day, and a skill that the
+nurse lacks.
+
+The run begins with nobody at work in the weeks that may change, whatever is
+given there, and gives the nurses rows until no minimum is missed. Then it
+settles the roster and polishes it as 'roster polish' does, with the searches
+that are left. The rosters written keep all hard rules.
+
+To standard error goes a log, once such a roster is found:
+  start 61     how many nurses the minimums miss at the start, with the choices
+               given in frozen weeks and nobody at work after them
+  fade 770     from this line on as for 'roster polish'
+  kick 85 765
+  settled 765  what the rosters written cost
+Where none is found within the searches, nothing is written: one line says which
+hard rule the nearest roster breaks, and the status is 1. It doesn't mean that
+there is none. More searches or another seed may find one.
+
+A search is one for the best row of a nurse. To make the roster, and then for
+the fade and the kicks, the run takes at most as many as --searches allows. The
+first settling takes as many as it needs, in up to 1,000,000 rounds. The same
+texts, --searches, --seed and --from give the same rosters. It pays to try
+several seeds. A run that is ended by Ctrl-C leaves no rosters, as they are
+written at its end.
+
+With --from V the weeks 0 to V - 1 are frozen: each nurse's days in them stay as
+they stand. All weeks are read, and count for what the roster costs. Where V is
+above the last week, all stays. Where a frozen week breaks a hard rule, no
+roster is made.
+
+What isn't promised: that a roster is found where there is one; how cheap the
+rosters get, for which see 'roster bound'; how long the run takes. For its
+memory and the greatest number of steps for a nurse see 'roster sizes'.
+
+Examples:
+  roster plan examples/ward.txt > new.txt
+  roster plan --searches 200000 --seed 7 examples/ward.txt > new.txt
+  roster plan --from 2 examples/ward.txt > new.txt
+
+The files are read one after another, in the order given. Without a file, the
+texts are read from standard input.";
+
 pub(crate) const EXAMPLES: &str = "Examples:
   roster show examples/mini.txt
   roster cost examples/mini.txt
@@ -249,5 +297,6 @@ pub(crate) const EXAMPLES: &str = "Examples:
   roster improve examples/ward.txt
   roster bound examples/ward.txt
   roster polish examples/ward.txt > better.txt
+  roster plan examples/ward.txt > new.txt
 
 'roster COMMAND --help' says more about a command.";

@@ -83,6 +83,11 @@ fn command_in(alloc: Global, name: &str, given: &ArgMatches<'_>) -> Result<Comma
             from: from_of(given),
             kicks: kicks_of(given),
         }),
+        "plan" => Ok(Command::Plan {
+            searches: searches_of(given),
+            seed: seed_of(given),
+            from: from_of(given),
+        }),
         _ => unreachable!(),
     }
 }

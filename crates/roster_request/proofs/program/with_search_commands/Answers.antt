@@ -13,6 +13,9 @@ rounds name = own_command_of (rounds_rule ∷ from_rule ∷ []) name
 abbrev polish : App
 polish = own_command_of (searches_rule ∷ seed_rule ∷ kicks_rule ∷ from_rule ∷ []) (codes "polish")
 
+abbrev plan : App
+plan = own_command_of (searches_rule ∷ seed_rule ∷ from_rule ∷ []) (codes "plan")
+
 -- a program with this command too
 abbrev step : App → App → App
 step a p = with_subcommand p a.top
@@ -25,8 +28,11 @@ returns c =
     adds_known (rounds (codes "improve")) c.with_command-with_best.result c.rounds_command-improve.result c.with_command-with_improve.result refl c.rounds_command-improve.ensures c.with_command-with_improve.ensures in
     let bound_added =
     adds_known (rounds (codes "bound")) c.with_command-with_improve.result c.rounds_command-bound.result c.with_command-with_bound.result refl c.rounds_command-bound.ensures c.with_command-with_bound.ensures in
-    let polish_added = adds_known polish c.with_command-with_bound.result c.polish_command.result c.with_command.result refl c.polish_command.ensures c.with_command.ensures in
+    let polish_added = adds_known polish c.with_command-with_bound.result c.polish_command.result c.with_command-with_polish.result refl c.polish_command.ensures c.with_command-with_polish.ensures in
+    let plan_added = adds_known plan c.with_command-with_polish.result c.plan_command.result c.with_command.result refl c.plan_command.ensures c.with_command.ensures in
     let with_improve = made_by_both (step best) (step (rounds (codes "improve"))) program c.with_command-with_best.result c.with_command-with_improve.result best_added improve_added in
     let with_bound =
     made_by_both (λ p. step (rounds (codes "improve")) (step best p)) (step (rounds (codes "bound"))) program c.with_command-with_improve.result c.with_command-with_bound.result with_improve bound_added in
-    made_by_both (λ p. step (rounds (codes "bound")) (step (rounds (codes "improve")) (step best p))) (step polish) program c.with_command-with_bound.result c.with_command.result with_bound polish_added
+    let with_polish =
+    made_by_both (λ p. step (rounds (codes "bound")) (step (rounds (codes "improve")) (step best p))) (step polish) program c.with_command-with_bound.result c.with_command-with_polish.result with_bound polish_added in
+    made_by_both (λ p. step polish (step (rounds (codes "bound")) (step (rounds (codes "improve")) (step best p)))) (step plan) program c.with_command-with_polish.result c.with_command.result with_polish plan_added

@@ -11,13 +11,13 @@ pub rounds_of-requires : goal.rounds_of-requires
 rounds_of-requires c = c.requires.rounds (inl c.in-improve.is)
 
 pub from_of-requires-in-improve : goal.from_of-requires-in-improve
-from_of-requires-in-improve c = c.requires.from (inr (inr (inl c.in-improve.is)))
+from_of-requires-in-improve c = c.requires.from (inr (inr (inr (inl c.in-improve.is))))
 
 pub rounds_of-requires-in-bound : goal.rounds_of-requires-in-bound
 rounds_of-requires-in-bound c = c.requires.rounds (inr (inl c.in-bound.is))
 
 pub from_of-requires-in-bound : goal.from_of-requires-in-bound
-from_of-requires-in-bound c = c.requires.from (inr (inr (inr (inl c.in-bound.is))))
+from_of-requires-in-bound c = c.requires.from (inr (inr (inr (inr (inl c.in-bound.is)))))
 
 pub searches_of-requires : goal.searches_of-requires
 searches_of-requires c = c.requires.searches (inl c.in-polish.is)
@@ -27,3 +27,12 @@ seed_of-requires c = c.requires.seed (inl c.in-polish.is)
 
 pub from_of-requires-in-polish : goal.from_of-requires-in-polish
 from_of-requires-in-polish c = c.requires.from (inr (inl c.in-polish.is))
+
+pub searches_of-requires-in-plan : goal.searches_of-requires-in-plan
+searches_of-requires-in-plan c = c.requires.searches (inr (inl c.in-plan.is))
+
+pub seed_of-requires-in-plan : goal.seed_of-requires-in-plan
+seed_of-requires-in-plan c = c.requires.seed (inr (inl c.in-plan.is))
+
+pub from_of-requires-in-plan : goal.from_of-requires-in-plan
+from_of-requires-in-plan c = c.requires.from (inr (inr (inl c.in-plan.is)))

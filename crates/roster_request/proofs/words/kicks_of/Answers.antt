@@ -1,4 +1,4 @@
-use Rattle.std.proofs.Common.{◌∙◌, codes, sym}
+use Rattle.std.proofs.Common.{◌∙◌, codes}
 use Rattle.clap.specs.Words.{found_of}
 use Rattle.clap.proofs.WalkLemmas.{one_text-rows}
 use Rattle.roster_request.proofs.words.kicks_of.Goals as goal
