@@ -76,7 +76,7 @@ pub both_empty : (a b : Kinds) → or_else a b ≡ [] → (a ≡ []) × (b ≡ [
 both_empty [] b e = (refl, e)
 both_empty (k ∷ ks) b e = absurd (cc)
 
-ends_empty : (first second third fourth last : Kinds) → or_else first (or_else second (or_else third (or_else fourth last))) ≡ [] → (first ≡ []) × (last ≡ [])
+pub ends_empty : (first second third fourth last : Kinds) → or_else first (or_else second (or_else third (or_else fourth last))) ≡ [] → (first ≡ []) × (last ≡ [])
 ends_empty first second third fourth last e =
     let f = both_empty first _ e in
     let s = both_empty second _ f.1 in
@@ -238,7 +238,7 @@ meets_command words none =
 
 -- ---- refusals
 
-or_true : (b : Bool) → (b || true) ≡ true
+pub or_true : (b : Bool) → (b || true) ≡ true
 or_true true = refl
 or_true false = refl
 

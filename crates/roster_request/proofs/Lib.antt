@@ -1,3 +1,5 @@
 pub mod CommandLineLemmas
+pub mod WalkLemmas
+pub mod OptionLemmas
 pub mod NumberLemmas
 pub mod NurseLemmas
