@@ -1,7 +1,9 @@
-use Rattle.std.proofs.Common.{◌≡◌, ◌∙◌, ap, map, refl, subst, sym, true, Result, Ok, Err}
+use Rattle.std.proofs.Common.{◌≡◌, ◌∙◌, List, [], Option, ap, map, refl, subst, sym, true, Result, Ok, Err}
 use Rattle.std.specs.Prelude.{IfOk, IsSomeAnd, OnOk}
 use Rattle.std.proofs.lemmas.Result.{IfErr-weaker}
-use Rattle.clap.specs.Words.{App, HasKind, fault_of, is_simple, is_simple_and_free, kind_of, subcommand_of, takes}
+use Rattle.clap.specs.Simple.{HasMatchesOf}
+use Rattle.clap.specs.Words.{App, HasKind, Row, Text, fault_of, is_simple, is_simple_and_free, kind_of, subcommand_of, subcommand_rows_of, takes}
+use Rattle.clap.specs.declared.parser.matches.ArgMatches.{ArgMatches}
 use Rattle.roster_request.specs.CommandLine.{HasFrom, HasNurse, HasRounds, HasSearches, HasSeed, HasText, IsAskedIn, IsNameOf, Meets, Refuses, commands, program, with_from, with_rounds, with_searches}
 use Rattle.roster_request.proofs.CommandLineLemmas.{meets_command, refuses}
 use Rattle.roster_request.proofs.NumberLemmas.{meets_from, meets_rounds, meets_searches, meets_seed}
@@ -18,47 +20,37 @@ OnOk-always : {X E : Type 0} (r : Result X E) (P : Type 0) → P → OnOk r P
 OnOk-always (Ok x) P p = p
 OnOk-always (Err e) P p = tt
 
+-- what holds of the command that words without a fault name holds of the matches that clap has for them
+holds_of_matches : (P : Option (Text × List Row) → Type 0) (words : List Text) (a : App) (m : ArgMatches) → a ≡ program → HasMatchesOf a words m
+    → (is_simple_and_free a ≡ true → fault_of a words ≡ []) → ((w : List Text) → fault_of program w ≡ [] → P (subcommand_of program w)) → P (subcommand_rows_of m)
+holds_of_matches P words a m same matches kinds holds =
+    let none = kinds (ap is_simple_and_free same ∙ free) in
+    let met = (matches (ap is_simple same ∙ simple)).1 ∙ ap (λ (x : App). subcommand_of x words) same in
+    subst P (sym met) (holds words (ap (λ (x : App). fault_of x words) (sym same) ∙ none))
+
 pub request_in-requires-clause-met : goal.request_in-requires-clause-met
 request_in-requires-clause-met g c =
-    let words = map g.S.AsStr.text c.args.words.now in
-    let none = c.in-Ok.ensures.kinds (ap is_simple_and_free c.in_ok-program.ensures ∙ free) in
-    let met = (c.in-Ok.ensures.matches (ap is_simple c.in_ok-program.ensures ∙ simple)).1 ∙ ap (λ (a : App). subcommand_of a words) c.in_ok-program.ensures in
-    subst (λ rows. IsSomeAnd rows (λ m. IsNameOf commands m.0)) (sym met) (meets_command words (ap (λ (a : App). fault_of a words) (sym c.in_ok-program.ensures) ∙ none))
-
-pub request_in-requires-clause-rounds : goal.request_in-requires-clause-rounds
-request_in-requires-clause-rounds g c =
-    let words = map g.S.AsStr.text c.args.words.now in
-    let none = c.in-Ok.ensures.kinds (ap is_simple_and_free c.in_ok-program.ensures ∙ free) in
-    let met = (c.in-Ok.ensures.matches (ap is_simple c.in_ok-program.ensures ∙ simple)).1 ∙ ap (λ (a : App). subcommand_of a words) c.in_ok-program.ensures in
-    subst (Meets with_rounds HasRounds) (sym met) (meets_rounds words (ap (λ (a : App). fault_of a words) (sym c.in_ok-program.ensures) ∙ none))
-
-pub request_in-requires-clause-searches : goal.request_in-requires-clause-searches
-request_in-requires-clause-searches g c =
-    let words = map g.S.AsStr.text c.args.words.now in
-    let none = c.in-Ok.ensures.kinds (ap is_simple_and_free c.in_ok-program.ensures ∙ free) in
-    let met = (c.in-Ok.ensures.matches (ap is_simple c.in_ok-program.ensures ∙ simple)).1 ∙ ap (λ (a : App). subcommand_of a words) c.in_ok-program.ensures in
-    subst (Meets with_searches HasSearches) (sym met) (meets_searches words (ap (λ (a : App). fault_of a words) (sym c.in_ok-program.ensures) ∙ none))
-
-pub request_in-requires-clause-seed : goal.request_in-requires-clause-seed
-request_in-requires-clause-seed g c =
-    let words = map g.S.AsStr.text c.args.words.now in
-    let none = c.in-Ok.ensures.kinds (ap is_simple_and_free c.in_ok-program.ensures ∙ free) in
-    let met = (c.in-Ok.ensures.matches (ap is_simple c.in_ok-program.ensures ∙ simple)).1 ∙ ap (λ (a : App). subcommand_of a words) c.in_ok-program.ensures in
-    subst (Meets with_searches HasSeed) (sym met) (meets_seed words (ap (λ (a : App). fault_of a words) (sym c.in_ok-program.ensures) ∙ none))
-
-pub request_in-requires-clause-from : goal.request_in-requires-clause-from
-request_in-requires-clause-from g c =
-    let words = map g.S.AsStr.text c.args.words.now in
-    let none = c.in-Ok.ensures.kinds (ap is_simple_and_free c.in_ok-program.ensures ∙ free) in
-    let met = (c.in-Ok.ensures.matches (ap is_simple c.in_ok-program.ensures ∙ simple)).1 ∙ ap (λ (a : App). subcommand_of a words) c.in_ok-program.ensures in
-    subst (Meets with_from HasFrom) (sym met) (meets_from words (ap (λ (a : App). fault_of a words) (sym c.in_ok-program.ensures) ∙ none))
+    holds_of_matches (λ met. IsSomeAnd met (λ m. IsNameOf commands m.0)) (map g.S.AsStr.text c.args.words.now) _ c.in-Ok.matches c.in_ok-program.ensures c.in-Ok.ensures.matches c.in-Ok.ensures.kinds meets_command
 
 pub request_in-requires-clause-nurse : goal.request_in-requires-clause-nurse
 request_in-requires-clause-nurse g c =
-    let words = map g.S.AsStr.text c.args.words.now in
-    let none = c.in-Ok.ensures.kinds (ap is_simple_and_free c.in_ok-program.ensures ∙ free) in
-    let met = (c.in-Ok.ensures.matches (ap is_simple c.in_ok-program.ensures ∙ simple)).1 ∙ ap (λ (a : App). subcommand_of a words) c.in_ok-program.ensures in
-    subst HasNurse (sym met) (meets_nurse words (ap (λ (a : App). fault_of a words) (sym c.in_ok-program.ensures) ∙ none))
+    holds_of_matches HasNurse (map g.S.AsStr.text c.args.words.now) _ c.in-Ok.matches c.in_ok-program.ensures c.in-Ok.ensures.matches c.in-Ok.ensures.kinds meets_nurse
+
+pub request_in-requires-clause-rounds : goal.request_in-requires-clause-rounds
+request_in-requires-clause-rounds g c =
+    holds_of_matches (Meets with_rounds HasRounds) (map g.S.AsStr.text c.args.words.now) _ c.in-Ok.matches c.in_ok-program.ensures c.in-Ok.ensures.matches c.in-Ok.ensures.kinds meets_rounds
+
+pub request_in-requires-clause-searches : goal.request_in-requires-clause-searches
+request_in-requires-clause-searches g c =
+    holds_of_matches (Meets with_searches HasSearches) (map g.S.AsStr.text c.args.words.now) _ c.in-Ok.matches c.in_ok-program.ensures c.in-Ok.ensures.matches c.in-Ok.ensures.kinds meets_searches
+
+pub request_in-requires-clause-seed : goal.request_in-requires-clause-seed
+request_in-requires-clause-seed g c =
+    holds_of_matches (Meets with_searches HasSeed) (map g.S.AsStr.text c.args.words.now) _ c.in-Ok.matches c.in_ok-program.ensures c.in-Ok.ensures.matches c.in-Ok.ensures.kinds meets_seed
+
+pub request_in-requires-clause-from : goal.request_in-requires-clause-from
+request_in-requires-clause-from g c =
+    holds_of_matches (Meets with_from HasFrom) (map g.S.AsStr.text c.args.words.now) _ c.in-Ok.matches c.in_ok-program.ensures c.in-Ok.ensures.matches c.in-Ok.ensures.kinds meets_from
 
 pub returns-in-Ok-clause-request : goal.returns-in-Ok-clause-request
 returns-in-Ok-clause-request g c =
