@@ -70,6 +70,14 @@ command_of name = with_rule (new_app name) files_rule
 abbrev pub own_command_of : List Rule → Text → App
 own_command_of rules name = with_rule (fold with_rule (new_app name) rules) files_rule
 
+-- a command with a number of searches and a seed, before its other arguments
+abbrev pub searching : Text → App
+searching name = with_rule (with_rule (new_app name) searches_rule) seed_rule
+
+-- the command `plan`
+abbrev pub plan : App
+plan = own_command_of (searches_rule ∷ seed_rule ∷ from_rule ∷ []) (codes "plan")
+
 -- the program before its commands: it has a version, and one of its commands is wanted
 abbrev pub bare : App
 bare = record {
@@ -83,7 +91,7 @@ commands =
     (command_of (codes "show")).top ∷ (command_of (codes "cost")).top ∷ (command_of (codes "sizes")).top
     ∷ (own_command_of (nurse_rule ∷ from_rule ∷ []) (codes "best")).top ∷ (own_command_of (rounds_rule ∷ from_rule ∷ []) (codes "improve")).top
     ∷ (own_command_of (rounds_rule ∷ from_rule ∷ []) (codes "bound")).top ∷ (own_command_of (searches_rule ∷ seed_rule ∷ kicks_rule ∷ from_rule ∷ []) (codes "polish")).top
-    ∷ (own_command_of (searches_rule ∷ seed_rule ∷ from_rule ∷ []) (codes "plan")).top ∷ []
+    ∷ plan.top ∷ []
 
 -- the program's definition for clap
 abbrev pub program : App
@@ -133,7 +141,7 @@ abbrev pub IsOneOf : List Text → Text → Type 0
 IsOneOf [] name = ⊥
 IsOneOf (first ∷ rest) name = (name ≡ first) ⊎ IsOneOf rest name
 
--- the commands that make rounds, those that make as many searches as they are asked for, and those that leave some weeks as they are
+-- the commands with a number of rounds, those with a number of searches, and those that leave some weeks as they are
 abbrev pub with_rounds : List Text
 with_rounds = codes "improve" ∷ codes "bound" ∷ []
 

@@ -3,7 +3,7 @@
 ghost use Rattle.std.specs.Prelude.{◌≡◌, [], ◌∷◌, codes, drop, IfOk, IsOkAnd, false, true};
 ghost use Rattle.std.specs.List.{fold};
 ghost use Rattle.clap.specs.Words.{app_of, new_app, rule_of, with_rule, with_subcommand};
-ghost use Rattle.roster_request.specs.CommandLine.{bare, command_of, commands, files_rule, from_rule, kicks_rule, number_rule, nurse_rule, own_command_of, program, rounds_rule, searches_rule, seed_rule, value_rule};
+ghost use Rattle.roster_request.specs.CommandLine.{bare, command_of, commands, files_rule, from_rule, kicks_rule, number_rule, nurse_rule, own_command_of, plan, program, rounds_rule, searches_rule, searching, seed_rule, value_rule};
 
 use crate::texts::{
     ABOUT, BEST, BEST_HELP, BOUND, BOUND_HELP, COST, COST_HELP, EXAMPLES, FIRST_WEEK, IMPROVE,
@@ -163,7 +163,7 @@ fn polish_command<'a>(alloc: Global) -> Made<'a>
 
 /// The command `plan`.
 fn plan_command<'a>(alloc: Global) -> Made<'a>
-    ensures { IfOk result (λ c. app_of c ≡ own_command_of (searches_rule ∷ seed_rule ∷ from_rule ∷ []) (codes "plan")) }
+    ensures { IfOk result (λ c. app_of c ≡ plan) }
 {
     let searching = searching_command(alloc, "plan", PLAN, PLAN_HELP);
     with_weeks(alloc, searching)
@@ -171,7 +171,7 @@ fn plan_command<'a>(alloc: Global) -> Made<'a>
 
 /// A command with a number of searches and a seed, before its other arguments.
 fn searching_command<'a>(alloc: Global, name: &'a str, about: &'a str, help: &'a str) -> Made<'a>
-    ensures { IfOk result (λ c. app_of c ≡ with_rule (with_rule (new_app name.now) searches_rule) seed_rule) }
+    ensures { IfOk result (λ c. app_of c ≡ searching name.now) }
 {
     let command = Ok(command(alloc, name, about, help));
     let with_searches = with_number(alloc, command, SEARCHES);

@@ -1,10 +1,9 @@
 use Rattle.std.proofs.Common.{codes}
-use Rattle.clap.specs.Words.{App, new_app, with_rule}
-use Rattle.roster_request.specs.CommandLine.{files_rule, from_rule, searches_rule, seed_rule}
+use Rattle.clap.specs.Words.{App, with_rule}
+use Rattle.roster_request.specs.CommandLine.{files_rule, from_rule, searching}
 use Rattle.roster_request.proofs.CommandLineLemmas.{made_by}
 use Rattle.roster_request.proofs.program.plan_command.Goals as goal
 
 pub returns : goal.returns
 returns c =
-    let searching = with_rule (with_rule (new_app (codes "plan")) searches_rule) seed_rule in
-    made_by (λ (a : App). with_rule (with_rule a from_rule) files_rule) searching c.searching_command-searching.result c.with_weeks.result c.searching_command-searching.ensures c.with_weeks.ensures
+    made_by (λ (a : App). with_rule (with_rule a from_rule) files_rule) (searching (codes "plan")) c.searching_command-searching.result c.with_weeks.result c.searching_command-searching.ensures c.with_weeks.ensures

@@ -1,13 +1,11 @@
 use Rattle.std.proofs.Common.{codes}
-use Rattle.clap.specs.Words.{App, new_app, with_rule}
-use Rattle.roster_request.specs.CommandLine.{files_rule, from_rule, kicks_rule, searches_rule, seed_rule}
+use Rattle.clap.specs.Words.{App, with_rule}
+use Rattle.roster_request.specs.CommandLine.{files_rule, from_rule, kicks_rule, searching}
 use Rattle.roster_request.proofs.CommandLineLemmas.{made_by}
 use Rattle.roster_request.proofs.program.polish_command.Goals as goal
 
-abbrev searching : App
-searching = with_rule (with_rule (new_app (codes "polish")) searches_rule) seed_rule
-
 pub returns : goal.returns
 returns c =
-    let with_kicks = made_by (λ (a : App). with_rule a kicks_rule) searching c.searching_command-searching.result c.with_kicks.result c.searching_command-searching.ensures c.with_kicks.ensures in
-    made_by (λ (a : App). with_rule (with_rule a from_rule) files_rule) (with_rule searching kicks_rule) c.with_kicks.result c.with_weeks.result with_kicks c.with_weeks.ensures
+    let before = searching (codes "polish") in
+    let with_kicks = made_by (λ (a : App). with_rule a kicks_rule) before c.searching_command-searching.result c.with_kicks.result c.searching_command-searching.ensures c.with_kicks.ensures in
+    made_by (λ (a : App). with_rule (with_rule a from_rule) files_rule) (with_rule before kicks_rule) c.with_kicks.result c.with_weeks.result with_kicks c.with_weeks.ensures
