@@ -1,8 +1,8 @@
 //! The hard rules: the first breach of a roster.
 
-ghost use Rattle.std.specs.Prelude.{◌≡◌, ◌<◌, true, nat_lt, Option};
+ghost use Rattle.std.specs.Prelude.{◌≡◌, ◌<◌, ◌≤◌, true, nat_lt, Option};
 ghost use Rattle.roster_instance.specs.Faults.{below, fault_if, first_fault};
-ghost use Rattle.roster_rules.specs.HardRules.{absence_fault, absence_faults, hard_faults, shift_before, skill_fault, skill_faults, staffing_fault, staffing_faults, succession_fault, succession_faults};
+ghost use Rattle.roster_rules.specs.HardRules.{absence_fault, absence_faults, absences_before, hard_faults, shift_before, skill_fault, skill_faults, staffing_fault, staffing_faults, succession_fault, succession_faults, successions_before};
 ghost use Rattle.roster_rules.specs.declared.fault.HardFault.TheVariants.{H2};
 ghost use Rattle.roster_instance.specs.Meaning.{day_count, nurse_at, nurse_count, past_of, shift_at, shift_count, skill_at, skill_count, forbids, minimum};
 ghost use Rattle.roster_instance.specs.Rosters.{choice_on, cover, days_of_nurse, fits_case, row_of};
@@ -83,28 +83,38 @@ fn understaffed(case: &Case, day: u16, shift: Shift, skill: Skill, have: u16) ->
 
 // ---- successions
 
-#[tactic(auto, using(roster_rules::proofs::HardLemmas::below_more))]
 fn first_succession(case: &Case, roster: &Roster) -> Option<HardFault>
     requires { fits_case case.now roster.now ≡ true }
     ensures { result ≡ first_fault (succession_faults case.now roster.now) }
 {
+    first_succession_before(case, roster, case.days())
+}
+
+/// The first forbidden succession on the first so many days, by nurse and day.
+#[tactic(auto, using(roster_rules::proofs::HardLemmas::below_more))]
+pub fn first_succession_before(case: &Case, roster: &Roster, days: u16) -> Option<HardFault>
+    requires fitting { fits_case case.now roster.now ≡ true }
+    requires days { days ≤ day_count case.now }
+    ensures { result ≡ first_fault (successions_before case.now roster.now days) }
+{
     for nurse in 0..case.nurses() {
-        if let Some(fault) = succession_of(case, roster, nurse) {
+        if let Some(fault) = succession_of(case, roster, nurse, days) {
             return Some(fault);
         }
     }
     None
 }
 
-/// The first forbidden succession of a nurse, the history's last shift included.
-fn succession_of(case: &Case, roster: &Roster, nurse: usize) -> Option<HardFault>
+/// The first forbidden succession of a nurse on these days, the history's last shift included.
+fn succession_of(case: &Case, roster: &Roster, nurse: usize, days: u16) -> Option<HardFault>
     requires fitting { fits_case case.now roster.now ≡ true }
     requires within { nurse < nurse_count case.now }
-    ensures { result ≡ first_fault (below (day_count case.now) (λ d. succession_fault case.now roster.now nurse d)) }
+    requires days { days ≤ day_count case.now }
+    ensures { result ≡ first_fault (below days (λ d. succession_fault case.now roster.now nurse d)) }
 {
     let row = roster.row(nurse);
     let mut last = last_shift(case.past(nurse).border);
-    for day in 0..case.days() {
+    for day in 0..days {
         let shift = row[day as usize].shift();
         if case.forbids_next(last, shift) {
             return Some(HardFault::H3 { nurse, day });
@@ -116,8 +126,9 @@ fn succession_of(case: &Case, roster: &Roster, nurse: usize) -> Option<HardFault
 
 // ---- skills
 
+/// The first day, by nurse, on which a nurse lacks the skill.
 #[tactic(auto, using(roster_rules::proofs::HardLemmas::below_more))]
-fn first_unskilled(case: &Case, roster: &Roster) -> Option<HardFault>
+pub fn first_unskilled(case: &Case, roster: &Roster) -> Option<HardFault>
     requires { fits_case case.now roster.now ≡ true }
     ensures { result ≡ first_fault (skill_faults case.now roster.now) }
 {
@@ -147,13 +158,22 @@ fn unskilled_of(case: &Case, roster: &Roster, nurse: usize) -> Option<HardFault>
 
 // ---- absences
 
-#[tactic(auto, using(roster_rules::proofs::HardLemmas::below_more))]
 fn first_absent(case: &Case, roster: &Roster) -> Option<HardFault>
     requires { fits_case case.now roster.now ≡ true }
     ensures { result ≡ first_fault (absence_faults case.now roster.now) }
 {
+    first_absent_before(case, roster, case.days())
+}
+
+/// The first work of an absent nurse on the first so many days, by nurse and day.
+#[tactic(auto, using(roster_rules::proofs::HardLemmas::below_more))]
+pub fn first_absent_before(case: &Case, roster: &Roster, days: u16) -> Option<HardFault>
+    requires fitting { fits_case case.now roster.now ≡ true }
+    requires days { days ≤ day_count case.now }
+    ensures { result ≡ first_fault (absences_before case.now roster.now days) }
+{
     for nurse in 0..case.nurses() {
-        if let Some(fault) = absent_of(case, roster, nurse) {
+        if let Some(fault) = absent_of(case, roster, nurse, days) {
             return Some(fault);
         }
     }
@@ -161,13 +181,14 @@ fn first_absent(case: &Case, roster: &Roster) -> Option<HardFault>
 }
 
 #[tactic(auto, using(roster_rules::proofs::HardLemmas::below_more))]
-fn absent_of(case: &Case, roster: &Roster, nurse: usize) -> Option<HardFault>
+fn absent_of(case: &Case, roster: &Roster, nurse: usize, days: u16) -> Option<HardFault>
     requires fitting { fits_case case.now roster.now ≡ true }
     requires within { nurse < nurse_count case.now }
-    ensures { result ≡ first_fault (below (day_count case.now) (λ d. absence_fault case.now roster.now nurse d)) }
+    requires days { days ≤ day_count case.now }
+    ensures { result ≡ first_fault (below days (λ d. absence_fault case.now roster.now nurse d)) }
 {
     let row = roster.row(nurse);
-    for day in 0..case.days() {
+    for day in 0..days {
         if !is_here(case, nurse, day, row[day as usize]) {
             return Some(HardFault::Absent { nurse, day });
         }

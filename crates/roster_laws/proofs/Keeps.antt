@@ -16,15 +16,15 @@ use Rattle.roster_laws.proofs.OneRow.{cover-with_row, other_row, own_row}
 
 -- ---- no fault is a test
 
-none_of_both : {F : Type 0} (xs ys : List F) → is_none_of (xs ++ ys) ≡ (is_none_of xs && is_none_of ys)
+pub none_of_both : {F : Type 0} (xs ys : List F) → is_none_of (xs ++ ys) ≡ (is_none_of xs && is_none_of ys)
 none_of_both [] ys = refl
 none_of_both (x ∷ xs) ys = refl
 
-none_where_not : {F : Type 0} (b : Bool) (fault : F) → is_none_of (fault_if b fault) ≡ not b
+pub none_where_not : {F : Type 0} (b : Bool) (fault : F) → is_none_of (fault_if b fault) ≡ not b
 none_where_not true fault = refl
 none_where_not false fault = refl
 
-none_below : {F : Type 0} (n : ℕ) (f : ℕ → List F) (p : ℕ → Bool) → ((k : ℕ) → is_none_of (f k) ≡ p k) → is_none_of (below n f) ≡ all_below n p
+pub none_below : {F : Type 0} (n : ℕ) (f : ℕ → List F) (p : ℕ → Bool) → ((k : ℕ) → is_none_of (f k) ≡ p k) → is_none_of (below n f) ≡ all_below n p
 none_below zero f p each = refl
 none_below (suc n) f p each =
     let one : suc n ≡ n + 1 = omega arith in
@@ -33,7 +33,7 @@ none_below (suc n) f p each =
     ∙ none_of_both (below n f) (f n)
     ∙ ap₂ (λ a b. a && b) (none_below n f p each) (each n)
 
-not_not : (b : Bool) → not (not b) ≡ b
+pub not_not : (b : Bool) → not (not b) ≡ b
 not_not true = refl
 not_not false = refl
 

@@ -70,9 +70,13 @@ staffing_faults c r = below (day_count c) (λ d. below (shift_count c) (λ s. be
 abbrev pub succession_fault : Meaning → Rows → ℕ → ℕ → List HardFault
 succession_fault c r n d = fault_if (breaks_succession c n (days_of_nurse r n) d) (H3 n d)
 
--- H3, by nurse and day
+-- H3 on the first so many days, by nurse and day
+abbrev pub successions_before : Meaning → Rows → ℕ → List HardFault
+successions_before c r m = below (nurse_count c) (λ n. below m (λ d. succession_fault c r n d))
+
+-- on all days
 abbrev pub succession_faults : Meaning → Rows → List HardFault
-succession_faults c r = below (nurse_count c) (λ n. below (day_count c) (λ d. succession_fault c r n d))
+succession_faults c r = successions_before c r (day_count c)
 
 abbrev pub skill_fault : Meaning → Rows → ℕ → ℕ → List HardFault
 skill_fault c r n d = fault_if (not (is_able_on c n (row_of r n) d)) (H4 n d)
@@ -84,9 +88,13 @@ skill_faults c r = below (nurse_count c) (λ n. below (day_count c) (λ d. skill
 abbrev pub absence_fault : Meaning → Rows → ℕ → ℕ → List HardFault
 absence_fault c r n d = fault_if (not (is_here_on c n (row_of r n) d)) (Absent n d)
 
--- work of absent nurses, by nurse and day
+-- work of absent nurses on the first so many days, by nurse and day
+abbrev pub absences_before : Meaning → Rows → ℕ → List HardFault
+absences_before c r m = below (nurse_count c) (λ n. below m (λ d. absence_fault c r n d))
+
+-- on all days
 abbrev pub absence_faults : Meaning → Rows → List HardFault
-absence_faults c r = below (nurse_count c) (λ n. below (day_count c) (λ d. absence_fault c r n d))
+absence_faults c r = absences_before c r (day_count c)
 
 -- all breaches in order
 unfoldable pub hard_faults : Meaning → Rows → List HardFault

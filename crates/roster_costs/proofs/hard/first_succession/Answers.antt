@@ -1,6 +1,7 @@
-use Rattle.std.proofs.Common.{arith}
-use Rattle.roster_rules.proofs.HardLemmas.{below_first}
+use Rattle.std.proofs.Common.{◌∙◌, ap}
+use Rattle.roster_instance.specs.Faults.{first_fault}
+use Rattle.roster_rules.specs.HardRules.{successions_before}
 use Rattle.roster_costs.proofs.hard.first_succession.Goals as goal
 
-pub returns-in-Some : goal.returns-in-Some
-returns-in-Some c = below_first _ _ c.loop-nurse.nurse c.in-Some.fault (omega arith) c.loop-nurse.invariant c.in-Some.ensures
+pub returns : goal.returns
+returns c = c.first_succession_before.ensures ∙ ap (λ m. first_fault (successions_before c.args.case.now c.args.roster.now m)) c.days.ensures.count
