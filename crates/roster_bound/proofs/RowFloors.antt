@@ -1,11 +1,12 @@
 -- The least that a nurse costs is what the search finds.
-use Rattle.std.proofs.Common.{◌≡◌, ◌∙◌, ◌+◌, ◌<◌, ◌≤◌, ◌&&◌, ℕ, Bool, true, false, not, ap, arith, refl, subst, sym, List, [], ◌∷◌, length, Contains, IsSome, Option, Some, None, if◌then◌else◌}
+use Rattle.std.proofs.Common.{◌≡◌, ◌∙◌, ◌+◌, ◌<◌, ◌≤◌, ◌&&◌, ◌==◌, ℕ, Bool, true, false, not, ap, arith, refl, subst, sym, List, [], ◌∷◌, length, Contains, IsSome, Option, Some, None, if◌then◌else◌}
 use Rattle.std.specs.Prelude.{option_map}
-use Rattle.std.specs.List.{All, filter}
+use Rattle.std.specs.List.{All, filter, list_all}
 use Rattle.std.specs.Option.{option_map_or}
-use Rattle.std.proofs.lemmas.Bool.{and_parts, true≢false}
+use Rattle.std.proofs.lemmas.Bool.{and_parts, eqb-true, true≢false}
 use Rattle.std.proofs.lemmas.List.{length-map}
-use Rattle.std.proofs.lemmas.List.Elements.{All-contains_itself, All-filter, All-map, All-weaker}
+use Rattle.std.proofs.lemmas.List.Elements.{All-contains_itself, All-filter, All-get_or, All-map, All-weaker}
+use Rattle.std.proofs.lemmas.List.Sums.{AllPass-from_list_all}
 use Rattle.arrayvec.specs.ArrayVec.{ArrayVec}
 use Rattle.roster_instance.specs.declared.choice.Choice.{Choice}
 use Rattle.roster_instance.specs.declared.choice.Choice.TheVariants.{Off, Work}
@@ -15,9 +16,9 @@ use Rattle.roster_rules.specs.HardRules.{breaks_succession, is_able, is_able_on,
 use Rattle.roster_instance.specs.Meaning.{Meaning, day_count, nurse_at, nurse_count}
 use Rattle.roster_rules.specs.Penalties.{breaks_off_request, meets_wishes}
 use Rattle.roster_rules.specs.Prefix.{due, summary_of}
-use Rattle.roster_instance.specs.Rosters.{Row, Rows, choice_on, fits_case, row_of}
+use Rattle.roster_instance.specs.Rosters.{Row, Rows, choice_on, fits_case, is_choice_of, row_of}
 use Rattle.roster_rules.specs.Weights.{off_request_weight, wish_weight}
-use Rattle.roster_rules.proofs.RosterFacts.{row-length, row_fits}
+use Rattle.roster_rules.proofs.RosterFacts.{row_fits}
 use Rattle.roster_laws.proofs.AllRows.{choice_is_member, member_is_choice, row_is_member}
 use Rattle.roster_laws.proofs.Allowed.{member_is_kept}
 use Rattle.roster_laws.proofs.Below.{all_both, all_elim, all_same}
@@ -29,11 +30,11 @@ use Rattle.roster_offers.specs.Lists.{AreDayOffers, AreOffers, IsFound, IsOfferO
 use Rattle.roster_offers.proofs.ByOffers.{found_by_offers}
 use Rattle.roster_offers.proofs.ByShift.{best_by_shift, by_shift_all, by_shift_fewer, by_shift_some}
 use Rattle.roster_offers.proofs.Cheapest.{cost_or, thing_or}
-use Rattle.roster_offers.proofs.OfferLaws.{offers_few_of, present_of_case}
+use Rattle.roster_offers.proofs.OfferLaws.{offers_few_of}
 use Rattle.roster_offers.proofs.ListLaws.{best_over_same}
 use Rattle.roster_bound.specs.Days.{AreWorthOffers, can_do, offers_by_worth, shift_offers_by_worth}
-use Rattle.roster_bound.specs.Worths.{PlaceWorths, can_work, floor_row, free_price, most_free, own_rows, price_with, row_cost_by, row_floor}
 use Rattle.roster_bound.proofs.Duality.{worked}
+use Rattle.roster_bound.specs.Worths.{HasRow, HaveRows, PlaceWorths, can_work, floor_row, free_price, most_free, own_rows, price_with, row_cost_by, row_floor}
 
 -- a choice is one that the nurse is able to do, may follow, and stays
 last_two : (a b d : Bool) → ((a && b) && d) ≡ ((a && d) && b)
@@ -112,24 +113,29 @@ module _ (c : Meaning) (from : ℕ) (given : Rows) (w : PlaceWorths) (free : ℕ
       let cost : row_cost_by c w free n row ≡ 0 + due c n [] + k = ap (cost_or 0) e in
       (omega (arith, cost), ap Some (ap (thing_or []) e))
 
-  module _ (fits : fits_case c given ≡ true) (keeps : keeps_hard c given ≡ true) (inside : n < nurse_count c) where
-    can_work_given : can_work c from given n (row_of given n) ≡ true
-    can_work_given = worked c from given (λ d s k. 0) (λ d s k. omega arith) given fits keeps (stays_self c from given) n inside
+  module _ (own : HasRow c from given n) where
+    days_of_own : length own.row ≡ day_count c
+    days_of_own = eqb-true (length own.row) (day_count c) (and_parts (length own.row == day_count c) (list_all (is_choice_of c) own.row) own.fits).0
 
     some : IsSome best
     some =
         some_is (floor_row c from given w free n) best best_is
-        (some_least (row_cost_by c w free n) (own_rows c from given n) (row_of given n) (member_is_kept (can_work c from given n) (all_rows (all_choices c) (day_count c)) (row_of given n) (row_is_member c (row_of given n) (row_fits c given n fits inside)) can_work_given))
+        (some_least (row_cost_by c w free n) (own_rows c from given n) own.row (member_is_kept (can_work c from given n) (all_rows (all_choices c) (day_count c)) own.row (row_is_member c own.row own.fits) own.works))
 
-    -- the given choice of a day
-    can_do_given : (d : ℕ) → d < day_count c → can d (choice_on (row_of given n) d) ≡ true
-    can_do_given d within =
-        let all : offered_row_by c n can (row_of given n) (length (row_of given n)) ≡ true = sym (kept (row_of given n) (row-length c given n fits inside)) ∙ can_work_given in
-        (and_parts _ _ (all_elim (length (row_of given n)) (λ k. can k (choice_on (row_of given n) k) && not (breaks_succession c n (days_of (row_of given n)) k)) all d (omega (arith, within, row-length c given n fits inside)))).0
+    -- the choice of that row on a day
+    own_of_case : (d : ℕ) → d < day_count c → is_choice_of c (choice_on own.row d) ≡ true
+    own_of_case d within =
+        All-get_or (λ x. is_choice_of c x ≡ true) own.row d Off (omega (arith, within, days_of_own))
+        (AllPass-from_list_all (is_choice_of c) own.row (and_parts (length own.row == day_count c) (list_all (is_choice_of c) own.row) own.fits).1)
+
+    can_do_own : (d : ℕ) → d < day_count c → can d (choice_on own.row d) ≡ true
+    can_do_own d within =
+        let all : offered_row_by c n can own.row (length own.row) ≡ true = sym (kept own.row days_of_own) ∙ own.works in
+        (and_parts _ _ (all_elim (length own.row) (λ k. can k (choice_on own.row k) && not (breaks_succession c n (days_of own.row) k)) all d (omega (arith, within, days_of_own)))).0
 
     offers_some : (d : ℕ) → d < day_count c → 0 < length (offers_by_worth c from given w free n d)
     offers_some d within =
-        let member = member_is_kept (can d) (all_choices c) (choice_on (row_of given n) d) (choice_is_member c (choice_on (row_of given n) d) (present_of_case c from given n d fits keeps inside within)) (can_do_given d within) in
+        let member = member_is_kept (can d) (all_choices c) (choice_on own.row d) (choice_is_member c (choice_on own.row d) (own_of_case d within)) (can_do_own d within) in
         omega (arith, member.1, length-map (filter (can d) (all_choices c)) (offer_at (price_with c w free n) d))
 
     day_offers : (d : ℕ) → d < day_count c → AreDayOffers c n (shift_offers_by_worth c from given w free n d)
@@ -160,3 +166,11 @@ module _ (c : Meaning) (from : ℕ) (given : Rows) (w : PlaceWorths) (free : ℕ
 
         pub floor_row_is : floor_row c from given w free n ≡ Some row
         floor_row_is = both.1 ∙ ap Some (sym found.row_is)
+
+-- each nurse can work the own row of a roster that keeps the hard rules
+pub have_rows : (c : Meaning) (from : ℕ) (given : Rows) → fits_case c given ≡ true → keeps_hard c given ≡ true → HaveRows c from given
+have_rows c from given fits keeps n inside = record {
+  row = row_of given n;
+  fits = row_fits c given n fits inside;
+  works = worked c from given (λ d s k. 0) (λ d s k. omega arith) given fits keeps (stays_self c from given) n inside;
+}

@@ -11,7 +11,7 @@ use Rattle.roster_instance.specs.Counting.{sum_below}
 use Rattle.roster_instance.specs.Levels.{levelled}
 use Rattle.roster_instance.specs.Limits.{most_small}
 use Rattle.roster_instance.specs.Meaning.{Meaning, contract_of, day_count, minimum, nurse_count, optimum, past_of, shift_count, skill_count}
-use Rattle.roster_instance.specs.Rosters.{Row, Rows, choice_on, days_of_nurse, fits_case}
+use Rattle.roster_instance.specs.Rosters.{Row, Rows, choice_on, days_of_nurse, fits_case, is_row_of}
 use Rattle.roster_rules.specs.AllowedRows.{first_least, keeps_frozen_days}
 use Rattle.roster_rules.specs.HardRules.{keeps_absences, keeps_hard, keeps_skills, keeps_successions}
 use Rattle.roster_rules.specs.Penalties.{extra_cost, missing_cost, own_cost, penalty, request_cost_on, total_of}
@@ -81,6 +81,16 @@ can_work c from given n row = keeps_skills c n row (day_count c) && keeps_absenc
 
 abbrev pub own_rows : Meaning → ℕ → Rows → ℕ → List Row
 own_rows c from given n = filter (can_work c from given n) (all_rows (all_choices c) (day_count c))
+
+-- there is such a row
+pub record HasRow (c : Meaning) (from : ℕ) (given : Rows) (n : ℕ) : Type 0 where
+  pub row : Row
+  pub fits : is_row_of c row ≡ true
+  pub works : can_work c from given n row ≡ true
+
+-- there is one for each nurse
+abbrev pub HaveRows : Meaning → ℕ → Rows → Type 0
+HaveRows c from given = (n : ℕ) → n < nurse_count c → HasRow c from given n
 
 -- the first of the cheapest of these, and its cost
 abbrev pub floor_row : Meaning → ℕ → Rows → PlaceWorths → (free n : ℕ) → Option Row

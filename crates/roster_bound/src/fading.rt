@@ -7,7 +7,7 @@ ghost use Rattle.roster_bound.specs.Workspaces.{FitsFloor};
 
 use crate::moves::count_row;
 use crate::workspace::FloorWorkspace;
-use crate::worths::{MOST_WORTH, PARTS, Worths};
+use crate::worths::{MOST_FINE, PARTS, Worths};
 use roster_rules::weights::STAFFING;
 use roster_rules::{Case, Choice, Limits, Roster, Shift, Skill};
 
@@ -50,6 +50,20 @@ pub fn follow_cover(case: &Case, share: u32, floor: &mut FloorWorkspace)
         floor
             .worths
             .put_fine(place, followed(need, nurses, fine, step));
+    }
+}
+
+/// Raises the worth of each place that is below its minimum by the rows that are counted, by so many points.
+pub fn raise_missed(case: &Case, points: u32, floor: &mut FloorWorkspace)
+    requires { FitsFloor case.now floor.old }
+    ensures { FitsFloor case.now floor.new }
+{
+    for place in 0..64 * case.days() as usize {
+        if floor.rows.cover[place] < need_at(case, place).least {
+            let fine = floor.worths.fine_at(place);
+            let more = PARTS.saturating_mul(points);
+            floor.worths.put_fine(place, fine.saturating_add(more));
+        }
     }
 }
 
@@ -187,9 +201,6 @@ fn faded_pay(need: Limits, nurses: u16, fine: u32, fading: Fading) -> u32 {
     let all = fine as u64 * share + gain * (WHOLE as u64 - share) + WHOLE as u64 / 2;
     (all / WHOLE as u64).min(MOST_FINE as u64) as u32
 }
-
-/// The most that a place pays, in 256ths of a point.
-const MOST_FINE: u32 = PARTS * MOST_WORTH as u32;
 
 impl Worths {
     /// What a place pays, in 256ths of a point.

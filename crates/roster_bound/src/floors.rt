@@ -15,7 +15,7 @@ ghost use Rattle.roster_bound.specs.Days.{AreWorthOffers, shift_offers_by_worth}
 ghost use Rattle.roster_bound.specs.Levelled.{pays_of};
 ghost use Rattle.roster_bound.specs.Tables.{worths_of};
 ghost use Rattle.roster_bound.specs.Workspaces.{FitsRows};
-ghost use Rattle.roster_bound.specs.Worths.{IsLowerBound, floor_row, level_cost, levelled_bound, most_free, most_pay, most_total, most_worth, row_floor, total_floor};
+ghost use Rattle.roster_bound.specs.Worths.{HasRow, HaveRows, IsLowerBound, floor_row, level_cost, levelled_bound, most_free, most_pay, most_total, most_worth, row_floor, total_floor};
 
 use crate::levelled::Levelled;
 use crate::moves::count_row;
@@ -167,8 +167,7 @@ fn level_cost(held: &Levelled, nurse: usize, pay: u16) -> u32
 
 /// The least that a nurse costs by worths, as a row. The first of the cheapest rows is then counted at its places.
 pub fn row_floor(terms: &Terms<'_>, nurse: usize, rows: &mut RowSpace, meter: &mut Meter) -> u64
-    requires fitting { fits_case terms.now.case.now terms.now.given.now ≡ true }
-    requires keeps { keeps_hard terms.now.case.now terms.now.given.now ≡ true }
+    requires row { HasRow terms.now.case.now terms.now.from terms.now.given.now nurse }
     requires nurse { nurse < nurse_count terms.now.case.now }
     requires worths { terms.now.worths.now.days ≡ day_count terms.now.case.now }
     requires free { terms.now.free ≤ most_free }
@@ -203,8 +202,7 @@ pub fn row_floor(terms: &Terms<'_>, nurse: usize, rows: &mut RowSpace, meter: &m
 
 /// The first of the cheapest rows of each nurse by worths. They are counted at their places.
 pub(crate) fn find_rows(terms: &Terms<'_>, rows: &mut RowSpace, meter: &mut Meter)
-    requires fitting { fits_case terms.now.case.now terms.now.given.now ≡ true }
-    requires keeps { keeps_hard terms.now.case.now terms.now.given.now ≡ true }
+    requires each { HaveRows terms.now.case.now terms.now.from terms.now.given.now }
     requires worths { terms.now.worths.now.days ≡ day_count terms.now.case.now }
     requires free { terms.now.free ≤ most_free }
     requires rows { FitsRows terms.now.case.now rows.old }

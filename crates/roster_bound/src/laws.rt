@@ -1,10 +1,13 @@
 //! No roster costs less than the floors. The functions here do nothing: each is a law, and its clauses say it.
 
-ghost use Rattle.std.specs.Prelude.{◌≡◌, ◌%◌, ◌≤◌, ℕ};
+ghost use Rattle.std.specs.Prelude.{◌≡◌, ◌%◌, ◌≤◌, ℕ, true};
 ghost use Rattle.roster_instance.specs.Meaning.{Meaning};
-ghost use Rattle.roster_instance.specs.Rosters.{Rows};
+ghost use Rattle.roster_instance.specs.Rosters.{Rows, fits_case};
+ghost use Rattle.roster_rules.specs.HardRules.{keeps_hard};
 ghost use Rattle.roster_rules.specs.Penalties.{penalty};
-ghost use Rattle.roster_bound.specs.Worths.{ArePays, AreWorths, IsLowerBound, NursePays, PlaceWorths, bound_by, levelled_bound, rounded_up};
+ghost use Rattle.roster_bound.specs.Worths.{ArePays, AreWorths, HaveRows, IsLowerBound, NursePays, PlaceWorths, bound_by, levelled_bound, rounded_up};
+
+use roster_rules::{Case, Roster};
 
 /// Whatever the places pay, what places and nurses cost at least, rounded up to a multiple of 5, is a lower bound on the penalty of
 /// each roster that fits the case, keeps the hard rules and agrees with the given one on the frozen days. So is what they cost at least
@@ -12,6 +15,13 @@ ghost use Rattle.roster_bound.specs.Worths.{ArePays, AreWorths, IsLowerBound, Nu
 pub fn no_roster_is_below_the_bound()
     ensures rows { (c : Meaning) (from : ℕ) (given : Rows) (w : PlaceWorths) → AreWorths w → IsLowerBound c from given (bound_by c from given w) }
     ensures levelled { (c : Meaning) (from : ℕ) (given : Rows) (w : PlaceWorths) → AreWorths w → (pay : NursePays) → ArePays pay → IsLowerBound c from given (levelled_bound c from given w pay) }
+{}
+
+/// In a roster that keeps the hard rules each nurse has a row that agrees with it on the frozen days: the own.
+pub fn rows_are_had(case: &Case, given: &Roster, from: u16)
+    requires fits { fits_case case.now given.now ≡ true }
+    requires keeps { keeps_hard case.now given.now ≡ true }
+    ensures { HaveRows case.now from given.now }
 {}
 
 /// A bound may be rounded up to the next multiple of 5: each penalty is one.

@@ -20,12 +20,13 @@ mod workspace;
 mod worths;
 
 pub use fading::{
-    Fading, WHOLE, count_rows, follow_cover, lacks_nurses, pay_places, pay_row, take_row,
+    Fading, WHOLE, count_rows, follow_cover, lacks_nurses, pay_places, pay_row, raise_missed,
+    take_row,
 };
 pub use floors::{lower_bound, row_floor};
-pub use laws::{bounds_are_rounded_up, no_roster_is_below_the_bound};
+pub use laws::{bounds_are_rounded_up, no_roster_is_below_the_bound, rows_are_had};
 pub use levelled::Levelled;
-pub use offers::{Terms, choices};
+pub use offers::{Base, Terms, choices};
 pub use pays::Pays;
 pub use places::places_floor;
 pub use rounds::{improve_worths, raise_floor};

@@ -30,6 +30,14 @@ pub struct Terms<'a> {
     pub free: u16,
 }
 
+/// A case, and a roster of which the days before week `from` stay.
+#[derive(Clone, Copy)]
+pub struct Base<'a> {
+    pub case: &'a Case,
+    pub given: &'a Roster,
+    pub from: u16,
+}
+
 /// All that a nurse can do on a day, each choice at what the nurse earns less than the most, what the requests cost, and the price of
 /// a day off.
 pub fn choices(terms: &Terms<'_>, nurse: usize, day: u16) -> ArrayVec<Offer, MOST_CHOICES>

@@ -9,14 +9,14 @@ ghost use Rattle.roster_laws.specs.Greatest.{extensions_in, greatest_extension_c
 ghost use Rattle.roster_bound.specs.Floors.{FloorLogStops, RaisesFloor};
 ghost use Rattle.roster_bound.specs.Workspaces.{FitsFloor, bound_of};
 ghost use Rattle.roster_bound.specs.Tables.{worths_of};
-ghost use Rattle.roster_bound.specs.Worths.{AreWorths, IsLowerBound};
+ghost use Rattle.roster_bound.specs.Worths.{AreWorths, HaveRows, IsLowerBound};
 
 use crate::floors::{find_rows, lower_bound};
 use crate::levelled::Levelled;
 use crate::moves::{farthest, learn, most_step};
-use crate::offers::Terms;
+use crate::offers::{Base, Terms};
 use crate::workspace::FloorWorkspace;
-use roster_case::{Case, Held};
+use roster_case::Case;
 use roster_log::{LogFault, log_round, log_word};
 use roster_state::Meter;
 use roster_text::Watch;
@@ -69,22 +69,22 @@ pub fn raise_floor<W: Write>(
 /// Improves the worths of a workspace by so many rounds, as `raise_floor` does, but over the case as it is, and tells no floor. It takes
 /// no memory.
 pub fn improve_worths(
-    held: &Held,
+    base: &Base<'_>,
     rounds: u16,
-    from: u16,
     workspace: &mut FloorWorkspace,
     meter: &mut Meter,
 )
-    requires fits { FitsFloor held.now.case workspace.old }
-    requires room { meter.old + extensions_in held.now.case rounds ≤ greatest_u64 }
-    ensures counted { meter.new ≤ meter.old + extensions_in held.now.case rounds }
-    ensures fits { FitsFloor held.now.case workspace.new }
+    requires each { HaveRows base.now.case.now base.now.from base.now.given.now }
+    requires fits { FitsFloor base.now.case.now workspace.old }
+    requires room { meter.old + extensions_in base.now.case.now rounds ≤ greatest_u64 }
+    ensures counted { meter.new ≤ meter.old + extensions_in base.now.case.now rounds }
+    ensures fits { FitsFloor base.now.case.now workspace.new }
 {
-    let case = held.case();
-    workspace.begin(case);
+    base.case.keeps_limits();
+    workspace.begin(base.case);
     for rounds_before in 0..rounds {
-        make_rows(held, from, workspace, meter);
-        move_worths(case, rounds_before, rounds, workspace);
+        make_rows(base, workspace, meter);
+        move_worths(base.case, rounds_before, rounds, workspace);
     }
 }
 
@@ -117,17 +117,18 @@ fn make_round(held: &Levelled, from: u16, workspace: &mut FloorWorkspace, meter:
 }
 
 /// Each nurse's cheapest row by the worths, over the case as it is. They are counted.
-fn make_rows(held: &Held, from: u16, workspace: &mut FloorWorkspace, meter: &mut Meter)
-    requires fits { FitsFloor held.now.case workspace.old }
-    requires room { meter.old + nurse_count held.now.case * greatest_extension_count held.now.case ≤ greatest_u64 }
-    ensures counted { meter.new ≤ meter.old + nurse_count held.now.case * greatest_extension_count held.now.case }
-    ensures fits { FitsFloor held.now.case workspace.new }
+fn make_rows(base: &Base<'_>, workspace: &mut FloorWorkspace, meter: &mut Meter)
+    requires each { HaveRows base.now.case.now base.now.from base.now.given.now }
+    requires fits { FitsFloor base.now.case.now workspace.old }
+    requires room { meter.old + nurse_count base.now.case.now * greatest_extension_count base.now.case.now ≤ greatest_u64 }
+    ensures counted { meter.new ≤ meter.old + nurse_count base.now.case.now * greatest_extension_count base.now.case.now }
+    ensures fits { FitsFloor base.now.case.now workspace.new }
 {
     let terms = Terms {
-        case: held.case(),
+        case: base.case,
         worths: &workspace.worths,
-        given: held.roster(),
-        from,
+        given: base.given,
+        from: base.from,
         free: 0,
     };
     find_rows(&terms, &mut workspace.rows, meter);

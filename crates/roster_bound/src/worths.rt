@@ -150,4 +150,4 @@ fn moved(fine: u32, wanted: u32, had: u32, share: u32) -> u32
 }
 
 /// The most in 256ths of a point.
-const MOST_FINE: u32 = 256_000;
+pub(crate) const MOST_FINE: u32 = 256_000;

@@ -10,6 +10,9 @@ row_floor-requires-clause-room c =
     let inside : n < nurse_count k = omega (arith, c.loop-nurse-test.true, c.nurses-nurse-end.ensures.count) in
     has_room k n c.args.meter.now c.loop-nurse.meter c.loop-nurse.invariant.counted inside 18446744073709551615 c.requires.room
 
+pub row_floor-requires-clause-row : goal.row_floor-requires-clause-row
+row_floor-requires-clause-row c = c.requires.each c.loop-nurse.nurse (omega (arith, c.loop-nurse-test.true, c.nurses-nurse-end.ensures.count))
+
 pub loop-nurse-preserved : goal.loop-nurse-preserved
 loop-nurse-preserved c =
     let k = c.args.terms.now.case.now in

@@ -5,6 +5,6 @@ use Rattle.roster_bound.proofs.rounds.improve_worths.Given as goal
 
 abbrev pub invariant-loop-rounds_before : goal.invariant-loop-rounds_before
 invariant-loop-rounds_before l = record {
-  counted : l.meter ≤ l.fn.meter + extensions_in l.held.case l.rounds_before;
-  fits : FitsFloor l.held.case l.workspace;
+  counted : l.meter ≤ l.fn.meter + extensions_in l.base.case.now l.rounds_before;
+  fits : FitsFloor l.base.case.now l.workspace;
 }
