@@ -60,3 +60,11 @@ none_is_kept c r none = of_list (hard_faults c r) none
     of_list : (faults : List HardFault) → first_fault faults ≡ None → is_none_of faults ≡ true
     of_list [] e = refl
     of_list (f ∷ fs) e = absurd cc
+
+-- and the other way about
+pub kept_is_none : (c : Meaning) (r : Rows) → keeps_hard c r ≡ true → first_fault (hard_faults c r) ≡ None
+kept_is_none c r keeps = of_list (hard_faults c r) keeps
+  where
+    of_list : (faults : List HardFault) → is_none_of faults ≡ true → first_fault faults ≡ None
+    of_list [] e = refl
+    of_list (f ∷ fs) e = absurd cc

@@ -64,33 +64,33 @@ held_fade c None rest r more = ap (λ m. held_at m rest r) (zero-add more)
 held_fade c (Some faded) rest r more = held_later (record { text = fade_line c faded; roster = faded }) rest r more
 
 -- at the line after some kicks
-held_after : (c : Meaning) (given : Rows) (fade : Option Rows) (xs : List KickLine) (x : Told) (rest : List Told) (more : ℕ) → more < length x.text
-    → held_at (length (kicks_text c given fade xs) + more) (told_start c given ∷ (told_fade c fade ++ (map (told_kick c) xs ++ x ∷ rest))) given ≡ x.roster
-held_after c given fade xs x rest more inside =
-    let start : List ℕ = line (codes "start") (penalty c given) in
+held_after : (c : Meaning) (given : Rows) (start : ℕ) (fade : Option Rows) (xs : List KickLine) (x : Told) (rest : List Told) (more : ℕ) → more < length x.text
+    → held_at (length (kicks_text c start fade xs) + more) (told_start start given ∷ (told_fade c fade ++ (map (told_kick c) xs ++ x ∷ rest))) given ≡ x.roster
+held_after c given start fade xs x rest more inside =
+    let first : List ℕ = line (codes "start") start in
     let kicks : List ℕ = flat_map (kick_line c) xs in
     let those : List Told = told_fade c fade ++ (map (told_kick c) xs ++ x ∷ rest) in
-    let size : length (start ++ (fade_text c fade ++ kicks)) + more ≡ length start + (length (fade_text c fade) + (length kicks + more)) = omega (arith, length-append start (fade_text c fade ++ kicks), length-append (fade_text c fade) kicks) in
-    ap (λ m. held_at m (told_start c given ∷ those) given) size ∙ held_later (told_start c given) those given (length (fade_text c fade) + (length kicks + more))
+    let size : length (first ++ (fade_text c fade ++ kicks)) + more ≡ length first + (length (fade_text c fade) + (length kicks + more)) = omega (arith, length-append first (fade_text c fade ++ kicks), length-append (fade_text c fade) kicks) in
+    ap (λ m. held_at m (told_start start given ∷ those) given) size ∙ held_later (told_start start given) those given (length (fade_text c fade) + (length kicks + more))
     ∙ held_fade c fade (map (told_kick c) xs ++ x ∷ rest) given (length kicks + more) ∙ held_kicks c xs (x ∷ rest) given more ∙ held_here x rest given more inside
 
-told_more : (c : Meaning) (given : Rows) (fade : Option Rows) (xs : List KickLine) (x : KickLine) (settled : Bool) (last : Rows)
-    → told_start c given ∷ (told_fade c fade ++ (map (told_kick c) xs ++ told_kick c x ∷ told_last c settled last ∷ [])) ≡ told_lines c given fade (xs ++ x ∷ []) settled last
-told_more c given fade xs x settled last =
-    ap (λ those. told_start c given ∷ (told_fade c fade ++ those)) (sym (append_assoc (map (told_kick c) xs) (told_kick c x ∷ []) (told_last c settled last ∷ [])) ∙ ap (λ those. those ++ told_last c settled last ∷ []) (sym (map-append (told_kick c) xs (x ∷ []))))
+told_more : (c : Meaning) (given : Rows) (start : ℕ) (fade : Option Rows) (xs : List KickLine) (x : KickLine) (settled : Bool) (last : Rows)
+    → told_start start given ∷ (told_fade c fade ++ (map (told_kick c) xs ++ told_kick c x ∷ told_last c settled last ∷ [])) ≡ told_lines c given start fade (xs ++ x ∷ []) settled last
+told_more c given start fade xs x settled last =
+    ap (λ those. told_start start given ∷ (told_fade c fade ++ those)) (sym (append_assoc (map (told_kick c) xs) (told_kick c x ∷ []) (told_last c settled last ∷ [])) ∙ ap (λ those. those ++ told_last c settled last ∷ []) (sym (map-append (told_kick c) xs (x ∷ []))))
 
 -- ---- the first line
 
-pub first_text : (c : Meaning) (given : Rows) (total : ℕ) → total ≡ penalty c given → line (codes "start") total ≡ kicks_text c given None []
-first_text c given total e = ap (line (codes "start")) e ∙ sym (append-nil (line (codes "start") (penalty c given)))
+pub first_text : (c : Meaning) (start : ℕ) → line (codes "start") start ≡ kicks_text c start None []
+first_text c start = sym (append-nil (line (codes "start") start))
 
 -- the log of a run that keeps neither a fade nor a kick
-abbrev pub unkicked_text : Meaning → ℕ → Rows → List ℕ
-unkicked_text c from given = kicks_text c given None [] ++ last_line c (first_run c from given).is_settled (first_run c from given).roster
+abbrev pub unkicked_text : Meaning → ℕ → ℕ → Rows → List ℕ
+unkicked_text c from start given = kicks_text c start None [] ++ last_line c (first_run c from given).is_settled (first_run c from given).roster
 
 -- ---- the kicks made so far
 
-pub record Underway {W : Type 0} (contents : W → Option (List ℕ)) (c : Meaning) (from : ℕ) (given : Rows) (alone : Bool) (old mid : Watched W) (made sent : ℕ) (settled : Bool) (kept : Rows) : Type 0 where
+pub record Underway {W : Type 0} (contents : W → Option (List ℕ)) (c : Meaning) (from : ℕ) (given : Rows) (start : ℕ) (alone : Bool) (old mid : Watched W) (made sent : ℕ) (settled : Bool) (kept : Rows) : Type 0 where
   pub fade : Option Rows
   pub fadeless : alone ≡ true → fade ≡ None
   pub faded : IfSome fade (IsFaded c from given (first_run c from given).roster)
@@ -99,9 +99,9 @@ pub record Underway {W : Type 0} (contents : W → Option (List ℕ)) (c : Meani
   pub as_told : penalty c kept ≡ penalty c (last_kick (no_kick (begun fade (first_run c from given).roster)) lines).roster
   pub is_settled : settled ≡ true → IsSettled c from kept
   pub surely : (first_run c from given).is_settled ≡ true → settled ≡ true
-  pub sends : Sends contents old mid 0 sent (kicks_text c given fade lines)
+  pub sends : Sends contents old mid 0 sent (kicks_text c start fade lines)
 
-module _ (c : Meaning) (from : ℕ) (given : Rows) (alone : Bool) where
+module _ (c : Meaning) (from : ℕ) (given : Rows) (start : ℕ) (alone : Bool) where
   abbrev IsLine : KickLine → Type 0
   IsLine x = IsReached c from given x.roster × IsSettled c from x.roster
 
@@ -131,7 +131,7 @@ module _ (c : Meaning) (from : ℕ) (given : Rows) (alone : Bool) where
     stays = run_keeps c (best_row c from) (FrozenDaysStay c from given) (steps_stay c from given) most_rounds given (stays_self c from given);
   }
 
-  pub unkicked : (kicks : ℕ) → IsAccepted c given → IsPolishing c from given kicks alone (first_run c from given).is_settled first (unkicked_text c from given)
+  pub unkicked : (kicks : ℕ) → IsAccepted c given → IsPolishing c from given start kicks alone (first_run c from given).is_settled first (unkicked_text c from start given)
   unkicked kicks accepted = record {
     fade = None;
     fadeless = λ e. refl;
@@ -148,16 +148,16 @@ module _ (c : Meaning) (from : ℕ) (given : Rows) (alone : Bool) where
 
   module _ {W : Type 0} (contents : W → Option (List ℕ)) (old : Watched W) where
     first_line : List ℕ
-    first_line = line (codes "start") (penalty c given)
+    first_line = line (codes "start") start
 
-    text_more : (fade : Option Rows) (xs : List KickLine) (x : KickLine) → kicks_text c given fade xs ++ kick_line c x ≡ kicks_text c given fade (xs ++ x ∷ [])
+    text_more : (fade : Option Rows) (xs : List KickLine) (x : KickLine) → kicks_text c start fade xs ++ kick_line c x ≡ kicks_text c start fade (xs ++ x ∷ [])
     unfolding first_line
     text_more fade xs x =
         append_assoc first_line (fade_text c fade ++ flat_map (kick_line c) xs) (kick_line c x)
         ∙ ap (λ text. first_line ++ text) (append_assoc (fade_text c fade) (flat_map (kick_line c) xs) (kick_line c x))
         ∙ ap (λ text. first_line ++ (fade_text c fade ++ text)) (ap (λ text. flat_map (kick_line c) xs ++ text) (sym (append-nil (kick_line c x))) ∙ sym (flat_map-append (kick_line c) xs (x ∷ [])))
 
-    pub underway_first : (new : Watched W) (sent : ℕ) → Sends contents old new 0 sent (kicks_text c given None []) → Underway contents c from given alone old new 0 sent (first_run c from given).is_settled first
+    pub underway_first : (new : Watched W) (sent : ℕ) → Sends contents old new 0 sent (kicks_text c start None []) → Underway contents c from given start alone old new 0 sent (first_run c from given).is_settled first
     underway_first new sent sends = record {
       fade = None;
       fadeless = λ e. refl;
@@ -171,28 +171,28 @@ module _ (c : Meaning) (from : ℕ) (given : Rows) (alone : Bool) where
     }
 
     -- the start's line broke off
-    pub start_breaks : (kicks : ℕ) (new : Watched W) (fault : WriteFault) → IsAccepted c given → BreaksIn contents old new 0 (kicks_text c given None []) fault → PolishLogStops contents c from given kicks alone given old new (LogFailed (sent_of fault))
+    pub start_breaks : (kicks : ℕ) (new : Watched W) (fault : WriteFault) → IsAccepted c given → BreaksIn contents old new 0 (kicks_text c start None []) fault → PolishLogStops contents c from given start kicks alone given old new (LogFailed (sent_of fault))
     unfolding unkicked
     start_breaks kicks new fault accepted p = record {
       settled = (first_run c from given).is_settled;
       last = first;
-      text = unkicked_text c from given;
+      text = unkicked_text c from start given;
       run = unkicked kicks accepted;
       sent = p.sent;
-      stops = StopsAt-append contents old new (kicks_text c given None []) (last_line c (first_run c from given).is_settled first) p.sent p.stops;
+      stops = StopsAt-append contents old new (kicks_text c start None []) (last_line c (first_run c from given).is_settled first) p.sent p.stops;
       counted = ap (λ f. LogFailed (sent_of f)) p.counted ∙ ap (λ n. LogFailed (saturated n)) (zero-add p.sent);
-      held = sym (held_here (told_start c given) (told_last c (first_run c from given).is_settled first ∷ []) given p.sent (subst (λ text. p.sent < length text) (append-nil (line (codes "start") (penalty c given))) p.stops.left));
+      held = sym (held_here (told_start start given) (told_last c (first_run c from given).is_settled first ∷ []) given p.sent (subst (λ text. p.sent < length text) (append-nil (line (codes "start") start)) p.stops.left));
       reached = record { accepted = accepted; stays = stays_self c from given };
     }
 
     -- ---- a fade that is kept
 
-    module _ (mid : Watched W) (sent : ℕ) (sends : Sends contents old mid 0 sent (kicks_text c given None [])) (next : Rows) (fades : alone ≡ true → ⊥) (faded : IsFaded c from given first next) where
-      fade_more : kicks_text c given None [] ++ fade_line c next ≡ kicks_text c given (Some next) []
+    module _ (mid : Watched W) (sent : ℕ) (sends : Sends contents old mid 0 sent (kicks_text c start None [])) (next : Rows) (fades : alone ≡ true → ⊥) (faded : IsFaded c from given first next) where
+      fade_more : kicks_text c start None [] ++ fade_line c next ≡ kicks_text c start (Some next) []
       unfolding first_line
       fade_more = append_assoc first_line [] (fade_line c next) ∙ ap (λ text. first_line ++ text) (sym (append-nil (fade_line c next)))
 
-      pub underway_faded : (new : Watched W) (after : ℕ) → Sends contents mid new sent after (fade_line c next) → Underway contents c from given alone old new 0 after true next
+      pub underway_faded : (new : Watched W) (after : ℕ) → Sends contents mid new sent after (fade_line c next) → Underway contents c from given start alone old new 0 after true next
       underway_faded new after q = record {
         fade = Some next;
         fadeless = λ e. absurd (fades e);
@@ -202,21 +202,21 @@ module _ (c : Meaning) (from : ℕ) (given : Rows) (alone : Bool) where
         as_told = refl;
         is_settled = λ e. faded.is_settled;
         surely = λ end. refl;
-        sends = subst (Sends contents old new 0 after) fade_more (Sends-append contents old mid new 0 sent after (kicks_text c given None []) (fade_line c next) sends q);
+        sends = subst (Sends contents old new 0 after) fade_more (Sends-append contents old mid new 0 sent after (kicks_text c start None []) (fade_line c next) sends q);
       }
 
       -- its line broke off
-      pub fade_breaks : (kicks : ℕ) (new : Watched W) (fault : WriteFault) → BreaksIn contents mid new sent (fade_line c next) fault → PolishLogStops contents c from given kicks alone next old new (LogFailed (sent_of fault))
+      pub fade_breaks : (kicks : ℕ) (new : Watched W) (fault : WriteFault) → BreaksIn contents mid new sent (fade_line c next) fault → PolishLogStops contents c from given start kicks alone next old new (LogFailed (sent_of fault))
       unfolding first_line
       fade_breaks kicks new fault q =
-          let front : sent ≡ saturated (0 + length (kicks_text c given None [])) = sends.counted in
-          let count : saturated (sent + q.sent) ≡ saturated (length (kicks_text c given None []) + q.sent) = omega arith in
-          let whole : List Told = told_lines c given (Some next) [] true next in
-          let size : length (kicks_text c given None []) + q.sent ≡ length first_line + q.sent = ap (λ text. length text + q.sent) (append-nil first_line) in
+          let front : sent ≡ saturated (0 + length (kicks_text c start None [])) = sends.counted in
+          let count : saturated (sent + q.sent) ≡ saturated (length (kicks_text c start None []) + q.sent) = omega arith in
+          let whole : List Told = told_lines c given start (Some next) [] true next in
+          let size : length (kicks_text c start None []) + q.sent ≡ length first_line + q.sent = ap (λ text. length text + q.sent) (append-nil first_line) in
           record {
             settled = true;
             last = next;
-            text = kicks_text c given (Some next) [] ++ last_line c true next;
+            text = kicks_text c start (Some next) [] ++ last_line c true next;
             run = record {
               fade = Some next;
               fadeless = λ e. absurd (fades e);
@@ -230,16 +230,16 @@ module _ (c : Meaning) (from : ℕ) (given : Rows) (alone : Bool) where
               surely = λ end. refl;
               text_is = refl;
             };
-            sent = length (kicks_text c given None []) + q.sent;
-            stops = StopsAt-append contents old new (kicks_text c given (Some next) []) (last_line c true next) (length (kicks_text c given None []) + q.sent)
-                (subst (λ text. StopsAt contents old new text (length (kicks_text c given None []) + q.sent)) fade_more (StopsAt-after contents old mid new (kicks_text c given None []) (fade_line c next) q.sent sends.writes q.stops));
+            sent = length (kicks_text c start None []) + q.sent;
+            stops = StopsAt-append contents old new (kicks_text c start (Some next) []) (last_line c true next) (length (kicks_text c start None []) + q.sent)
+                (subst (λ text. StopsAt contents old new text (length (kicks_text c start None []) + q.sent)) fade_more (StopsAt-after contents old mid new (kicks_text c start None []) (fade_line c next) q.sent sends.writes q.stops));
             counted = ap (λ f. LogFailed (sent_of f)) q.counted ∙ ap LogFailed count;
-            held = sym (ap (λ m. held_at m whole given) size ∙ held_later (told_start c given) (told_fade c (Some next) ++ told_last c true next ∷ []) given q.sent
+            held = sym (ap (λ m. held_at m whole given) size ∙ held_later (told_start start given) (told_fade c (Some next) ++ told_last c true next ∷ []) given q.sent
                 ∙ held_here (record { text = fade_line c next; roster = next }) (told_last c true next ∷ []) given q.sent q.stops.left);
             reached = faded.reached;
           }
 
-    module _ (mid : Watched W) (made sent : ℕ) (settled : Bool) (kept : Rows) (p : Underway contents c from given alone old mid made sent settled kept) where
+    module _ (mid : Watched W) (made sent : ℕ) (settled : Bool) (kept : Rows) (p : Underway contents c from given start alone old mid made sent settled kept) where
       abbrev begin : Rows
       begin = begun p.fade first
 
@@ -247,7 +247,7 @@ module _ (c : Meaning) (from : ℕ) (given : Rows) (alone : Bool) where
       underway_no_dearer = no_dearer_than p.fade p.faded p.lines kept p.is_log.falls p.as_told
 
       -- a kick that left the roster as dear
-      pub underway_same : (now : Bool) (next : Rows) → penalty c next ≡ penalty c kept → (now ≡ true → IsSettled c from next) → (settled ≡ true → now ≡ true) → Underway contents c from given alone old mid (made + 1) sent now next
+      pub underway_same : (now : Bool) (next : Rows) → penalty c next ≡ penalty c kept → (now ≡ true → IsSettled c from next) → (settled ≡ true → now ≡ true) → Underway contents c from given start alone old mid (made + 1) sent now next
       underway_same now next same is_settled still = record {
         fade = p.fade;
         fadeless = p.fadeless;
@@ -280,7 +280,7 @@ module _ (c : Meaning) (from : ℕ) (given : Rows) (alone : Bool) where
         told_then = sym (ap (λ (y : KickLine). penalty c y.roster) (last_is (no_kick begin) p.lines one))
 
         -- a kick that left it cheaper
-        pub underway_cheaper : (new : Watched W) (after : ℕ) → Sends contents mid new sent after (kick_line c one) → Underway contents c from given alone old new (made + 1) after true next
+        pub underway_cheaper : (new : Watched W) (after : ℕ) → Sends contents mid new sent after (kick_line c one) → Underway contents c from given start alone old new (made + 1) after true next
         underway_cheaper new after q = record {
           fade = p.fade;
           fadeless = p.fadeless;
@@ -290,18 +290,18 @@ module _ (c : Meaning) (from : ℕ) (given : Rows) (alone : Bool) where
           as_told = told_then;
           is_settled = λ e. is_settled;
           surely = λ end. refl;
-          sends = subst (Sends contents old new 0 after) (text_more p.fade p.lines one) (Sends-append contents old mid new 0 sent after (kicks_text c given p.fade p.lines) (kick_line c one) p.sends q);
+          sends = subst (Sends contents old new 0 after) (text_more p.fade p.lines one) (Sends-append contents old mid new 0 sent after (kicks_text c start p.fade p.lines) (kick_line c one) p.sends q);
         }
 
         -- its line broke off
-        pub cheaper_breaks : (kicks : ℕ) (new : Watched W) (fault : WriteFault) → made < kicks → BreaksIn contents mid new sent (kick_line c one) fault → PolishLogStops contents c from given kicks alone next old new (LogFailed (sent_of fault))
+        pub cheaper_breaks : (kicks : ℕ) (new : Watched W) (fault : WriteFault) → made < kicks → BreaksIn contents mid new sent (kick_line c one) fault → PolishLogStops contents c from given start kicks alone next old new (LogFailed (sent_of fault))
         cheaper_breaks kicks new fault inside q =
-            let front : sent ≡ saturated (0 + length (kicks_text c given p.fade p.lines)) = p.sends.counted in
-            let count : saturated (sent + q.sent) ≡ saturated (length (kicks_text c given p.fade p.lines) + q.sent) = omega arith in
+            let front : sent ≡ saturated (0 + length (kicks_text c start p.fade p.lines)) = p.sends.counted in
+            let count : saturated (sent + q.sent) ≡ saturated (length (kicks_text c start p.fade p.lines) + q.sent) = omega arith in
             record {
               settled = true;
               last = next;
-              text = kicks_text c given p.fade lines_then ++ last_line c true next;
+              text = kicks_text c start p.fade lines_then ++ last_line c true next;
               run = record {
                 fade = p.fade;
                 fadeless = p.fadeless;
@@ -315,20 +315,20 @@ module _ (c : Meaning) (from : ℕ) (given : Rows) (alone : Bool) where
                 surely = λ end. refl;
                 text_is = refl;
               };
-              sent = length (kicks_text c given p.fade p.lines) + q.sent;
-              stops = StopsAt-append contents old new (kicks_text c given p.fade lines_then) (last_line c true next) (length (kicks_text c given p.fade p.lines) + q.sent)
-                  (subst (λ text. StopsAt contents old new text (length (kicks_text c given p.fade p.lines) + q.sent)) (text_more p.fade p.lines one) (StopsAt-after contents old mid new (kicks_text c given p.fade p.lines) (kick_line c one) q.sent p.sends.writes q.stops));
+              sent = length (kicks_text c start p.fade p.lines) + q.sent;
+              stops = StopsAt-append contents old new (kicks_text c start p.fade lines_then) (last_line c true next) (length (kicks_text c start p.fade p.lines) + q.sent)
+                  (subst (λ text. StopsAt contents old new text (length (kicks_text c start p.fade p.lines) + q.sent)) (text_more p.fade p.lines one) (StopsAt-after contents old mid new (kicks_text c start p.fade p.lines) (kick_line c one) q.sent p.sends.writes q.stops));
               counted = ap (λ f. LogFailed (sent_of f)) q.counted ∙ ap LogFailed count;
-              held = sym (subst (λ those. held_at (length (kicks_text c given p.fade p.lines) + q.sent) those given ≡ next) (told_more c given p.fade p.lines one true next) (held_after c given p.fade p.lines (told_kick c one) (told_last c true next ∷ []) q.sent q.stops.left));
+              held = sym (subst (λ those. held_at (length (kicks_text c start p.fade p.lines) + q.sent) those given ≡ next) (told_more c given start p.fade p.lines one true next) (held_after c given start p.fade p.lines (told_kick c one) (told_last c true next ∷ []) q.sent q.stops.left));
               reached = reached;
             }
 
       -- ---- the end
 
       abbrev whole : List ℕ
-      whole = kicks_text c given p.fade p.lines ++ last_line c settled kept
+      whole = kicks_text c start p.fade p.lines ++ last_line c settled kept
 
-      abbrev ended : (kicks : ℕ) → made ≤ kicks → IsReached c from given kept → IsPolishing c from given kicks alone settled kept whole
+      abbrev ended : (kicks : ℕ) → made ≤ kicks → IsReached c from given kept → IsPolishing c from given start kicks alone settled kept whole
       ended kicks few reached = record {
         fade = p.fade;
         fadeless = p.fadeless;
@@ -343,26 +343,26 @@ module _ (c : Meaning) (from : ℕ) (given : Rows) (alone : Bool) where
         text_is = refl;
       }
 
-      pub ends : (kicks : ℕ) (new : Watched W) (after : ℕ) (told : Polished) → made ≤ kicks → IsReached c from given kept → told.settled ≡ settled → told.total ≡ penalty c kept → Sends contents mid new sent after (last_line c settled kept) → Polishes contents c from given kicks alone kept old new told
+      pub ends : (kicks : ℕ) (new : Watched W) (after : ℕ) (told : Polished) → made ≤ kicks → IsReached c from given kept → told.settled ≡ settled → told.total ≡ penalty c kept → Sends contents mid new sent after (last_line c settled kept) → Polishes contents c from given start kicks alone kept old new told
       ends kicks new after told few reached settled_is total_is q = record {
         text = whole;
-        run = subst (λ b. IsPolishing c from given kicks alone b kept whole) (sym settled_is) (ended kicks few reached);
-        writes = (Sends-append contents old mid new 0 sent after (kicks_text c given p.fade p.lines) (last_line c settled kept) p.sends q).writes;
+        run = subst (λ b. IsPolishing c from given start kicks alone b kept whole) (sym settled_is) (ended kicks few reached);
+        writes = (Sends-append contents old mid new 0 sent after (kicks_text c start p.fade p.lines) (last_line c settled kept) p.sends q).writes;
         total = total_is;
       }
 
-      pub end_breaks : (kicks : ℕ) (new : Watched W) (fault : WriteFault) → made ≤ kicks → IsReached c from given kept → BreaksIn contents mid new sent (last_line c settled kept) fault → PolishLogStops contents c from given kicks alone kept old new (LogFailed (sent_of fault))
+      pub end_breaks : (kicks : ℕ) (new : Watched W) (fault : WriteFault) → made ≤ kicks → IsReached c from given kept → BreaksIn contents mid new sent (last_line c settled kept) fault → PolishLogStops contents c from given start kicks alone kept old new (LogFailed (sent_of fault))
       end_breaks kicks new fault few reached q =
-          let front : sent ≡ saturated (0 + length (kicks_text c given p.fade p.lines)) = p.sends.counted in
-          let count : saturated (sent + q.sent) ≡ saturated (length (kicks_text c given p.fade p.lines) + q.sent) = omega arith in
+          let front : sent ≡ saturated (0 + length (kicks_text c start p.fade p.lines)) = p.sends.counted in
+          let count : saturated (sent + q.sent) ≡ saturated (length (kicks_text c start p.fade p.lines) + q.sent) = omega arith in
           record {
             settled = settled;
             last = kept;
             text = whole;
             run = ended kicks few reached;
-            sent = length (kicks_text c given p.fade p.lines) + q.sent;
-            stops = StopsAt-after contents old mid new (kicks_text c given p.fade p.lines) (last_line c settled kept) q.sent p.sends.writes q.stops;
+            sent = length (kicks_text c start p.fade p.lines) + q.sent;
+            stops = StopsAt-after contents old mid new (kicks_text c start p.fade p.lines) (last_line c settled kept) q.sent p.sends.writes q.stops;
             counted = ap (λ f. LogFailed (sent_of f)) q.counted ∙ ap LogFailed count;
-            held = sym (held_after c given p.fade p.lines (told_last c settled kept) [] q.sent q.stops.left);
+            held = sym (held_after c given start p.fade p.lines (told_last c settled kept) [] q.sent q.stops.left);
             reached = reached;
           }

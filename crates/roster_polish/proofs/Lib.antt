@@ -4,3 +4,4 @@ pub mod Keeping
 pub mod FadeRows
 pub mod KickLogs
 pub mod Passes
+pub mod PlanRows

@@ -1,3 +1,4 @@
 pub mod Kicks
 pub mod Settled
 pub mod Polished
+pub mod Plans

@@ -106,7 +106,7 @@ pub record IsKickLog (c : Meaning) (from : ℕ) (given first : Rows) (kicks : �
   pub falls : Falls c (no_kick first) lines
   pub within : (last_kick (no_kick first) lines).kick ≤ kicks
 
--- ---- the text: the penalty of the given roster, of the one after a fade, of each that is cheaper after a kick, and of the last
+-- ---- the text: a number of the given roster, its penalty for `polish`; the penalties of the one after a fade, of each that is cheaper after a kick, and of the last
 
 abbrev pub fade_line : Meaning → Rows → List ℕ
 fade_line c r = line (codes "fade") (penalty c r)
@@ -118,8 +118,8 @@ fade_text c (Some r) = fade_line c r
 abbrev pub kick_line : Meaning → KickLine → List ℕ
 kick_line c x = line (codes "kick " ++ decimal x.kick) (penalty c x.roster)
 
-abbrev pub kicks_text : Meaning → Rows → Option Rows → List KickLine → List ℕ
-kicks_text c given fade lines = line (codes "start") (penalty c given) ++ (fade_text c fade ++ flat_map (kick_line c) lines)
+abbrev pub kicks_text : Meaning → ℕ → Option Rows → List KickLine → List ℕ
+kicks_text c start fade lines = line (codes "start") start ++ (fade_text c fade ++ flat_map (kick_line c) lines)
 
 abbrev pub last_line : Meaning → Bool → Rows → List ℕ
 last_line c settled r = line (if settled then codes "settled" else codes "stopped") (penalty c r)
@@ -138,14 +138,14 @@ told_fade c (Some r) = record { text = fade_line c r; roster = r } ∷ []
 abbrev pub told_kick : Meaning → KickLine → Told
 told_kick c x = record { text = kick_line c x; roster = x.roster }
 
-abbrev pub told_start : Meaning → Rows → Told
-told_start c given = record { text = line (codes "start") (penalty c given); roster = given }
+abbrev pub told_start : ℕ → Rows → Told
+told_start start given = record { text = line (codes "start") start; roster = given }
 
 abbrev pub told_last : Meaning → Bool → Rows → Told
 told_last c settled last = record { text = last_line c settled last; roster = last }
 
-abbrev pub told_lines : Meaning → Rows → Option Rows → List KickLine → Bool → Rows → List Told
-told_lines c given fade lines settled last = told_start c given ∷ (told_fade c fade ++ (map (told_kick c) lines ++ told_last c settled last ∷ []))
+abbrev pub told_lines : Meaning → Rows → ℕ → Option Rows → List KickLine → Bool → Rows → List Told
+told_lines c given start fade lines settled last = told_start start given ∷ (told_fade c fade ++ (map (told_kick c) lines ++ told_last c settled last ∷ []))
 
 -- where so many bytes went out, the roster of the first line that didn't wholly go out
 abbrev pub held_at : ℕ → List Told → Rows → Rows
@@ -157,7 +157,7 @@ held_at sent (x ∷ xs) r = if nat_lt sent (length x.text) then x.roster else he
 -- from the given roster to the last, by a fade, unless kicks alone are asked for, and by kicks, from where the first settling led;
 -- the last roster is as dear as the last line says, and settled where that is said, as it surely is where the first settling came to
 -- its end; with this log
-pub record IsPolishing (c : Meaning) (from : ℕ) (given : Rows) (kicks : ℕ) (alone settled : Bool) (last : Rows) (text : List ℕ) : Type 0 where
+pub record IsPolishing (c : Meaning) (from : ℕ) (given : Rows) (start kicks : ℕ) (alone settled : Bool) (last : Rows) (text : List ℕ) : Type 0 where
   pub fade : Option Rows
   pub fadeless : alone ≡ true → fade ≡ None
   pub faded : IfSome fade (IsFaded c from given (first_run c from given).roster)
@@ -168,23 +168,23 @@ pub record IsPolishing (c : Meaning) (from : ℕ) (given : Rows) (kicks : ℕ) (
   pub no_dearer : penalty c last ≤ penalty c given
   pub is_settled : settled ≡ true → IsSettled c from last
   pub surely : (first_run c from given).is_settled ≡ true → settled ≡ true
-  pub text_is : text ≡ kicks_text c given fade lines ++ last_line c settled last
+  pub text_is : text ≡ kicks_text c start fade lines ++ last_line c settled last
 
 -- the log of a run went out, and the answer is what it came to
-pub record Polishes {W : Type 0} (contents : W → Option (List ℕ)) (c : Meaning) (from : ℕ) (given : Rows) (kicks : ℕ) (alone : Bool) (after : Rows) (old new : Watched W) (told : Polished) : Type 0 where
+pub record Polishes {W : Type 0} (contents : W → Option (List ℕ)) (c : Meaning) (from : ℕ) (given : Rows) (start kicks : ℕ) (alone : Bool) (after : Rows) (old new : Watched W) (told : Polished) : Type 0 where
   pub text : List ℕ
-  pub run : IsPolishing c from given kicks alone told.settled after text
+  pub run : IsPolishing c from given start kicks alone told.settled after text
   pub writes : Writes contents old new text
   pub total : told.total ≡ penalty c after
 
 -- just the first bytes of the log of a run went out, and the roster is that of the line at which the log failed
-pub record PolishLogStops {W : Type 0} (contents : W → Option (List ℕ)) (c : Meaning) (from : ℕ) (given : Rows) (kicks : ℕ) (alone : Bool) (after : Rows) (old new : Watched W) (fault : LogFault) : Type 0 where
+pub record PolishLogStops {W : Type 0} (contents : W → Option (List ℕ)) (c : Meaning) (from : ℕ) (given : Rows) (start kicks : ℕ) (alone : Bool) (after : Rows) (old new : Watched W) (fault : LogFault) : Type 0 where
   pub settled : Bool
   pub last : Rows
   pub text : List ℕ
-  pub run : IsPolishing c from given kicks alone settled last text
+  pub run : IsPolishing c from given start kicks alone settled last text
   pub sent : ℕ
   pub stops : StopsAt contents old new text sent
   pub counted : fault ≡ LogFailed (saturated sent)
-  pub held : after ≡ held_at sent (told_lines c given run.fade run.lines settled last) given
+  pub held : after ≡ held_at sent (told_lines c given start run.fade run.lines settled last) given
   pub reached : IsReached c from given after

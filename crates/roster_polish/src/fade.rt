@@ -8,6 +8,8 @@ ghost use Rattle.roster_rules.specs.HardRules.{keeps_hard};
 ghost use Rattle.roster_rules.specs.Penalties.{penalty};
 ghost use Rattle.roster_laws.specs.FrozenDays.{FrozenDaysStay};
 ghost use Rattle.roster_laws.specs.Greatest.{extension_count};
+ghost use Rattle.roster_instance.specs.Rosters.{fits_case};
+ghost use Rattle.roster_bound.specs.Worths.{HaveRows};
 ghost use Rattle.roster_polish.specs.Polished.{FitsPolish};
 ghost use Rattle.roster_polish.specs.Settled.{IsSettled, Spends, extensions_of};
 
@@ -17,7 +19,8 @@ use crate::settle::Aim;
 use crate::space::PolishSpace;
 use crate::stay::stay_if_no_dearer;
 use roster_bound::{
-    Fading, Terms, WHOLE, follow_cover, lacks_nurses, pay_places, pay_row, row_floor, take_row,
+    Base, Fading, Terms, WHOLE, follow_cover, lacks_nurses, pay_places, pay_row, row_floor,
+    rows_are_had, take_row,
 };
 use roster_case::Held;
 use roster_costs::first_hard;
@@ -52,7 +55,13 @@ pub(crate) fn try_fade(
     ensures fits { FitsPolish held.old.case space.new }
 {
     held.keeps_rules();
-    if kicking.passes == 0 || !fade_rows(held, kicking, space, meter) {
+    let base = Base {
+        case: held.case(),
+        given: held.roster(),
+        from: kicking.searches.from,
+    };
+    rows_are_had(base.case, base.given, base.from);
+    if kicking.passes == 0 || !fade_rows(&base, kicking, space, meter) {
         return false;
     }
     let aim = Aim {
@@ -63,29 +72,36 @@ pub(crate) fn try_fade(
     stay_if_no_dearer(held, aim, &mut kicking.searches, space, meter)
 }
 
-/// Fades the rows of the held roster, and says whether they keep the hard rules then.
-fn fade_rows(held: &Held, kicking: &mut Kicking, space: &mut PolishSpace, meter: &mut Meter) -> bool
-    requires fits { FitsPolish held.now.case space.old }
-    requires room { meter.old + extensions_of held.now.case kicking.old.searches.left ≤ greatest_u64 }
+/// Fades rows, and says whether they keep the hard rules then. The days before week `from` are as they are given.
+pub(crate) fn fade_rows(
+    base: &Base<'_>,
+    kicking: &mut Kicking,
+    space: &mut PolishSpace,
+    meter: &mut Meter,
+) -> bool
+    requires given { fits_case base.now.case.now base.now.given.now ≡ true }
+    requires each { HaveRows base.now.case.now base.now.from base.now.given.now }
+    requires fits { FitsPolish base.now.case.now space.old }
+    requires room { meter.old + extensions_of base.now.case.now kicking.old.searches.left ≤ greatest_u64 }
     ensures kept { space.new.kept ≡ space.old.kept }
-    ensures keeps { result ≡ true → keeps_hard held.now.case space.new.faded ≡ true }
-    ensures frozen { FrozenDaysStay held.now.case kicking.old.searches.from held.now.roster space.new.faded }
+    ensures keeps { result ≡ true → keeps_hard base.now.case.now space.new.faded ≡ true }
+    ensures frozen { FrozenDaysStay base.now.case.now base.now.from base.now.given.now space.new.faded }
     ensures from { kicking.new.searches.from ≡ kicking.old.searches.from }
-    ensures spends { Spends held.now.case meter.old kicking.old.searches.left meter.new kicking.new.searches.left }
-    ensures fits { FitsPolish held.now.case space.new }
+    ensures spends { Spends base.now.case.now meter.old kicking.old.searches.left meter.new kicking.new.searches.left }
+    ensures fits { FitsPolish base.now.case.now space.new }
 {
     let passes = kicking.passes;
-    space.begin_fade(held);
+    space.begin_fade(base.case, base.given);
     for pass in 0..passes.saturating_add(MORE_PASSES) {
         let is_more = pass >= passes && (pass - passes) % 2 == 0;
-        if is_more && !lacks_nurses(held.case(), &space.floor) {
+        if is_more && !lacks_nurses(base.case, &space.floor) {
             break;
         }
         let fading = fading_in(pass, passes);
-        make_fade_pass(held, fading, kicking, space, meter);
-        follow_cover(held.case(), fading.share, &mut space.floor);
+        make_fade_pass(base, fading, kicking, space, meter);
+        follow_cover(base.case, fading.share, &mut space.floor);
     }
-    first_hard(held.case(), &space.faded).is_none()
+    first_hard(base.case, &space.faded).is_none()
 }
 
 /// How far a fade of so many passes has come in one of them: from worths alone to none in the last two, evenly, and on from there.
@@ -114,67 +130,67 @@ fn times_in(pass: u32, passes: u32) -> u32
 }
 
 /// Gives each nurse, in an order that is drawn, the best row by what the places pay without the nurse's row.
-fn make_fade_pass(
-    held: &Held,
+pub(crate) fn make_fade_pass(
+    base: &Base<'_>,
     fading: Fading,
     kicking: &mut Kicking,
     space: &mut PolishSpace,
     meter: &mut Meter,
 )
-    requires fits { FitsPolish held.now.case space.old }
-    requires frozen { FrozenDaysStay held.now.case kicking.old.searches.from held.now.roster space.old.faded }
-    requires room { meter.old + extensions_of held.now.case kicking.old.searches.left ≤ greatest_u64 }
+    requires each { HaveRows base.now.case.now base.now.from base.now.given.now }
+    requires fits { FitsPolish base.now.case.now space.old }
+    requires frozen { FrozenDaysStay base.now.case.now base.now.from base.now.given.now space.old.faded }
+    requires room { meter.old + extensions_of base.now.case.now kicking.old.searches.left ≤ greatest_u64 }
     ensures kept { space.new.kept ≡ space.old.kept }
-    ensures frozen { FrozenDaysStay held.now.case kicking.old.searches.from held.now.roster space.new.faded }
+    ensures frozen { FrozenDaysStay base.now.case.now base.now.from base.now.given.now space.new.faded }
     ensures from { kicking.new.searches.from ≡ kicking.old.searches.from }
-    ensures spends { Spends held.now.case meter.old kicking.old.searches.left meter.new kicking.new.searches.left }
-    ensures fits { FitsPolish held.now.case space.new }
+    ensures spends { Spends base.now.case.now meter.old kicking.old.searches.left meter.new kicking.new.searches.left }
+    ensures fits { FitsPolish base.now.case.now space.new }
 {
-    held.case().keeps_limits();
-    pay_places(held.case(), fading, &space.floor, &mut space.pays);
+    base.case.keeps_limits();
+    pay_places(base.case, fading, &space.floor, &mut space.pays);
     shuffle(&mut space.order, &mut kicking.random);
-    for place in 0..held.case().nurses() {
+    for place in 0..base.case.nurses() {
         if kicking.searches.left == 0 {
             break;
         }
         kicking.searches.left -= 1;
         let nurse = space.order[place];
-        fade_nurse(held, nurse, kicking.searches.from, fading, space, meter);
+        fade_nurse(base, nurse, fading, space, meter);
     }
 }
 
-/// Gives a nurse the best row by what the places pay without the present one. The days before week `from` are as they are held.
+/// Gives a nurse the best row by what the places pay without the present one. The days before week `from` are as they are given.
 fn fade_nurse(
-    held: &Held,
+    base: &Base<'_>,
     nurse: usize,
-    from: u16,
     fading: Fading,
     space: &mut PolishSpace,
     meter: &mut Meter,
 )
-    requires nurse { nurse < nurse_count held.now.case }
-    requires fits { FitsPolish held.now.case space.old }
-    requires frozen { FrozenDaysStay held.now.case from held.now.roster space.old.faded }
-    requires room { meter.old + extension_count held.now.case nurse ≤ greatest_u64 }
+    requires each { HaveRows base.now.case.now base.now.from base.now.given.now }
+    requires nurse { nurse < nurse_count base.now.case.now }
+    requires fits { FitsPolish base.now.case.now space.old }
+    requires frozen { FrozenDaysStay base.now.case.now base.now.from base.now.given.now space.old.faded }
+    requires room { meter.old + extension_count base.now.case.now nurse ≤ greatest_u64 }
     ensures kept { space.new.kept ≡ space.old.kept }
-    ensures frozen { FrozenDaysStay held.now.case from held.now.roster space.new.faded }
-    ensures counted { meter.new ≤ meter.old + extension_count held.now.case nurse }
-    ensures fits { FitsPolish held.now.case space.new }
+    ensures frozen { FrozenDaysStay base.now.case.now base.now.from base.now.given.now space.new.faded }
+    ensures counted { meter.new ≤ meter.old + extension_count base.now.case.now nurse }
+    ensures fits { FitsPolish base.now.case.now space.new }
 {
-    held.keeps_rules();
     let PolishSpace {
         floor,
         pays,
         faded,
         ..
     } = space;
-    let case = held.case();
+    let case = base.case;
     take_row(case, faded.row(nurse), fading, floor, pays);
     let terms = Terms {
         case,
         worths: pays,
-        given: held.roster(),
-        from,
+        given: base.given,
+        from: base.from,
         free: 0,
     };
     row_floor(&terms, nurse, &mut floor.rows, meter);

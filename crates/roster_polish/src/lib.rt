@@ -10,6 +10,7 @@ mod fade;
 mod kick;
 mod log;
 mod offers;
+mod plan;
 mod random;
 mod room;
 mod run;
@@ -18,6 +19,7 @@ mod settle;
 mod space;
 mod stay;
 
+pub use plan::{find_roster, first_unmendable, missing};
 pub use room::{MOST_SEARCHES, searches_have_room};
-pub use run::{Course, Polished, polish};
+pub use run::{Course, Polished, polish, polish_found};
 pub use space::PolishSpace;

@@ -15,7 +15,7 @@ use crate::random::Random;
 use crate::searches::Searches;
 use crate::settle::settle_first;
 use crate::space::PolishSpace;
-use roster_bound::improve_worths;
+use roster_bound::{Base, improve_worths, rows_are_had};
 use roster_case::Held;
 use roster_log::{LogFault, log_word};
 use roster_state::Meter;
@@ -41,7 +41,7 @@ pub struct Polished {
 
 /// Settles a roster, fades it and settles it again, and then kicks a few nurses at a time out of their rows and settles it again, as
 /// long as searches are left. Where the roster is then no dearer, it stays. A fade that stayed and each kick that left it cheaper have a
-/// line in the log, which goes out as it is made. It takes no memory.
+/// line in the log, which goes out as it is made; the first line has the penalty of the given roster. It takes no memory.
 ///
 /// # Errors
 ///
@@ -57,15 +57,46 @@ pub fn polish<W: Write>(
     requires fits { FitsPolish held.old.case space.old }
     requires room { meter.old + extensions_of held.old.case (course.now.searches + first_searches held.old.case) ≤ greatest_u64 }
     ensures case { held.new.case ≡ held.old.case }
-    ensures ok { IfOk result (Polishes W.contents held.old.case course.now.from held.old.roster course.now.searches course.now.kicks held.new.roster log.old log.new) }
-    ensures err { IfErr result (PolishLogStops W.contents held.old.case course.now.from held.old.roster course.now.searches course.now.kicks held.new.roster log.old log.new) }
+    ensures ok { IfOk result (Polishes W.contents held.old.case course.now.from held.old.roster (penalty held.old.case held.old.roster)
+        course.now.searches course.now.kicks held.new.roster log.old log.new) }
+    ensures err { IfErr result (PolishLogStops W.contents held.old.case course.now.from held.old.roster (penalty held.old.case held.old.roster)
+        course.now.searches course.now.kicks held.new.roster log.old log.new) }
+    ensures no_dearer { penalty held.old.case held.new.roster ≤ penalty held.old.case held.old.roster }
+    ensures frozen { FrozenDaysStay held.old.case course.now.from held.old.roster held.new.roster }
+    ensures counted { meter.new ≤ meter.old + extensions_of held.old.case (course.now.searches + settling_searches held.old.case course.now.from held.old.roster) }
+    ensures fits { FitsPolish held.old.case space.new }
+{
+    let start = held.total();
+    polish_found(held, course, start, space, meter, log)
+}
+
+/// The same, where the first line of the log has another number: what is told of the roster from which the given one was found.
+///
+/// # Errors
+///
+/// As those of `polish`.
+pub fn polish_found<W: Write>(
+    held: &mut Held,
+    course: &Course,
+    start: u64,
+    space: &mut PolishSpace,
+    meter: &mut Meter,
+    log: &mut Watch<W>,
+) -> Result<Polished, LogFault>
+    requires fits { FitsPolish held.old.case space.old }
+    requires room { meter.old + extensions_of held.old.case (course.now.searches + first_searches held.old.case) ≤ greatest_u64 }
+    ensures case { held.new.case ≡ held.old.case }
+    ensures ok { IfOk result (Polishes W.contents held.old.case course.now.from held.old.roster start
+        course.now.searches course.now.kicks held.new.roster log.old log.new) }
+    ensures err { IfErr result (PolishLogStops W.contents held.old.case course.now.from held.old.roster start
+        course.now.searches course.now.kicks held.new.roster log.old log.new) }
     ensures no_dearer { penalty held.old.case held.new.roster ≤ penalty held.old.case held.old.roster }
     ensures frozen { FrozenDaysStay held.old.case course.now.from held.old.roster held.new.roster }
     ensures counted { meter.new ≤ meter.old + extensions_of held.old.case (course.now.searches + settling_searches held.old.case course.now.from held.old.roster) }
     ensures fits { FitsPolish held.old.case space.new }
 {
     held.keeps_rules();
-    let mut sent = log_word(log, 0, b"start", held.total())?;
+    let mut sent = log_word(log, 0, b"start", start)?;
     let mut settled = settle_first(held, course.from, space, meter);
     let mut kicking = begin(held, course, space, meter);
     if try_fade(held, &mut kicking, space, meter) {
@@ -115,7 +146,14 @@ fn begin(held: &Held, course: &Course, space: &mut PolishSpace, meter: &mut Mete
     let nurses = held.case().nurses() as u32;
     let parts = if course.kicks { 2 } else { 4 };
     let rounds = rounds_within(course.searches, parts, nurses);
-    improve_worths(held, rounds as u16, course.from, &mut space.floor, meter);
+    let base = Base {
+        case: held.case(),
+        given: held.roster(),
+        from: course.from,
+    };
+    held.keeps_rules();
+    rows_are_had(base.case, base.given, base.from);
+    improve_worths(&base, rounds as u16, &mut space.floor, meter);
     space.keep(held);
     let left = course.searches - rounds * nurses;
     Kicking {
@@ -129,7 +167,7 @@ fn begin(held: &Held, course: &Course, space: &mut PolishSpace, meter: &mut Mete
 }
 
 /// How many rounds over all nurses the worths are improved: a hundred, or as many as take one of so many parts of the searches.
-fn rounds_within(searches: u32, parts: u32, nurses: u32) -> u32
+pub(crate) fn rounds_within(searches: u32, parts: u32, nurses: u32) -> u32
     requires parts { 0 < parts }
     requires few { parts ≤ 4 }
     requires nurses { nurses ≤ most_nurses }

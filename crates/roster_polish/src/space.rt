@@ -1,11 +1,12 @@
 //! The memory of a run.
 
-ghost use Rattle.std.specs.Prelude.{◌≡◌, ◌<◌, ◌≤◌, ℕ, All, IfOk, length};
+ghost use Rattle.std.specs.Prelude.{◌≡◌, ◌<◌, ◌≤◌, ℕ, All, IfOk, length, true};
+ghost use Rattle.roster_instance.specs.Rosters.{fits_case};
 ghost use Rattle.roster_polish.specs.Polished.{FitsPolish};
 
 use roster_best::{BestFault, LastSearches};
 use roster_bound::{FloorWorkspace, Worths, count_rows};
-use roster_case::{Held, Roster};
+use roster_case::{Case, Held, Roster};
 use std::alloc::Global;
 
 /// What a run writes into: what a run that raises a floor does, with the workspace of its searches; what the last of them tell; by
@@ -40,7 +41,28 @@ impl Drop for PolishSpace {
 }
 
 impl PolishSpace {
-    /// Room for runs from rosters of a held one's case, by at most nineteen growths and two for each nurse.
+    /// Room for runs from rosters of a case, of which one is given, by at most nineteen growths and two for each nurse.
+    ///
+    /// # Errors
+    ///
+    /// A growth was refused.
+    pub fn for_roster(alloc: Global, case: &Case, roster: &Roster) -> Result<PolishSpace, BestFault>
+        requires { fits_case case.now roster.now ≡ true }
+        ensures { IfOk result (FitsPolish case.now) }
+    {
+        Ok(PolishSpace {
+            floor: FloorWorkspace::for_case(alloc, case)?,
+            last: LastSearches::for_case(alloc, case)?,
+            dearer: vec![in alloc; 0; 9 * case.days() as usize]?,
+            kept: roster.copy(alloc)?,
+            kept_last: LastSearches::for_case(alloc, case)?,
+            pays: Worths::even(alloc, case, 0)?,
+            faded: roster.copy(alloc)?,
+            order: vec![in alloc; 0; case.nurses()]?,
+        })
+    }
+
+    /// Room for runs from rosters of a held one's case, by as many growths.
     ///
     /// # Errors
     ///
@@ -49,16 +71,7 @@ impl PolishSpace {
         ensures { IfOk result (FitsPolish held.now.case) }
     {
         held.keeps_rules();
-        Ok(PolishSpace {
-            floor: FloorWorkspace::for_case(alloc, held.case())?,
-            last: LastSearches::for_case(alloc, held.case())?,
-            dearer: vec![in alloc; 0; 9 * held.case().days() as usize]?,
-            kept: held.roster().copy(alloc)?,
-            kept_last: LastSearches::for_case(alloc, held.case())?,
-            pays: Worths::even(alloc, held.case(), 0)?,
-            faded: held.roster().copy(alloc)?,
-            order: vec![in alloc; 0; held.case().nurses()]?,
-        })
+        PolishSpace::for_roster(alloc, held.case(), held.roster())
     }
 
     /// Keeps a roster, with what the last searches tell of it.
@@ -72,14 +85,15 @@ impl PolishSpace {
     }
 
     /// Begins a fade from a roster: its rows are counted, and the nurses stand in their order.
-    pub(crate) fn begin_fade(&mut self, held: &Held)
-        requires { FitsPolish held.now.case self.old }
+    pub(crate) fn begin_fade(&mut self, case: &Case, given: &Roster)
+        requires given { fits_case case.now given.now ≡ true }
+        requires fits { FitsPolish case.now self.old }
         ensures kept { self.new.kept ≡ self.old.kept }
-        ensures faded { self.new.faded ≡ held.now.roster }
-        ensures fits { FitsPolish held.now.case self.new }
+        ensures faded { self.new.faded ≡ given.now }
+        ensures fits { FitsPolish case.now self.new }
     {
-        self.faded.put_rows(held.roster());
-        count_rows(held.case(), held.roster(), &mut self.floor);
+        self.faded.put_rows(given);
+        count_rows(case, given, &mut self.floor);
         put_in_order(&mut self.order);
     }
 }

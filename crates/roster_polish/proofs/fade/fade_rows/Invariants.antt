@@ -7,8 +7,8 @@ use Rattle.roster_polish.proofs.fade.fade_rows.Given as goal
 abbrev pub invariant-loop-pass : goal.invariant-loop-pass
 invariant-loop-pass l = record {
   kept : l.space.kept ≡ l.fn.space.kept;
-  frozen : FrozenDaysStay l.fn.held.case l.fn.kicking.searches.from l.fn.held.roster l.space.faded;
+  frozen : FrozenDaysStay l.base.case.now l.base.from l.base.given.now l.space.faded;
   from : l.kicking.searches.from ≡ l.fn.kicking.searches.from;
-  spends : Spends l.fn.held.case l.fn.meter l.fn.kicking.searches.left l.meter l.kicking.searches.left;
-  fits : FitsPolish l.fn.held.case l.space;
+  spends : Spends l.base.case.now l.fn.meter l.fn.kicking.searches.left l.meter l.kicking.searches.left;
+  fits : FitsPolish l.base.case.now l.space;
 }

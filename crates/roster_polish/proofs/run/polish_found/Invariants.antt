@@ -4,14 +4,14 @@ use Rattle.roster_laws.specs.FrozenDays.{FrozenDaysStay}
 use Rattle.roster_polish.specs.Polished.{FitsPolish, settling_searches}
 use Rattle.roster_polish.specs.Settled.{extensions_of}
 use Rattle.roster_polish.proofs.KickLogs.{Underway}
-use Rattle.roster_polish.proofs.run.polish.Given as goal
+use Rattle.roster_polish.proofs.run.polish_found.Given as goal
 
 abbrev pub invariant-loop-kicks_before : goal.invariant-loop-kicks_before
 invariant-loop-kicks_before g l = record {
   case : l.held.case ≡ l.fn.held.case;
   kept : l.space.kept ≡ l.held.roster;
   frozen : FrozenDaysStay l.fn.held.case l.course.from l.fn.held.roster l.held.roster;
-  going : Underway g.W.Write.contents l.fn.held.case l.course.from l.fn.held.roster l.course.kicks l.fn.log l.log l.kicks_before l.sent l.settled l.held.roster;
+  going : Underway g.W.Write.contents l.fn.held.case l.course.from l.fn.held.roster l.start l.course.kicks l.fn.log l.log l.kicks_before l.sent l.settled l.held.roster;
   from : l.kicking.searches.from ≡ l.course.from;
   counted : l.meter + extensions_of l.fn.held.case l.kicking.searches.left ≤ l.fn.meter + extensions_of l.fn.held.case (l.course.searches + settling_searches l.fn.held.case l.course.from l.fn.held.roster);
   fits : FitsPolish l.fn.held.case l.space;

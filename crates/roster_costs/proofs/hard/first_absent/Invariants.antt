@@ -1,8 +1,0 @@
-use Rattle.std.proofs.Common.{◌≡◌, []}
-use Rattle.roster_instance.specs.Faults.{below}
-use Rattle.roster_rules.specs.HardRules.{absence_fault}
-use Rattle.roster_instance.specs.Meaning.{day_count}
-use Rattle.roster_costs.proofs.hard.first_absent.Given as goal
-
-abbrev pub invariant-loop-nurse : goal.invariant-loop-nurse
-invariant-loop-nurse l = below l.nurse (λ n. below (day_count l.case) (λ d. absence_fault l.case l.roster n d)) ≡ []

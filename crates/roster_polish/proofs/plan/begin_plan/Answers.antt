@@ -1,0 +1,30 @@
+use Rattle.std.proofs.Common.{◌≡◌, ◌*◌, ◌≤◌, arith}
+use Rattle.std.proofs.lemmas.Nat.{mul-le}
+use Rattle.roster_instance.specs.Meaning.{nurse_count}
+use Rattle.roster_polish.proofs.Keeping.{same_days}
+use Rattle.roster_polish.proofs.Steps.{rounds_room, rounds_spent}
+use Rattle.roster_polish.proofs.plan.begin_plan.Goals as goal
+use Rattle.roster_polish.proofs.plan.begin_plan.Goals.{After-min-rounds}
+
+-- the rounds take no more searches than there are
+few : (c : After-min-rounds) → c.min-rounds.result * c.nurses-nurses.result ≤ c.args.course.now.searches
+few c =
+    let most : c.min-rounds.result ≤ c.rounds_within.result = omega (arith, c.min-rounds.ensures) in
+    omega (arith, c.rounds_within.ensures.within, mul-le c.min-rounds.result c.nurses-nurses.result c.rounds_within.result c.nurses-nurses.result most (omega arith))
+
+pub improve_worths-requires-clause-room : goal.improve_worths-requires-clause-room
+improve_worths-requires-clause-room c =
+    rounds_room c.args.base.now.case.now c.min-rounds.result c.args.course.now.searches c.nurses-nurses.result c.nurses-nurses.ensures.count (few (goal.at.improve_worths-requires-clause-room c).After-min-rounds) c.args.meter.now 18446744073709551615 c.requires.room
+
+pub put_rows-requires : goal.put_rows-requires
+put_rows-requires c = same_days c.args.base.now.case.now c.args.base.now.given.now c.args.space.now.kept c.requires.roster c.requires.fits.kept
+
+pub returns-clause-spends : goal.returns-clause-spends
+returns-clause-spends c =
+    let k = c.args.base.now.case.now in
+    let searches = c.args.course.now.searches in
+    let within = few (goal.at.returns-clause-spends c).After-min-rounds in
+    record {
+      fewer = omega arith;
+      counted = rounds_spent k c.min-rounds.result searches c.nurses-nurses.result c.nurses-nurses.ensures.count within c.args.meter.now c.improve_worths.new.meter c.improve_worths.ensures.counted;
+    }

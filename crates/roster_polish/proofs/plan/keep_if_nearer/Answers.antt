@@ -1,0 +1,25 @@
+use Rattle.std.proofs.Common.{◌≡◌, inr, subst, sym, true}
+use Rattle.roster_instance.specs.Rosters.{Rows, fits_case}
+use Rattle.roster_polish.proofs.Keeping.{same_days}
+use Rattle.roster_polish.proofs.plan.keep_if_nearer.Goals as goal
+
+pub put_rows-requires : goal.put_rows-requires
+put_rows-requires c = same_days c.args.case.now c.args.space.now.faded c.args.space.now.kept c.requires.fits.faded c.requires.fits.kept
+
+pub returns-clause-either : goal.returns-clause-either
+returns-clause-either c = inr c.put_rows.ensures
+
+pub returns-clause-fits : goal.returns-clause-fits
+returns-clause-fits c =
+    let before = c.requires.fits in
+    record {
+      floor = before.floor;
+      known = before.known;
+      kept_known = before.kept_known;
+      dearer = before.dearer;
+      kept = subst (λ (r : Rows). fits_case c.args.case.now r ≡ true) (sym c.put_rows.ensures) before.faded;
+      pays = before.pays;
+      faded = before.faded;
+      count = before.count;
+      order = before.order;
+    }

@@ -1,0 +1,332 @@
+use Rattle.std.proofs.Common.{◌≡◌, ◌∙◌, ◌+◌, ◌++◌, ◌≤◌, None, Some, [], ap, arith, codes, decimal, refl, subst, sym, true}
+use Rattle.std.proofs.lemmas.Nat.{mul-le}
+use Rattle.std.proofs.lemmas.Bool.{true≢false}
+use Rattle.std.proofs.lemmas.Result.{err_from_is_err_and}
+use Rattle.roster_text.specs.Io.{BreaksIn, Sends}
+use Rattle.roster_instance.specs.Meaning.{Meaning}
+use Rattle.roster_rules.specs.Penalties.{penalty}
+use Rattle.roster_laws.specs.FrozenDays.{FrozenDaysStay}
+use Rattle.roster_laws.specs.Greatest.{greatest_extension_count}
+use Rattle.roster_laws.proofs.Frozen.{stays_on}
+use Rattle.roster_rounds.specs.PutIn.{IsAccepted}
+use Rattle.roster_rules.specs.Improver.{line}
+use Rattle.roster_polish.specs.Polished.{FitsPolish, IsFaded, first_run, first_searches, kicks_text, last_line, settling_searches}
+use Rattle.roster_polish.specs.Settled.{IsSettled, extensions_of}
+use Rattle.roster_polish.proofs.Keeping.{reached_by}
+use Rattle.roster_polish.proofs.KickLogs.{cheaper_breaks, fade_breaks, no_dearer_than, underway_faded, end_breaks, ends, first_kept, first_text, start_breaks, underway_cheaper, underway_first, underway_no_dearer, underway_same}
+use Rattle.roster_polish.proofs.Passes.{settling_few}
+use Rattle.roster_polish.proofs.Steps.{at_same, both_of}
+use Rattle.roster_polish.proofs.run.polish_found.Goals as goal
+use Rattle.roster_polish.proofs.run.polish_found.Goals.{else-total-before, else-try_fade, then-total-before+in_ok-sent-3, then-try_fade+in_ok-sent-2}
+
+pub returns-in_err-sent-clause-err : goal.returns-in_err-sent-clause-err
+returns-in_err-sent-clause-err g c =
+    let p = err_from_is_err_and c.from_residual.result c.from_residual.ensures.1 in
+    let k = c.args.held.now.case in
+    let given = c.args.held.now.roster in
+    rw (p.1, p.2) (start_breaks k c.args.course.now.from given c.args.start c.args.course.now.kicks g.W.Write.contents c.args.log.now c.args.course.now.searches c.log_word.new.log c.in_err-sent.field-0.0
+    (c.keeps_rules.ensures.fits, c.keeps_rules.ensures.keeps)
+    (subst (λ text. BreaksIn g.W.Write.contents c.args.log.now c.log_word.new.log 0 text c.in_err-sent.field-0.0) (first_text k c.args.start) c.in_err-sent.ensures.err))
+
+-- ---- the first settling
+
+pub begin-kicking-requires-clause-room : goal.begin-kicking-requires-clause-room
+begin-kicking-requires-clause-room g c =
+    let k = c.args.held.now.case in
+    let given = c.args.held.now.roster in
+    let told = c.settle_first-settled.ensures in
+    let settling = settling_searches k c.args.course.now.from given in
+    rw told.case (omega (
+      arith,
+      told.counted,
+      c.requires.room,
+      both_of c.args.course.now.searches (first_searches k) (greatest_extension_count k),
+      mul-le settling (greatest_extension_count k) (first_searches k) (greatest_extension_count k) (settling_few k c.args.course.now.from given) (omega arith),
+    ))
+
+-- ---- the fade
+
+pub try_fade-requires-clause-room : goal.try_fade-requires-clause-room
+try_fade-requires-clause-room g c =
+    let k = c.args.held.now.case in
+    let given = c.args.held.now.roster in
+    let told = c.settle_first-settled.ensures in
+    let settling = settling_searches k c.args.course.now.from given in
+    rw told.case (omega (
+      arith,
+      told.counted,
+      c.requires.room,
+      c.begin-kicking.ensures.counted,
+      ap (λ (m : Meaning). extensions_of m c.begin-kicking.result.searches.left) told.case,
+      ap (λ (m : Meaning). extensions_of m c.args.course.now.searches) told.case,
+      both_of c.args.course.now.searches (first_searches k) (greatest_extension_count k),
+      mul-le settling (greatest_extension_count k) (first_searches k) (greatest_extension_count k) (settling_few k c.args.course.now.from given) (omega arith),
+    ))
+
+pub returns-in_err-sent-2-clause-frozen : goal.returns-in_err-sent-2-clause-frozen
+returns-in_err-sent-2-clause-frozen g c =
+    let k = c.args.held.now.case in
+    let from = c.args.course.now.from in
+    let given = c.args.held.now.roster in
+    let alone = c.args.course.now.kicks in
+    let told = c.settle_first-settled.ensures in
+    let begins = c.begin-kicking.ensures in
+    let f = c.try_fade.ensures in
+    let first = c.settle_first-settled.new.held.roster in
+    let next = c.try_fade.new.held.roster in
+    let same : c.try_fade.new.held.case ≡ k = f.case ∙ told.case in
+    let accepted : IsAccepted k given = (c.keeps_rules.ensures.fits, c.keeps_rules.ensures.keeps) in
+    let stays : FrozenDaysStay k from first next = at_same (λ m week. FrozenDaysStay m week first next) c.settle_first-settled.new.held.case k c.begin-kicking.result.searches.from from told.case begins.from f.frozen in
+    let frozen : FrozenDaysStay k from given next = stays_on k from given first next (subst (FrozenDaysStay k from given) (sym told.roster) (first_kept k from given c.args.start alone accepted).stays) stays in
+    frozen
+
+pub returns-in_err-sent-2-clause-no_dearer : goal.returns-in_err-sent-2-clause-no_dearer
+returns-in_err-sent-2-clause-no_dearer g c =
+    let k = c.args.held.now.case in
+    let from = c.args.course.now.from in
+    let given = c.args.held.now.roster in
+    let alone = c.args.course.now.kicks in
+    let told = c.settle_first-settled.ensures in
+    let begins = c.begin-kicking.ensures in
+    let f = c.try_fade.ensures in
+    let first = c.settle_first-settled.new.held.roster in
+    let next = c.try_fade.new.held.roster in
+    let same : c.try_fade.new.held.case ≡ k = f.case ∙ told.case in
+    let accepted : IsAccepted k given = (c.keeps_rules.ensures.fits, c.keeps_rules.ensures.keeps) in
+    let stays : FrozenDaysStay k from first next = at_same (λ m week. FrozenDaysStay m week first next) c.settle_first-settled.new.held.case k c.begin-kicking.result.searches.from from told.case begins.from f.frozen in
+    let frozen : FrozenDaysStay k from given next = stays_on k from given first next (subst (FrozenDaysStay k from given) (sym told.roster) (first_kept k from given c.args.start alone accepted).stays) stays in
+    let no_dearer : penalty k next ≤ penalty k (first_run k from given).roster = subst (λ r. penalty k next ≤ penalty k r) told.roster (subst (λ (m : Meaning). penalty m next ≤ penalty m first) told.case f.no_dearer) in
+    let begun_log : Sends g.W.Write.contents c.args.log.now c.log_word.new.log 0 c.in_ok-sent.sent (kicks_text k c.args.start None []) = subst (Sends g.W.Write.contents c.args.log.now c.log_word.new.log 0 c.in_ok-sent.sent) (first_text k c.args.start) c.in_ok-sent.ensures.ok in
+    let fades : alone ≡ true → ⊥ = λ e. true≢false (sym c.if-try_fade.true ∙ f.none (begins.fadeless e)) in
+    let faded : IsFaded k from given (first_run k from given).roster next = record {
+      reached = reached_by c.try_fade.new.held.case k from given next same c.keeps_rules-then-try_fade.ensures.fits c.keeps_rules-then-try_fade.ensures.keeps frozen;
+      is_settled = at_same (λ m week. IsSettled m week next) c.settle_first-settled.new.held.case k c.begin-kicking.result.searches.from from told.case begins.from (f.stayed c.if-try_fade.true);
+      no_dearer = no_dearer;
+    } in
+    let total : c.total.result ≡ penalty k next = c.total.ensures.total ∙ ap (λ (m : Meaning). penalty m next) same in
+    no_dearer_than k from given c.args.start alone (Some next) faded [] next tt refl
+
+pub returns-in_err-sent-2-clause-err : goal.returns-in_err-sent-2-clause-err
+returns-in_err-sent-2-clause-err g c =
+    let p = err_from_is_err_and c.from_residual-in_err-sent-2.result c.from_residual-in_err-sent-2.ensures.1 in
+    let k = c.args.held.now.case in
+    let from = c.args.course.now.from in
+    let given = c.args.held.now.roster in
+    let alone = c.args.course.now.kicks in
+    let told = c.settle_first-settled.ensures in
+    let begins = c.begin-kicking.ensures in
+    let f = c.try_fade.ensures in
+    let first = c.settle_first-settled.new.held.roster in
+    let next = c.try_fade.new.held.roster in
+    let same : c.try_fade.new.held.case ≡ k = f.case ∙ told.case in
+    let accepted : IsAccepted k given = (c.keeps_rules.ensures.fits, c.keeps_rules.ensures.keeps) in
+    let stays : FrozenDaysStay k from first next = at_same (λ m week. FrozenDaysStay m week first next) c.settle_first-settled.new.held.case k c.begin-kicking.result.searches.from from told.case begins.from f.frozen in
+    let frozen : FrozenDaysStay k from given next = stays_on k from given first next (subst (FrozenDaysStay k from given) (sym told.roster) (first_kept k from given c.args.start alone accepted).stays) stays in
+    let no_dearer : penalty k next ≤ penalty k (first_run k from given).roster = subst (λ r. penalty k next ≤ penalty k r) told.roster (subst (λ (m : Meaning). penalty m next ≤ penalty m first) told.case f.no_dearer) in
+    let begun_log : Sends g.W.Write.contents c.args.log.now c.log_word.new.log 0 c.in_ok-sent.sent (kicks_text k c.args.start None []) = subst (Sends g.W.Write.contents c.args.log.now c.log_word.new.log 0 c.in_ok-sent.sent) (first_text k c.args.start) c.in_ok-sent.ensures.ok in
+    let fades : alone ≡ true → ⊥ = λ e. true≢false (sym c.if-try_fade.true ∙ f.none (begins.fadeless e)) in
+    let faded : IsFaded k from given (first_run k from given).roster next = record {
+      reached = reached_by c.try_fade.new.held.case k from given next same c.keeps_rules-then-try_fade.ensures.fits c.keeps_rules-then-try_fade.ensures.keeps frozen;
+      is_settled = at_same (λ m week. IsSettled m week next) c.settle_first-settled.new.held.case k c.begin-kicking.result.searches.from from told.case begins.from (f.stayed c.if-try_fade.true);
+      no_dearer = no_dearer;
+    } in
+    let total : c.total.result ≡ penalty k next = c.total.ensures.total ∙ ap (λ (m : Meaning). penalty m next) same in
+    rw (p.1, p.2) (fade_breaks k from given c.args.start alone g.W.Write.contents c.args.log.now c.log_word.new.log c.in_ok-sent.sent begun_log next fades faded c.args.course.now.searches c.log_word-then-try_fade.new.log c.in_err-sent-2.field-0.0
+    (subst (λ n. BreaksIn g.W.Write.contents c.log_word.new.log c.log_word-then-try_fade.new.log c.in_ok-sent.sent (line (codes "fade") n) c.in_err-sent-2.field-0.0) total c.in_err-sent-2.ensures.err))
+
+pub loop-kicks_before-init : goal.loop-kicks_before-init
+loop-kicks_before-init g c =
+    let k = c.args.held.now.case in
+    let from = c.args.course.now.from in
+    let given = c.args.held.now.roster in
+    let alone = c.args.course.now.kicks in
+    let told = c.settle_first-settled.ensures in
+    let begins = c.begin-kicking.ensures in
+    let f = c.try_fade.ensures in
+    let first = c.settle_first-settled.new.held.roster in
+    let next = c.try_fade.new.held.roster in
+    let same : c.try_fade.new.held.case ≡ k = f.case ∙ told.case in
+    let accepted : IsAccepted k given = (c.keeps_rules.ensures.fits, c.keeps_rules.ensures.keeps) in
+    let stays : FrozenDaysStay k from first next = at_same (λ m week. FrozenDaysStay m week first next) c.settle_first-settled.new.held.case k c.begin-kicking.result.searches.from from told.case begins.from f.frozen in
+    let frozen : FrozenDaysStay k from given next = stays_on k from given first next (subst (FrozenDaysStay k from given) (sym told.roster) (first_kept k from given c.args.start alone accepted).stays) stays in
+    let no_dearer : penalty k next ≤ penalty k (first_run k from given).roster = subst (λ r. penalty k next ≤ penalty k r) told.roster (subst (λ (m : Meaning). penalty m next ≤ penalty m first) told.case f.no_dearer) in
+    let begun_log : Sends g.W.Write.contents c.args.log.now c.log_word.new.log 0 c.in_ok-sent.sent (kicks_text k c.args.start None []) = subst (Sends g.W.Write.contents c.args.log.now c.log_word.new.log 0 c.in_ok-sent.sent) (first_text k c.args.start) c.in_ok-sent.ensures.ok in
+    record {
+      case = same;
+      kept = f.kept;
+      frozen = frozen;
+      going = elim c.if-try_fade.branch [
+        | then-try_fade+in_ok-sent-2 w ↦ (
+            let fades : alone ≡ true → ⊥ = λ e. true≢false (sym w.if-try_fade.true ∙ f.none (begins.fadeless e)) in
+            let faded : IsFaded k from given (first_run k from given).roster next = record {
+              reached = reached_by c.try_fade.new.held.case k from given next same w.keeps_rules-then-try_fade.ensures.fits w.keeps_rules-then-try_fade.ensures.keeps frozen;
+              is_settled = at_same (λ m week. IsSettled m week next) c.settle_first-settled.new.held.case k c.begin-kicking.result.searches.from from told.case begins.from (f.stayed w.if-try_fade.true);
+              no_dearer = no_dearer;
+            } in
+            let total : w.total.result ≡ penalty k next = w.total.ensures.total ∙ ap (λ (m : Meaning). penalty m next) same in
+            rw (w.log-is, w.sent-is, w.settled-is) (underway_faded k from given c.args.start alone g.W.Write.contents c.args.log.now c.log_word.new.log c.in_ok-sent.sent begun_log next fades faded w.log_word-then-try_fade.new.log w.in_ok-sent-2.sent
+            (subst (λ n. Sends g.W.Write.contents c.log_word.new.log w.log_word-then-try_fade.new.log c.in_ok-sent.sent w.in_ok-sent-2.sent (line (codes "fade") n)) total w.in_ok-sent-2.ensures.ok)))
+        | else-try_fade w ↦
+            rw (w.log-is, w.sent-is, w.settled-is, f.back w.if-try_fade.false, told.roster, told.settled) (underway_first k from given c.args.start alone g.W.Write.contents c.args.log.now c.log_word.new.log c.in_ok-sent.sent begun_log)
+      ];
+      from = f.from ∙ begins.from;
+      counted = omega (
+        arith,
+        told.counted,
+        begins.counted,
+        f.spends.counted,
+        ap (λ (m : Meaning). extensions_of m c.try_fade.new.kicking.searches.left) told.case,
+        ap (λ (m : Meaning). extensions_of m c.begin-kicking.result.searches.left) told.case,
+        ap (λ (m : Meaning). extensions_of m c.args.course.now.searches) told.case,
+        both_of c.args.course.now.searches (settling_searches k from given) (greatest_extension_count k),
+      );
+      fits = subst (λ (m : Meaning). FitsPolish m c.try_fade.new.space) told.case f.fits;
+    }
+
+-- ---- a kick
+
+pub try_kick-requires-clause-room : goal.try_kick-requires-clause-room
+try_kick-requires-clause-room g c =
+    let k = c.args.held.now.case in
+    let given = c.args.held.now.roster in
+    let l = c.loop-kicks_before in
+    let settling = settling_searches k c.args.course.now.from given in
+    rw l.invariant.case (omega (
+      arith,
+      l.invariant.counted,
+      c.requires.room,
+      both_of c.args.course.now.searches settling (greatest_extension_count k),
+      both_of c.args.course.now.searches (first_searches k) (greatest_extension_count k),
+      mul-le settling (greatest_extension_count k) (first_searches k) (greatest_extension_count k) (settling_few k c.args.course.now.from given) (omega arith),
+    ))
+
+pub loop-kicks_before-preserved-then-not-try_kick : goal.loop-kicks_before-preserved-then-not-try_kick
+loop-kicks_before-preserved-then-not-try_kick g c =
+    let k = c.args.held.now.case in
+    let l = c.loop-kicks_before in
+    let i = l.invariant in
+    let told = c.try_kick.ensures in
+    let back = told.back c.if-not-try_kick.true in
+    record {
+      case = told.case ∙ i.case;
+      kept = told.kept;
+      frozen = subst (FrozenDaysStay k c.args.course.now.from c.args.held.now.roster) (sym back) i.frozen;
+      going = underway_same k c.args.course.now.from c.args.held.now.roster c.args.start c.args.course.now.kicks g.W.Write.contents c.args.log.now l.log l.kicks_before l.sent l.settled l.held.roster i.going l.settled c.try_kick.new.held.roster (ap (penalty k) back)
+          (λ e. subst (IsSettled k c.args.course.now.from) (sym back) (i.going.is_settled e)) (λ e. e);
+      from = told.from ∙ i.from;
+      counted = omega (
+        arith,
+        i.counted,
+        told.spends.counted,
+        ap (λ (m : Meaning). extensions_of m c.try_kick.new.kicking.searches.left) i.case,
+        ap (λ (m : Meaning). extensions_of m l.kicking.searches.left) i.case,
+      );
+      fits = subst (λ (m : Meaning). FitsPolish m c.try_kick.new.space) i.case told.fits;
+    }
+
+-- the roster after a kick that stayed is settled, and may be kept
+pub returns-in_err-sent-3-clause-err : goal.returns-in_err-sent-3-clause-err
+returns-in_err-sent-3-clause-err g c =
+    let p = err_from_is_err_and c.from_residual-in_err-sent-3.result c.from_residual-in_err-sent-3.ensures.1 in
+    let k = c.args.held.now.case in
+    let from = c.args.course.now.from in
+    let given = c.args.held.now.roster in
+    let l = c.loop-kicks_before in
+    let i = l.invariant in
+    let told = c.try_kick.ensures in
+    let next = c.try_kick.new.held.roster in
+    let same : c.try_kick.new.held.case ≡ k = told.case ∙ i.case in
+    let settled = subst (λ (m : Meaning). IsSettled m from next) i.case (subst (λ week. IsSettled l.held.case week next) i.from (told.stayed c.if-not-try_kick.false)) in
+    let frozen = stays_on k from given l.held.roster next i.frozen (subst (λ (m : Meaning). FrozenDaysStay m from l.held.roster next) i.case (subst (λ week. FrozenDaysStay l.held.case week l.held.roster next) i.from told.frozen)) in
+    let total : c.total-total.result ≡ penalty k next = c.total-total.ensures.total ∙ ap (λ (m : Meaning). penalty m next) same in
+    let before : c.total-before.result ≡ penalty k l.held.roster = c.total-before.ensures.total ∙ ap (λ (m : Meaning). penalty m l.held.roster) i.case in
+    rw (p.1, p.2) (cheaper_breaks k from given c.args.start c.args.course.now.kicks g.W.Write.contents c.args.log.now l.log l.kicks_before l.sent l.settled l.held.roster i.going next (omega (arith, total, before, c.if-total-before.true))
+    (reached_by c.try_kick.new.held.case k from given next same c.keeps_rules-in-loop-kicks_before.ensures.fits c.keeps_rules-in-loop-kicks_before.ensures.keeps frozen) settled
+    c.args.course.now.searches c.log_kick.new.log c.in_err-sent-3.field-0.0 c.loop-kicks_before-test.true
+    (subst (λ n. BreaksIn g.W.Write.contents l.log c.log_kick.new.log l.sent (line (codes "kick " ++ decimal (l.kicks_before + 1)) n) c.in_err-sent-3.field-0.0) total c.in_err-sent-3.ensures.err))
+
+pub loop-kicks_before-preserved : goal.loop-kicks_before-preserved
+loop-kicks_before-preserved g c =
+    let k = c.args.held.now.case in
+    let from = c.args.course.now.from in
+    let given = c.args.held.now.roster in
+    let l = c.loop-kicks_before in
+    let i = l.invariant in
+    let told = c.try_kick.ensures in
+    let next = c.try_kick.new.held.roster in
+    let same : c.try_kick.new.held.case ≡ k = told.case ∙ i.case in
+    let settled = subst (λ (m : Meaning). IsSettled m from next) i.case (subst (λ week. IsSettled l.held.case week next) i.from (told.stayed c.if-not-try_kick.false)) in
+    let frozen = stays_on k from given l.held.roster next i.frozen (subst (λ (m : Meaning). FrozenDaysStay m from l.held.roster next) i.case (subst (λ week. FrozenDaysStay l.held.case week l.held.roster next) i.from told.frozen)) in
+    let total : c.total-total.result ≡ penalty k next = c.total-total.ensures.total ∙ ap (λ (m : Meaning). penalty m next) same in
+    let before : c.total-before.result ≡ penalty k l.held.roster = c.total-before.ensures.total ∙ ap (λ (m : Meaning). penalty m l.held.roster) i.case in
+    let no_dearer : penalty k next ≤ penalty k l.held.roster = subst (λ (m : Meaning). penalty m next ≤ penalty m l.held.roster) i.case told.no_dearer in
+    record {
+      case = same;
+      kept = told.kept;
+      frozen = frozen;
+      going = elim c.if-total-before.branch [
+        | then-total-before+in_ok-sent-3 w ↦
+            rw (w.log-is, w.sent-is) (underway_cheaper k from given c.args.start c.args.course.now.kicks g.W.Write.contents c.args.log.now l.log l.kicks_before l.sent l.settled l.held.roster i.going next (omega (arith, total, before, w.if-total-before.true))
+            (reached_by c.try_kick.new.held.case k from given next same c.keeps_rules-in-loop-kicks_before.ensures.fits c.keeps_rules-in-loop-kicks_before.ensures.keeps frozen) settled
+            w.log_kick.new.log w.in_ok-sent-3.sent
+            (subst (λ n. Sends g.W.Write.contents l.log w.log_kick.new.log l.sent w.in_ok-sent-3.sent (line (codes "kick " ++ decimal (l.kicks_before + 1)) n)) total w.in_ok-sent-3.ensures.ok))
+        | else-total-before w ↦
+            rw (w.log-is, w.sent-is) (underway_same k from given c.args.start c.args.course.now.kicks g.W.Write.contents c.args.log.now l.log l.kicks_before l.sent l.settled l.held.roster i.going true next (omega (arith, total, before, no_dearer, w.if-total-before.false)) (λ e. settled) (λ e. refl))
+      ];
+      from = told.from ∙ i.from;
+      counted = omega (
+        arith,
+        i.counted,
+        told.spends.counted,
+        ap (λ (m : Meaning). extensions_of m c.try_kick.new.kicking.searches.left) i.case,
+        ap (λ (m : Meaning). extensions_of m l.kicking.searches.left) i.case,
+      );
+      fits = subst (λ (m : Meaning). FitsPolish m c.try_kick.new.space) i.case told.fits;
+    }
+
+pub returns-in_err-sent-3-clause-no_dearer : goal.returns-in_err-sent-3-clause-no_dearer
+returns-in_err-sent-3-clause-no_dearer g c =
+    let k = c.args.held.now.case in
+    let l = c.loop-kicks_before in
+    let next = c.try_kick.new.held.roster in
+    let less : penalty k next ≤ penalty k l.held.roster = subst (λ (m : Meaning). penalty m next ≤ penalty m l.held.roster) l.invariant.case c.try_kick.ensures.no_dearer in
+    omega (arith, less, underway_no_dearer k c.args.course.now.from c.args.held.now.roster c.args.start c.args.course.now.kicks g.W.Write.contents c.args.log.now l.log l.kicks_before l.sent l.settled l.held.roster l.invariant.going)
+
+-- ---- the end
+
+pub returns-in_err-log_word-clause-no_dearer : goal.returns-in_err-log_word-clause-no_dearer
+returns-in_err-log_word-clause-no_dearer g c =
+    let l = c.loop-kicks_before in
+    underway_no_dearer c.args.held.now.case c.args.course.now.from c.args.held.now.roster c.args.start c.args.course.now.kicks g.W.Write.contents c.args.log.now l.log l.kicks_before l.sent l.settled l.held.roster l.invariant.going
+
+pub returns-clause-no_dearer : goal.returns-clause-no_dearer
+returns-clause-no_dearer g c =
+    let l = c.loop-kicks_before in
+    underway_no_dearer c.args.held.now.case c.args.course.now.from c.args.held.now.roster c.args.start c.args.course.now.kicks g.W.Write.contents c.args.log.now l.log l.kicks_before l.sent l.settled l.held.roster l.invariant.going
+
+pub returns-in_err-log_word-clause-err : goal.returns-in_err-log_word-clause-err
+returns-in_err-log_word-clause-err g c =
+    let p = err_from_is_err_and c.from_residual-in_err-log_word.result c.from_residual-in_err-log_word.ensures.1 in
+    let k = c.args.held.now.case in
+    let from = c.args.course.now.from in
+    let given = c.args.held.now.roster in
+    let l = c.loop-kicks_before in
+    let i = l.invariant in
+    let total : c.total-total-2.result ≡ penalty k l.held.roster = c.total-total-2.ensures.total ∙ ap (λ (m : Meaning). penalty m l.held.roster) i.case in
+    let text : line c.end_word.result.now c.total-total-2.result ≡ last_line k l.settled l.held.roster = λ j. line (c.end_word.ensures j) (total j) in
+    rw (p.1, p.2) (end_breaks k from given c.args.start c.args.course.now.kicks g.W.Write.contents c.args.log.now l.log l.kicks_before l.sent l.settled l.held.roster i.going c.args.course.now.searches c.log_word-2.new.log c.in_err-log_word.field-0.0
+    (omega (arith, l.auto.kicks_before-end)) (reached_by l.held.case k from given l.held.roster i.case c.keeps_rules-2.ensures.fits c.keeps_rules-2.ensures.keeps i.frozen)
+    (subst (λ end. BreaksIn g.W.Write.contents l.log c.log_word-2.new.log l.sent end c.in_err-log_word.field-0.0) text c.in_err-log_word.ensures.err))
+
+pub returns-clause-ok : goal.returns-clause-ok
+returns-clause-ok g c =
+    let k = c.args.held.now.case in
+    let from = c.args.course.now.from in
+    let given = c.args.held.now.roster in
+    let l = c.loop-kicks_before in
+    let i = l.invariant in
+    let total : c.total-total-2.result ≡ penalty k l.held.roster = c.total-total-2.ensures.total ∙ ap (λ (m : Meaning). penalty m l.held.roster) i.case in
+    let text : line c.end_word.result.now c.total-total-2.result ≡ last_line k l.settled l.held.roster = λ j. line (c.end_word.ensures j) (total j) in
+    ends k from given c.args.start c.args.course.now.kicks g.W.Write.contents c.args.log.now l.log l.kicks_before l.sent l.settled l.held.roster i.going c.args.course.now.searches c.log_word-2.new.log c.in_ok-log_word.field-0 (record { settled = l.settled; total = c.total-total-2.result })
+    (omega (arith, l.auto.kicks_before-end)) (reached_by l.held.case k from given l.held.roster i.case c.keeps_rules-2.ensures.fits c.keeps_rules-2.ensures.keeps i.frozen) refl total
+    (subst (Sends g.W.Write.contents l.log c.log_word-2.new.log l.sent c.in_ok-log_word.field-0) text c.in_ok-log_word.ensures.ok)

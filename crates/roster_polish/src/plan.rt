@@ -1,0 +1,304 @@
+//! A first roster: one that keeps the hard rules, from rows that may break them.
+
+ghost use Rattle.std.specs.Prelude.{◌≡◌, ◌+◌, ◌<◌, ◌≤◌, ◌⊎◌, [], true};
+ghost use Rattle.roster_bundle.specs.Limits.{greatest_u64};
+ghost use Rattle.roster_instance.specs.Faults.{first_fault};
+ghost use Rattle.roster_instance.specs.Meaning.{day_count, minimum};
+ghost use Rattle.roster_instance.specs.Rosters.{fits_case};
+ghost use Rattle.roster_rules.specs.HardRules.{keeps_hard};
+ghost use Rattle.roster_bound.specs.Worths.{HaveRows};
+ghost use Rattle.roster_laws.specs.FrozenDays.{FrozenDaysStay};
+ghost use Rattle.roster_laws.specs.Staffing.{lacking};
+ghost use Rattle.roster_polish.specs.Plans.{frozen_count, missing, missing_before, present, unmendable};
+ghost use Rattle.roster_polish.specs.Polished.{FitsPolish};
+ghost use Rattle.roster_polish.specs.Settled.{Spends, extensions_of};
+
+use crate::fade::{fade_rows, make_fade_pass};
+use crate::kick::Kicking;
+use crate::random::Random;
+use crate::run::{Course, rounds_within};
+use crate::searches::Searches;
+use crate::space::PolishSpace;
+use roster_bound::{Base, Fading, WHOLE, improve_worths, lacks_nurses, raise_missed};
+use roster_case::{Case, Choice, HardFault, Roster, Shift, Skill};
+use roster_costs::{first_absent_before, first_hard, first_succession_before, first_unskilled};
+use roster_rules::choice_on;
+use roster_state::Meter;
+
+/// How many fades are tried at most.
+const MOST_FADES: u32 = 1_000;
+
+/// How many passes the first fade makes. Each later one makes twice as many as that before.
+const FIRST_PASSES: u32 = 30;
+
+/// How many passes mend the rows of a fade at most.
+const MENDING_PASSES: u32 = 40;
+
+/// By how many points the worth of a place that misses nurses is raised before such a pass.
+const RAISE: u32 = 40;
+
+/// What places pay in it: half of their worths, and more where nurses are missing.
+const MENDING: Fading = Fading {
+    share: WHOLE / 2,
+    missing: 300,
+};
+
+/// How many rounds over all nurses the worths are improved before the first fade, at most.
+const MOST_ROUNDS: u32 = 30;
+
+/// Of the searches this part goes into these rounds, at most.
+const ROUNDS_PART: u32 = 4;
+
+/// The first breach for which no roster is looked for: a skill that a nurse lacks; or else, of the frozen weeks, a forbidden succession,
+/// or work of an absent nurse.
+pub fn first_unmendable(case: &Case, roster: &Roster, from: u16) -> Option<HardFault>
+    requires { fits_case case.now roster.now ≡ true }
+    ensures { result ≡ first_fault (unmendable case.now from roster.now) }
+{
+    let days = frozen_days(case, from);
+    match first_unskilled(case, roster) {
+        Some(fault) => Some(fault),
+        None => match first_succession_before(case, roster, days) {
+            Some(fault) => Some(fault),
+            None => first_absent_before(case, roster, days),
+        },
+    }
+}
+
+/// How many days the frozen weeks have.
+fn frozen_days(case: &Case, from: u16) -> u16
+    ensures { result ≡ frozen_count case.now from }
+{
+    7 * from.min(case.weeks())
+}
+
+/// How many nurses all minimums miss, where absent ones don't count.
+pub fn missing(case: &Case, roster: &Roster) -> u64
+    ensures { result ≡ missing case.now roster.now }
+{
+    missing_before(case, roster, case.days())
+}
+
+/// The same of the first so many days.
+#[tactic(auto, using(roster_rules::proofs::CountLemmas::sum_more))]
+fn missing_before(case: &Case, roster: &Roster, days: u16) -> u64
+    requires { days ≤ day_count case.now }
+    ensures { result ≡ missing_before case.now roster.now days }
+{
+    let mut missing = 0;
+    for day in 0..days {
+        missing += missing_on(case, roster, day) as u64;
+    }
+    missing
+}
+
+/// How many nurses the minimums of a day miss.
+#[tactic(auto, using(roster_rules::proofs::CountLemmas::sum_more))]
+fn missing_on(case: &Case, roster: &Roster, day: u16) -> u32
+    requires { day < day_count case.now }
+    ensures missing { result ≡ lacking case.now (minimum case.now day) (present case.now roster.now day) }
+    ensures within { result ≤ 4194304 }
+{
+    case.keeps_limits();
+    let mut missing = 0;
+    for shift in 0..case.shifts() {
+        for skill in 0..case.skills() {
+            let need = case.need(day, Shift(shift), Skill(skill)).least;
+            let have = present(case, roster, day, Shift(shift), Skill(skill));
+            missing += need.saturating_sub(have) as u32;
+        }
+    }
+    missing
+}
+
+/// How many nurses work a shift with a skill on a day, absent ones aside.
+fn present(case: &Case, roster: &Roster, day: u16, shift: Shift, skill: Skill) -> u16
+    ensures { result ≡ present case.now roster.now day shift.0 skill.0 }
+{
+    case.keeps_limits();
+    let mut count = 0;
+    for nurse in 0..case.nurses() {
+        let works = choice_on(roster.row(nurse), day) == Choice::Work(shift, skill);
+        if works && !case.is_absent(nurse, day) {
+            count += 1;
+        }
+    }
+    count
+}
+
+/// Looks for a roster that keeps the hard rules: fades the rows, again and again, in twice as many passes, until they do. Where none was
+/// found it leaves, of all that it met, a roster in which the minimums miss the fewest nurses. The days before week `from` stay. Answers
+/// how many searches are left. Where the given roster keeps the hard rules, it stays; so it does where the frozen weeks miss nurses,
+/// since no search mends that. It takes no memory.
+pub fn find_roster(
+    case: &Case,
+    roster: &mut Roster,
+    course: &Course,
+    space: &mut PolishSpace,
+    meter: &mut Meter,
+) -> u32
+    requires roster { fits_case case.now roster.old ≡ true }
+    requires mendable { unmendable case.now course.now.from roster.old ≡ [] }
+    requires fits { FitsPolish case.now space.old }
+    requires room { meter.old + extensions_of case.now course.now.searches ≤ greatest_u64 }
+    ensures roster { fits_case case.now roster.new ≡ true }
+    ensures kept { keeps_hard case.now roster.old ≡ true → roster.new ≡ roster.old }
+    ensures frozen { FrozenDaysStay case.now course.now.from roster.old roster.new }
+    ensures spends { Spends case.now meter.old course.now.searches meter.new result }
+    ensures fits { FitsPolish case.now space.new }
+{
+    let all = course.searches;
+    let frozen = missing_before(case, roster, frozen_days(case, course.from));
+    if frozen > 0 || first_hard(case, roster).is_none() {
+        return all;
+    }
+    mendable_rows_are_had(case, roster, course.from);
+    let base = Base {
+        case,
+        given: roster,
+        from: course.from,
+    };
+    let mut kicking = begin_plan(&base, course, space, meter);
+    fade_until_kept(&base, &mut kicking, space, meter);
+    roster.put_rows(&space.kept);
+    kicking.searches.left as u32
+}
+
+/// A law: where nothing is unmendable, each nurse has a row that agrees with the frozen days.
+fn mendable_rows_are_had(case: &Case, roster: &Roster, from: u16)
+    requires fits { fits_case case.now roster.now ≡ true }
+    requires mendable { unmendable case.now from roster.now ≡ [] }
+    ensures { HaveRows case.now from roster.now }
+{}
+
+/// Improves the worths from which the fades begin, and keeps the given rows.
+fn begin_plan(
+    base: &Base<'_>,
+    course: &Course,
+    space: &mut PolishSpace,
+    meter: &mut Meter,
+) -> Kicking
+    requires roster { fits_case base.now.case.now base.now.given.now ≡ true }
+    requires each { HaveRows base.now.case.now base.now.from base.now.given.now }
+    requires fits { FitsPolish base.now.case.now space.old }
+    requires room { meter.old + extensions_of base.now.case.now course.now.searches ≤ greatest_u64 }
+    ensures kept { space.new.kept ≡ base.now.given.now }
+    ensures spends { Spends base.now.case.now meter.old course.now.searches meter.new result.searches.left }
+    ensures fits { FitsPolish base.now.case.now space.new }
+{
+    base.case.keeps_limits();
+    let nurses = base.case.nurses() as u32;
+    let rounds = rounds_within(course.searches, ROUNDS_PART, nurses).min(MOST_ROUNDS);
+    improve_worths(base, rounds as u16, &mut space.floor, meter);
+    space.kept.put_rows(base.given);
+    Kicking {
+        searches: Searches {
+            left: (course.searches - rounds * nurses) as u64,
+            from: course.from,
+        },
+        random: Random::of_seed(course.seed),
+        passes: FIRST_PASSES,
+    }
+}
+
+/// Fades the given rows until they keep the hard rules, and keeps those that miss the fewest nurses.
+fn fade_until_kept(
+    base: &Base<'_>,
+    kicking: &mut Kicking,
+    space: &mut PolishSpace,
+    meter: &mut Meter,
+)
+    requires roster { fits_case base.now.case.now base.now.given.now ≡ true }
+    requires each { HaveRows base.now.case.now base.now.from base.now.given.now }
+    requires fits { FitsPolish base.now.case.now space.old }
+    requires kept { FrozenDaysStay base.now.case.now base.now.from base.now.given.now space.old.kept }
+    requires room { meter.old + extensions_of base.now.case.now kicking.old.searches.left ≤ greatest_u64 }
+    ensures kept { FrozenDaysStay base.now.case.now base.now.from base.now.given.now space.new.kept }
+    ensures spends { Spends base.now.case.now meter.old kicking.old.searches.left meter.new kicking.new.searches.left }
+    ensures fits { FitsPolish base.now.case.now space.new }
+{
+    let mut least = u64::MAX;
+    for fades_before in 0..MOST_FADES {
+        if kicking.searches.left == 0 {
+            return;
+        }
+        if fade_and_mend(base, kicking, space, meter) {
+            space.kept.put_rows(&space.faded);
+            return;
+        }
+        least = keep_if_nearer(base.case, least, space);
+        kicking.passes = kicking.passes.saturating_mul(2);
+    }
+}
+
+/// Fades the given rows, and mends them where they then miss nurses. Says whether they keep the hard rules. The days before week `from`
+/// are as they are given.
+fn fade_and_mend(
+    base: &Base<'_>,
+    kicking: &mut Kicking,
+    space: &mut PolishSpace,
+    meter: &mut Meter,
+) -> bool
+    requires roster { fits_case base.now.case.now base.now.given.now ≡ true }
+    requires each { HaveRows base.now.case.now base.now.from base.now.given.now }
+    requires fits { FitsPolish base.now.case.now space.old }
+    requires room { meter.old + extensions_of base.now.case.now
+        kicking.old.searches.left ≤ greatest_u64 }
+    ensures kept { space.new.kept ≡ space.old.kept }
+    ensures frozen { FrozenDaysStay base.now.case.now base.now.from base.now.given.now
+        space.new.faded }
+    ensures spends { Spends base.now.case.now meter.old kicking.old.searches.left meter.new
+        kicking.new.searches.left }
+    ensures fits { FitsPolish base.now.case.now space.new }
+{
+    if fade_rows(base, kicking, space, meter) {
+        return true;
+    }
+    mend_rows(base, kicking, space, meter)
+}
+
+/// Gives the nurses new rows, pass by pass, while a place that misses nurses pays more each time, until none does. Says whether the rows
+/// keep the hard rules then. The days before week `from` are as they are given.
+fn mend_rows(
+    base: &Base<'_>,
+    kicking: &mut Kicking,
+    space: &mut PolishSpace,
+    meter: &mut Meter,
+) -> bool
+    requires each { HaveRows base.now.case.now base.now.from base.now.given.now }
+    requires fits { FitsPolish base.now.case.now space.old }
+    requires frozen { FrozenDaysStay base.now.case.now base.now.from base.now.given.now
+        space.old.faded }
+    requires room { meter.old + extensions_of base.now.case.now
+        kicking.old.searches.left ≤ greatest_u64 }
+    ensures kept { space.new.kept ≡ space.old.kept }
+    ensures frozen { FrozenDaysStay base.now.case.now base.now.from base.now.given.now
+        space.new.faded }
+    ensures from { kicking.new.searches.from ≡ kicking.old.searches.from }
+    ensures spends { Spends base.now.case.now meter.old kicking.old.searches.left meter.new
+        kicking.new.searches.left }
+    ensures fits { FitsPolish base.now.case.now space.new }
+{
+    for pass in 0..MENDING_PASSES {
+        if !lacks_nurses(base.case, &space.floor) {
+            break;
+        }
+        raise_missed(base.case, RAISE, &mut space.floor);
+        make_fade_pass(base, MENDING, kicking, space, meter);
+    }
+    first_hard(base.case, &space.faded).is_none()
+}
+
+/// Keeps the faded rows where they miss fewer nurses than the least so far. Answers the least then.
+fn keep_if_nearer(case: &Case, least: u64, space: &mut PolishSpace) -> u64
+    requires fits { FitsPolish case.now space.old }
+    ensures either { (space.new.kept ≡ space.old.kept) ⊎ (space.new.kept ≡ space.old.faded) }
+    ensures fits { FitsPolish case.now space.new }
+{
+    let missing = missing(case, &space.faded);
+    if missing >= least {
+        return least;
+    }
+    space.kept.put_rows(&space.faded);
+    missing
+}
