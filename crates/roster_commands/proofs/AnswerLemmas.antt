@@ -1,5 +1,5 @@
 -- Which fault a failing reader or writer gives, and what a bundle means.
-use Rattle.std.proofs.Common.{◌≡◌, ◌∙◌, ◌∷◌, [], ◌<◌, ℕ, Err, List, Option, None, Some, Result, Ok, ap, length, lit<, refl, subst, sym, true≢false, is_some, true, Bool}
+use Rattle.std.proofs.Common.{◌≡◌, ◌∙◌, ◌∷◌, [], ◌<◌, ℕ, Err, List, Option, None, Some, Result, Ok, ap, length, lit<, refl, subst, sym, true≢false, is_some, false, true, Bool}
 use Rattle.std.specs.Prelude.{Contains, IfErr, IfSome, IsErrOf, OnOk, string_bytes}
 use Rattle.std.proofs.lemmas.List.{length-map}
 use Rattle.roster_text.specs.Grammar.{Spells}
@@ -18,16 +18,20 @@ use Rattle.roster_instance.specs.declared.fault.CaseFault.{CaseFault}
 use Rattle.roster_instance.specs.declared.fault.CaseFault.TheVariants as case
 use Rattle.roster_case.proofs.Sections.{IsFirst-after}
 use Rattle.roster_rules.specs.declared.fault.HardFault.{HardFault}
-use Rattle.roster_commands.specs.Answer.{Answers, Ends, Input, IsAllowed, IsAnswer, IsOutcomeOf, IsPolishReport, IsReportOf, IsUnheld, IsUnread, Leaves, LeavesLog, Logged, Outcome, Output, Report, Reports, SpellsInstance, StopsOutput, StopsReading, Untouched, best_report, bound_report, cost_report, improve_report, outcome_of, plain, polish_report, roster_of}
+use Rattle.roster_commands.specs.Answer.{Answers, Ends, Input, IsAllowed, IsAnswer, IsOutcomeOf, IsPlanReport, IsPolishReport, IsReportOf, IsUnheld, IsUnread, Leaves, LeavesLog, Logged, Outcome, Output, Report, Reports, SpellsInstance, StopsOutput, StopsReading, Untouched, best_report, bound_report, cost_report, improve_report, outcome_of, plain, plan_report, polish_report, roster_of}
 use Rattle.roster_commands.specs.Lines.{Text, sizes_text, status_of}
 use Rattle.roster_commands.specs.declared.fault.Fault.{Fault}
 use Rattle.roster_commands.specs.declared.fault.Fault.TheVariants as fault
 use Rattle.roster_commands.specs.declared.reading.Instance.{Instance}
 use Rattle.roster_request.specs.declared.request.Command.{Command}
 use Rattle.roster_request.specs.declared.request.Command.TheVariants as command
-use Rattle.roster_instance.specs.Rosters.{Rows}
+use Rattle.roster_instance.specs.Rosters.{Rows, fits_case}
 use Rattle.roster_case.specs.Shown.{weeks_text}
 use Rattle.roster_bound.proofs.FloorLogs.{some_log}
+use Rattle.roster_rules.specs.Penalties.{penalty}
+use Rattle.roster_laws.specs.FrozenDays.{FrozenDaysStay}
+use Rattle.roster_laws.proofs.Frozen.{stays_self}
+use Rattle.roster_polish.specs.Plans.{missing}
 use Rattle.roster_polish.specs.Polished.{first_run}
 use Rattle.roster_polish.proofs.KickLogs.{unkicked, unkicked_text}
 use Rattle.roster_commands.proofs.FloorReports.{of_floors}
@@ -67,6 +71,7 @@ status_listed (fault.Case (case.Limit line) nurse) = (1, lit< tt, refl)
 status_listed (fault.Case (case.TooManyStates number name) nurse) = (1, lit< tt, refl)
 status_listed (fault.Case (case.H1 number day) nurse) = (1, lit< tt, refl)
 status_listed (fault.Hard f names) = (1, lit< tt, refl)
+status_listed (fault.Unfound f names) = (1, lit< tt, refl)
 status_listed (fault.Nurse name) = (1, lit< tt, refl)
 status_listed fault.Memory = (3, lit< tt, refl)
 status_listed fault.Workspace = (3, lit< tt, refl)
@@ -89,14 +94,30 @@ module _ {R : Type 0} (A : Type 0) (input : Input R) where
 
 -- a run without a kick is a report of `polish`
 abbrev pub kickless : (from : ℕ) → Meaning → Rows → Report
-kickless from c r = polish_report (first_run c from r).roster (unkicked_text c from r) c r
+kickless from c r = polish_report (first_run c from r).roster (unkicked_text c from (penalty c r) r) c r
 
 pub no_kick : (searches from : ℕ) (alone : Bool) (c : Meaning) (r : Rows) → IsPolishReport searches from alone c r (kickless from c r)
 no_kick searches from alone c r = record {
   settled = (first_run c from r).is_settled;
   last = (first_run c from r).roster;
-  told = unkicked_text c from r;
-  run = unkicked c from r alone searches;
+  told = unkicked_text c from (penalty c r) r;
+  run = unkicked c from r (penalty c r) alone searches;
+  is = refl;
+}
+
+-- and one of `plan`, from the nearest roster
+abbrev pub unplanned : (from : ℕ) → Rows → Meaning → Rows → Report
+unplanned from nearest c r = plan_report from nearest (first_run c from nearest).roster (unkicked_text c from (missing c r) nearest) c r
+
+pub no_plan : (searches from : ℕ) (alone : Bool) (c : Meaning) (r nearest : Rows) → (fits_case c r ≡ true → fits_case c nearest ≡ true) → FrozenDaysStay c from r nearest → IsPlanReport searches from alone c r (unplanned from nearest c r)
+no_plan searches from alone c r nearest fits stays = record {
+  nearest = nearest;
+  fits = fits;
+  stays = stays;
+  settled = (first_run c from nearest).is_settled;
+  last = (first_run c from nearest).roster;
+  told = unkicked_text c from (missing c r) nearest;
+  run = unkicked c from nearest (missing c r) alone searches;
   is = refl;
 }
 
@@ -109,6 +130,7 @@ some_report (command.Best nurse from) c r = (best_report (string_bytes nurse) fr
 some_report (command.Improve rounds from) c r = (improve_report rounds from c r, refl)
 some_report (command.Bound rounds from) c r = let some = some_log c from r rounds in (bound_report some.0 c r, of_floors rounds from c r some.0 some.1)
 some_report (command.Polish searches seed from kicks) c r = (kickless from c r, no_kick searches from kicks c r)
+some_report (command.Plan searches seed from) c r = (unplanned from r c r, no_plan searches from false c r r (λ e. e) (stays_self c from r))
 
 pub refused_reading : {W L : Type 0} (output : Output W) (log : Output L) (command : Command) (source : Text) (f : Fault) → StopsReading source f → Untouched output → Untouched log
     → Answers output log command source (Some f)
@@ -117,6 +139,7 @@ refused_reading output log command source (fault.Case f nurse) h o l =
     let some = some_report command (meaning_of source h.bundle) (roster_of source h.bundle) in
     record { bundle = h.bundle; spelled = h.spelled; report = some.0; is = some.1; ends = h.refused; left = o; logged = l }
 refused_reading output log command source (fault.Hard f names) h o l = absurd h
+refused_reading output log command source (fault.Unfound f names) h o l = absurd h
 refused_reading output log command source (fault.Nurse name) h o l = absurd h
 refused_reading output log command source fault.Memory h o l = absurd h
 refused_reading output log command source fault.Workspace h o l = absurd h
@@ -137,6 +160,7 @@ module _ {W L : Type 0} (output : Output W) (log : Output L) (command : Command)
     as_taken (Some (fault.Text f)) h o l = absurd h
     as_taken (Some (fault.Case f nurse)) h o l = absurd h
     as_taken (Some (fault.Hard f names)) h o l = record { bundle = i.bundle; spelled = says.spelled; report = p; is = is; ends = record { taken = says.taken; ends = h }; left = o; logged = l }
+    as_taken (Some (fault.Unfound f names)) h o l = record { bundle = i.bundle; spelled = says.spelled; report = p; is = is; ends = record { taken = says.taken; ends = h }; left = o; logged = l }
     as_taken (Some (fault.Nurse name)) h o l = record { bundle = i.bundle; spelled = says.spelled; report = p; is = is; ends = record { taken = says.taken; ends = h }; left = o; logged = l }
     as_taken (Some fault.Memory) h o l = record { bundle = i.bundle; spelled = says.spelled; report = p; is = is; ends = record { taken = says.taken; ends = h }; left = o; logged = l }
     as_taken (Some fault.Workspace) h o l = record { bundle = i.bundle; spelled = says.spelled; report = p; is = is; ends = record { taken = says.taken; ends = h }; left = o; logged = l }
@@ -156,6 +180,7 @@ written_ends output p source b (Ok x) allowed ok err = record { ends = allowed; 
 written_ends output p source b (Err (fault.Text f)) allowed ok err = absurd err
 written_ends output p source b (Err (fault.Case f nurse)) allowed ok err = absurd err
 written_ends output p source b (Err (fault.Hard f names)) allowed ok err = absurd err
+written_ends output p source b (Err (fault.Unfound f names)) allowed ok err = absurd err
 written_ends output p source b (Err (fault.Nurse name)) allowed ok err = absurd err
 written_ends output p source b (Err fault.Memory) allowed ok err = absurd err
 written_ends output p source b (Err fault.Workspace) allowed ok err = absurd err
@@ -169,6 +194,7 @@ written_log output log told text (Ok x) logged err = logged
 written_log output log told text (Err (fault.Text f)) logged err = absurd err
 written_log output log told text (Err (fault.Case f nurse)) logged err = absurd err
 written_log output log told text (Err (fault.Hard f names)) logged err = absurd err
+written_log output log told text (Err (fault.Unfound f names)) logged err = absurd err
 written_log output log told text (Err (fault.Nurse name)) logged err = absurd err
 written_log output log told text (Err fault.Memory) logged err = absurd err
 written_log output log told text (Err fault.Workspace) logged err = absurd err
@@ -178,7 +204,7 @@ written_log output log told text (Err fault.Log) logged err = absurd err
 -- one that only writes a text
 pub plain_ends : {W X : Type 0} (output : Output W) (text source : Text) (b : Bundle) (result : Result X Fault) → OnOk result (Writes output.contents output.before output.after text)
     → IfErr result (StopsOutput output.contents output.before output.after text) → Ends output (plain text) source b (outcome_of result)
-plain_ends output text source b result ok err = written_ends output (plain text) source b result (record { kept = refl; known = refl }) ok err
+plain_ends output text source b result ok err = written_ends output (plain text) source b result (record { kept = refl; found = refl; known = refl }) ok err
 
 -- one that tells nothing leaves the log as it was
 pub silent_log : {W L : Type 0} (output : Output W) (log : Output L) (p : Report) (source : Text) (b : Bundle) (outcome : Outcome) → p.log ≡ None → Ends output p source b outcome
@@ -187,6 +213,7 @@ silent_log output log p source b None none e same = rw none same
 silent_log output log p source b (Some (fault.Text f)) none e same = same
 silent_log output log p source b (Some (fault.Case f nurse)) none e same = same
 silent_log output log p source b (Some (fault.Hard f names)) none e same = same
+silent_log output log p source b (Some (fault.Unfound f names)) none e same = same
 silent_log output log p source b (Some (fault.Nurse name)) none e same = same
 silent_log output log p source b (Some fault.Memory) none e same = same
 silent_log output log p source b (Some fault.Workspace) none e same = same
@@ -199,6 +226,7 @@ pub unheld_ends : {W : Type 0} (output : Output W) (p : Report) (source : Text) 
 unheld_ends output p source b (fault.Text f) held h same = absurd h
 unheld_ends output p source b (fault.Case f nurse) held h same = absurd h
 unheld_ends output p source b (fault.Hard f names) held h same = record { ends = h; left = same }
+unheld_ends output p source b (fault.Unfound f names) held h same = absurd h
 unheld_ends output p source b (fault.Nurse name) held h same = absurd h
 unheld_ends output p source b fault.Memory held h same = record { ends = (h, held); left = same }
 unheld_ends output p source b fault.Workspace held h same = absurd h
@@ -211,6 +239,7 @@ pub unheld_log : {L : Type 0} (log : Output L) (told : Option Text) (source : Te
 unheld_log log told source b broken (fault.Text f) h same = absurd h
 unheld_log log told source b broken (fault.Case f nurse) h same = absurd h
 unheld_log log told source b broken (fault.Hard f names) h same = same
+unheld_log log told source b broken (fault.Unfound f names) h same = absurd h
 unheld_log log told source b broken (fault.Nurse name) h same = absurd h
 unheld_log log told source b broken fault.Memory h same = same
 unheld_log log told source b broken fault.Workspace h same = absurd h

@@ -36,7 +36,7 @@ module _ (rounds from : ℕ) (c : Meaning) (r : Rows) where
     bound_stops f kept h o = record {
       report = bound_report h.lines c r;
       is = of_floors rounds from c r h.lines h.is_log;
-      ends = record { ends = (record { kept = kept; known = refl }, refl); left = o };
+      ends = record { ends = (record { kept = kept; found = refl; known = refl }, refl); left = o };
       logged = record { sent = h.sent; stops = h.stops };
     }
 
@@ -48,12 +48,13 @@ module _ (rounds from : ℕ) (c : Meaning) (r : Rows) where
     bound_ends bound (Ok x) kept h ok err = record {
       report = bound_report h.lines c r;
       is = of_floors rounds from c r h.lines h.is_log;
-      ends = record { ends = record { kept = kept; known = refl }; left = subst (λ n. Writes output.contents output.before output.after (bound_text (penalty c r) n)) h.bound_is ok };
+      ends = record { ends = record { kept = kept; found = refl; known = refl }; left = subst (λ n. Writes output.contents output.before output.after (bound_text (penalty c r) n)) h.bound_is ok };
       logged = h.writes;
     }
     bound_ends bound (Err (fault.Text f)) kept h ok err = absurd err
     bound_ends bound (Err (fault.Case f nurse)) kept h ok err = absurd err
     bound_ends bound (Err (fault.Hard f names)) kept h ok err = absurd err
+    bound_ends bound (Err (fault.Unfound f names)) kept h ok err = absurd err
     bound_ends bound (Err (fault.Nurse name)) kept h ok err = absurd err
     bound_ends bound (Err fault.Memory) kept h ok err = absurd err
     bound_ends bound (Err fault.Workspace) kept h ok err = absurd err
@@ -61,6 +62,6 @@ module _ (rounds from : ℕ) (c : Meaning) (r : Rows) where
     bound_ends bound (Err fault.Output) kept h ok err = record {
       report = bound_report h.lines c r;
       is = of_floors rounds from c r h.lines h.is_log;
-      ends = record { ends = record { kept = kept; known = refl }; left = subst (λ n. Stops output.contents output.before output.after (bound_text (penalty c r) n)) h.bound_is err };
+      ends = record { ends = record { kept = kept; found = refl; known = refl }; left = subst (λ n. Stops output.contents output.before output.after (bound_text (penalty c r) n)) h.bound_is err };
       logged = h.writes;
     }

@@ -4,3 +4,4 @@ pub mod RunLemmas
 pub mod BestLemmas
 pub mod BoundLemmas
 pub mod PolishLemmas
+pub mod PlanLemmas

@@ -4,6 +4,7 @@ use Rattle.std.specs.Prelude.{IfErr, OnOk}
 use Rattle.roster_text.specs.Io.{Writes}
 use Rattle.roster_bundle.specs.declared.bundle.Bundle.{Bundle}
 use Rattle.roster_rules.specs.HardRules.{hard_faults}
+use Rattle.roster_rules.specs.Penalties.{penalty}
 use Rattle.roster_instance.specs.Meaning.{Meaning}
 use Rattle.roster_instance.specs.Rosters.{Rows}
 use Rattle.roster_case.specs.Shown.{weeks_text}
@@ -18,8 +19,8 @@ use Rattle.roster_commands.specs.declared.fault.Fault.TheVariants as fault
 use Rattle.roster_commands.proofs.AnswerLemmas.{kickless, no_kick, unheld_ends, unheld_log}
 
 -- a run within fewer kicks is one within more
-more_kicks : {c : Meaning} {from few many : ℕ} {alone : Bool} {given last : Rows} {settled : Bool} {told : Text} → few ≤ many → IsPolishing c from given few alone settled last told
-    → IsPolishing c from given many alone settled last told
+pub more_kicks : {c : Meaning} {from start few many : ℕ} {alone : Bool} {given last : Rows} {settled : Bool} {told : Text} → few ≤ many → IsPolishing c from given start few alone settled last told
+    → IsPolishing c from given start many alone settled last told
 more_kicks fewer run = record {
   fade = run.fade;
   fadeless = run.fadeless;
@@ -35,7 +36,7 @@ more_kicks fewer run = record {
 }
 
 module _ (searches from : ℕ) (alone : Bool) (c : Meaning) (r : Rows) where
-  of_run : (few : ℕ) → few ≤ searches → (settled : Bool) (last : Rows) (told : Text) → IsPolishing c from r few alone settled last told → IsPolishReport searches from alone c r (polish_report last told c r)
+  of_run : (few : ℕ) → few ≤ searches → (settled : Bool) (last : Rows) (told : Text) → IsPolishing c from r (penalty c r) few alone settled last told → IsPolishReport searches from alone c r (polish_report last told c r)
   of_run few fewer settled last told run = record { settled = settled; last = last; told = told; run = λ accepted. more_kicks fewer run; is = refl }
 
   module _ {W L : Type 0} (output : Output W) (log : Output L) (source : Text) (b : Bundle) where
@@ -45,33 +46,34 @@ module _ (searches from : ℕ) (alone : Bool) (c : Meaning) (r : Rows) where
       report = kickless from c r;
       is = no_kick searches from alone c r;
       ends = unheld_ends output (kickless from c r) source b f refl h o;
-      logged = unheld_log log (Some (unkicked_text c from r)) source b (hard_faults c r) f h l;
+      logged = unheld_log log (Some (unkicked_text c from (penalty c r) r)) source b (hard_faults c r) f h l;
     }
 
     -- the log failed inside the run
-    pub polish_stops : (few : ℕ) → few ≤ searches → (after : Rows) (f : LogFault) → hard_faults c r ≡ [] → PolishLogStops log.contents c from r few alone after log.before log.after f → Untouched output
+    pub polish_stops : (few : ℕ) → few ≤ searches → (after : Rows) (f : LogFault) → hard_faults c r ≡ [] → PolishLogStops log.contents c from r (penalty c r) few alone after log.before log.after f → Untouched output
         → Reports output log (IsPolishReport searches from alone c r) source b (Some fault.Log)
     polish_stops few fewer after f kept h o = record {
       report = polish_report h.last h.text c r;
       is = of_run few fewer h.settled h.last h.text h.run;
-      ends = record { ends = (record { kept = kept; known = refl }, refl); left = o };
+      ends = record { ends = (record { kept = kept; found = refl; known = refl }, refl); left = o };
       logged = record { sent = h.sent; stops = h.stops };
     }
 
     -- the run was made, and its roster written or not
-    pub polish_ends : {X : Type 0} (few : ℕ) → few ≤ searches → (last : Rows) (told : Polished) (result : Result X Fault) → hard_faults c r ≡ [] → Polishes log.contents c from r few alone last log.before log.after told
+    pub polish_ends : {X : Type 0} (few : ℕ) → few ≤ searches → (last : Rows) (told : Polished) (result : Result X Fault) → hard_faults c r ≡ [] → Polishes log.contents c from r (penalty c r) few alone last log.before log.after told
         → OnOk result (Writes output.contents output.before output.after (weeks_text c last))
         → IfErr result (StopsOutput output.contents output.before output.after (weeks_text c last))
         → Reports output log (IsPolishReport searches from alone c r) source b (outcome_of result)
     polish_ends few fewer last told (Ok x) kept h ok err = record {
       report = polish_report last h.text c r;
       is = of_run few fewer told.settled last h.text h.run;
-      ends = record { ends = record { kept = kept; known = refl }; left = ok };
+      ends = record { ends = record { kept = kept; found = refl; known = refl }; left = ok };
       logged = h.writes;
     }
     polish_ends few fewer last told (Err (fault.Text f)) kept h ok err = absurd err
     polish_ends few fewer last told (Err (fault.Case f nurse)) kept h ok err = absurd err
     polish_ends few fewer last told (Err (fault.Hard f names)) kept h ok err = absurd err
+    polish_ends few fewer last told (Err (fault.Unfound f names)) kept h ok err = absurd err
     polish_ends few fewer last told (Err (fault.Nurse name)) kept h ok err = absurd err
     polish_ends few fewer last told (Err fault.Memory) kept h ok err = absurd err
     polish_ends few fewer last told (Err fault.Workspace) kept h ok err = absurd err
@@ -79,6 +81,6 @@ module _ (searches from : ℕ) (alone : Bool) (c : Meaning) (r : Rows) where
     polish_ends few fewer last told (Err fault.Output) kept h ok err = record {
       report = polish_report last h.text c r;
       is = of_run few fewer told.settled last h.text h.run;
-      ends = record { ends = record { kept = kept; known = refl }; left = err };
+      ends = record { ends = record { kept = kept; found = refl; known = refl }; left = err };
       logged = h.writes;
     }

@@ -57,7 +57,9 @@ module _ {R W L : Type 0} (input : Input R) (output : Output W) (log : Output L)
   cause (fault.Case f nurse) (inl h) = absurd h.0
   cause (fault.Case f nurse) (inr h) = of_none (no_device f) h.read.failures h.answers.left
   cause (fault.Hard f names) (inl h) = absurd h.0
+  cause (fault.Unfound f names) (inl h) = absurd h.0
   cause (fault.Hard f names) (inr h) = of_none (λ e. cc) h.read.failures h.answers.left
+  cause (fault.Unfound f names) (inr h) = of_none (λ e. cc) h.read.failures h.answers.left
   cause (fault.Nurse name) (inl h) = absurd h.0
   cause (fault.Nurse name) (inr h) = of_none (λ e. cc) h.read.failures h.answers.left
   cause fault.Memory (inl h) = absurd h.0

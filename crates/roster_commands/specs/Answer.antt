@@ -24,9 +24,11 @@ use Rattle.roster_instance.specs.declared.fault.CaseFault.TheVariants.{Memory}
 use Rattle.roster_rules.specs.declared.fault.HardFault.{HardFault}
 use Rattle.roster_rules.specs.Improver.{log_of, run}
 use Rattle.roster_rounds.specs.RunLogs.{text_of}
+use Rattle.roster_laws.specs.FrozenDays.{FrozenDaysStay}
 use Rattle.roster_bound.specs.Floors.{FloorLine, IsFloorLog, floor_text, last_line, no_line}
 use Rattle.roster_bound.specs.Worths.{IsLowerBound}
 use Rattle.roster_rounds.specs.PutIn.{IsAccepted}
+use Rattle.roster_polish.specs.Plans.{missing, unmendable}
 use Rattle.roster_polish.specs.Polished.{IsPolishing}
 use Rattle.roster_commands.specs.Lines.{IsFirstBreach, Text, best_log, bound_text, costs_text, fault_line, nurse_of, output_line, sizes_text, status_of}
 use Rattle.roster_commands.specs.declared.fault.Fault.{Fault}
@@ -105,6 +107,7 @@ Leaves output text (Some fault.Output) = Stops output.contents output.before out
 Leaves output text (Some (fault.Text f)) = Untouched output
 Leaves output text (Some (fault.Case f nurse)) = Untouched output
 Leaves output text (Some (fault.Hard f names)) = Untouched output
+Leaves output text (Some (fault.Unfound f names)) = Untouched output
 Leaves output text (Some (fault.Nurse name)) = Untouched output
 Leaves output text (Some fault.Memory) = Untouched output
 Leaves output text (Some fault.Workspace) = Untouched output
@@ -119,6 +122,7 @@ LeavesLog log told (Some fault.Log) = StopsLog log told
 LeavesLog log told (Some (fault.Text f)) = Untouched log
 LeavesLog log told (Some (fault.Case f nurse)) = Untouched log
 LeavesLog log told (Some (fault.Hard f names)) = Untouched log
+LeavesLog log told (Some (fault.Unfound f names)) = Untouched log
 LeavesLog log told (Some (fault.Nurse name)) = Untouched log
 LeavesLog log told (Some fault.Memory) = Untouched log
 LeavesLog log told (Some fault.Workspace) = Untouched log
@@ -144,6 +148,8 @@ pub record Report : Type 0 where
   pub is_held : Bool
   -- the breaches of the hard rules for which it refuses them, in their order
   pub broken : List HardFault
+  -- where it looks for a roster, the breaches of the nearest one that it found
+  pub unfound : List HardFault
   -- the name of the nurse whom it is for, where the case has none of that name
   pub unknown : Option Text
   pub output : Text
@@ -152,7 +158,7 @@ pub record Report : Type 0 where
 
 -- one that writes a text and asks for nothing
 abbrev pub plain : Text → Report
-plain text = record { is_held = false; broken = []; unknown = None; output = text; log = None }
+plain text = record { is_held = false; broken = []; unfound = []; unknown = None; output = text; log = None }
 
 -- the number of the nurse of this name; it is asked for only where the case has one
 abbrev pub number_of : Meaning → Text → ℕ
@@ -177,6 +183,7 @@ best_report name from c r =
     record {
       is_held = true;
       broken = hard_faults c r;
+      unfound = [];
       unknown = unknown_in c name;
       output = weeks_text c better;
       log = Some (best_log (penalty c r) name (penalty c better));
@@ -217,8 +224,25 @@ pub record IsPolishReport (searches from : ℕ) (alone : Bool) (c : Meaning) (r 
   pub settled : Bool
   pub last : Rows
   pub told : Text
-  pub run : IsAccepted c r → IsPolishing c from r searches alone settled last told
+  pub run : IsAccepted c r → IsPolishing c from r (penalty c r) searches alone settled last told
   pub is : p ≡ polish_report last told c r
+
+-- the roster that a run of kicks reached from the nearest one that a plan found, and its log
+abbrev pub plan_report : ℕ → Rows → Rows → Text → Meaning → Rows → Report
+plan_report from nearest last told c r =
+    record (plain (weeks_text c last)) { is_held = true; broken = unmendable c from r; unfound = hard_faults c nearest; log = Some told }
+
+-- it is of such a run, whose log begins with how many nurses the minimums miss in the given roster: the nearest one has its frozen
+-- days; that no roster is nearer isn't said
+pub record IsPlanReport (searches from : ℕ) (alone : Bool) (c : Meaning) (r : Rows) (p : Report) : Type 0 where
+  pub nearest : Rows
+  pub fits : fits_case c r ≡ true → fits_case c nearest ≡ true
+  pub stays : FrozenDaysStay c from r nearest
+  pub settled : Bool
+  pub last : Rows
+  pub told : Text
+  pub run : IsAccepted c nearest → IsPolishing c from nearest (missing c r) searches alone settled last told
+  pub is : p ≡ plan_report from nearest last told c r
 
 -- it is what a command asks of a case and its roster, and writes for them
 abbrev pub IsReportOf : Command → Meaning → Rows → Report → Type 0
@@ -229,6 +253,7 @@ IsReportOf (command.Best nurse from) c r p = p ≡ best_report (string_bytes nur
 IsReportOf (command.Improve rounds from) c r p = p ≡ improve_report rounds from c r
 IsReportOf (command.Bound rounds from) c r p = IsBoundReport rounds from c r p
 IsReportOf (command.Polish searches seed from kicks) c r p = IsPolishReport searches from kicks c r p
+IsReportOf (command.Plan searches seed from) c r p = IsPlanReport searches from false c r p
 
 -- a command that tells nothing of its work
 abbrev pub IsSilent : Command → Type 0
@@ -237,6 +262,7 @@ IsSilent command = (c : Meaning) (r : Rows) (p : Report) → IsReportOf command 
 -- nothing is refused
 pub record IsAllowed (p : Report) : Type 0 where
   pub kept : p.broken ≡ []
+  pub found : p.unfound ≡ []
   pub known : p.unknown ≡ None
 
 -- how a command ends for them; of its faults the first is told
@@ -245,6 +271,7 @@ IsOutcomeOf p bytes b None = IsAllowed p
 IsOutcomeOf p bytes b (Some fault.Output) = IsAllowed p
 IsOutcomeOf p bytes b (Some fault.Log) = IsAllowed p × (is_some p.log ≡ true)
 IsOutcomeOf p bytes b (Some (fault.Hard f names)) = IsFirstBreach bytes b p.broken (fault.Hard f names)
+IsOutcomeOf p bytes b (Some (fault.Unfound f names)) = (p.broken ≡ []) × IsFirstBreach bytes b p.unfound (fault.Hard f names)
 IsOutcomeOf p bytes b (Some (fault.Nurse name)) = (p.broken ≡ []) × (p.unknown ≡ Some name.now)
 IsOutcomeOf p bytes b (Some fault.Memory) = (p.broken ≡ []) × (p.is_held ≡ true)
 IsOutcomeOf p bytes b (Some fault.Workspace) = IsAllowed p × (p.is_held ≡ true)
@@ -272,6 +299,12 @@ StopsOutput contents old new text _ = ⊥
 abbrev pub IsUnheld : Text → Bundle → List HardFault → Fault → Type 0
 IsUnheld bytes b broken fault.Memory = broken ≡ []
 IsUnheld bytes b broken f = IsFirstBreach bytes b broken f
+
+-- why the roster that was found is not held: for the first of these breaches, or for want of memory where there is none
+abbrev pub IsUnfound : Text → Bundle → List HardFault → Fault → Type 0
+IsUnfound bytes b broken fault.Memory = broken ≡ []
+IsUnfound bytes b broken (fault.Unfound f names) = IsFirstBreach bytes b broken (fault.Hard f names)
+IsUnfound bytes b broken _ = ⊥
 
 -- ---- a bundle: the same, and why it is refused
 

@@ -27,6 +27,7 @@ abbrev pub fault_line : Fault → Text
 fault_line (fault.Text f) = text_line f
 fault_line (fault.Case f nurse) = case_line f nurse.now
 fault_line (fault.Hard f names) = hard_line f names
+fault_line (fault.Unfound f names) = hard_line f names
 fault_line (fault.Nurse name) = codes "unknown nurse " ++ name.now ++ codes "\n"
 fault_line fault.Memory = memory_line
 fault_line fault.Workspace = memory_line
@@ -54,6 +55,7 @@ abbrev pub status_of : Fault → ℕ
 status_of (fault.Text f) = text_status f
 status_of (fault.Case f nurse) = case_status f
 status_of (fault.Hard f names) = 1
+status_of (fault.Unfound f names) = 1
 status_of (fault.Nurse name) = 1
 status_of fault.Memory = 4
 status_of fault.Workspace = 4

@@ -13,6 +13,7 @@ use crate::bound::report_bound;
 use crate::fault::Fault;
 use crate::held::hold;
 use crate::improve::report_improve;
+use crate::plan::report_plan;
 use crate::polish::report_polish;
 use crate::reading::Instance;
 use crate::weeks::show_weeks;
@@ -71,6 +72,19 @@ pub(crate) fn report<'a, Out: Write, Log: Write>(
                 kicks: *kicks,
             };
             report_polish(alloc, &course, source, instance, output, log)
+        }
+        Command::Plan {
+            searches,
+            seed,
+            from,
+        } => {
+            let course = Course {
+                searches: *searches,
+                seed: *seed as u64,
+                from: *from,
+                kicks: false,
+            };
+            report_plan(alloc, &course, source, instance, output, log)
         }
     }
 }

@@ -14,6 +14,8 @@ pub(crate) enum Fault<'a> {
     Case(CaseFault, &'a [u8]),
     /// The roster breaks a hard rule that the command asks for.
     Hard(HardFault, BreachNames<'a>),
+    /// No roster was found that keeps the hard rules. It is the first breach of the nearest one.
+    Unfound(HardFault, BreachNames<'a>),
     /// The case has no nurse of this name, for whom the command is.
     Nurse(&'a [u8]),
     /// A growth was refused for what a command keeps of a roster that it holds, or for its rounds.

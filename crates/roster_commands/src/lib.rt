@@ -14,6 +14,7 @@ mod fault;
 mod held;
 mod improve;
 mod lines;
+mod plan;
 mod polish;
 mod reading;
 mod weeks;

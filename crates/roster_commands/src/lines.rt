@@ -46,7 +46,11 @@ fn status_of(fault: Fault<'_>) -> u8
         | Fault::Memory
         | Fault::Workspace => 4,
         Fault::Text(TextFault::ReadFailed) | Fault::Output | Fault::Log => 3,
-        Fault::Text(_) | Fault::Case(_, _) | Fault::Hard(_, _) | Fault::Nurse(_) => 1,
+        Fault::Text(_)
+        | Fault::Case(_, _)
+        | Fault::Hard(_, _)
+        | Fault::Unfound(_, _)
+        | Fault::Nurse(_) => 1,
     }
 }
 
@@ -58,7 +62,9 @@ fn write_line<Log: Write>(fault: Fault<'_>, log: &mut Watch<Log>) -> Result<(), 
     match fault {
         Fault::Text(fault) => write_text_line(fault, log),
         Fault::Case(fault, nurse) => write_case_line(fault, nurse, log),
-        Fault::Hard(fault, names) => write_hard_line(fault, names, log),
+        Fault::Hard(fault, names) | Fault::Unfound(fault, names) => {
+            write_hard_line(fault, names, log)
+        }
         Fault::Nurse(name) => write_pieces(
             log,
             &[

@@ -42,7 +42,7 @@ pub(crate) fn report_polish<'a, Out: Write, Log: Write>(
 }
 
 /// A course with as many searches as a new meter surely has room for, where more are asked. The command line allows no more.
-fn within_room(course: &Course) -> Course
+pub(crate) fn within_room(course: &Course) -> Course
     ensures { result ≡ record course.now { searches = min course.now.searches most_searches } }
 {
     Course {

@@ -35,7 +35,7 @@ returns-in_default-for_case-clause-ends g c =
     let held = c.in_ok-held.ensures.held ∙ ap of_case c.new-meter.ensures.same in
     let kept = subst (λ (m : Meaning). hard_faults m c.args.instance.roster ≡ []) c.new-meter.ensures.same c.in_ok-held.ensures.kept in
     let found = c.in-Some.ensures.found ∙ ap (λ (m : Meaning). find_name m.nurse_names c.args.name.now) (c.case.ensures ∙ ap (λ (h : HeldRoster). h.case) held) in
-    record { ends = (record { kept = kept; known = known c.args.instance.case c.args.name.now c.in-Some.nurse found }, refl); left = refl }
+    record { ends = (record { kept = kept; found = refl; known = known c.args.instance.case c.args.name.now c.in-Some.nurse found }, refl); left = refl }
 
 pub returns-clause-ends : goal.returns-clause-ends
 returns-clause-ends g c =
@@ -43,7 +43,7 @@ returns-clause-ends g c =
     let held = c.in_ok-held.ensures.held ∙ ap of_case c.new-meter.ensures.same in
     let kept = subst (λ (m : Meaning). hard_faults m c.args.instance.roster ≡ []) c.new-meter.ensures.same c.in_ok-held.ensures.kept in
     let found = c.in-Some.ensures.found ∙ ap (λ (m : Meaning). find_name m.nurse_names c.args.name.now) (c.case.ensures ∙ ap (λ (h : HeldRoster). h.case) held) in
-    record { ends = (record { kept = kept; known = known c.args.instance.case c.args.name.now c.in-Some.nurse found }, refl); left = refl }
+    record { ends = (record { kept = kept; found = refl; known = known c.args.instance.case c.args.name.now c.in-Some.nurse found }, refl); left = refl }
 
 pub returns-clause-logged : goal.returns-clause-logged
 returns-clause-logged g c =
@@ -72,7 +72,7 @@ returns-in-Ok-put_best_row-clause-ends g c =
     let shown = c.show_weeks.result in
     let ok = subst (λ text. OnOk shown (Writes g.Out.Write.contents c.args.output.now c.show_weeks.new.output text)) text_is c.show_weeks.ensures.ok in
     let err = subst (λ text. IfErr shown (StopsOutput g.Out.Write.contents c.args.output.now c.show_weeks.new.output text)) text_is c.show_weeks.ensures.err in
-    written_ends output (best_report c.args.name.now c.args.from c.args.instance.case c.args.instance.roster) c.args.source.now c.args.instance.bundle shown (record { kept = kept; known = known case c.args.name.now nurse found }) ok err
+    written_ends output (best_report c.args.name.now c.args.from c.args.instance.case c.args.instance.roster) c.args.source.now c.args.instance.bundle shown (record { kept = kept; found = refl; known = known case c.args.name.now nurse found }) ok err
 
 pub returns-in-Ok-put_best_row-clause-logged : goal.returns-in-Ok-put_best_row-clause-logged
 returns-in-Ok-put_best_row-clause-logged g c =

@@ -53,7 +53,12 @@ returns-in-Bound g c =
     let made = c.report_bound.ensures in
     record { report = made.report; is = subst (λ x. IsReportOf x c.args.instance.case c.args.instance.roster made.report) (sym c.in-Bound.is) made.is; ends = made.ends; logged = made.logged }
 
-pub returns : goal.returns
-returns g c =
+pub returns-in-Polish : goal.returns-in-Polish
+returns-in-Polish g c =
     let made = c.report_polish.ensures in
     record { report = made.report; is = subst (λ x. IsReportOf x c.args.instance.case c.args.instance.roster made.report) (sym c.in-Polish.is) made.is; ends = made.ends; logged = made.logged }
+
+pub returns : goal.returns
+returns g c =
+    let made = c.report_plan.ensures in
+    record { report = made.report; is = subst (λ x. IsReportOf x c.args.instance.case c.args.instance.roster made.report) (sym c.in-Plan.is) made.is; ends = made.ends; logged = made.logged }

@@ -49,7 +49,7 @@ returns-in-Ok-improve_unless_known-clause-ends g c =
     let shown = c.show_weeks.result in
     let ok = subst (λ text. OnOk shown (Writes g.Out.Write.contents c.args.output.now c.show_weeks.new.output text)) text_is c.show_weeks.ensures.ok in
     let err = subst (λ text. IfErr shown (StopsOutput g.Out.Write.contents c.args.output.now c.show_weeks.new.output text)) text_is c.show_weeks.ensures.err in
-    written_ends output (improve_report c.args.rounds c.args.from c.args.instance.case c.args.instance.roster) c.args.source.now c.args.instance.bundle shown (record { kept = kept; known = refl }) ok err
+    written_ends output (improve_report c.args.rounds c.args.from c.args.instance.case c.args.instance.roster) c.args.source.now c.args.instance.bundle shown (record { kept = kept; found = refl; known = refl }) ok err
 
 pub returns-in-Ok-improve_unless_known-clause-logged : goal.returns-in-Ok-improve_unless_known-clause-logged
 returns-in-Ok-improve_unless_known-clause-logged g c =
@@ -63,7 +63,7 @@ returns-in-Ok-improve_unless_known-clause-logged g c =
 pub returns-clause-ends : goal.returns-clause-ends
 returns-clause-ends g c =
     let kept = subst (λ (m : Meaning). hard_faults m c.args.instance.roster ≡ []) c.new-meter.ensures.same c.in_ok-held.ensures.kept in
-    record { ends = (record { kept = kept; known = refl }, refl); left = refl }
+    record { ends = (record { kept = kept; found = refl; known = refl }, refl); left = refl }
 
 pub returns-clause-logged : goal.returns-clause-logged
 returns-clause-logged g c =
