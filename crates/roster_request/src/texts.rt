@@ -24,7 +24,7 @@ pub(crate) const COST_HELP: &str =
     "The hard rules are asked first: a roster that breaks one isn't costed. The first
 breach goes to standard error, and the status is 1. The hard rules are: enough
 nurses for each shift and skill; no forbidden succession of shifts; no skill
-that a nurse lacks.
+that a nurse lacks; no work of an absent nurse.
 
 A line is written for each soft rule, and a last one for their total:
   S1  30 for each nurse missing to the optimum of a day, shift and skill
@@ -250,14 +250,14 @@ work on a day of absence, as where weeks aren't planned yet, or a nurse has
 fallen ill. Refused as ever are a second shift on a day, and a skill that the
 nurse lacks.
 
-The run begins with nobody at work in the weeks that may change, whatever is
-given there, and gives the nurses rows until no minimum is missed. Then it
-settles the roster and polishes it as 'roster polish' does, with the searches
-that are left. The rosters written keep all hard rules.
+Where the given roster breaks a hard rule, the run gives all nurses new rows in
+the weeks that may change, whatever is given there, until no minimum is missed.
+Then it settles the roster and polishes it as 'roster polish' does, with the
+searches that are left. The rosters written keep all hard rules.
 
 To standard error goes a log, once such a roster is found:
-  start 61     how many nurses the minimums miss at the start, with the choices
-               given in frozen weeks and nobody at work after them
+  start 61     how many nurses the minimums miss in the given roster, where
+               absent ones don't count
   fade 770     from this line on as for 'roster polish'
   kick 85 765
   settled 765  what the rosters written cost
