@@ -43,9 +43,12 @@ pub fn run_plan(alloc: Global, plan: &Plan) -> Result<Told, AllocError> {
 fn command_of(plan: &Plan) -> Command
     ensures show { (number : ℕ) → plan.now.work ≡ work.Show number → result ≡ command.Show }
     ensures cost { (bundles : ℕ) → plan.now.work ≡ work.Cost bundles → result ≡ command.Cost }
-    ensures improve { (rounds : ℕ) → plan.now.work ≡ work.Improve rounds → result ≡ command.Improve rounds 0 }
-    ensures bound { (rounds : ℕ) → plan.now.work ≡ work.Bound rounds → result ≡ command.Bound rounds 0 }
-    ensures polish { (searches : ℕ) → plan.now.work ≡ work.Polish searches → result ≡ command.Polish searches plan.now.size.seed 0 true }
+    ensures improve { (rounds : ℕ) → plan.now.work ≡ work.Improve rounds →
+        result ≡ command.Improve rounds 0 }
+    ensures bound { (rounds : ℕ) → plan.now.work ≡ work.Bound rounds →
+        result ≡ command.Bound rounds 0 }
+    ensures polish { (searches : ℕ) → plan.now.work ≡ work.Polish searches →
+        result ≡ command.Polish searches plan.now.size.seed 0 true }
 {
     match plan.work {
         Work::Show { .. } => Command::Show,

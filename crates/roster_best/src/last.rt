@@ -96,7 +96,10 @@ impl LastSearches {
         requires nurse { nurse < nurse_count held.now.case }
         requires known { IsKnown held.now.case self.now }
         requires offers { AreOffersOf held.now.case held.now.roster nurse offers.now }
-        ensures { result ≡ true → (from : ℕ) → AreShiftOffers held.now.case from held.now.roster nurse offers.now → step held.now.case (best_row held.now.case from) held.now.roster nurse ≡ held.now.roster }
+        ensures { result ≡ true → (from : ℕ) →
+            AreShiftOffers held.now.case from held.now.roster nurse offers.now →
+            step held.now.case (best_row held.now.case from) held.now.roster
+            nurse ≡ held.now.roster }
     {
         held.case().keeps_limits();
         held.keeps_rules();
@@ -129,7 +132,8 @@ impl LastSearches {
         requires nurse { nurse < nurse_count held.now.case }
         requires known { IsKnown held.now.case self.old }
         requires offers { AreOffersOf held.now.case held.now.roster nurse offers.now }
-        requires found { (row : Row) × IsFound (best_over held.now.case nurse (offers_on offers.now)) cost row }
+        requires found { (row : Row) × IsFound (best_over held.now.case nurse
+            (offers_on offers.now)) cost row }
         ensures known { IsKnown held.now.case self.new }
     {
         held.case().keeps_limits();
@@ -151,8 +155,10 @@ struct Change {
 
 /// How the prices have changed since these, if each offer had one.
 fn change_since(prices: &[u32; MOST_OFFERS], offers: &[Offer]) -> Option<Change>
-    requires places { All (λ offer. price_place (shift_of offer.choice) < 1 + most_shifts) offers.now }
-    ensures { IfSome result (λ change. All (IsDearer prices.now change.rise change.fall) offers.now) }
+    requires places { All (λ offer. price_place (shift_of offer.choice) < 1 + most_shifts)
+        offers.now }
+    ensures { IfSome result (λ change. All (IsDearer prices.now change.rise change.fall)
+        offers.now) }
 {
     let mut rise = u32::MAX;
     let mut fall = 0;
@@ -169,7 +175,8 @@ fn change_since(prices: &[u32; MOST_OFFERS], offers: &[Offer]) -> Option<Change>
 
 /// The price of each shift on a day.
 fn prices_by_shift(offers: &[Offer]) -> [u32; MOST_OFFERS]
-    requires places { All (λ offer. price_place (shift_of offer.choice) < 1 + most_shifts) offers.now }
+    requires places { All (λ offer. price_place (shift_of offer.choice) < 1 + most_shifts)
+        offers.now }
     ensures { ArePrices offers.now result }
 {
     let mut prices = [NOT_OFFERED; MOST_OFFERS];

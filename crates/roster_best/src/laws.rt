@@ -15,6 +15,11 @@ ghost use Rattle.roster_best.specs.Offers.{IsOffered};
 /// prices add up to what the staffing costs with it, and the nurse's requests: off requests against it, and wishes to work that it
 /// doesn't meet.
 pub fn offers_tell_the_allowed_rows()
-    ensures allowed { (c : Meaning) (from : ℕ) (r : Rows) → keeps_hard c r ≡ true → (n : ℕ) → n < length r → n < nurse_count c → (row : Row) → length row ≡ day_count c → ((row_keeps c r n row ≡ true) × (keeps_frozen_days c from r n row ≡ true)) ↔ (IsOffered c from r n row × (keeps_successions c n (days_of row) (length row) ≡ true)) }
-    ensures prices { (c : Meaning) (r : Rows) (n : ℕ) → n < length r → (row : Row) → length row ≡ day_count c → prices c r n row ≡ staffing_cost c (with_row r n row) + request_cost c n (days_of row) }
+    ensures allowed { (c : Meaning) (from : ℕ) (r : Rows) → keeps_hard c r ≡ true → (n : ℕ) →
+        n < length r → n < nurse_count c → (row : Row) → length row ≡ day_count c →
+        ((row_keeps c r n row ≡ true) × (keeps_frozen_days c from r n row ≡ true)) ↔
+        (IsOffered c from r n row × (keeps_successions c n (days_of row) (length row) ≡ true)) }
+    ensures prices { (c : Meaning) (r : Rows) (n : ℕ) → n < length r → (row : Row) →
+        length row ≡ day_count c → prices c r n row ≡ staffing_cost c (with_row r n row)
+        + request_cost c n (days_of row) }
 {}

@@ -39,7 +39,9 @@ pub fn choices(held: &Held, nurse: usize, day: u16, from: u16) -> ArrayVec<Offer
     requires nurse { nurse < nurse_count held.now.case }
     requires day { day < day_count held.now.case }
     ensures offers { result.items ≡ offers_of held.now.case from held.now.roster nurse day }
-    ensures frozen { is_frozen from day ≡ true → result.items ≡ offer_of held.now.case held.now.roster nurse day (choice_on (row_of held.now.roster nurse) day) ∷ [] }
+    ensures frozen { is_frozen from day ≡ true →
+        result.items ≡ offer_of held.now.case held.now.roster nurse day
+        (choice_on (row_of held.now.roster nurse) day) ∷ [] }
     ensures few { length result.items ≤ 1 + most_shifts * most_skills }
 {
     // The roster keeps the hard rules: so the present choice is one of those that are open.
@@ -54,7 +56,8 @@ pub fn choices(held: &Held, nurse: usize, day: u16, from: u16) -> ArrayVec<Offer
 fn present_choice(held: &Held, nurse: usize, day: u16) -> ArrayVec<Offer, MOST_CHOICES>
     requires nurse { nurse < nurse_count held.now.case }
     requires day { day < day_count held.now.case }
-    ensures offer { result.items ≡ offer_of held.now.case held.now.roster nurse day (choice_on (row_of held.now.roster nurse) day) ∷ [] }
+    ensures offer { result.items ≡ offer_of held.now.case held.now.roster nurse day
+        (choice_on (row_of held.now.roster nurse) day) ∷ [] }
 {
     held.keeps_rules();
     let without = lacking_without(held, nurse, day);
@@ -113,7 +116,9 @@ fn push_some(offers: &mut ArrayVec<Offer, MOST_CHOICES>, offer: Option<Offer>)
 /// For each skill of the case whether the nurse has it and isn't absent on the day.
 fn able_by_skill(case: &Case, nurse: usize, day: u16) -> [bool; 8]
     requires { nurse < nurse_count case.now }
-    ensures { (k : ℕ) → k < skill_count case.now → slice_index_or result k false ≡ (list_any (λ own. own.0 == k) (nurse_at case.now nurse).skills && not (is_absent case.now nurse day)) }
+    ensures { (k : ℕ) → k < skill_count case.now →
+        slice_index_or result k false ≡ (list_any (λ own. own.0 == k)
+        (nurse_at case.now nurse).skills && not (is_absent case.now nurse day)) }
 {
     case.keeps_limits();
     let mut able = [false; 8];
@@ -140,19 +145,23 @@ fn offered(
     requires day { day < day_count held.now.case }
     requires choice { is_choice_of held.now.case choice ≡ true }
     requires able { may_take held.now.case nurse day choice ≡ true }
-    requires minimum { without.minimum ≡ lacking held.now.case (minimum held.now.case day) (others held.now.roster nurse day) }
-    requires optimum { without.optimum ≡ lacking held.now.case (optimum held.now.case day) (others held.now.roster nurse day) }
+    requires minimum { without.minimum ≡ lacking held.now.case (minimum held.now.case day)
+        (others held.now.roster nurse day) }
+    requires optimum { without.optimum ≡ lacking held.now.case (optimum held.now.case day)
+        (others held.now.roster nurse day) }
     requires within { without.optimum ≤ 1 + most_shifts * most_skills * most_small }
     requires asked { asked ≡ request_cost_on held.now.case nurse day (shift_of choice) }
     requires asked_within { asked ≤ off_request_weight + wish_weight }
-    ensures { result ≡ (if is_open held.now.case held.now.roster nurse day choice then Some (offer_of held.now.case held.now.roster nurse day choice) else None) }
+    ensures { result ≡ (if is_open held.now.case held.now.roster nurse day choice then Some
+        (offer_of held.now.case held.now.roster nurse day choice) else None) }
 {
     let lack = lacking_by(held, nurse, day, choice, without);
     offer_if(lack.minimum, choice, STAFFING * lack.optimum + asked)
 }
 
 fn offer_if(lacking: u32, choice: Choice, price: u32) -> Option<Offer>
-    ensures { result ≡ (if lacking == 0 then Some (record { choice = choice; price = price }) else None) }
+    ensures { result ≡ (if lacking == 0 then Some (record { choice = choice; price = price }) else
+        None) }
 {
     if lacking == 0 {
         return Some(Offer { choice, price });
@@ -166,8 +175,10 @@ fn offer_if(lacking: u32, choice: Choice, price: u32) -> Option<Offer>
 fn lacking_without(held: &Held, nurse: usize, day: u16) -> Lacking
     requires nurse { nurse < nurse_count held.now.case }
     requires day { day < day_count held.now.case }
-    ensures minimum { result.minimum ≡ lacking held.now.case (minimum held.now.case day) (others held.now.roster nurse day) }
-    ensures optimum { result.optimum ≡ lacking held.now.case (optimum held.now.case day) (others held.now.roster nurse day) }
+    ensures minimum { result.minimum ≡ lacking held.now.case (minimum held.now.case day)
+        (others held.now.roster nurse day) }
+    ensures optimum { result.optimum ≡ lacking held.now.case (optimum held.now.case day)
+        (others held.now.roster nurse day) }
     ensures within { result.optimum ≤ 1 + most_shifts * most_skills * most_small }
 {
     held.keeps_rules();
@@ -182,8 +193,10 @@ fn lacking_without_choice(held: &Held, nurse: usize, day: u16, own: Choice) -> L
     requires day { day < day_count held.now.case }
     requires choice { is_choice_of held.now.case own ≡ true }
     requires own { own ≡ choice_on (row_of held.now.roster nurse) day }
-    ensures minimum { result.minimum ≡ lacking held.now.case (minimum held.now.case day) (others held.now.roster nurse day) }
-    ensures optimum { result.optimum ≡ lacking held.now.case (optimum held.now.case day) (others held.now.roster nurse day) }
+    ensures minimum { result.minimum ≡ lacking held.now.case (minimum held.now.case day)
+        (others held.now.roster nurse day) }
+    ensures optimum { result.optimum ≡ lacking held.now.case (optimum held.now.case day)
+        (others held.now.roster nurse day) }
     ensures within { result.optimum ≤ 1 + most_shifts * most_skills * most_small }
 {
     held.keeps_rules();
@@ -216,10 +229,14 @@ fn lacking_by(held: &Held, nurse: usize, day: u16, choice: Choice, without: Lack
     requires nurse { nurse < nurse_count held.now.case }
     requires day { day < day_count held.now.case }
     requires choice { is_choice_of held.now.case choice ≡ true }
-    requires minimum { without.minimum ≡ lacking held.now.case (minimum held.now.case day) (others held.now.roster nurse day) }
-    requires optimum { without.optimum ≡ lacking held.now.case (optimum held.now.case day) (others held.now.roster nurse day) }
-    ensures minimum { result.minimum ≡ lacking held.now.case (minimum held.now.case day) (with_choice (others held.now.roster nurse day) choice) }
-    ensures optimum { result.optimum ≡ lacking held.now.case (optimum held.now.case day) (with_choice (others held.now.roster nurse day) choice) }
+    requires minimum { without.minimum ≡ lacking held.now.case (minimum held.now.case day)
+        (others held.now.roster nurse day) }
+    requires optimum { without.optimum ≡ lacking held.now.case (optimum held.now.case day)
+        (others held.now.roster nurse day) }
+    ensures minimum { result.minimum ≡ lacking held.now.case (minimum held.now.case day)
+        (with_choice (others held.now.roster nurse day) choice) }
+    ensures optimum { result.optimum ≡ lacking held.now.case (optimum held.now.case day)
+        (with_choice (others held.now.roster nurse day) choice) }
     ensures within { result.optimum ≤ without.optimum }
 {
     match choice {
@@ -241,10 +258,14 @@ fn lacking_with(
     requires day { day < day_count held.now.case }
     requires shift { shift.0 < shift_count held.now.case }
     requires skill { skill.0 < skill_count held.now.case }
-    requires minimum { without.minimum ≡ lacking held.now.case (minimum held.now.case day) (others held.now.roster nurse day) }
-    requires optimum { without.optimum ≡ lacking held.now.case (optimum held.now.case day) (others held.now.roster nurse day) }
-    ensures minimum { result.minimum ≡ lacking held.now.case (minimum held.now.case day) (with_choice (others held.now.roster nurse day) (Work shift skill)) }
-    ensures optimum { result.optimum ≡ lacking held.now.case (optimum held.now.case day) (with_choice (others held.now.roster nurse day) (Work shift skill)) }
+    requires minimum { without.minimum ≡ lacking held.now.case (minimum held.now.case day)
+        (others held.now.roster nurse day) }
+    requires optimum { without.optimum ≡ lacking held.now.case (optimum held.now.case day)
+        (others held.now.roster nurse day) }
+    ensures minimum { result.minimum ≡ lacking held.now.case (minimum held.now.case day)
+        (with_choice (others held.now.roster nurse day) (Work shift skill)) }
+    ensures optimum { result.optimum ≡ lacking held.now.case (optimum held.now.case day)
+        (with_choice (others held.now.roster nurse day) (Work shift skill)) }
     ensures within { result.optimum ≤ without.optimum }
 {
     let need = held.case().need(day, shift, skill);

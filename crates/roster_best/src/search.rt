@@ -48,7 +48,8 @@ pub fn best_row(
     // The row, and the roster's penalty with it.
     ensures best { IsBestRow held.now.case from held.now.roster nurse workspace.new.row }
     ensures keeps { row_keeps held.now.case held.now.roster nurse workspace.new.row ≡ true }
-    ensures total { result.total ≡ penalty_with held.now.case held.now.roster nurse workspace.new.row }
+    ensures total { result.total ≡ penalty_with held.now.case held.now.roster nurse
+        workspace.new.row }
 
     // What it takes.
     ensures each_day { meter.old + day_count held.now.case ≤ meter.new }
@@ -79,10 +80,14 @@ pub fn cheaper_row(
     requires room { meter.old + extension_count held.now.case nurse ≤ greatest_u64 }
 
     // The row, and the roster's penalty with it; where there is none, a step wouldn't change the roster.
-    ensures best { OnSome result (IsBestRow held.now.case from held.now.roster nurse workspace.new.row) }
-    ensures keeps { OnSome result (row_keeps held.now.case held.now.roster nurse workspace.new.row ≡ true) }
-    ensures total { IfSome result (λ best. best.total ≡ penalty_with held.now.case held.now.roster nurse workspace.new.row) }
-    ensures none { IfNone result (step held.now.case (best_row held.now.case from) held.now.roster nurse ≡ held.now.roster) }
+    ensures best { OnSome result (IsBestRow held.now.case from held.now.roster nurse
+        workspace.new.row) }
+    ensures keeps { OnSome result (row_keeps held.now.case held.now.roster nurse
+        workspace.new.row ≡ true) }
+    ensures total { IfSome result (λ best. best.total ≡ penalty_with held.now.case held.now.roster
+        nurse workspace.new.row) }
+    ensures none { IfNone result (step held.now.case (best_row held.now.case from) held.now.roster
+        nurse ≡ held.now.roster) }
 
     // What it takes.
     ensures spared { IfNone result (meter.new ≡ meter.old) }
@@ -113,11 +118,14 @@ fn search_offers(
     requires offers { AreOffersOf held.now.case held.now.roster nurse workspace.old.offers }
     requires fits { fits_space held.now.case workspace.old ≡ true }
     requires room { meter.old + extension_count held.now.case nurse ≤ greatest_u64 }
-    ensures found { IsFound (best_over held.now.case nurse (offers_on workspace.old.offers)) result.0 workspace.new.row }
-    ensures total { result.1.total ≡ rest_of held.now.case held.now.roster nurse + due held.now.case nurse [] + result.0 }
+    ensures found { IsFound (best_over held.now.case nurse (offers_on workspace.old.offers))
+        result.0 workspace.new.row }
+    ensures total { result.1.total ≡ rest_of held.now.case held.now.roster nurse
+        + due held.now.case nurse [] + result.0 }
     ensures each_day { meter.old + day_count held.now.case ≤ meter.new }
     ensures counted { meter.new ≤ meter.old + extension_count held.now.case nurse }
-    ensures standing { CountsSearch held.now.case nurse (offers_on workspace.old.offers) meter.old meter.new }
+    ensures standing { CountsSearch held.now.case nurse (offers_on workspace.old.offers) meter.old
+        meter.new }
     ensures same_room { SameRoom workspace.old workspace.new }
     ensures fits { fits_space held.now.case workspace.new ≡ true }
     ensures offers { workspace.new.offers ≡ workspace.old.offers }

@@ -42,12 +42,15 @@ pub fn lower_bound(
 ) -> u64
     requires worths { worths.now.days ≡ day_count held.now.case }
     requires rows { FitsRows (levelled held.now.case) rows.old }
-    requires room { meter.old + nurse_count held.now.case * greatest_extension_count (levelled held.now.case) ≤ greatest_u64 }
+    requires room { meter.old + nurse_count held.now.case * greatest_extension_count
+        (levelled held.now.case) ≤ greatest_u64 }
     ensures below { IsLowerBound held.now.case from held.now.roster result }
     ensures within { result ≤ penalty held.now.case held.now.roster }
-    ensures bound { result ≡ levelled_bound held.now.case from held.now.roster (worths_of worths.now) (pays_of pays.now.each.items) }
+    ensures bound { result ≡ levelled_bound held.now.case from held.now.roster
+        (worths_of worths.now) (pays_of pays.now.each.items) }
     ensures rows { FitsRows (levelled held.now.case) rows.new }
-    ensures counted { meter.new ≤ meter.old + nurse_count held.now.case * greatest_extension_count (levelled held.now.case) }
+    ensures counted { meter.new ≤ meter.old + nurse_count held.now.case * greatest_extension_count
+        (levelled held.now.case) }
 {
     let case = held.case();
     let terms = Terms {
@@ -93,7 +96,9 @@ fn nurse_floor(
     requires worths { terms.now.worths.now.days ≡ day_count held.now.case }
     requires rows { FitsRows (levelled held.now.case) rows.old }
     requires room { meter.old + extension_count (levelled held.now.case) nurse ≤ greatest_u64 }
-    ensures floor { result ≡ row_floor (levelled held.now.case) terms.now.from held.now.roster (worths_of terms.now.worths.now) (shift_run_weight + pay) nurse + total_floor held.now.case nurse pay - level_cost held.now.case nurse pay }
+    ensures floor { result ≡ row_floor (levelled held.now.case) terms.now.from held.now.roster
+        (worths_of terms.now.worths.now) (shift_run_weight + pay) nurse
+        + total_floor held.now.case nurse pay - level_cost held.now.case nurse pay }
     ensures within { result ≤ 8600000000 }
     ensures rows { FitsRows (levelled held.now.case) rows.new }
     ensures counted { meter.new ≤ meter.old + extension_count (levelled held.now.case) nurse }
@@ -145,7 +150,9 @@ fn total_with_pay(asked: Limits, most: u32, pay: u16, total: u32) -> u32
     requires most { most ≤ most_small + most_days }
     requires total { total ≤ most_small }
     requires pay { pay ≤ most_pay }
-    ensures cost { result ≡ assignment_weight * (asked.least - total) + assignment_weight * (total - asked.greatest) + assignment_weight * (most - total) + pay * total }
+    ensures cost { result ≡ assignment_weight * (asked.least - total)
+        + assignment_weight * (total - asked.greatest) + assignment_weight * (most - total)
+        + pay * total }
     ensures within { result ≤ 200000 }
 {
     let missing = (asked.least as u32).saturating_sub(total);
@@ -173,9 +180,11 @@ pub fn row_floor(terms: &Terms<'_>, nurse: usize, rows: &mut RowSpace, meter: &m
     requires free { terms.now.free ≤ most_free }
     requires rows { FitsRows terms.now.case.now rows.old }
     requires room { meter.old + extension_count terms.now.case.now nurse ≤ greatest_u64 }
-    ensures floor { result ≡ row_floor terms.now.case.now terms.now.from terms.now.given.now (worths_of terms.now.worths.now) terms.now.free nurse }
+    ensures floor { result ≡ row_floor terms.now.case.now terms.now.from terms.now.given.now
+        (worths_of terms.now.worths.now) terms.now.free nurse }
     ensures within { result ≤ 8589934590 }
-    ensures row { floor_row terms.now.case.now terms.now.from terms.now.given.now (worths_of terms.now.worths.now) terms.now.free nurse ≡ Some rows.new.workspace.row }
+    ensures row { floor_row terms.now.case.now terms.now.from terms.now.given.now
+        (worths_of terms.now.worths.now) terms.now.free nurse ≡ Some rows.new.workspace.row }
     ensures rows { FitsRows terms.now.case.now rows.new }
     ensures counted { meter.new ≤ meter.old + extension_count terms.now.case.now nurse }
 {
@@ -206,9 +215,11 @@ pub(crate) fn find_rows(terms: &Terms<'_>, rows: &mut RowSpace, meter: &mut Mete
     requires worths { terms.now.worths.now.days ≡ day_count terms.now.case.now }
     requires free { terms.now.free ≤ most_free }
     requires rows { FitsRows terms.now.case.now rows.old }
-    requires room { meter.old + nurse_count terms.now.case.now * greatest_extension_count terms.now.case.now ≤ greatest_u64 }
+    requires room { meter.old + nurse_count terms.now.case.now * greatest_extension_count
+        terms.now.case.now ≤ greatest_u64 }
     ensures rows { FitsRows terms.now.case.now rows.new }
-    ensures counted { meter.new ≤ meter.old + nurse_count terms.now.case.now * greatest_extension_count terms.now.case.now }
+    ensures counted { meter.new ≤ meter.old + nurse_count terms.now.case.now
+        * greatest_extension_count terms.now.case.now }
 {
     rows.forget();
     for nurse in 0..terms.case.nurses() {
@@ -227,7 +238,8 @@ fn put_days(worked: &mut [u16], nurse: usize, days: u16) {
 fn offers_of_days(terms: &Terms<'_>, nurse: usize, offers: &mut DayOffers)
     requires nurse { nurse < nurse_count terms.now.case.now }
     requires worths { terms.now.worths.now.days ≡ day_count terms.now.case.now }
-    ensures offers { AreWorthOffers terms.now.case.now terms.now.from terms.now.given.now (worths_of terms.now.worths.now) terms.now.free nurse offers.new.items }
+    ensures offers { AreWorthOffers terms.now.case.now terms.now.from terms.now.given.now
+        (worths_of terms.now.worths.now) terms.now.free nurse offers.new.items }
 {
     terms.case.keeps_limits();
     offers.clear();
@@ -241,7 +253,8 @@ fn offers_of_day(terms: &Terms<'_>, nurse: usize, day: u16) -> ArrayVec<Offer, M
     requires nurse { nurse < nurse_count terms.now.case.now }
     requires day { day < day_count terms.now.case.now }
     requires worths { terms.now.worths.now.days ≡ day_count terms.now.case.now }
-    ensures offers { result.items ≡ shift_offers_by_worth terms.now.case.now terms.now.from terms.now.given.now (worths_of terms.now.worths.now) terms.now.free nurse day }
+    ensures offers { result.items ≡ shift_offers_by_worth terms.now.case.now terms.now.from
+        terms.now.given.now (worths_of terms.now.worths.now) terms.now.free nurse day }
 {
     terms.case.keeps_limits();
     cheapest_by_shift(&choices(terms, nurse, day))

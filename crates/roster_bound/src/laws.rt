@@ -13,8 +13,11 @@ use roster_rules::{Case, Roster};
 /// each roster that fits the case, keeps the hard rules and agrees with the given one on the frozen days. So is what they cost at least
 /// where the case is levelled, whatever the nurses' assignments pay.
 pub fn no_roster_is_below_the_bound()
-    ensures rows { (c : Meaning) (from : ℕ) (given : Rows) (w : PlaceWorths) → AreWorths w → IsLowerBound c from given (bound_by c from given w) }
-    ensures levelled { (c : Meaning) (from : ℕ) (given : Rows) (w : PlaceWorths) → AreWorths w → (pay : NursePays) → ArePays pay → IsLowerBound c from given (levelled_bound c from given w pay) }
+    ensures rows { (c : Meaning) (from : ℕ) (given : Rows) (w : PlaceWorths) → AreWorths w →
+        IsLowerBound c from given (bound_by c from given w) }
+    ensures levelled { (c : Meaning) (from : ℕ) (given : Rows) (w : PlaceWorths) → AreWorths w →
+        (pay : NursePays) → ArePays pay →
+        IsLowerBound c from given (levelled_bound c from given w pay) }
 {}
 
 /// In a roster that keeps the hard rules each nurse has a row that agrees with it on the frozen days: the own.
@@ -27,5 +30,6 @@ pub fn rows_are_had(case: &Case, given: &Roster, from: u16)
 /// A bound may be rounded up to the next multiple of 5: each penalty is one.
 pub fn bounds_are_rounded_up()
     ensures fives { (c : Meaning) (r : Rows) → penalty c r % 5 ≡ 0 }
-    ensures bounds { (c : Meaning) (from : ℕ) (given : Rows) (bound : ℕ) → IsLowerBound c from given bound → IsLowerBound c from given (rounded_up bound) }
+    ensures bounds { (c : Meaning) (from : ℕ) (given : Rows) (bound : ℕ) →
+        IsLowerBound c from given bound → IsLowerBound c from given (rounded_up bound) }
 {}

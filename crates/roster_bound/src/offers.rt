@@ -44,7 +44,8 @@ pub fn choices(terms: &Terms<'_>, nurse: usize, day: u16) -> ArrayVec<Offer, MOS
     requires nurse { nurse < nurse_count terms.now.case.now }
     requires day { day < day_count terms.now.case.now }
     requires worths { terms.now.worths.now.days ≡ day_count terms.now.case.now }
-    ensures offers { result.items ≡ offers_by_worth terms.now.case.now terms.now.from terms.now.given.now (worths_of terms.now.worths.now) terms.now.free nurse day }
+    ensures offers { result.items ≡ offers_by_worth terms.now.case.now terms.now.from
+        terms.now.given.now (worths_of terms.now.worths.now) terms.now.free nurse day }
 {
     let case = terms.case;
     let shifts = case.shifts();
@@ -80,7 +81,9 @@ fn offered(terms: &Terms<'_>, nurse: usize, day: u16, choice: Choice, asked: u32
     requires choice { is_choice_of terms.now.case.now choice ≡ true }
     requires asked { asked ≡ request_cost_on terms.now.case.now nurse day (shift_of choice) }
     requires within { asked ≤ off_request_weight + wish_weight }
-    ensures { result ≡ (if can_do terms.now.case.now terms.now.from terms.now.given.now nurse day choice then Some (offer_at (price_with terms.now.case.now (worths_of terms.now.worths.now) terms.now.free nurse) day choice) else None) }
+    ensures { result ≡ (if can_do terms.now.case.now terms.now.from terms.now.given.now nurse day
+        choice then Some (offer_at (price_with terms.now.case.now (worths_of terms.now.worths.now)
+        terms.now.free nurse) day choice) else None) }
 {
     let able = may_take(terms.case, nurse, day, choice);
     let kept = keeps_frozen_day(terms, nurse, day, choice);

@@ -30,7 +30,9 @@ pub fn places_floor(case: &Case, worths: &Worths) -> u64
 fn day_floor(case: &Case, worths: &Worths, day: u16) -> u64
     requires day { day < day_count case.now }
     requires worths { worths.now.days ≡ day_count case.now }
-    ensures floor { result ≡ sum_below (shift_count case.now) (λ s. sum_below (skill_count case.now) (place_floor case.now (worths_of worths.now) day s)) }
+    ensures floor { result ≡ sum_below (shift_count case.now)
+        (λ s. sum_below (skill_count case.now)
+        (place_floor case.now (worths_of worths.now) day s)) }
     ensures within { result ≤ 64 * most_place }
 {
     let mut floor = 0;
@@ -45,7 +47,8 @@ fn shift_floor(case: &Case, worths: &Worths, day: u16, shift: u8) -> u64
     requires day { day < day_count case.now }
     requires shift { shift < shift_count case.now }
     requires worths { worths.now.days ≡ day_count case.now }
-    ensures floor { result ≡ sum_below (skill_count case.now) (place_floor case.now (worths_of worths.now) day shift) }
+    ensures floor { result ≡ sum_below (skill_count case.now)
+        (place_floor case.now (worths_of worths.now) day shift) }
     ensures within { result ≤ 8 * most_place }
 {
     let mut floor = 0;

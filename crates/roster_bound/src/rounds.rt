@@ -98,12 +98,14 @@ const SECOND: u16 = 15;
 /// The floor by the worths and the pays. Their rows are counted.
 fn make_round(held: &Levelled, from: u16, workspace: &mut FloorWorkspace, meter: &mut Meter) -> u64
     requires fits { FitsFloor (levelled held.now.case) workspace.old }
-    requires room { meter.old + nurse_count held.now.case * greatest_extension_count (levelled held.now.case) ≤ greatest_u64 }
+    requires room { meter.old + nurse_count held.now.case * greatest_extension_count
+        (levelled held.now.case) ≤ greatest_u64 }
     ensures below { IsLowerBound held.now.case from held.now.roster result }
     ensures within { result ≤ penalty held.now.case held.now.roster }
     ensures worths { AreWorths (worths_of workspace.old.worths) }
     ensures bound { result ≡ bound_of held.now from workspace.old }
-    ensures counted { meter.new ≤ meter.old + nurse_count held.now.case * greatest_extension_count (levelled held.now.case) }
+    ensures counted { meter.new ≤ meter.old + nurse_count held.now.case * greatest_extension_count
+        (levelled held.now.case) }
     ensures fits { FitsFloor (levelled held.now.case) workspace.new }
 {
     let FloorWorkspace {
@@ -120,8 +122,10 @@ fn make_round(held: &Levelled, from: u16, workspace: &mut FloorWorkspace, meter:
 fn make_rows(base: &Base<'_>, workspace: &mut FloorWorkspace, meter: &mut Meter)
     requires each { HaveRows base.now.case.now base.now.from base.now.given.now }
     requires fits { FitsFloor base.now.case.now workspace.old }
-    requires room { meter.old + nurse_count base.now.case.now * greatest_extension_count base.now.case.now ≤ greatest_u64 }
-    ensures counted { meter.new ≤ meter.old + nurse_count base.now.case.now * greatest_extension_count base.now.case.now }
+    requires room { meter.old + nurse_count base.now.case.now * greatest_extension_count
+        base.now.case.now ≤ greatest_u64 }
+    ensures counted { meter.new ≤ meter.old + nurse_count base.now.case.now
+        * greatest_extension_count base.now.case.now }
     ensures fits { FitsFloor base.now.case.now workspace.new }
 {
     let terms = Terms {

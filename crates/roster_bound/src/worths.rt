@@ -50,7 +50,8 @@ impl Worths {
     pub fn even(alloc: Global, case: &Case, worth: u16) -> Result<Worths, AllocError>
         requires { worth ≤ most_worth }
         ensures days { IfOk result (λ worths. worths.days ≡ day_count case.now) }
-        ensures fine { IfOk result (λ worths. worths.fine ≡ replicate (64 * day_count case.now) (256 * worth)) }
+        ensures fine { IfOk result (λ worths. worths.fine ≡ replicate (64 * day_count case.now)
+            (256 * worth)) }
     {
         let days = case.days();
         Ok(Worths {
@@ -112,7 +113,8 @@ impl Worths {
 fn even_worth(case: &Case, place: usize, worth: u16) -> u32
     requires place { place < 64 * day_count case.now }
     requires worth { worth ≤ most_worth }
-    ensures fine { result ≡ 256 * even_worths case.now worth (place / 64) (place % 64 / 8) (place % 8) }
+    ensures fine { result ≡ 256 * even_worths case.now worth (place / 64) (place % 64 / 8)
+        (place % 8) }
     ensures within { result ≤ most_fine }
 {
     if asks_for_nurses(case, place) {

@@ -12,7 +12,8 @@ use roster_rules::{Choice, Shift, Skill, choice_on, last_shift, may_take};
 /// Whether each choice of a row of the case is open on its day and may follow the one before it.
 pub(crate) fn is_open_row(held: &Held, nurse: usize, row: &[Choice]) -> bool
     requires { nurse < nurse_count held.now.case }
-    ensures { result ≡ is_open_row held.now.case held.now.roster nurse row.now (day_count held.now.case) }
+    ensures { result ≡ is_open_row held.now.case held.now.roster nurse row.now
+        (day_count held.now.case) }
 {
     let case = held.case();
     let mut last = last_shift(case.past(nurse).border);
@@ -30,7 +31,8 @@ pub(crate) fn is_open_row(held: &Held, nurse: usize, row: &[Choice]) -> bool
 fn may_follow(held: &Held, nurse: usize, day: u16, last: Option<Shift>, choice: Choice) -> bool
     requires nurse { nurse < nurse_count held.now.case }
     requires day { day < day_count held.now.case }
-    ensures { result ≡ (is_open held.now.case held.now.roster nurse day choice && not (forbids held.now.case.successions last (shift_of choice))) }
+    ensures { result ≡ (is_open held.now.case held.now.roster nurse day choice && not
+        (forbids held.now.case.successions last (shift_of choice))) }
 {
     is_open(held, nurse, day, choice) && !held.case().forbids_next(last, choice.shift())
 }
@@ -47,7 +49,8 @@ fn is_open(held: &Held, nurse: usize, day: u16, choice: Choice) -> bool
 fn meets(held: &Held, nurse: usize, day: u16, choice: Choice) -> bool
     requires nurse { nurse < nurse_count held.now.case }
     requires day { day < day_count held.now.case }
-    ensures { result ≡ meets held.now.case day (with_choice (others held.now.roster nurse day) choice) }
+    ensures { result ≡ meets held.now.case day
+        (with_choice (others held.now.roster nurse day) choice) }
 {
     let case = held.case();
     let (shifts, skills) = (case.shifts(), case.skills());
@@ -67,7 +70,8 @@ fn meets_at(held: &Held, nurse: usize, day: u16, choice: Choice, shift: Shift, s
     requires day { day < day_count held.now.case }
     requires shift { shift.0 < shift_count held.now.case }
     requires skill { skill.0 < skill_count held.now.case }
-    ensures { result ≡ not (nat_lt (with_choice (others held.now.roster nurse day) choice shift.0 skill.0) (minimum held.now.case day shift.0 skill.0)) }
+    ensures { result ≡ not (nat_lt (with_choice (others held.now.roster nurse day) choice shift.0
+        skill.0) (minimum held.now.case day shift.0 skill.0)) }
 {
     let need = held.case().need(day, shift, skill).least;
     let own = choice == Choice::Work(shift, skill);

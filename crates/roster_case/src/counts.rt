@@ -63,7 +63,8 @@ impl Counts {
     pub(crate) fn cover(&self, day: u16, shift: Shift, skill: Skill) -> u16
         requires day { day < length self.now.days.items }
         requires place { shift.0 < 8 × skill.0 < 8 }
-        ensures { result ≡ number_at (slice_index_or self.now.days.items day no_day).covers shift.0 skill.0 }
+        ensures { result ≡ number_at (slice_index_or self.now.days.items day no_day).covers shift.0
+            skill.0 }
     {
         self.days[day as usize].covers[place(shift, skill)]
     }
@@ -80,7 +81,8 @@ impl Counts {
     #[tactic(auto, using(roster_rules::proofs::CountLemmas::sum_more))]
     pub(crate) fn rest(&self, nurse: usize) -> u64
         requires { length self.now.nurse_costs.items ≤ most_nurses }
-        ensures cost { result ≡ sum_below (length self.now.nurse_costs.items) (λ m. if m == nurse then 0 else slice_index_or self.now.nurse_costs.items m 0) }
+        ensures cost { result ≡ sum_below (length self.now.nurse_costs.items)
+            (λ m. if m == nurse then 0 else slice_index_or self.now.nurse_costs.items m 0) }
         ensures within { result ≤ most_nurses * 4294967295 }
     {
         let mut cost = 0;
@@ -97,7 +99,9 @@ impl Counts {
     pub(crate) fn total(&self) -> u64
         requires nurses { length self.now.nurse_costs.items ≤ most_nurses }
         requires staffing { self.now.staffing_cost ≤ most_staffing }
-        ensures { result ≡ self.now.staffing_cost + sum_below (length self.now.nurse_costs.items) (λ n. slice_index_or self.now.nurse_costs.items n 0) }
+        ensures { result ≡ self.now.staffing_cost
+            + sum_below (length self.now.nurse_costs.items)
+            (λ n. slice_index_or self.now.nurse_costs.items n 0) }
     {
         let mut cost = 0;
         for nurse in 0..self.nurse_costs.len() {
@@ -131,7 +135,8 @@ fn staffing_of(
 ) -> Result<(Vec<DayCounts>, u64), AllocError>
     requires { fits_case case.now roster.now ≡ true }
     ensures days { IfOk result (λ r. length r.0.items ≡ day_count case.now) }
-    ensures counts { IfOk result (λ r. (d : ℕ) → d < day_count case.now → IsDay case.now roster.now d (slice_index_or r.0.items d no_day)) }
+    ensures counts { IfOk result (λ r. (d : ℕ) → d < day_count case.now →
+        IsDay case.now roster.now d (slice_index_or r.0.items d no_day)) }
     ensures cost { IfOk result (λ r. r.1 ≡ staffing_cost case.now roster.now) }
 {
     case.keeps_limits();
@@ -150,7 +155,8 @@ fn staffing_of(
 fn nurse_costs_of(alloc: Global, case: &Case, roster: &Roster) -> Result<Vec<u32>, AllocError>
     requires { fits_case case.now roster.now ≡ true }
     ensures nurses { IfOk result (λ costs. length costs.items ≡ nurse_count case.now) }
-    ensures costs { IfOk result (λ costs. (n : ℕ) → n < nurse_count case.now → slice_index_or costs.items n 0 ≡ nurse_cost case.now n (days_of_nurse roster.now n)) }
+    ensures costs { IfOk result (λ costs. (n : ℕ) → n < nurse_count case.now →
+        slice_index_or costs.items n 0 ≡ nurse_cost case.now n (days_of_nurse roster.now n)) }
 {
     let mut costs = Vec::with_capacity(alloc, case.nurses())?;
     for nurse in 0..case.nurses() {

@@ -141,7 +141,8 @@ impl Held {
     /// The choices of a nurse, one for each day.
     pub fn row(&self, nurse: usize) -> &[Choice]
         ensures row { result.now ≡ row_of self.now.roster nurse }
-        ensures days { nurse < nurse_count self.now.case → length result.now ≡ day_count self.now.case }
+        ensures days { nurse < nurse_count self.now.case →
+            length result.now ≡ day_count self.now.case }
     {
         self.roster.row(nurse)
     }
@@ -162,7 +163,8 @@ impl Held {
     /// How many nurses a day lacks to its optimums, over all shifts and skills. It is known, and isn't counted anew.
     pub fn lacking(&self, day: u16) -> u32
         requires { day < day_count self.now.case }
-        ensures lacking { result ≡ lacking self.now.case (optimum self.now.case day) (cover self.now.roster day) }
+        ensures lacking { result ≡ lacking self.now.case (optimum self.now.case day)
+            (cover self.now.roster day) }
         ensures within { result ≤ most_shifts * most_skills * most_small }
     {
         self.case.keeps_limits();
@@ -209,7 +211,11 @@ impl Held {
     pub fn replace_row(&mut self, nurse: usize, row: &[Choice])
         requires nurse { nurse < nurse_count self.old.case }
         requires keeps { row_keeps self.old.case self.old.roster nurse row.now ≡ true }
-        ensures { self.new ≡ record { case = self.old.case; roster = with_row self.old.roster nurse row.now } }
+        ensures { self.new ≡ record {
+          case = self.old.case;
+          roster = with_row self.old.roster nurse
+              row.now;
+        } }
     {
         self.counts
             .replace_row(&self.case, &self.roster, nurse, row);

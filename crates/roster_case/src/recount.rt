@@ -35,10 +35,14 @@ pub(crate) fn recount(
     requires nurse { nurse < nurse_count case.now }
     requires row { is_row_of case.now row.now ≡ true }
     requires days { length days.old ≡ day_count case.now }
-    requires counts { (d : ℕ) → d < day_count case.now → IsDay case.now roster.now d (slice_index_or days.old d no_day) }
+    requires counts { (d : ℕ) → d < day_count case.now →
+        IsDay case.now roster.now d (slice_index_or days.old d no_day) }
     ensures days { length days.new ≡ day_count case.now }
-    ensures counts { (d : ℕ) → d < day_count case.now → IsDay case.now (with_row roster.now nurse row.now) d (slice_index_or days.new d no_day) }
-    ensures staffing { staffing_cost case.now (with_row roster.now nurse row.now) + staffing_weight * result.fewer ≡ staffing_cost case.now roster.now + staffing_weight * result.more }
+    ensures counts { (d : ℕ) → d < day_count case.now →
+        IsDay case.now (with_row roster.now nurse row.now) d (slice_index_or days.new d no_day) }
+    ensures staffing { staffing_cost case.now (with_row roster.now nurse row.now)
+        + staffing_weight * result.fewer ≡ staffing_cost case.now roster.now
+        + staffing_weight * result.more }
     ensures more { result.more ≤ most_days }
     ensures fewer { result.fewer ≤ most_days }
 {
@@ -64,10 +68,12 @@ fn exchange_on_day(
 ) -> Change
     requires old { is_choice_of case.now old ≡ true }
     requires new { is_choice_of case.now new ≡ true }
-    requires numbers { (s k : ℕ) → s < most_shifts → k < most_skills → number_at counts.old.covers s k < u16.MAX }
+    requires numbers { (s k : ℕ) → s < most_shifts → k < most_skills →
+        number_at counts.old.covers s k < u16.MAX }
     requires counted { IsCounted counts.old.covers old }
     requires few { counts.old.lacking ≤ most_shifts * most_skills * most_small }
-    ensures table { (have : ℕ → ℕ → ℕ) → IsTable (with_choice have old) counts.old.covers → IsTable (with_choice have new) counts.new.covers }
+    ensures table { (have : ℕ → ℕ → ℕ) → IsTable (with_choice have old) counts.old.covers →
+        IsTable (with_choice have new) counts.new.covers }
     ensures lacking { (have : ℕ → ℕ → ℕ) → IsTable (with_choice have old) counts.old.covers →
         lacking case.now (optimum case.now day) (with_choice have new) + result.fewer ≡ lacking case.now (optimum case.now day) (with_choice have old) + result.more }
     ensures kept { counts.new.lacking ≡ counts.old.lacking + result.more - result.fewer }
@@ -83,9 +89,11 @@ fn exchange_on_day(
 fn exchange(case: &Case, day: u16, table: &mut [u16; 64], old: Choice, new: Choice) -> Change
     requires old { is_choice_of case.now old ≡ true }
     requires new { is_choice_of case.now new ≡ true }
-    requires numbers { (s k : ℕ) → s < most_shifts → k < most_skills → number_at table.old s k < u16.MAX }
+    requires numbers { (s k : ℕ) → s < most_shifts → k < most_skills →
+        number_at table.old s k < u16.MAX }
     requires counted { IsCounted table.old old }
-    ensures table { (have : ℕ → ℕ → ℕ) → IsTable (with_choice have old) table.old → IsTable (with_choice have new) table.new }
+    ensures table { (have : ℕ → ℕ → ℕ) → IsTable (with_choice have old) table.old →
+        IsTable (with_choice have new) table.new }
     ensures lacking { (have : ℕ → ℕ → ℕ) → IsTable (with_choice have old) table.old →
         lacking case.now (optimum case.now day) (with_choice have new) + result.fewer ≡ lacking case.now (optimum case.now day) (with_choice have old) + result.more }
     ensures more { result.more ≤ 1 }
@@ -119,8 +127,10 @@ fn lacks(case: &Case, day: u16, table: &[u16; 64], choice: Choice) -> bool
 /// One nurse more with this choice.
 fn put(table: &mut [u16; 64], choice: Choice)
     requires place { HasPlace choice }
-    requires numbers { (s k : ℕ) → s < most_shifts → k < most_skills → number_at table.old s k < u16.MAX }
-    ensures { (have : ℕ → ℕ → ℕ) → IsTable have table.old → IsTable (with_choice have choice) table.new }
+    requires numbers { (s k : ℕ) → s < most_shifts → k < most_skills →
+        number_at table.old s k < u16.MAX }
+    ensures { (have : ℕ → ℕ → ℕ) → IsTable have table.old →
+        IsTable (with_choice have choice) table.new }
 {
     if let Choice::Work(shift, skill) = choice {
         table[place(shift, skill)] += 1;
@@ -131,7 +141,8 @@ fn put(table: &mut [u16; 64], choice: Choice)
 fn take_away(table: &mut [u16; 64], choice: Choice)
     requires place { HasPlace choice }
     requires counted { IsCounted table.old choice }
-    ensures table { (have : ℕ → ℕ → ℕ) → IsTable (with_choice have choice) table.old → IsTable have table.new }
+    ensures table { (have : ℕ → ℕ → ℕ) → IsTable (with_choice have choice) table.old →
+        IsTable have table.new }
     ensures fewer { (s k : ℕ) → s < 8 → k < 8 → number_at table.new s k ≤ number_at table.old s k }
 {
     if let Choice::Work(shift, skill) = choice {

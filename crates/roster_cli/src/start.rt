@@ -68,7 +68,8 @@ fn refuse_words<Out: Write + Drop, Log: Write>(
     output: BufWriter<Out>,
     log: &mut Watch<Log>,
 ) -> (u8, BufWriter<Out>)
-    ensures told { TellsWords (writer_contents Out.contents) writer_buffer Log.contents fault result.0 output result.1 log.old log.new }
+    ensures told { TellsWords (writer_contents Out.contents) writer_buffer Log.contents fault
+        result.0 output result.1 log.old log.new }
 {
     match fault {
         CliFault::Memory => (refuse(TextFault::Memory, log), output),
@@ -86,7 +87,8 @@ fn help<Out: Write + Drop, Log: Write>(
     mut output: BufWriter<Out>,
     log: &mut Watch<Log>,
 ) -> (u8, BufWriter<Out>)
-    ensures sent { SendsText (writer_contents Out.contents) writer_buffer Log.contents text.now result.0 output result.1 log.old log.new }
+    ensures sent { SendsText (writer_contents Out.contents) writer_buffer Log.contents text.now
+        result.0 output result.1 log.old log.new }
 {
     match output.write_all(text) {
         Ok(()) => flush(output, log),
@@ -162,8 +164,10 @@ fn flush<Out: Write + Drop, Log: Write>(
     log: &mut Watch<Log>,
 ) -> (u8, BufWriter<Out>)
     ensures sent { result.0 ≡ 0 → (writer_buffer result.1 ≡ []) × (log.new ≡ log.old) }
-    ensures failed { (result.0 ≡ 0 → ⊥) → (result.0 ≡ 3) × Logs Log.contents log.old log.new (codes "write failed\n") }
-    ensures bytes { Keeps (writer_contents Out.contents output) (writer_contents Out.contents result.1) }
+    ensures failed { (result.0 ≡ 0 → ⊥) → (result.0 ≡ 3)
+        × Logs Log.contents log.old log.new (codes "write failed\n") }
+    ensures bytes { Keeps (writer_contents Out.contents output)
+        (writer_contents Out.contents result.1) }
 {
     match output.flush() {
         Ok(()) => (0, output),

@@ -36,8 +36,11 @@ pub(crate) fn report_best<'a, Out: Write, Log: Write>(
     log: &mut Watch<Log>,
 ) -> Result<(), Fault<'a>>
     requires { fits_case instance.case instance.roster ≡ true }
-    ensures ends { Ends (output_of Out.contents output.old output.new) (best_report name.now from instance.case instance.roster) source.now instance.bundle (outcome_of result) }
-    ensures logged { LeavesLog (output_of Log.contents log.old log.new) (best_report name.now from instance.case instance.roster).log (outcome_of result) }
+    ensures ends { Ends (output_of Out.contents output.old output.new)
+        (best_report name.now from instance.case instance.roster) source.now instance.bundle
+        (outcome_of result) }
+    ensures logged { LeavesLog (output_of Log.contents log.old log.new)
+        (best_report name.now from instance.case instance.roster).log (outcome_of result) }
 {
     let mut meter = Meter::new(&mut instance.case);
     let mut held = hold(alloc, source, instance)?;
@@ -77,9 +80,14 @@ fn put_best_row<Log: Write>(
     requires fits { fits_space held.old.case workspace.old ≡ true }
     requires none { meter.old ≡ 0 }
     requires room { extension_count held.old.case nurse ≤ greatest_u64 }
-    ensures put { OnOk result (held.new ≡ record { case = held.old.case; roster = with_best held.old.case from held.old.roster nurse }) }
-    ensures ok { OnOk result (Writes Log.contents log.old log.new (best_log (penalty held.old.case held.old.roster) name.now (penalty held.old.case (with_best held.old.case from held.old.roster nurse)))) }
-    ensures err { OnErr result (Stops Log.contents log.old log.new (best_log (penalty held.old.case held.old.roster) name.now (penalty held.old.case (with_best held.old.case from held.old.roster nurse)))) }
+    ensures put { OnOk result (held.new ≡ record
+        { case = held.old.case; roster = with_best held.old.case from held.old.roster nurse }) }
+    ensures ok { OnOk result (Writes Log.contents log.old log.new
+        (best_log (penalty held.old.case held.old.roster) name.now
+        (penalty held.old.case (with_best held.old.case from held.old.roster nurse)))) }
+    ensures err { OnErr result (Stops Log.contents log.old log.new
+        (best_log (penalty held.old.case held.old.roster) name.now
+        (penalty held.old.case (with_best held.old.case from held.old.roster nurse)))) }
 {
     write_start(held.total(), log)?;
     let best = best_row(held, nurse, from, workspace, meter);
@@ -105,8 +113,10 @@ fn write_start<Log: Write>(total: u64, log: &mut Watch<Log>) -> Result<(), Write
 
 /// Writes what it costs with the best row of the nurse of this name.
 fn write_best<Log: Write>(name: &[u8], total: u64, log: &mut Watch<Log>) -> Result<(), WriteFault>
-    ensures ok { OnOk result (Writes Log.contents log.old log.new (line (codes "best " ++ name.now) total)) }
-    ensures err { OnErr result (Stops Log.contents log.old log.new (line (codes "best " ++ name.now) total)) }
+    ensures ok { OnOk result (Writes Log.contents log.old log.new
+        (line (codes "best " ++ name.now) total)) }
+    ensures err { OnErr result (Stops Log.contents log.old log.new
+        (line (codes "best " ++ name.now) total)) }
 {
     write_pieces(
         log,

@@ -36,7 +36,10 @@ pub(crate) fn report<'a, Out: Write, Log: Write>(
     log: &mut Watch<Log>,
 ) -> Result<(), Fault<'a>>
     requires { fits_case instance.case instance.roster ≡ true }
-    ensures { Reports (output_of Out.contents output.old output.new) (output_of Log.contents log.old log.new) (IsReportOf command.now instance.case instance.roster) source.now instance.bundle (outcome_of result) }
+    ensures { Reports (output_of Out.contents output.old output.new)
+        (output_of Log.contents log.old log.new)
+        (IsReportOf command.now instance.case instance.roster) source.now instance.bundle
+        (outcome_of result) }
 {
     match command {
         Command::Show => show_weeks(&instance.case, &instance.roster, output),
@@ -96,7 +99,8 @@ fn report_cost<'a, Out: Write>(
     output: &mut Watch<Out>,
 ) -> Result<(), Fault<'a>>
     requires { fits_case instance.case instance.roster ≡ true }
-    ensures ends { Ends (output_of Out.contents output.old output.new) (cost_report instance.case instance.roster) source.now instance.bundle (outcome_of result) }
+    ensures ends { Ends (output_of Out.contents output.old output.new)
+        (cost_report instance.case instance.roster) source.now instance.bundle (outcome_of result) }
 {
     let held = hold(alloc, source, instance)?;
     Ok(write_costs(output, held.costs())?)
@@ -104,7 +108,8 @@ fn report_cost<'a, Out: Write>(
 
 fn report_sizes<'a, Out: Write>(case: &Case, output: &mut Watch<Out>) -> Result<(), Fault<'a>>
     ensures ok { OnOk result (Writes Out.contents output.old output.new (sizes_text case.now)) }
-    ensures err { IfErr result (StopsOutput Out.contents output.old output.new (sizes_text case.now)) }
+    ensures err { IfErr result (StopsOutput Out.contents output.old output.new
+        (sizes_text case.now)) }
 {
     Ok(write_sizes(output, case)?)
 }

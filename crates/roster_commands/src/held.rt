@@ -18,9 +18,11 @@ pub(crate) fn hold<'a>(
     instance: Instance,
 ) -> Result<Held, Fault<'a>>
     requires { fits_case instance.case instance.roster ≡ true }
-    ensures held { IfOk result (λ held. held ≡ record { case = instance.case; roster = instance.roster }) }
+    ensures held { IfOk result (λ held. held ≡ record
+        { case = instance.case; roster = instance.roster }) }
     ensures kept { OnOk result (hard_faults instance.case instance.roster ≡ []) }
-    ensures unheld { IfErr result (IsUnheld source.now instance.bundle (hard_faults instance.case instance.roster)) }
+    ensures unheld { IfErr result (IsUnheld source.now instance.bundle
+        (hard_faults instance.case instance.roster)) }
 {
     let (bundle, case, roster) = instance.into_parts();
     match Held::new(alloc, case, roster) {

@@ -26,8 +26,11 @@ pub(crate) fn report_improve<'a, Out: Write, Log: Write>(
     log: &mut Watch<Log>,
 ) -> Result<(), Fault<'a>>
     requires { fits_case instance.case instance.roster ≡ true }
-    ensures ends { Ends (output_of Out.contents output.old output.new) (improve_report rounds from instance.case instance.roster) source.now instance.bundle (outcome_of result) }
-    ensures logged { LeavesLog (output_of Log.contents log.old log.new) (improve_report rounds from instance.case instance.roster).log (outcome_of result) }
+    ensures ends { Ends (output_of Out.contents output.old output.new)
+        (improve_report rounds from instance.case instance.roster) source.now instance.bundle
+        (outcome_of result) }
+    ensures logged { LeavesLog (output_of Log.contents log.old log.new)
+        (improve_report rounds from instance.case instance.roster).log (outcome_of result) }
 {
     let mut meter = Meter::new(&mut instance.case);
     let mut held = hold(alloc, source, instance)?;

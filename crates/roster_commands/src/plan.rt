@@ -32,7 +32,10 @@ pub(crate) fn report_plan<'a, Out: Write, Log: Write>(
     log: &mut Watch<Log>,
 ) -> Result<(), Fault<'a>>
     requires { fits_case instance.case instance.roster ≡ true }
-    ensures { Reports (output_of Out.contents output.old output.new) (output_of Log.contents log.old log.new) (IsPlanReport course.now.searches course.now.from course.now.kicks instance.case instance.roster) source.now instance.bundle (outcome_of result) }
+    ensures { Reports (output_of Out.contents output.old output.new)
+        (output_of Log.contents log.old log.new)
+        (IsPlanReport course.now.searches course.now.from course.now.kicks instance.case
+        instance.roster) source.now instance.bundle (outcome_of result) }
 {
     let Instance { case, roster, .. } = &mut instance;
     if let Some(fault) = first_unmendable(case, roster, course.from) {
@@ -60,9 +63,11 @@ pub(crate) fn report_plan<'a, Out: Write, Log: Write>(
 /// Holds the roster that was found. The fault is its first breach of the hard rules, or else want of memory.
 fn hold_found<'a>(alloc: Global, source: &'a [u8], instance: Instance) -> Result<Held, Fault<'a>>
     requires { fits_case instance.case instance.roster ≡ true }
-    ensures held { IfOk result (λ held. held ≡ record { case = instance.case; roster = instance.roster }) }
+    ensures held { IfOk result (λ held. held ≡ record
+        { case = instance.case; roster = instance.roster }) }
     ensures kept { OnOk result (hard_faults instance.case instance.roster ≡ []) }
-    ensures unfound { IfErr result (IsUnfound source.now instance.bundle (hard_faults instance.case instance.roster)) }
+    ensures unfound { IfErr result (IsUnfound source.now instance.bundle
+        (hard_faults instance.case instance.roster)) }
 {
     match hold(alloc, source, instance) {
         Ok(held) => Ok(held),

@@ -26,7 +26,10 @@ pub(crate) fn report_polish<'a, Out: Write, Log: Write>(
     log: &mut Watch<Log>,
 ) -> Result<(), Fault<'a>>
     requires { fits_case instance.case instance.roster ≡ true }
-    ensures { Reports (output_of Out.contents output.old output.new) (output_of Log.contents log.old log.new) (IsPolishReport course.now.searches course.now.from course.now.kicks instance.case instance.roster) source.now instance.bundle (outcome_of result) }
+    ensures { Reports (output_of Out.contents output.old output.new)
+        (output_of Log.contents log.old log.new)
+        (IsPolishReport course.now.searches course.now.from course.now.kicks instance.case
+        instance.roster) source.now instance.bundle (outcome_of result) }
 {
     let mut meter = Meter::new(&mut instance.case);
     let mut held = hold(alloc, source, instance)?;

@@ -82,7 +82,8 @@ fn roster_of(alloc: Global, source: &[u8], bundle: &Bundle) -> Result<(Case, Ros
     ensures roster { IfOk result (λ r. r.1 ≡ rows_of source.now r.0 bundle.now) }
     ensures fitting { IfOk result (λ r. fits_case r.0 r.1 ≡ true) }
     ensures taken { OnOk result (all_faults source.now bundle.now ≡ []) }
-    ensures refused { IfErr result (λ f. f ≢ CaseFault.Memory → first_fault (all_faults source.now bundle.now) ≡ Some f) }
+    ensures refused { IfErr result (λ f. f ≢ CaseFault.Memory →
+        first_fault (all_faults source.now bundle.now) ≡ Some f) }
 {
     let case = Case::from_bundle(alloc, bundle, source)?;
     let roster = Roster::from_bundle(alloc, &case, bundle, source)?;

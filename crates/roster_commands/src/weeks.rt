@@ -19,8 +19,10 @@ pub(crate) fn show_weeks<'a, Out: Write>(
     output: &mut Watch<Out>,
 ) -> Result<(), Fault<'a>>
     requires { fits_case case.now roster.now ≡ true }
-    ensures ok { OnOk result (Writes Out.contents output.old output.new (weeks_text case.now roster.now)) }
-    ensures err { IfErr result (StopsOutput Out.contents output.old output.new (weeks_text case.now roster.now)) }
+    ensures ok { OnOk result (Writes Out.contents output.old output.new
+        (weeks_text case.now roster.now)) }
+    ensures err { IfErr result (StopsOutput Out.contents output.old output.new
+        (weeks_text case.now roster.now)) }
 {
     Ok(write_weeks(output, case, roster)?)
 }

@@ -49,7 +49,8 @@ fn first_understaffed(case: &Case, roster: &Roster) -> Option<HardFault>
 /// The same of one day, whose nurses are counted once.
 fn understaffed_on(case: &Case, roster: &Roster, day: u16) -> Option<HardFault>
     requires { fits_case case.now roster.now ≡ true }
-    ensures { result ≡ first_fault (below (shift_count case.now) (λ s. below (skill_count case.now) (λ k. staffing_fault case.now roster.now day s k))) }
+    ensures { result ≡ first_fault (below (shift_count case.now)
+        (λ s. below (skill_count case.now) (λ k. staffing_fault case.now roster.now day s k))) }
 {
     let (shifts, skills) = (case.shifts(), case.skills());
     let covers = covers(case, roster, day);
@@ -66,7 +67,8 @@ fn understaffed_on(case: &Case, roster: &Roster, day: u16) -> Option<HardFault>
 
 /// The breach where so many nurses are fewer than the minimum.
 fn understaffed(case: &Case, day: u16, shift: Shift, skill: Skill, have: u16) -> Option<HardFault>
-    ensures { result ≡ first_fault (fault_if (nat_lt have (minimum case.now day shift.0 skill.0)) (H2 day shift skill have (minimum case.now day shift.0 skill.0))) }
+    ensures { result ≡ first_fault (fault_if (nat_lt have (minimum case.now day shift.0 skill.0))
+        (H2 day shift skill have (minimum case.now day shift.0 skill.0))) }
 {
     let need = case.need(day, shift, skill).least;
     if have >= need {
@@ -110,7 +112,8 @@ fn succession_of(case: &Case, roster: &Roster, nurse: usize, days: u16) -> Optio
     requires fitting { fits_case case.now roster.now ≡ true }
     requires within { nurse < nurse_count case.now }
     requires days { days ≤ day_count case.now }
-    ensures { result ≡ first_fault (below days (λ d. succession_fault case.now roster.now nurse d)) }
+    ensures { result ≡ first_fault (below days
+        (λ d. succession_fault case.now roster.now nurse d)) }
 {
     let row = roster.row(nurse);
     let mut last = last_shift(case.past(nurse).border);
@@ -144,7 +147,8 @@ pub fn first_unskilled(case: &Case, roster: &Roster) -> Option<HardFault>
 fn unskilled_of(case: &Case, roster: &Roster, nurse: usize) -> Option<HardFault>
     requires fitting { fits_case case.now roster.now ≡ true }
     requires within { nurse < nurse_count case.now }
-    ensures { result ≡ first_fault (below (day_count case.now) (λ d. skill_fault case.now roster.now nurse d)) }
+    ensures { result ≡ first_fault (below (day_count case.now)
+        (λ d. skill_fault case.now roster.now nurse d)) }
 {
     let row = roster.row(nurse);
     let skills = case.skills_of(nurse);

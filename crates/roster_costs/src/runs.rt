@@ -107,7 +107,8 @@ fn shift_run_before(shift: Shift, border: Border) -> u16
 /// open; `before` is the length of the one that stands before the first Monday.
 fn run_violations(limits: Limits, before: u16, row: &[Choice], kind: Kind) -> u64
     requires { length row.now ≤ most_days }
-    ensures violations { result ≡ run_violations limits before (λ d. is_of kind (shift_on (days_of row.now) d)) (length (days_of row.now)) }
+    ensures violations { result ≡ run_violations limits before
+        (λ d. is_of kind (shift_on (days_of row.now) d)) (length (days_of row.now)) }
     ensures within { result ≤ 65536 * length row.now }
 {
     let mut run = before as u32;

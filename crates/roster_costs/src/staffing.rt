@@ -29,7 +29,8 @@ pub fn staffing_cost(case: &Case, roster: &Roster) -> u64
 /// The same of a day, by its table.
 #[tactic(auto, using(roster_rules::proofs::CountLemmas::sum_more))]
 pub fn staffing_cost_of_day(case: &Case, day: u16, covers: &[u16; 64]) -> u64
-    ensures cost { (have : ℕ → ℕ → ℕ) → IsTable have covers.now → result ≡ staffing_cost_by case.now day have }
+    ensures cost { (have : ℕ → ℕ → ℕ) → IsTable have covers.now →
+        result ≡ staffing_cost_by case.now day have }
     ensures within { result ≤ most_staffing_of_day }
 {
     let (shifts, skills) = (case.shifts(), case.skills());

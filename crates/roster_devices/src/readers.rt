@@ -18,7 +18,8 @@ impl Read for OneByteReader<'_> {
 
     fn read(&mut self, buf: &mut [u8]) -> io::Result<usize>
         ensures bound { ReadsAtMost result buf.new }
-        ensures bytes { ReadConsumes (Some self.old.rest.now) (Some self.new.rest.now) result buf.new }
+        ensures bytes { ReadConsumes (Some self.old.rest.now) (Some self.new.rest.now) result
+            buf.new }
         ensures count { result ≡ Ok (min (length self.old.rest.now) (min (length buf.old) 1)) }
     {
         let most = buf.len().min(1);
@@ -40,9 +41,11 @@ impl Read for FailingReader<'_> {
 
     fn read(&mut self, buf: &mut [u8]) -> io::Result<usize>
         ensures bound { ReadsAtMost result buf.new }
-        ensures bytes { ReadConsumes (Some self.old.rest.now) (Some self.new.rest.now) result buf.new }
+        ensures bytes { ReadConsumes (Some self.old.rest.now) (Some self.new.rest.now) result
+            buf.new }
         ensures fails { IsErr result ↔ (self.old.fails_in ≡ 1) }
-        ensures count { OnOk result (result ≡ Ok (min (length self.old.rest.now) (length buf.old))) }
+        ensures count { OnOk result (result ≡ Ok (min (length self.old.rest.now)
+            (length buf.old))) }
         ensures nearer { self.new.fails_in ≡ self.old.fails_in - 1 }
     {
         let fails = self.fails_in == 1;

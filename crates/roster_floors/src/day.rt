@@ -36,7 +36,9 @@ pub(crate) fn set_day(day: &FloorDay<'_>, next: &[u32], here: &mut [u32], meter:
     requires next { AreNext (sizes_of day.now.case.now day.now.nurse) next.now }
     requires room { length here.old ≡ floor_count (sizes_of day.now.case.now day.now.nurse) }
     requires steps { meter.old + day_steps day.now.case.now day.now ≤ greatest_u64 }
-    ensures under { (s : Summary) → fits_sizes (sizes_of day.now.case.now day.now.nurse) s ≡ true → IsUnderAll day.now.case.now day.now next.now s (cell_at (sizes_of day.now.case.now day.now.nurse) here.new s) }
+    ensures under { (s : Summary) → fits_sizes (sizes_of day.now.case.now day.now.nurse) s ≡ true →
+        IsUnderAll day.now.case.now day.now next.now s
+        (cell_at (sizes_of day.now.case.now day.now.nurse) here.new s) }
     ensures low { AreLow here.new }
     ensures length { length here.new ≡ length here.old }
     ensures counted { meter.new ≡ meter.old + day_steps day.now.case.now day.now }
@@ -69,9 +71,14 @@ fn set_after(
     requires onwards { AreOnward day.now.case.now day.now onwards.now }
     requires digit { digit < (sizes_of day.now.case.now day.now.nurse).last }
     requires next { AreNext (sizes_of day.now.case.now day.now.nurse) next.now }
-    requires room { length here.old ≡ (sizes_of day.now.case.now day.now.nurse).run * (sizes_of day.now.case.now day.now.nurse).shift_run }
+    requires room { length here.old ≡ (sizes_of day.now.case.now day.now.nurse).run
+        * (sizes_of day.now.case.now day.now.nurse).shift_run }
     requires steps { meter.old + last_steps day.now.case.now day.now ≤ greatest_u64 }
-    ensures under { (run q : ℕ) → run < (sizes_of day.now.case.now day.now.nurse).run → q < (sizes_of day.now.case.now day.now.nurse).shift_run → UnderCell day.now.case.now day.now next.now digit run q (slice_index_or here.new (run * (sizes_of day.now.case.now day.now.nurse).shift_run + q) 0) }
+    ensures under { (run q : ℕ) → run < (sizes_of day.now.case.now day.now.nurse).run →
+        q < (sizes_of day.now.case.now day.now.nurse).shift_run →
+        UnderCell day.now.case.now day.now next.now digit run q
+        (slice_index_or here.new (run * (sizes_of day.now.case.now day.now.nurse).shift_run + q)
+        0) }
     ensures low { AreLow here.new }
     ensures length { length here.new ≡ length here.old }
     ensures counted { meter.new ≡ meter.old + last_steps day.now.case.now day.now }

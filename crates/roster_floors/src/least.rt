@@ -31,8 +31,10 @@ impl<'a> Floors<'a> {
         requires nurse { search.now.nurse < nurse_count search.now.case.now }
         requires offers { AreOffers search.now.case.now search.now.nurse search.now.offers.now }
         requires small { AreSmall rates }
-        requires inside { (day_count search.now.case.now + 1) * floor_count (sizes_of search.now.case.now search.now.nurse) ≤ length cells.now }
-        requires floors { AreFloors search.now.case.now search.now.nurse rates (offers_on search.now.offers.now) cells.now }
+        requires inside { (day_count search.now.case.now + 1) * floor_count
+            (sizes_of search.now.case.now search.now.nurse) ≤ length cells.now }
+        requires floors { AreFloors search.now.case.now search.now.nurse rates
+            (offers_on search.now.offers.now) cells.now }
         ensures search { result.search ≡ search.now }
         ensures ready { AreReady result }
     {
@@ -61,9 +63,12 @@ pub struct Beside {
 pub fn beside_floor(floors: &Floors<'_>, day: u16, assignments: u16, weekends: u16) -> Beside
     requires ready { AreReady floors.now }
     requires day { day ≤ day_count floors.now.search.case.now }
-    requires assignments { assignments < (sizes_of floors.now.search.case.now floors.now.search.nurse).assignments }
-    requires weekends { weekends < (sizes_of floors.now.search.case.now floors.now.search.nurse).weekends }
-    ensures { IsBeside floors.now.search.case.now floors.now.search.nurse floors.now.rates day assignments weekends result }
+    requires assignments { assignments < (sizes_of floors.now.search.case.now
+        floors.now.search.nurse).assignments }
+    requires weekends { weekends < (sizes_of floors.now.search.case.now
+        floors.now.search.nurse).weekends }
+    ensures { IsBeside floors.now.search.case.now floors.now.search.nurse floors.now.rates day
+        assignments weekends result }
 {
     let left = (floors.days - day) as u32;
     let days = left.min(floors.ranges.assignments() - 1 - assignments as u32);
@@ -82,9 +87,14 @@ pub fn beside_floor(floors: &Floors<'_>, day: u16, assignments: u16, weekends: u
 pub fn at_least_beside(floors: &Floors<'_>, day: u16, state: &State, beside: &Beside) -> u32
     requires ready { AreReady floors.now }
     requires day { day ≤ day_count floors.now.search.case.now }
-    requires fits { fits_sizes (sizes_of floors.now.search.case.now floors.now.search.nurse) state.now ≡ true }
-    requires beside { IsBeside floors.now.search.case.now floors.now.search.nurse floors.now.rates day state.now.assignments state.now.weekends beside.now }
-    ensures least { (cost : ℕ) (row : List Offer) → best_of_offers floors.now.search.case.now floors.now.search.nurse (offers_on floors.now.search.offers.now) (day_count floors.now.search.case.now - day) day state.now ≡ Some (cost, row) → result ≤ cost }
+    requires fits { fits_sizes (sizes_of floors.now.search.case.now floors.now.search.nurse)
+        state.now ≡ true }
+    requires beside { IsBeside floors.now.search.case.now floors.now.search.nurse floors.now.rates
+        day state.now.assignments state.now.weekends beside.now }
+    ensures least { (cost : ℕ) (row : List Offer) →
+        best_of_offers floors.now.search.case.now floors.now.search.nurse
+        (offers_on floors.now.search.offers.now) (day_count floors.now.search.case.now - day) day
+        state.now ≡ Some (cost, row) → result ≤ cost }
 {
     let floor = floors.cells[place(floors, day, state)];
     floor
@@ -97,8 +107,12 @@ pub fn at_least_beside(floors: &Floors<'_>, day: u16, state: &State, beside: &Be
 pub fn at_least(floors: &Floors<'_>, day: u16, state: &State) -> u32
     requires ready { AreReady floors.now }
     requires day { day ≤ day_count floors.now.search.case.now }
-    requires fits { fits_sizes (sizes_of floors.now.search.case.now floors.now.search.nurse) state.now ≡ true }
-    ensures least { (cost : ℕ) (row : List Offer) → best_of_offers floors.now.search.case.now floors.now.search.nurse (offers_on floors.now.search.offers.now) (day_count floors.now.search.case.now - day) day state.now ≡ Some (cost, row) → result ≤ cost }
+    requires fits { fits_sizes (sizes_of floors.now.search.case.now floors.now.search.nurse)
+        state.now ≡ true }
+    ensures least { (cost : ℕ) (row : List Offer) →
+        best_of_offers floors.now.search.case.now floors.now.search.nurse
+        (offers_on floors.now.search.offers.now) (day_count floors.now.search.case.now - day) day
+        state.now ≡ Some (cost, row) → result ≤ cost }
 {
     let beside = beside_floor(floors, day, state.assignments(), state.weekends());
     at_least_beside(floors, day, state, &beside)

@@ -27,8 +27,13 @@ pub(crate) fn set_line(costs: LineCosts, after: &[u32], here: &mut [u32])
     requires leave { costs.leave ≤ most_leave }
     requires stay { costs.stay ≤ most_floor }
     requires low { AreLow after.now }
-    ensures leaves { (q : ℕ) → q < length here.new → slice_index_or here.new q 0 ≤ costs.leave + shift_run_weight * day_violations costs.run q false }
-    ensures stays { (q : ℕ) → q < length here.new → slice_index_or here.new q 0 ≤ costs.stay + shift_run_weight * day_violations costs.run q true + slice_index_or after.now (min (q + 1) (cap costs.run)) 0 }
+    ensures leaves { (q : ℕ) → q < length here.new →
+        slice_index_or here.new q 0 ≤ costs.leave
+        + shift_run_weight * day_violations costs.run q false }
+    ensures stays { (q : ℕ) → q < length here.new →
+        slice_index_or here.new q 0 ≤ costs.stay
+        + shift_run_weight * day_violations costs.run q true
+        + slice_index_or after.now (min (q + 1) (cap costs.run)) 0 }
     ensures low { AreLow here.new }
     ensures length { length here.new ≡ length here.old }
 {

@@ -30,9 +30,14 @@ pub(crate) struct AfterOff {
 pub(crate) fn set_after_off(day: &FloorDay<'_>, next: &[u32], here: &mut [u32], meter: &mut Meter)
     requires day { IsFloorDay day.now.case.now day.now }
     requires next { AreNext (sizes_of day.now.case.now day.now.nurse) next.now }
-    requires room { length here.old ≡ (sizes_of day.now.case.now day.now.nurse).run * (sizes_of day.now.case.now day.now.nurse).shift_run }
+    requires room { length here.old ≡ (sizes_of day.now.case.now day.now.nurse).run
+        * (sizes_of day.now.case.now day.now.nurse).shift_run }
     requires steps { meter.old + last_steps day.now.case.now day.now ≤ greatest_u64 }
-    ensures under { (run q : ℕ) → run < (sizes_of day.now.case.now day.now.nurse).run → q < (sizes_of day.now.case.now day.now.nurse).shift_run → UnderCell day.now.case.now day.now next.now 0 run q (slice_index_or here.new (run * (sizes_of day.now.case.now day.now.nurse).shift_run + q) 0) }
+    ensures under { (run q : ℕ) → run < (sizes_of day.now.case.now day.now.nurse).run →
+        q < (sizes_of day.now.case.now day.now.nurse).shift_run →
+        UnderCell day.now.case.now day.now next.now 0 run q
+        (slice_index_or here.new (run * (sizes_of day.now.case.now day.now.nurse).shift_run + q)
+        0) }
     ensures low { AreLow here.new }
     ensures length { length here.new ≡ length here.old }
     ensures counted { meter.new ≡ meter.old + last_steps day.now.case.now day.now }
@@ -66,7 +71,10 @@ fn set_off(day: &FloorDay<'_>, floor: u32, here: &mut [u32], meter: &mut Meter)
 fn after_off(day: &FloorDay<'_>, next: &[u32]) -> AfterOff
     requires day { IsFloorDay day.now.case.now day.now }
     requires next { AreNext (sizes_of day.now.case.now day.now.nurse) next.now }
-    ensures entries { (k : ℕ) → k < length day.now.offers.now → IsEntry day.now.case.now day.now.nurse day.now.rates day.now.day next.now result.off result.enter (offer_at day.now.offers.now k) (shift_of (offer_at day.now.offers.now k).choice) }
+    ensures entries { (k : ℕ) → k < length day.now.offers.now →
+        IsEntry day.now.case.now day.now.nurse day.now.rates day.now.day next.now result.off
+        result.enter (offer_at day.now.offers.now k)
+        (shift_of (offer_at day.now.offers.now k).choice) }
     ensures within { (result.off ≤ most_leave) × (result.enter ≤ most_leave) }
 {
     let mut after = AfterOff {
@@ -84,7 +92,9 @@ fn add_entry(after: &mut AfterOff, day: &FloorDay<'_>, next: &[u32], place: usiz
     requires day { IsFloorDay day.now.case.now day.now }
     requires next { AreNext (sizes_of day.now.case.now day.now.nurse) next.now }
     requires place { place < length day.now.offers.now }
-    ensures entry { IsEntry day.now.case.now day.now.nurse day.now.rates day.now.day next.now after.new.off after.new.enter (offer_at day.now.offers.now place) (shift_of (offer_at day.now.offers.now place).choice) }
+    ensures entry { IsEntry day.now.case.now day.now.nurse day.now.rates day.now.day next.now
+        after.new.off after.new.enter (offer_at day.now.offers.now place)
+        (shift_of (offer_at day.now.offers.now place).choice) }
     ensures lower { (after.new.off ≤ after.old.off) × (after.new.enter ≤ after.old.enter) }
 {
     let offer = day.offers[place];
@@ -100,7 +110,11 @@ fn entry(day: &FloorDay<'_>, next: &[u32], offer: Offer, shift: Shift) -> u32
     requires next { AreNext (sizes_of day.now.case.now day.now.nurse) next.now }
     requires offer { IsOfferOf day.now.case.now offer }
     requires shift { shift.0 < shift_count day.now.case.now }
-    ensures cost { result ≤ apart_of day.now.case.now day.now.nurse day.now.rates day.now.day false offer + shift_run_weight * day_violations (run_of_shift day.now.case.now shift.0) 0 true + working_run_weight * day_violations (contract_of day.now.case.now day.now.nurse).working 0 true + slice_index_or next.now (begun_place day.now.case.now day.now.nurse shift (min 1 (cap (contract_of day.now.case.now day.now.nurse).working))) 0 }
+    ensures cost { result ≤ apart_of day.now.case.now day.now.nurse day.now.rates day.now.day false
+        offer + shift_run_weight * day_violations (run_of_shift day.now.case.now shift.0) 0 true
+        + working_run_weight * day_violations (contract_of day.now.case.now day.now.nurse).working 0
+        true + slice_index_or next.now (begun_place day.now.case.now day.now.nurse shift
+        (min 1 (cap (contract_of day.now.case.now day.now.nurse).working))) 0 }
 {
     let working = day.rules.working;
     let way = way_to(day, false, offer, shift);
@@ -114,8 +128,12 @@ fn off_floor(day: &FloorDay<'_>, after: &AfterOff, run: usize, next: &[u32]) -> 
     requires next { AreNext (sizes_of day.now.case.now day.now.nurse) next.now }
     requires run { run < (sizes_of day.now.case.now day.now.nurse).run }
     requires within { (after.now.off ≤ most_leave) × (after.now.enter ≤ most_leave) }
-    ensures enter { result ≤ after.now.enter + free_run_weight * day_violations (contract_of day.now.case.now day.now.nurse).free run false }
-    ensures off { result ≤ after.now.off + free_run_weight * day_violations (contract_of day.now.case.now day.now.nurse).free run true + slice_index_or next.now (line_place (sizes_of day.now.case.now day.now.nurse) 0 (longer run (contract_of day.now.case.now day.now.nurse).free)) 0 }
+    ensures enter { result ≤ after.now.enter + free_run_weight * day_violations
+        (contract_of day.now.case.now day.now.nurse).free run false }
+    ensures off { result ≤ after.now.off + free_run_weight * day_violations
+        (contract_of day.now.case.now day.now.nurse).free run true
+        + slice_index_or next.now (line_place (sizes_of day.now.case.now day.now.nurse) 0
+        (longer run (contract_of day.now.case.now day.now.nurse).free)) 0 }
     ensures within { result ≤ most_leave }
 {
     let free = day.rules.free;

@@ -32,8 +32,10 @@ pub fn set_floors(
     requires room { meter.old
         + floor_steps search.now.case.now search.now.nurse (offers_on search.now.offers.now)
         ≤ greatest_u64 }
-    ensures floors { result ≡ true → AreFloors search.now.case.now search.now.nurse rates (offers_on search.now.offers.now) floors.new }
-    ensures room { (result ≡ true) ↔ ((day_count search.now.case.now + 1) * floor_count (sizes_of search.now.case.now search.now.nurse) ≤ length floors.old) }
+    ensures floors { result ≡ true → AreFloors search.now.case.now search.now.nurse rates
+        (offers_on search.now.offers.now) floors.new }
+    ensures room { (result ≡ true) ↔ ((day_count search.now.case.now + 1) * floor_count
+        (sizes_of search.now.case.now search.now.nurse) ≤ length floors.old) }
     ensures length { length floors.new ≡ length floors.old }
     ensures counted { result ≡ true → meter.new ≡ meter.old
         + floor_steps search.now.case.now search.now.nurse (offers_on search.now.offers.now) }
@@ -94,7 +96,9 @@ fn floor_day<'a>(search: &RowSearch<'a>, rates: Rates, ranges: &Ranges, day: u16
     requires ranges { ranges.now ≡ sizes_of search.now.case.now search.now.nurse }
     requires day { day < day_count search.now.case.now }
     ensures day { IsFloorDay search.now.case.now result }
-    ensures of { (result.case.now ≡ search.now.case.now) × (result.nurse ≡ search.now.nurse) × (result.day ≡ day) × (result.rates ≡ rates) × (result.offers.now ≡ offers_on search.now.offers.now day) }
+    ensures of { (result.case.now ≡ search.now.case.now) × (result.nurse ≡ search.now.nurse)
+        × (result.day ≡ day) × (result.rates ≡ rates)
+        × (result.offers.now ≡ offers_on search.now.offers.now day) }
 {
     FloorDay {
         case: search.case,
@@ -114,10 +118,12 @@ fn set_before(day: &FloorDay<'_>, first: usize, count: usize, floors: &mut [u32]
     requires day { IsFloorDay day.now.case.now day.now }
     requires count { count ≡ floor_count (sizes_of day.now.case.now day.now.nurse) }
     requires room { first + count + count ≤ length floors.old }
-    requires low { (k : ℕ) → k < count → slice_index_or floors.old (first + count + k) 0 ≤ most_floor }
+    requires low { (k : ℕ) → k < count → slice_index_or floors.old (first + count + k)
+        0 ≤ most_floor }
     requires steps { meter.old + day_steps day.now.case.now day.now ≤ greatest_u64 }
     ensures under { IsSetDay day.now.case.now day.now first floors.new }
-    ensures kept { (k : ℕ) → first + count ≤ k → slice_index_or floors.new k 0 ≡ slice_index_or floors.old k 0 }
+    ensures kept { (k : ℕ) → first + count ≤ k →
+        slice_index_or floors.new k 0 ≡ slice_index_or floors.old k 0 }
     ensures low { (k : ℕ) → k < count → slice_index_or floors.new (first + k) 0 ≤ most_floor }
     ensures length { length floors.new ≡ length floors.old }
     ensures counted { meter.new ≡ meter.old + day_steps day.now.case.now day.now }

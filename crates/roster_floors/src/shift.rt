@@ -38,9 +38,14 @@ pub(crate) fn set_after_shift(
     requires onwards { AreOnward day.now.case.now day.now onwards.now }
     requires last { last.0 < shift_count day.now.case.now }
     requires next { AreNext (sizes_of day.now.case.now day.now.nurse) next.now }
-    requires room { length here.old ≡ (sizes_of day.now.case.now day.now.nurse).run * (sizes_of day.now.case.now day.now.nurse).shift_run }
+    requires room { length here.old ≡ (sizes_of day.now.case.now day.now.nurse).run
+        * (sizes_of day.now.case.now day.now.nurse).shift_run }
     requires steps { meter.old + last_steps day.now.case.now day.now ≤ greatest_u64 }
-    ensures under { (run q : ℕ) → run < (sizes_of day.now.case.now day.now.nurse).run → q < (sizes_of day.now.case.now day.now.nurse).shift_run → UnderCell day.now.case.now day.now next.now (last.0 + 1) run q (slice_index_or here.new (run * (sizes_of day.now.case.now day.now.nurse).shift_run + q) 0) }
+    ensures under { (run q : ℕ) → run < (sizes_of day.now.case.now day.now.nurse).run →
+        q < (sizes_of day.now.case.now day.now.nurse).shift_run →
+        UnderCell day.now.case.now day.now next.now (last.0 + 1) run q
+        (slice_index_or here.new (run * (sizes_of day.now.case.now day.now.nurse).shift_run + q)
+        0) }
     ensures low { AreLow here.new }
     ensures length { length here.new ≡ length here.old }
     ensures counted { meter.new ≡ meter.old + last_steps day.now.case.now day.now }
@@ -99,7 +104,9 @@ fn set_run(
     requires run { run < (sizes_of day.now.case.now day.now.nurse).run }
     requires room { length here.old ≡ (sizes_of day.now.case.now day.now.nurse).shift_run }
     requires steps { meter.old + line_steps day.now.case.now day.now ≤ greatest_u64 }
-    ensures under { (q : ℕ) → q < (sizes_of day.now.case.now day.now.nurse).shift_run → UnderCell day.now.case.now day.now after.now.next.now (after.now.last.0 + 1) run q (slice_index_or here.new q 0) }
+    ensures under { (q : ℕ) → q < (sizes_of day.now.case.now day.now.nurse).shift_run →
+        UnderCell day.now.case.now day.now after.now.next.now (after.now.last.0 + 1) run q
+        (slice_index_or here.new q 0) }
     ensures low { AreLow here.new }
     ensures length { length here.new ≡ length here.old }
     ensures counted { meter.new ≡ meter.old + line_steps day.now.case.now day.now }
@@ -125,10 +132,24 @@ fn run_costs(day: &FloorDay<'_>, after: &AfterShift<'_>, run: usize) -> LineCost
     requires day { IsFloorDay day.now.case.now day.now }
     requires after { IsAfterShift day.now.case.now day.now after.now }
     requires run { run < (sizes_of day.now.case.now day.now.nurse).run }
-    ensures off { result.leave ≤ after.now.off + working_run_weight * day_violations (contract_of day.now.case.now day.now.nurse).working run false }
-    ensures others { (k : ℕ) → k < after.now.ways.count → result.leave ≤ (way_at after.now.ways.others k).price + slice_index_or after.now.next.now ((way_at after.now.ways.others k).place + longer run (contract_of day.now.case.now day.now.nurse).working * (sizes_of day.now.case.now day.now.nurse).shift_run) 0 + working_run_weight * day_violations (contract_of day.now.case.now day.now.nurse).working run true }
-    ensures met { (least : ℕ) × IsLeastWay after.now.ways.others after.now.ways.count after.now.next.now (longer run (contract_of day.now.case.now day.now.nurse).working * (sizes_of day.now.case.now day.now.nurse).shift_run) least × IsLeave day.now.case.now day.now after.now run least result.leave }
-    ensures stay { result.stay ≡ after.now.ways.stay + working_run_weight * day_violations (contract_of day.now.case.now day.now.nurse).working run true }
+    ensures off { result.leave ≤ after.now.off
+        + working_run_weight * day_violations (contract_of day.now.case.now day.now.nurse).working
+        run false }
+    ensures others { (k : ℕ) → k < after.now.ways.count →
+        result.leave ≤ (way_at after.now.ways.others k).price
+        + slice_index_or after.now.next.now
+        ((way_at after.now.ways.others k).place
+        + longer run (contract_of day.now.case.now day.now.nurse).working
+        * (sizes_of day.now.case.now day.now.nurse).shift_run) 0
+        + working_run_weight * day_violations (contract_of day.now.case.now day.now.nurse).working
+        run true }
+    ensures met { (least : ℕ) × IsLeastWay after.now.ways.others after.now.ways.count
+        after.now.next.now (longer run (contract_of day.now.case.now day.now.nurse).working
+        * (sizes_of day.now.case.now day.now.nurse).shift_run) least
+        × IsLeave day.now.case.now day.now after.now run least result.leave }
+    ensures stay { result.stay ≡ after.now.ways.stay
+        + working_run_weight * day_violations (contract_of day.now.case.now day.now.nurse).working
+        run true }
     ensures run { result.run ≡ run_of_shift day.now.case.now after.now.last.0 }
     ensures within { (result.leave ≤ most_leave) × (result.stay ≤ most_floor) }
 {

@@ -69,7 +69,8 @@ pub(crate) fn onwards(day: &FloorDay<'_>) -> [Onward; MOST_OFFERS]
 fn of_offer(day: &FloorDay<'_>, offer: Offer) -> Onward
     requires day { IsFloorDay day.now.case.now day.now }
     requires offer { IsOfferOf day.now.case.now offer }
-    ensures onward { IsOnward day.now.case.now day.now.nurse day.now.rates day.now.day result offer (shift_of offer.choice) }
+    ensures onward { IsOnward day.now.case.now day.now.nurse day.now.rates day.now.day result offer
+        (shift_of offer.choice) }
     ensures open { IsOpenWay (sizes_of day.now.case.now day.now.nurse) result.way }
 {
     Onward {
@@ -86,8 +87,12 @@ fn of_offer(day: &FloorDay<'_>, offer: Offer) -> Onward
 pub(crate) fn ways_after(day: &FloorDay<'_>, onwards: &[Onward; MOST_OFFERS], last: Shift) -> Ways
     requires day { IsFloorDay day.now.case.now day.now }
     requires onwards { AreOnward day.now.case.now day.now onwards.now }
-    ensures ways { (k : ℕ) → k < length day.now.offers.now → IsWayOn day.now.case.now day.now.nurse day.now.rates day.now.day last result.off result.stay result.others result.count (offer_at day.now.offers.now k) (shift_of (offer_at day.now.offers.now k).choice) }
-    ensures open { (k : ℕ) → IsOpenWay (sizes_of day.now.case.now day.now.nurse) (way_at result.others k) }
+    ensures ways { (k : ℕ) → k < length day.now.offers.now →
+        IsWayOn day.now.case.now day.now.nurse day.now.rates day.now.day last result.off result.stay
+        result.others result.count (offer_at day.now.offers.now k)
+        (shift_of (offer_at day.now.offers.now k).choice) }
+    ensures open { (k : ℕ) → IsOpenWay (sizes_of day.now.case.now day.now.nurse)
+        (way_at result.others k) }
     ensures within { (result.off ≤ most_leave) × (result.stay ≤ most_leave) }
     ensures length { length result.others ≡ 9 }
     ensures few { result.count ≤ 9 }
@@ -118,12 +123,17 @@ fn add_way(
     requires place { place < length day.now.offers.now }
     requires room { length ways.old.others ≡ 9 }
     requires few { ways.old.count ≤ place }
-    requires open { (k : ℕ) → IsOpenWay (sizes_of day.now.case.now day.now.nurse) (way_at ways.old.others k) }
-    ensures way { IsWayOn day.now.case.now day.now.nurse day.now.rates day.now.day last ways.new.off ways.new.stay ways.new.others ways.new.count (offer_at day.now.offers.now place) (shift_of (offer_at day.now.offers.now place).choice) }
-    ensures others { (k : ℕ) → k < ways.old.count → way_at ways.new.others k ≡ way_at ways.old.others k }
+    requires open { (k : ℕ) → IsOpenWay (sizes_of day.now.case.now day.now.nurse)
+        (way_at ways.old.others k) }
+    ensures way { IsWayOn day.now.case.now day.now.nurse day.now.rates day.now.day last ways.new.off
+        ways.new.stay ways.new.others ways.new.count (offer_at day.now.offers.now place)
+        (shift_of (offer_at day.now.offers.now place).choice) }
+    ensures others { (k : ℕ) → k < ways.old.count →
+        way_at ways.new.others k ≡ way_at ways.old.others k }
     ensures more { (ways.old.count ≤ ways.new.count) × (ways.new.count ≤ place + 1) }
     ensures lower { (ways.new.off ≤ ways.old.off) × (ways.new.stay ≤ ways.old.stay) }
-    ensures open { (k : ℕ) → IsOpenWay (sizes_of day.now.case.now day.now.nurse) (way_at ways.new.others k) }
+    ensures open { (k : ℕ) → IsOpenWay (sizes_of day.now.case.now day.now.nurse)
+        (way_at ways.new.others k) }
     ensures length { length ways.new.others ≡ 9 }
 {
     let onward = onwards[place];
@@ -144,7 +154,8 @@ pub(crate) fn way_to(day: &FloorDay<'_>, before: bool, offer: Offer, shift: Shif
     requires day { IsFloorDay day.now.case.now day.now }
     requires offer { IsOfferOf day.now.case.now offer }
     requires shift { shift.0 < shift_count day.now.case.now }
-    ensures way { IsWayOf day.now.case.now day.now.nurse day.now.rates day.now.day before offer shift result }
+    ensures way { IsWayOf day.now.case.now day.now.nurse day.now.rates day.now.day before offer
+        shift result }
     ensures open { IsOpenWay (sizes_of day.now.case.now day.now.nurse) result }
 {
     let run = day.case.run_of_shift(shift);
@@ -160,7 +171,8 @@ pub(crate) fn way_to(day: &FloorDay<'_>, before: bool, offer: Offer, shift: Shif
 pub(crate) fn apart(day: &FloorDay<'_>, before: bool, offer: Offer) -> u32
     requires day { IsFloorDay day.now.case.now day.now }
     requires offer { IsOfferOf day.now.case.now offer }
-    ensures cost { result ≡ apart_of day.now.case.now day.now.nurse day.now.rates day.now.day before offer }
+    ensures cost { result ≡ apart_of day.now.case.now day.now.nurse day.now.rates day.now.day before
+        offer }
     ensures within { result ≤ most_price + 80 }
 {
     let now = offer.choice.shift().is_some();
@@ -181,7 +193,9 @@ pub(crate) fn least_way(ways: &Ways, more: usize, next: &[u32]) -> u32
     requires price { (k : ℕ) → (way_at ways.now.others k).price ≤ most_leave }
     requires place { (k : ℕ) → (way_at ways.now.others k).place + more < length next.now }
     requires low { AreLow next.now }
-    ensures least { (k : ℕ) → k < ways.now.count → result ≤ (way_at ways.now.others k).price + slice_index_or next.now ((way_at ways.now.others k).place + more) 0 }
+    ensures least { (k : ℕ) → k < ways.now.count →
+        result ≤ (way_at ways.now.others k).price
+        + slice_index_or next.now ((way_at ways.now.others k).place + more) 0 }
     ensures met { IsLeastWay ways.now.others ways.now.count next.now more result }
     ensures within { result ≤ most_leave }
 {

@@ -81,7 +81,8 @@ impl Case {
         ensures weeks { IfOk result (λ case. week_count case ≡ bundle.now.scenario.weeks.value) }
 
         // Else the answer is the first fault, memory apart.
-        ensures refused { IfErr result (λ f. f ≢ CaseFault.Memory → first_fault (case_faults source.now bundle.now) ≡ Some f) }
+        ensures refused { IfErr result (λ f. f ≢ CaseFault.Memory →
+            first_fault (case_faults source.now bundle.now) ≡ Some f) }
     {
         let scenario = Scenario::from_bundle(alloc, bundle, source)?;
         let told = read_told(alloc, source, bundle, &scenario)?;
@@ -420,8 +421,11 @@ fn read_told(
     scenario: &Scenario,
 ) -> Result<Told, CaseFault>
     requires scenario { IsScenarioOf source.now bundle.now scenario.now }
-    ensures past { IfOk result (λ told. told.past ≡ past_meant source.now scenario.now.nurses scenario.now.shifts bundle.now.history.nurses) }
-    ensures weeks { IfOk result (λ told. told.weeks.items ≡ map (week_meant source.now scenario.now.shifts scenario.now.skills scenario.now.nurses) bundle.now.week_data) }
+    ensures past { IfOk result (λ told. told.past ≡ past_meant source.now scenario.now.nurses
+        scenario.now.shifts bundle.now.history.nurses) }
+    ensures weeks { IfOk result (λ told. told.weeks.items ≡ map
+        (week_meant source.now scenario.now.shifts scenario.now.skills scenario.now.nurses)
+        bundle.now.week_data) }
     ensures few { OnOk result (HasFewStates (case_of scenario.now [] [])) }
     ensures none { OnOk result (faults_after source.now bundle.now scenario.now ≡ []) }
     ensures first { IfErr result (IsFirst (faults_after source.now bundle.now scenario.now)) }
@@ -436,8 +440,10 @@ fn read_told(
 fn check_states(scenario: &Scenario, nurses: &[Nurse]) -> Result<(), CaseFault>
     requires { length nurses.now ≡ length scenario.now.nurses }
     ensures few { OnOk result (HasFewStates (case_of scenario.now [] [])) }
-    ensures none { OnOk result (flat_map (state_fault (case_of scenario.now [] [])) (enumerate_from 0 nurses.now) ≡ []) }
-    ensures first { IfErr result (IsFirst (flat_map (state_fault (case_of scenario.now [] [])) (enumerate_from 0 nurses.now))) }
+    ensures none { OnOk result (flat_map (state_fault (case_of scenario.now [] []))
+        (enumerate_from 0 nurses.now) ≡ []) }
+    ensures first { IfErr result (IsFirst (flat_map (state_fault (case_of scenario.now [] []))
+        (enumerate_from 0 nurses.now))) }
 {
     for (nurse, line) in nurses.iter().enumerate() {
         if state_count(scenario, nurse) > MAX_STATES as u128 {

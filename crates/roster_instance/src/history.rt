@@ -60,8 +60,10 @@ impl<'a> Section<NurseHistory> for HistorySection<'a> {
 fn border_of(source: &[u8], shifts: &Names, line: &NurseHistory) -> Result<Border, CaseFault>
     requires { length shifts.now ≤ most_shifts }
     ensures border { IfOk result (λ border. border ≡ border_meant source.now shifts.now line.now) }
-    ensures none { OnOk result (unknown_unless source.now (codes "None") shifts.now line.now.last_shift ≡ []) }
-    ensures first { IfErr result (IsFirst (unknown_unless source.now (codes "None") shifts.now line.now.last_shift)) }
+    ensures none { OnOk result (unknown_unless source.now (codes "None") shifts.now
+        line.now.last_shift ≡ []) }
+    ensures first { IfErr result (IsFirst (unknown_unless source.now (codes "None") shifts.now
+        line.now.last_shift)) }
 {
     if line.last_shift.text(source) == b"None".as_slice() {
         return Ok(Border::Free(line.free_run));
@@ -91,9 +93,12 @@ pub(crate) fn past_of(
     scenario: &Scenario,
     history: &History,
 ) -> Result<Table<Past>, CaseFault>
-    ensures meant { IfOk result (λ past. past ≡ past_meant source.now scenario.now.nurses scenario.now.shifts history.now.nurses) }
-    ensures none { OnOk result (history_faults (known_of source.now scenario.now) history.now ≡ []) }
-    ensures first { IfErr result (IsFirst (history_faults (known_of source.now scenario.now) history.now)) }
+    ensures meant { IfOk result (λ past. past ≡ past_meant source.now scenario.now.nurses
+        scenario.now.shifts history.now.nurses) }
+    ensures none { OnOk result (history_faults (known_of source.now scenario.now)
+        history.now ≡ []) }
+    ensures first { IfErr result (IsFirst (history_faults (known_of source.now scenario.now)
+        history.now)) }
 {
     if history.week.value > 0 {
         return Err(CaseFault::HistoryWeek {

@@ -53,7 +53,8 @@ impl Names {
     /// Puts a copy of a name at the end. Where the name is there already, nothing changes and the answer is false.
     fn add(&mut self, alloc: Global, name: &[u8]) -> Result<bool, AllocError>
         ensures taken { IfOk result (λ taken. taken ≡ not (is_some (find_name self.old name.now))) }
-        ensures added { IfOk result (λ taken. self.new ≡ (if taken then self.old ++ name.now ∷ [] else self.old)) }
+        ensures added { IfOk result (λ taken. self.new
+            ≡ (if taken then self.old ++ name.now ∷ [] else self.old)) }
     {
         if self.names.contains(name) {
             return Ok(false);
@@ -70,8 +71,10 @@ impl Names {
         token: Token,
     ) -> Result<(), CaseFault>
         ensures added { OnOk result (self.new ≡ self.old ++ text_of source.now token ∷ []) }
-        ensures none { (earlier : List Token) → self.old ≡ names_of source.now earlier → OnOk result (repeated_fault source.now earlier token ≡ []) }
-        ensures first { (earlier : List Token) → self.old ≡ names_of source.now earlier → IfErr result (IsFirst (repeated_fault source.now earlier token)) }
+        ensures none { (earlier : List Token) → self.old ≡ names_of source.now earlier →
+            OnOk result (repeated_fault source.now earlier token ≡ []) }
+        ensures first { (earlier : List Token) → self.old ≡ names_of source.now earlier →
+            IfErr result (IsFirst (repeated_fault source.now earlier token)) }
     {
         if !self.add(alloc, token.text(source))? {
             return Err(CaseFault::Repeated { line: token.line });

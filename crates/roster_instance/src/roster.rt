@@ -69,7 +69,8 @@ impl Roster {
         ensures taken { OnOk result (roster_faults source.now case.now bundle.now ≡ []) }
 
         // Else the answer is the first fault, memory apart.
-        ensures refused { IfErr result (λ f. f ≢ CaseFault.Memory → first_fault (roster_faults source.now case.now bundle.now) ≡ Some f) }
+        ensures refused { IfErr result (λ f. f ≢ CaseFault.Memory →
+            first_fault (roster_faults source.now case.now bundle.now) ≡ Some f) }
     {
         let tables = tables_of(alloc, source, case.scenario(), bundle.solutions.as_slice())?;
         let rows = rows_of(alloc, &tables, case.nurses())?;
@@ -240,9 +241,12 @@ fn table_of(
     solution: &Solution,
 ) -> Result<Table<Choice>, CaseFault>
     requires { week < most_weeks }
-    ensures meant { IfOk result (λ table. table ≡ solution_meant source.now scenario.now.nurses scenario.now.shifts scenario.now.skills solution.now) }
-    ensures none { OnOk result (solution_faults (known_of source.now scenario.now) (week, solution.now) ≡ []) }
-    ensures first { IfErr result (IsFirst (solution_faults (known_of source.now scenario.now) (week, solution.now))) }
+    ensures meant { IfOk result (λ table. table ≡ solution_meant source.now scenario.now.nurses
+        scenario.now.shifts scenario.now.skills solution.now) }
+    ensures none { OnOk result (solution_faults (known_of source.now scenario.now)
+        (week, solution.now) ≡ []) }
+    ensures first { IfErr result (IsFirst (solution_faults (known_of source.now scenario.now)
+        (week, solution.now))) }
 {
     check_instance(source, &scenario.name, solution.scenario)?;
     let mut section = LineSection {
@@ -264,9 +268,13 @@ fn tables_of(
     solutions: &[Solution],
 ) -> Result<Vec<Table<Choice>>, CaseFault>
     requires { length solutions.now ≤ most_weeks }
-    ensures meant { IfOk result (λ tables. tables.items ≡ map (solution_meant source.now scenario.now.nurses scenario.now.shifts scenario.now.skills) solutions.now) }
-    ensures none { OnOk result (flat_map (solution_faults (known_of source.now scenario.now)) (enumerate_from 0 solutions.now) ≡ []) }
-    ensures first { IfErr result (IsFirst (flat_map (solution_faults (known_of source.now scenario.now)) (enumerate_from 0 solutions.now))) }
+    ensures meant { IfOk result (λ tables. tables.items ≡ map
+        (solution_meant source.now scenario.now.nurses scenario.now.shifts scenario.now.skills)
+        solutions.now) }
+    ensures none { OnOk result (flat_map (solution_faults (known_of source.now scenario.now))
+        (enumerate_from 0 solutions.now) ≡ []) }
+    ensures first { IfErr result (IsFirst (flat_map
+        (solution_faults (known_of source.now scenario.now)) (enumerate_from 0 solutions.now))) }
 {
     let mut tables = Vec::with_capacity(alloc, solutions.len())?;
     for (week, solution) in solutions.iter().enumerate() {
@@ -285,7 +293,8 @@ fn rows_of(
 ) -> Result<Vec<Vec<Choice>>, AllocError>
     requires weeks { length tables.now ≤ most_weeks }
     requires nurses { nurses ≤ most_nurses }
-    ensures { IfOk result (λ rows. map (λ row. row.items) rows.items ≡ map (row_meant tables.now) (range_with_len 0 nurses)) }
+    ensures { IfOk result (λ rows. map (λ row. row.items) rows.items ≡ map (row_meant tables.now)
+        (range_with_len 0 nurses)) }
 {
     let mut rows = Vec::with_capacity(alloc, nurses)?;
     for nurse in 0..nurses {

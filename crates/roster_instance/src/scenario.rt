@@ -119,8 +119,10 @@ struct Shifts {
 fn read_shifts(alloc: Global, source: &[u8], bundle: &Bundle) -> Result<Shifts, CaseFault>
     ensures names { IfOk result (λ r. r.names ≡ shift_names source.now bundle.now) }
     ensures few { IfOk result (λ r. (0 < length r.names) × (length r.names ≤ most_shifts)) }
-    ensures runs { IfOk result (λ r. r.runs.items ≡ map (λ (s : ShiftType). limits_of s.run) bundle.now.scenario.shifts.items) }
-    ensures successions { IfOk result (λ r. r.successions ≡ successions_meant source.now (shift_names source.now bundle.now) bundle.now.scenario.successions) }
+    ensures runs { IfOk result (λ r. r.runs.items ≡ map (λ (s : ShiftType). limits_of s.run)
+        bundle.now.scenario.shifts.items) }
+    ensures successions { IfOk result (λ r. r.successions ≡ successions_meant source.now
+        (shift_names source.now bundle.now) bundle.now.scenario.successions) }
     ensures none { OnOk result (faults_of_shifts source.now bundle.now ≡ []) }
     ensures first { IfErr result (IsFirst (faults_of_shifts source.now bundle.now)) }
 {
@@ -153,10 +155,13 @@ fn read_staff(
     requires skills { skills.now ≡ skill_names source.now bundle.now }
     requires few_skills { length skills.now ≤ most_skills }
     ensures contracts { IfOk result (λ r. r.contracts ≡ contract_names source.now bundle.now) }
-    ensures rules { IfOk result (λ r. r.contract_rules.items ≡ map contract_meant bundle.now.scenario.contracts.items) }
+    ensures rules { IfOk result (λ r. r.contract_rules.items ≡ map contract_meant
+        bundle.now.scenario.contracts.items) }
     ensures nurses { IfOk result (λ r. r.nurses ≡ nurse_names source.now bundle.now) }
     ensures few { IfOk result (λ r. (0 < length r.nurses) × (length r.nurses ≤ most_nurses)) }
-    ensures facts { IfOk result (λ r. r.nurse_rules.items ≡ map (nurse_meant source.now (contract_names source.now bundle.now) (skill_names source.now bundle.now)) bundle.now.scenario.nurses.items) }
+    ensures facts { IfOk result (λ r. r.nurse_rules.items ≡ map
+        (nurse_meant source.now (contract_names source.now bundle.now)
+        (skill_names source.now bundle.now)) bundle.now.scenario.nurses.items) }
     ensures none { OnOk result (faults_of_staff source.now bundle.now ≡ []) }
     ensures first { IfErr result (IsFirst (faults_of_staff source.now bundle.now)) }
 {
@@ -218,8 +223,10 @@ impl<'a> Section<Token> for SkillSection<'a> {
 fn skills_of(alloc: Global, source: &[u8], skills: &Listed<Token>) -> Result<Names, CaseFault>
     ensures names { IfOk result (λ names. names ≡ names_of source.now skills.now.items) }
     ensures few { IfOk result (λ names. (0 < length names) × (length names ≤ most_skills)) }
-    ensures none { OnOk result (listed_faults most_skills (repeated_fault source.now) skills.now ≡ []) }
-    ensures first { IfErr result (IsFirst (listed_faults most_skills (repeated_fault source.now) skills.now)) }
+    ensures none { OnOk result (listed_faults most_skills (repeated_fault source.now)
+        skills.now ≡ []) }
+    ensures first { IfErr result (IsFirst (listed_faults most_skills (repeated_fault source.now)
+        skills.now)) }
 {
     check_count(MAX_SKILLS, skills.count, skills.items.len())?;
     let mut section = SkillSection {
@@ -275,11 +282,15 @@ fn shifts_of(
     source: &[u8],
     shifts: &Listed<ShiftType>,
 ) -> Result<(Names, Vec<Limits>), CaseFault>
-    ensures names { IfOk result (λ r. r.0 ≡ names_of source.now (map (λ (s : ShiftType). s.name) shifts.now.items)) }
+    ensures names { IfOk result (λ r. r.0 ≡ names_of source.now
+        (map (λ (s : ShiftType). s.name) shifts.now.items)) }
     ensures few { IfOk result (λ r. (0 < length r.0) × (length r.0 ≤ most_shifts)) }
-    ensures runs { IfOk result (λ r. r.1.items ≡ map (λ (s : ShiftType). limits_of s.run) shifts.now.items) }
-    ensures none { OnOk result (listed_faults most_shifts (shift_faults source.now) shifts.now ≡ []) }
-    ensures first { IfErr result (IsFirst (listed_faults most_shifts (shift_faults source.now) shifts.now)) }
+    ensures runs { IfOk result (λ r. r.1.items ≡ map (λ (s : ShiftType). limits_of s.run)
+        shifts.now.items) }
+    ensures none { OnOk result (listed_faults most_shifts (shift_faults source.now)
+        shifts.now ≡ []) }
+    ensures first { IfErr result (IsFirst (listed_faults most_shifts (shift_faults source.now)
+        shifts.now)) }
 {
     let count = shifts.items.len();
     check_count(MAX_SHIFTS, shifts.count, count)?;
@@ -324,7 +335,8 @@ impl<'a> Section<Token> for ForbiddenSection<'a> {
 fn forbidden_of(source: &[u8], shifts: &Names, tokens: &[Token]) -> Result<[bool; 8], CaseFault>
     ensures flags { IfOk result (λ flags. flags ≡ numbers_among source.now shifts.now tokens.now) }
     ensures none { OnOk result (flat_map (unknown_fault source.now shifts.now) tokens.now ≡ []) }
-    ensures first { IfErr result (IsFirst (flat_map (unknown_fault source.now shifts.now) tokens.now)) }
+    ensures first { IfErr result (IsFirst (flat_map (unknown_fault source.now shifts.now)
+        tokens.now)) }
 {
     let mut section = ForbiddenSection {
         source,
@@ -370,9 +382,11 @@ fn successions_of(
     shifts: &Names,
     lines: &[Succession],
 ) -> Result<Table<[bool; 8]>, CaseFault>
-    ensures lines { IfOk result (λ table. table ≡ successions_meant source.now shifts.now lines.now) }
+    ensures lines { IfOk result (λ table. table ≡ successions_meant source.now shifts.now
+        lines.now) }
     ensures none { OnOk result (each (succession_faults source.now shifts.now) lines.now ≡ []) }
-    ensures first { IfErr result (IsFirst (each (succession_faults source.now shifts.now) lines.now)) }
+    ensures first { IfErr result (IsFirst (each (succession_faults source.now shifts.now)
+        lines.now)) }
 {
     let mut section = SuccessionSection {
         source,
@@ -427,10 +441,13 @@ fn contracts_of(
     source: &[u8],
     contracts: &Listed<Contract>,
 ) -> Result<(Names, Vec<ContractRules>), CaseFault>
-    ensures names { IfOk result (λ r. r.0 ≡ names_of source.now (map (λ (c : Contract). c.name) contracts.now.items)) }
+    ensures names { IfOk result (λ r. r.0 ≡ names_of source.now
+        (map (λ (c : Contract). c.name) contracts.now.items)) }
     ensures rules { IfOk result (λ r. r.1.items ≡ map contract_meant contracts.now.items) }
-    ensures none { OnOk result (listed_faults most_contracts (contract_faults source.now) contracts.now ≡ []) }
-    ensures first { IfErr result (IsFirst (listed_faults most_contracts (contract_faults source.now) contracts.now)) }
+    ensures none { OnOk result (listed_faults most_contracts (contract_faults source.now)
+        contracts.now ≡ []) }
+    ensures first { IfErr result (IsFirst (listed_faults most_contracts (contract_faults source.now)
+        contracts.now)) }
 {
     let count = contracts.items.len();
     check_count(MAX_CONTRACTS, contracts.count, count)?;
@@ -513,9 +530,11 @@ fn own_skills_of(
     tokens: &[Token],
 ) -> Result<ArrayVec<Skill, 8>, CaseFault>
     requires { length skills.now ≤ most_skills }
-    ensures own { IfOk result (λ own. own.items ≡ map (skill_named source.now skills.now) tokens.now) }
+    ensures own { IfOk result (λ own. own.items ≡ map (skill_named source.now skills.now)
+        tokens.now) }
     ensures none { OnOk result (each (own_skill_faults source.now skills.now) tokens.now ≡ []) }
-    ensures first { IfErr result (IsFirst (each (own_skill_faults source.now skills.now) tokens.now)) }
+    ensures first { IfErr result (IsFirst (each (own_skill_faults source.now skills.now)
+        tokens.now)) }
 {
     let mut section = OwnSkillSection {
         source,
@@ -565,12 +584,16 @@ fn nurses_of(
     nurses: &Listed<Nurse>,
 ) -> Result<(Names, Vec<NurseRules>), CaseFault>
     requires { length skills.now ≤ most_skills }
-    ensures names { IfOk result (λ r. r.0 ≡ names_of source.now (map (λ (n : Nurse). n.name) nurses.now.items)) }
+    ensures names { IfOk result (λ r. r.0 ≡ names_of source.now
+        (map (λ (n : Nurse). n.name) nurses.now.items)) }
     ensures few { IfOk result (λ r. (0 < length r.0) × (length r.0 ≤ most_nurses)) }
-    ensures rules { IfOk result (λ r. r.1.items ≡ map (nurse_meant source.now contracts.now skills.now) nurses.now.items) }
+    ensures rules { IfOk result (λ r. r.1.items ≡ map
+        (nurse_meant source.now contracts.now skills.now) nurses.now.items) }
     ensures few_skills { IfOk result (λ r. HaveFewSkills r.1.items) }
-    ensures none { OnOk result (listed_faults most_nurses (nurse_faults source.now contracts.now skills.now) nurses.now ≡ []) }
-    ensures first { IfErr result (IsFirst (listed_faults most_nurses (nurse_faults source.now contracts.now skills.now) nurses.now)) }
+    ensures none { OnOk result (listed_faults most_nurses
+        (nurse_faults source.now contracts.now skills.now) nurses.now ≡ []) }
+    ensures first { IfErr result (IsFirst (listed_faults most_nurses
+        (nurse_faults source.now contracts.now skills.now) nurses.now)) }
 {
     let count = nurses.items.len();
     check_count(MAX_NURSES, nurses.count, count)?;

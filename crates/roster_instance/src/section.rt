@@ -24,8 +24,10 @@ pub(crate) trait Section<T> {
 
     fn add(&mut self, item: &T) -> Result<(), CaseFault>
         ensures same { about self.new ≡ about self.old }
-        ensures built { (earlier : List T) → built self.old earlier → OnOk result (built self.new (earlier ++ item.now ∷ [])) }
-        ensures none { (earlier : List T) → built self.old earlier → OnOk result (faults (about self.old) earlier item.now ≡ []) }
+        ensures built { (earlier : List T) → built self.old earlier →
+            OnOk result (built self.new (earlier ++ item.now ∷ [])) }
+        ensures none { (earlier : List T) → built self.old earlier →
+            OnOk result (faults (about self.old) earlier item.now ≡ []) }
         ensures first { (earlier : List T) → built self.old earlier → IfErr result (IsFirst (faults (about self.old) earlier item.now)) };
 }
 

@@ -53,7 +53,8 @@ impl Model for Week {
 impl Week {
     /// Minimum and optimum of a place on a weekday; (0,0) where no line has them.
     pub(crate) fn need(&self, place: usize, weekday: usize) -> Limits
-        ensures { result ≡ option_map_or (λ week. slice_index_or week weekday no_limits) (slice_index_or self.now.needs place None) no_limits }
+        ensures { result ≡ option_map_or (λ week. slice_index_or week weekday no_limits)
+            (slice_index_or self.now.needs place None) no_limits }
     {
         match self.needs.get(place) {
             Some(days) => match days.get(weekday) {
@@ -163,9 +164,12 @@ fn needs_of(
     scenario: &Scenario,
     lines: &[Requirement],
 ) -> Result<Table<[Limits; 7]>, CaseFault>
-    ensures meant { IfOk result (λ table. table ≡ needs_meant source.now scenario.now.shifts scenario.now.skills lines.now) }
-    ensures none { OnOk result (each (requirement_faults source.now scenario.now.shifts scenario.now.skills) lines.now ≡ []) }
-    ensures first { IfErr result (IsFirst (each (requirement_faults source.now scenario.now.shifts scenario.now.skills) lines.now)) }
+    ensures meant { IfOk result (λ table. table ≡ needs_meant source.now scenario.now.shifts
+        scenario.now.skills lines.now) }
+    ensures none { OnOk result (each (requirement_faults source.now scenario.now.shifts
+        scenario.now.skills) lines.now ≡ []) }
+    ensures first { IfErr result (IsFirst (each (requirement_faults source.now scenario.now.shifts
+        scenario.now.skills) lines.now)) }
 {
     let mut section = RequirementSection {
         source,
@@ -209,7 +213,8 @@ impl<'a> Section<Request> for RequestSection<'a> {
 
 /// Marks that a request of a place says `Any`.
 fn request_any(requests: &mut [DayRequests], place: usize)
-    ensures { requests.new ≡ slice_set requests.old place (record { any = true; shifts = (slice_index_or requests.old place no_requests).shifts }) }
+    ensures { requests.new ≡ slice_set requests.old place
+        (record { any = true; shifts = (slice_index_or requests.old place no_requests).shifts }) }
 {
     if place < requests.len() {
         requests[place].any = true;
@@ -218,7 +223,12 @@ fn request_any(requests: &mut [DayRequests], place: usize)
 
 /// Marks that a request of a place names a shift.
 fn request_shift(requests: &mut [DayRequests], place: usize, shift: usize)
-    ensures { requests.new ≡ slice_set requests.old place (record { any = (slice_index_or requests.old place no_requests).any; shifts = slice_set (slice_index_or requests.old place no_requests).shifts shift true }) }
+    ensures { requests.new ≡ slice_set requests.old place
+        (record {
+          any = (slice_index_or requests.old place no_requests).any;
+          shifts = slice_set
+              (slice_index_or requests.old place no_requests).shifts shift true;
+        }) }
 {
     if place < requests.len() {
         name_shift(&mut requests[place].shifts, shift);
@@ -246,9 +256,12 @@ fn requests_of(
     scenario: &Scenario,
     lines: &[Request],
 ) -> Result<Vec<DayRequests>, CaseFault>
-    ensures meant { IfOk result (λ requests. requests.items ≡ requests_meant source.now scenario.now.nurses scenario.now.shifts lines.now) }
-    ensures none { OnOk result (flat_map (request_faults source.now scenario.now.nurses scenario.now.shifts) lines.now ≡ []) }
-    ensures first { IfErr result (IsFirst (flat_map (request_faults source.now scenario.now.nurses scenario.now.shifts) lines.now)) }
+    ensures meant { IfOk result (λ requests. requests.items ≡ requests_meant source.now
+        scenario.now.nurses scenario.now.shifts lines.now) }
+    ensures none { OnOk result (flat_map (request_faults source.now scenario.now.nurses
+        scenario.now.shifts) lines.now ≡ []) }
+    ensures first { IfErr result (IsFirst (flat_map
+        (request_faults source.now scenario.now.nurses scenario.now.shifts) lines.now)) }
 {
     let mut section = RequestSection {
         source,
@@ -315,9 +328,12 @@ fn absences_of(
     scenario: &Scenario,
     lines: &[Absence],
 ) -> Result<Vec<bool>, CaseFault>
-    ensures meant { IfOk result (λ absences. absences.items ≡ absences_meant source.now scenario.now.nurses lines.now) }
-    ensures none { OnOk result (flat_map (absence_faults source.now scenario.now.nurses) lines.now ≡ []) }
-    ensures first { IfErr result (IsFirst (flat_map (absence_faults source.now scenario.now.nurses) lines.now)) }
+    ensures meant { IfOk result (λ absences. absences.items ≡ absences_meant source.now
+        scenario.now.nurses lines.now) }
+    ensures none { OnOk result (flat_map (absence_faults source.now scenario.now.nurses)
+        lines.now ≡ []) }
+    ensures first { IfErr result (IsFirst (flat_map (absence_faults source.now scenario.now.nurses)
+        lines.now)) }
 {
     let mut section = AbsenceSection {
         source,
@@ -389,9 +405,13 @@ pub(crate) fn weeks_of(
     scenario: &Scenario,
     weeks: &[WeekData],
 ) -> Result<Vec<Week>, CaseFault>
-    ensures meant { IfOk result (λ built. built.items ≡ map (week_meant source.now scenario.now.shifts scenario.now.skills scenario.now.nurses) weeks.now) }
-    ensures none { OnOk result (flat_map (week_faults (known_of source.now scenario.now)) weeks.now ≡ []) }
-    ensures first { IfErr result (IsFirst (flat_map (week_faults (known_of source.now scenario.now)) weeks.now)) }
+    ensures meant { IfOk result (λ built. built.items ≡ map
+        (week_meant source.now scenario.now.shifts scenario.now.skills scenario.now.nurses)
+        weeks.now) }
+    ensures none { OnOk result (flat_map (week_faults (known_of source.now scenario.now))
+        weeks.now ≡ []) }
+    ensures first { IfErr result (IsFirst (flat_map (week_faults (known_of source.now scenario.now))
+        weeks.now)) }
 {
     let mut section = WeekSection {
         alloc,

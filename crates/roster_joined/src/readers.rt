@@ -57,7 +57,8 @@ impl<R> Joined<R> {
     ) -> io::Result<usize>
         requires left { 0 < length self.old.readers }
         requires callable { F.IsAlwaysCallable read }
-        ensures called { ReadsFirst F.FnOnce read self.old.readers buf.old result self.new.readers buf.new }
+        ensures called { ReadsFirst F.FnOnce read self.old.readers buf.old result self.new.readers
+            buf.new }
         ensures failures { self.new.failures ≡ counted self.old.failures (is_err result) }
     {
         let result = read(&mut self.readers[self.done], buf);

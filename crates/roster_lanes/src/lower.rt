@@ -12,8 +12,11 @@ pub const LANES: usize = 16;
 /// Each place becomes the smaller of the two. Bit i of the answer is set just where the second was strictly smaller at place i.
 #[inline(always)]
 pub fn lower16(labels: &mut [u32; LANES], others: &[u32; LANES]) -> u16
-    ensures labels { (i : ℕ) → i < LANES → slice_index_or labels.new i 0 ≡ min (slice_index_or labels.old i 0) (slice_index_or others.now i 0) }
-    ensures bits { (i : ℕ) → i < LANES → bit_at result i ≡ (if nat_lt (slice_index_or others.now i 0) (slice_index_or labels.old i 0) then 1 else 0) }
+    ensures labels { (i : ℕ) → i < LANES → slice_index_or labels.new i 0 ≡ min
+        (slice_index_or labels.old i 0) (slice_index_or others.now i 0) }
+    ensures bits { (i : ℕ) → i < LANES → bit_at result
+        i ≡ (if nat_lt (slice_index_or others.now i 0) (slice_index_or labels.old i 0) then 1 else
+        0) }
 {
     let old = u32x16::from_slice(&labels[..]);
     let least = old.simd_min(u32x16::from_slice(&others[..]));
@@ -26,9 +29,14 @@ pub fn lower16(labels: &mut [u32; LANES], others: &[u32; LANES]) -> u16
 pub fn lower_all(labels: &mut [u32], pointers: &mut [u8], others: &[u32], more: u32, pointer: u8)
     requires pointers { length pointers.old ≡ length labels.old }
     requires others { length others.now ≡ length labels.old }
-    ensures labels { (i : ℕ) → i < length labels.old → slice_index_or labels.new i 0 ≡ min (slice_index_or labels.old i 0) (raised others.now more i) }
-    ensures pointers { (i : ℕ) → i < length labels.old → slice_index_or pointers.new i 0 ≡ pointer_by (slice_index_or labels.old i 0) (raised others.now more i) (slice_index_or pointers.old i 0) pointer }
-    ensures lengths { (length labels.new ≡ length labels.old) × (length pointers.new ≡ length pointers.old) }
+    ensures labels { (i : ℕ) → i < length labels.old →
+        slice_index_or labels.new i 0 ≡ min (slice_index_or labels.old i 0)
+        (raised others.now more i) }
+    ensures pointers { (i : ℕ) → i < length labels.old →
+        slice_index_or pointers.new i 0 ≡ pointer_by (slice_index_or labels.old i 0)
+        (raised others.now more i) (slice_index_or pointers.old i 0) pointer }
+    ensures lengths { (length labels.new ≡ length labels.old)
+        × (length pointers.new ≡ length pointers.old) }
 {
     let count = labels.len();
     if count < LANES {
@@ -49,7 +57,8 @@ fn lower_few(labels: &mut [u32], pointers: &mut [u8], others: &[u32], more: u32,
     requires pointers { length pointers.old ≡ length labels.old }
     requires others { length others.now ≡ length labels.old }
     ensures labels { LabelsLowered 0 (length labels.old) others.now more labels.old labels.new }
-    ensures pointers { PointersSet 0 (length labels.old) others.now more pointer labels.old pointers.old pointers.new }
+    ensures pointers { PointersSet 0 (length labels.old) others.now more pointer labels.old
+        pointers.old pointers.new }
 {
     'places: for i in 0..labels.len() {
         let (label, candidate) = (labels[i], others[i].wrapping_add(more));
@@ -76,7 +85,8 @@ fn lower_at(
     requires pointers { first + LANES ≤ length pointers.old }
     requires others { first + LANES ≤ length others.now }
     ensures labels { LabelsLowered first (first + LANES) others.now more labels.old labels.new }
-    ensures pointers { PointersSet first (first + LANES) others.now more pointer labels.old pointers.old pointers.new }
+    ensures pointers { PointersSet first (first + LANES) others.now more pointer labels.old
+        pointers.old pointers.new }
     ensures labels_others { SameOutside first (first + LANES) labels.old labels.new }
     ensures pointers_others { SameOutside first (first + LANES) pointers.old pointers.new }
 {
@@ -96,7 +106,8 @@ fn lower_at(
 /// hold is cut off before.
 pub fn set_all(labels: &mut [u32], others: &[u32], more: u32, most: u32)
     requires { length others.now ≡ length labels.old }
-    ensures labels { (i : ℕ) → i < length labels.old → slice_index_or labels.new i 0 ≡ min (raised others.now more i) most }
+    ensures labels { (i : ℕ) → i < length labels.old →
+        slice_index_or labels.new i 0 ≡ min (raised others.now more i) most }
     ensures length { length labels.new ≡ length labels.old }
 {
     let count = labels.len();
@@ -149,7 +160,8 @@ fn store(numbers: &mut [u32], new: &[u32; LANES])
 #[inline(always)]
 fn load(numbers: &[u32], first: usize) -> [u32; LANES]
     requires { first + LANES ≤ length numbers.now }
-    ensures { (i : ℕ) → i < LANES → slice_index_or result i 0 ≡ slice_index_or numbers.now (first + i) 0 }
+    ensures { (i : ℕ) → i < LANES → slice_index_or result i 0 ≡ slice_index_or numbers.now
+        (first + i) 0 }
 {
     u32x16::from_slice(&numbers[first..]).to_array()
 }
@@ -167,8 +179,11 @@ fn raised_at(others: &[u32], first: usize, more: u32) -> [u32; LANES]
 #[inline(always)]
 fn lower_labels(labels: &mut [u32], candidates: &[u32; LANES]) -> u16
     requires { length labels.old ≡ LANES }
-    ensures labels { (i : ℕ) → i < LANES → slice_index_or labels.new i 0 ≡ min (slice_index_or labels.old i 0) (slice_index_or candidates.now i 0) }
-    ensures bits { (i : ℕ) → i < LANES → bit_at result i ≡ (if nat_lt (slice_index_or candidates.now i 0) (slice_index_or labels.old i 0) then 1 else 0) }
+    ensures labels { (i : ℕ) → i < LANES → slice_index_or labels.new i 0 ≡ min
+        (slice_index_or labels.old i 0) (slice_index_or candidates.now i 0) }
+    ensures bits { (i : ℕ) → i < LANES → bit_at result
+        i ≡ (if nat_lt (slice_index_or candidates.now i 0) (slice_index_or labels.old i 0) then 1
+        else 0) }
 {
     let Some(places) = labels.as_mut_array() else {
         unreachable!()
@@ -181,7 +196,9 @@ fn lower_labels(labels: &mut [u32], candidates: &[u32; LANES]) -> u16
 fn set_pointers(pointers: &mut [u8], old: &[u32; LANES], labels: &[u32], pointer: u8)
     requires pointers { length pointers.old ≡ LANES }
     requires labels { length labels.now ≡ LANES }
-    ensures { (i : ℕ) → i < LANES → slice_index_or pointers.new i 0 ≡ (if slice_index_or labels.now i 0 == slice_index_or old.now i 0 then slice_index_or pointers.old i 0 else pointer) }
+    ensures { (i : ℕ) → i < LANES → slice_index_or pointers.new i
+        0 ≡ (if slice_index_or labels.now i 0 == slice_index_or old.now i 0 then slice_index_or
+        pointers.old i 0 else pointer) }
 {
     let stays = u32x16::from_slice(labels).simd_eq(u32x16::from_slice(&old[..]));
     stays

@@ -18,62 +18,99 @@ pub fn same_rows_are_equal()
 /// A step puts the best row in where that is strictly cheaper, and else changes nothing. So no allowed row is cheaper than the
 /// roster after it.
 pub fn steps_put_the_best_row_in()
-    ensures cheaper { (c : Meaning) (from : ℕ) (r : Rows) (n : ℕ) (row : Row) → IsBestRow c from r n row → penalty_with c r n row < penalty c r → step c (best_row c from) r n ≡ with_row r n row }
-    ensures as_dear { (c : Meaning) (from : ℕ) (r : Rows) (n : ℕ) (row : Row) → IsBestRow c from r n row → penalty c r ≤ penalty_with c r n row → step c (best_row c from) r n ≡ r }
-    ensures least { (c : Meaning) (from : ℕ) (r : Rows) (n : ℕ) → All (λ row. penalty c (step c (best_row c from) r n) ≤ penalty_with c r n row) (allowed_rows c from r n) }
+    ensures cheaper { (c : Meaning) (from : ℕ) (r : Rows) (n : ℕ) (row : Row) →
+        IsBestRow c from r n row → penalty_with c r n row < penalty c r →
+        step c (best_row c from) r n ≡ with_row r n row }
+    ensures as_dear { (c : Meaning) (from : ℕ) (r : Rows) (n : ℕ) (row : Row) →
+        IsBestRow c from r n row → penalty c r ≤ penalty_with c r n row →
+        step c (best_row c from) r n ≡ r }
+    ensures least { (c : Meaning) (from : ℕ) (r : Rows) (n : ℕ) →
+        All (λ row. penalty c (step c (best_row c from) r n) ≤ penalty_with c r n row)
+        (allowed_rows c from r n) }
 {}
 
 /// The log ends as the run does, with the run's roster. It has as many rounds as were allowed at most, and just as many where
 /// the run is stopped.
 pub fn log_ends_with_the_run()
-    ensures last { (c : Meaning) (best : BestRows) (rounds : ℕ) (r : Rows) → EndsWith (log_of c best rounds r) (entry (ending (run c best rounds r)) (run c best rounds r).roster) }
-    ensures few { (c : Meaning) (best : BestRows) (rounds : ℕ) (r : Rows) → (outcome_of c best rounds r).rounds ≤ rounds }
-    ensures all { (c : Meaning) (best : BestRows) (rounds : ℕ) (r : Rows) → (run c best rounds r).is_settled ≡ false → (outcome_of c best rounds r).rounds ≡ rounds }
+    ensures last { (c : Meaning) (best : BestRows) (rounds : ℕ) (r : Rows) →
+        EndsWith (log_of c best rounds r)
+        (entry (ending (run c best rounds r)) (run c best rounds r).roster) }
+    ensures few { (c : Meaning) (best : BestRows) (rounds : ℕ) (r : Rows) →
+        (outcome_of c best rounds r).rounds ≤ rounds }
+    ensures all { (c : Meaning) (best : BestRows) (rounds : ℕ) (r : Rows) →
+        (run c best rounds r).is_settled ≡ false → (outcome_of c best rounds r).rounds ≡ rounds }
 {}
 
 /// Where a run is settled, no step and no round changes anything, and no allowed row of a nurse is cheaper.
 pub fn settled_stays()
-    ensures steps { (c : Meaning) (best : BestRows) (rounds : ℕ) (r : Rows) → (run c best rounds r).is_settled ≡ true → (n : ℕ) → n < nurse_count c → step c best (run c best rounds r).roster n ≡ (run c best rounds r).roster }
-    ensures round { (c : Meaning) (best : BestRows) (rounds : ℕ) (r : Rows) → (run c best rounds r).is_settled ≡ true → round c best (run c best rounds r).roster ≡ (run c best rounds r).roster }
-    ensures rows { (c : Meaning) (from rounds : ℕ) (r : Rows) → (run c (best_row c from) rounds r).is_settled ≡ true → (n : ℕ) → n < nurse_count c → All (λ row. penalty c (run c (best_row c from) rounds r).roster ≤ penalty_with c (run c (best_row c from) rounds r).roster n row) (allowed_rows c from (run c (best_row c from) rounds r).roster n) }
+    ensures steps { (c : Meaning) (best : BestRows) (rounds : ℕ) (r : Rows) →
+        (run c best rounds r).is_settled ≡ true → (n : ℕ) → n < nurse_count c →
+        step c best (run c best rounds r).roster n ≡ (run c best rounds r).roster }
+    ensures round { (c : Meaning) (best : BestRows) (rounds : ℕ) (r : Rows) →
+        (run c best rounds r).is_settled ≡ true →
+        round c best (run c best rounds r).roster ≡ (run c best rounds r).roster }
+    ensures rows { (c : Meaning) (from rounds : ℕ) (r : Rows) →
+        (run c (best_row c from) rounds r).is_settled ≡ true → (n : ℕ) → n < nurse_count c →
+        All (λ row. penalty c (run c (best_row c from) rounds r).roster ≤ penalty_with c
+        (run c (best_row c from) rounds r).roster n row)
+        (allowed_rows c from (run c (best_row c from) rounds r).roster n) }
 {}
 
 /// A run that is stopped changed something in its last round.
 pub fn last_round_tells()
-    ensures { (c : Meaning) (best : BestRows) (before : ℕ) (r : Rows) → (run c best (suc before) r).is_settled ≡ false → ((run c best (suc before) r).roster ≡ round c best (run c best before r).roster) × (same_rows (run c best (suc before) r).roster (run c best before r).roster ≡ false) }
+    ensures { (c : Meaning) (best : BestRows) (before : ℕ) (r : Rows) →
+        (run c best (suc before) r).is_settled ≡ false →
+        ((run c best (suc before) r).roster ≡ round c best (run c best before r).roster)
+        × (same_rows (run c best (suc before) r).roster (run c best before r).roster ≡ false) }
 {}
 
 /// Each penalty is a multiple of 5, as the weights are. So a step that changes the roster makes it cheaper by 5 at least, and
 /// five times the changes are at most the fall.
 pub fn changes_are_few()
     ensures fives { (c : Meaning) (r : Rows) → penalty c r % 5 ≡ 0 }
-    ensures changed { (c : Meaning) (best : BestRows) (r : Rows) (n : ℕ) → not (same_rows (step c best r n) r) ≡ nat_lt (penalty c (step c best r n)) (penalty c r) }
-    ensures by_five { (c : Meaning) (best : BestRows) (r : Rows) (n : ℕ) → same_rows (step c best r n) r ≡ false → penalty c (step c best r n) + 5 ≤ penalty c r }
-    ensures fall { (c : Meaning) (best : BestRows) (rounds : ℕ) (r : Rows) → (outcome_of c best rounds r).total + 5 * (outcome_of c best rounds r).changes ≤ penalty c r }
-    ensures settles { (c : Meaning) (best : BestRows) (rounds : ℕ) (r : Rows) → penalty c r < 5 * rounds → (run c best rounds r).is_settled ≡ true }
+    ensures changed { (c : Meaning) (best : BestRows) (r : Rows) (n : ℕ) →
+        not (same_rows (step c best r n) r) ≡ nat_lt (penalty c (step c best r n)) (penalty c r) }
+    ensures by_five { (c : Meaning) (best : BestRows) (r : Rows) (n : ℕ) →
+        same_rows (step c best r n) r ≡ false → penalty c (step c best r n) + 5 ≤ penalty c r }
+    ensures fall { (c : Meaning) (best : BestRows) (rounds : ℕ) (r : Rows) →
+        (outcome_of c best rounds r).total
+        + 5 * (outcome_of c best rounds r).changes ≤ penalty c r }
+    ensures settles { (c : Meaning) (best : BestRows) (rounds : ℕ) (r : Rows) →
+        penalty c r < 5 * rounds → (run c best rounds r).is_settled ≡ true }
 {}
 
 /// Along the log no penalty is above an earlier one, and that of a change is below each earlier one by 5 at least.
 pub fn penalty_never_rises()
-    ensures { (c : Meaning) (best : BestRows) (rounds : ℕ) (r : Rows) → AllPairs (Descends c) (log_of c best rounds r) }
+    ensures { (c : Meaning) (best : BestRows) (rounds : ℕ) (r : Rows) →
+        AllPairs (Descends c) (log_of c best rounds r) }
 {}
 
 /// From a roster that fits and keeps the hard rules, a run of best rows and each line of its log come to such rosters alone.
 pub fn runs_keep_the_hard_rules()
-    ensures log { (c : Meaning) (from rounds : ℕ) (r : Rows) → fits_case c r ≡ true → keeps_hard c r ≡ true → All (λ e. (fits_case c e.roster ≡ true) × (keeps_hard c e.roster ≡ true)) (log_of c (best_row c from) rounds r) }
-    ensures run { (c : Meaning) (from rounds : ℕ) (r : Rows) → fits_case c r ≡ true → keeps_hard c r ≡ true → (fits_case c (run c (best_row c from) rounds r).roster ≡ true) × (keeps_hard c (run c (best_row c from) rounds r).roster ≡ true) }
+    ensures log { (c : Meaning) (from rounds : ℕ) (r : Rows) → fits_case c r ≡ true →
+        keeps_hard c r ≡ true → All (λ e. (fits_case c e.roster ≡ true)
+        × (keeps_hard c e.roster ≡ true)) (log_of c (best_row c from) rounds r) }
+    ensures run { (c : Meaning) (from rounds : ℕ) (r : Rows) → fits_case c r ≡ true →
+        keeps_hard c r ≡ true → (fits_case c (run c (best_row c from) rounds r).roster ≡ true)
+        × (keeps_hard c (run c (best_row c from) rounds r).roster ≡ true) }
 {}
 
 /// A best row put in, a step, a run of best rows and each line of its log leave each frozen day of each nurse as it was before.
 pub fn frozen_days_stay()
-    ensures best { (c : Meaning) (from : ℕ) (r : Rows) (n : ℕ) (row : Row) → IsBestRow c from r n row → FrozenDaysStay c from r (with_row r n row) }
-    ensures step { (c : Meaning) (from : ℕ) (r : Rows) (n : ℕ) → FrozenDaysStay c from r (step c (best_row c from) r n) }
-    ensures log { (c : Meaning) (from rounds : ℕ) (r : Rows) → All (λ e. FrozenDaysStay c from r e.roster) (log_of c (best_row c from) rounds r) }
-    ensures run { (c : Meaning) (from rounds : ℕ) (r : Rows) → FrozenDaysStay c from r (run c (best_row c from) rounds r).roster }
+    ensures best { (c : Meaning) (from : ℕ) (r : Rows) (n : ℕ) (row : Row) →
+        IsBestRow c from r n row → FrozenDaysStay c from r (with_row r n row) }
+    ensures step { (c : Meaning) (from : ℕ) (r : Rows) (n : ℕ) →
+        FrozenDaysStay c from r (step c (best_row c from) r n) }
+    ensures log { (c : Meaning) (from rounds : ℕ) (r : Rows) →
+        All (λ e. FrozenDaysStay c from r e.roster) (log_of c (best_row c from) rounds r) }
+    ensures run { (c : Meaning) (from rounds : ℕ) (r : Rows) →
+        FrozenDaysStay c from r (run c (best_row c from) rounds r).roster }
 {}
 
 /// Where all weeks are frozen, a step and a run change nothing.
 pub fn frozen_weeks_stay()
-    ensures step { (c : Meaning) (from : ℕ) (r : Rows) → fits_case c r ≡ true → week_count c ≤ from → (n : ℕ) → step c (best_row c from) r n ≡ r }
-    ensures run { (c : Meaning) (from rounds : ℕ) (r : Rows) → fits_case c r ≡ true → week_count c ≤ from → (run c (best_row c from) rounds r).roster ≡ r }
+    ensures step { (c : Meaning) (from : ℕ) (r : Rows) → fits_case c r ≡ true →
+        week_count c ≤ from → (n : ℕ) → step c (best_row c from) r n ≡ r }
+    ensures run { (c : Meaning) (from rounds : ℕ) (r : Rows) → fits_case c r ≡ true →
+        week_count c ≤ from → (run c (best_row c from) rounds r).roster ≡ r }
 {}

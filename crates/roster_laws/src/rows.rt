@@ -12,17 +12,27 @@ ghost use Rattle.roster_laws.specs.RowOrder.{IsEarlier};
 
 /// All rows are just those of the case, each once, and in their order.
 pub fn all_rows_are_the_rows_of_the_case()
-    ensures members { (c : Meaning) (row : Row) → Contains (all_rows (all_choices c) (day_count c)) row ↔ (is_row_of c row ≡ true) }
-    ensures once { (c : Meaning) (row : Row) → count_by (same_row row) (all_rows (all_choices c) (day_count c)) ≡ one_if (is_row_of c row) }
-    ensures order { (c : Meaning) → AllPairs (IsEarlier (all_choices c)) (all_rows (all_choices c) (day_count c)) }
+    ensures members { (c : Meaning) (row : Row) →
+        Contains (all_rows (all_choices c) (day_count c)) row ↔ (is_row_of c row ≡ true) }
+    ensures once { (c : Meaning) (row : Row) → count_by (same_row row)
+        (all_rows (all_choices c) (day_count c)) ≡ one_if (is_row_of c row) }
+    ensures order { (c : Meaning) → AllPairs (IsEarlier (all_choices c))
+        (all_rows (all_choices c) (day_count c)) }
 {}
 
 /// The allowed rows of a nurse from a week on are exactly the rows of the case with which the roster keeps the hard rules and the
 /// nurse's frozen days. The present row is one where the roster keeps the hard rules, so that there is a best row. From week 0 on
 /// no day is frozen: they are all rows with which the roster keeps the hard rules.
 pub fn allowed_rows_keep_the_hard_rules()
-    ensures members { (c : Meaning) (from : ℕ) (r : Rows) (n : ℕ) (row : Row) → Contains (allowed_rows c from r n) row ↔ ((row_keeps c r n row ≡ true) × (keeps_frozen_days c from r n row ≡ true)) }
-    ensures present { (c : Meaning) (from : ℕ) (r : Rows) (n : ℕ) → fits_case c r ≡ true → keeps_hard c r ≡ true → n < nurse_count c → Contains (allowed_rows c from r n) (row_of r n) }
-    ensures best { (c : Meaning) (from : ℕ) (r : Rows) (n : ℕ) → fits_case c r ≡ true → keeps_hard c r ≡ true → n < nurse_count c → IsSome (best_row c from r n) }
-    ensures from_week_0 { (c : Meaning) (r : Rows) (n : ℕ) → allowed_rows c 0 r n ≡ filter (λ row. keeps_hard c (with_row r n row)) (all_rows (all_choices c) (day_count c)) }
+    ensures members { (c : Meaning) (from : ℕ) (r : Rows) (n : ℕ) (row : Row) →
+        Contains (allowed_rows c from r n) row ↔
+        ((row_keeps c r n row ≡ true) × (keeps_frozen_days c from r n row ≡ true)) }
+    ensures present { (c : Meaning) (from : ℕ) (r : Rows) (n : ℕ) → fits_case c r ≡ true →
+        keeps_hard c r ≡ true → n < nurse_count c →
+        Contains (allowed_rows c from r n) (row_of r n) }
+    ensures best { (c : Meaning) (from : ℕ) (r : Rows) (n : ℕ) → fits_case c r ≡ true →
+        keeps_hard c r ≡ true → n < nurse_count c → IsSome (best_row c from r n) }
+    ensures from_week_0 { (c : Meaning) (r : Rows) (n : ℕ) →
+        allowed_rows c 0 r n ≡ filter (λ row. keeps_hard c (with_row r n row))
+        (all_rows (all_choices c) (day_count c)) }
 {}

@@ -7,6 +7,8 @@ ghost use Rattle.roster_laws.specs.Greatest.{IsGreatest, extension_count, greate
 
 /// The greatest numbers of states and of extensions are at least those of each nurse, and those of one of them.
 pub fn greatest_sizes()
-    ensures states { (c : Meaning) → 0 < nurse_count c → IsGreatest (nurse_count c) (state_count c) (greatest_state_count c) }
-    ensures extensions { (c : Meaning) → 0 < nurse_count c → IsGreatest (nurse_count c) (extension_count c) (greatest_extension_count c) }
+    ensures states { (c : Meaning) → 0 < nurse_count c →
+        IsGreatest (nurse_count c) (state_count c) (greatest_state_count c) }
+    ensures extensions { (c : Meaning) → 0 < nurse_count c →
+        IsGreatest (nurse_count c) (extension_count c) (greatest_extension_count c) }
 {}

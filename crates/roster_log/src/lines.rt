@@ -14,7 +14,8 @@ pub fn log_word<W: Write>(
     word: &[u8],
     total: u64,
 ) -> Result<usize, WriteFault>
-    ensures ok { IfOk result (λ after. Sends W.contents log.old log.new sent after (line word.now total)) }
+    ensures ok { IfOk result (λ after. Sends W.contents log.old log.new sent after
+        (line word.now total)) }
     ensures err { IfErr result (BreaksIn W.contents log.old log.new sent (line word.now total)) }
 {
     send_pieces(
@@ -37,8 +38,10 @@ pub fn log_change<W: Write>(
     name: &[u8],
     total: u64,
 ) -> Result<usize, WriteFault>
-    ensures ok { IfOk result (λ after. Sends W.contents log.old log.new sent after (line (decimal round ++ codes " " ++ name.now) total)) }
-    ensures err { IfErr result (BreaksIn W.contents log.old log.new sent (line (decimal round ++ codes " " ++ name.now) total)) }
+    ensures ok { IfOk result (λ after. Sends W.contents log.old log.new sent after
+        (line (decimal round ++ codes " " ++ name.now) total)) }
+    ensures err { IfErr result (BreaksIn W.contents log.old log.new sent
+        (line (decimal round ++ codes " " ++ name.now) total)) }
 {
     send_pieces(
         log,
@@ -61,8 +64,10 @@ pub fn log_round<W: Write>(
     round: u16,
     total: u64,
 ) -> Result<usize, WriteFault>
-    ensures ok { IfOk result (λ after. Sends W.contents log.old log.new sent after (line (codes "round " ++ decimal round) total)) }
-    ensures err { IfErr result (BreaksIn W.contents log.old log.new sent (line (codes "round " ++ decimal round) total)) }
+    ensures ok { IfOk result (λ after. Sends W.contents log.old log.new sent after
+        (line (codes "round " ++ decimal round) total)) }
+    ensures err { IfErr result (BreaksIn W.contents log.old log.new sent
+        (line (codes "round " ++ decimal round) total)) }
 {
     send_pieces(
         log,

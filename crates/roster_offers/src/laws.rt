@@ -22,7 +22,9 @@ ghost use Rattle.roster_offers.specs.declared.offer.Offer.{Offer};
 /// The cheapest of all rows of the days' offers, the first of them, is what the search from state to state gives, with its
 /// cost, whatever the offers, the steps and the end are.
 pub fn cheapest_row_is_found_by_states()
-    ensures { (offers : ℕ → List Offer) (step : Steps Summary Offer) (finish : Summary → ℕ) (m d : ℕ) (s : Summary) → cheapest (λ row. with_cost row (cost_from step finish d s row)) (rows_from offers m d) ≡ best_from offers step finish m d s }
+    ensures { (offers : ℕ → List Offer) (step : Steps Summary Offer) (finish : Summary → ℕ)
+        (m d : ℕ) (s : Summary) → cheapest (λ row. with_cost row (cost_from step finish d s row))
+        (rows_from offers m d) ≡ best_from offers step finish m d s }
 {}
 
 /// Whatever a nurse is offered on each day, at whatever prices: where a row of the case has each choice offered on its day and keeps the
@@ -30,19 +32,37 @@ pub fn cheapest_row_is_found_by_states()
 /// of the cheapest of those rows, and what it costs, its prices and what the nurse's own rules cost along it, is what the start owes and
 /// the cost that the search gives.
 pub fn cheapest_offered_row_is_found()
-    ensures some { (c : Meaning) (n : ℕ) (offered : ℕ → Choice → Bool) (price : ℕ → Choice → ℕ) (row : Row) → Contains (offered_rows c n offered) row → IsSome (best_over c n (λ d. cheapest_by_shift (offers_by c offered price d))) }
-    ensures least { (c : Meaning) (n : ℕ) (offered : ℕ → Choice → Bool) (price : ℕ → Choice → ℕ) (cost : ℕ) (offers : List Offer) → best_over c n (λ d. cheapest_by_shift (offers_by c offered price d)) ≡ Some (cost, offers) → IsFirstLeast (row_cost_at c n price) (offered_rows c n offered) (choices_of offers) }
-    ensures cost { (c : Meaning) (n : ℕ) (offered : ℕ → Choice → Bool) (price : ℕ → Choice → ℕ) (cost : ℕ) (offers : List Offer) → best_over c n (λ d. cheapest_by_shift (offers_by c offered price d)) ≡ Some (cost, offers) → row_cost_at c n price (choices_of offers) ≡ due c n [] + cost }
+    ensures some { (c : Meaning) (n : ℕ) (offered : ℕ → Choice → Bool) (price : ℕ → Choice → ℕ)
+        (row : Row) → Contains (offered_rows c n offered) row →
+        IsSome (best_over c n (λ d. cheapest_by_shift (offers_by c offered price d))) }
+    ensures least { (c : Meaning) (n : ℕ) (offered : ℕ → Choice → Bool) (price : ℕ → Choice → ℕ)
+        (cost : ℕ) (offers : List Offer) →
+        best_over c n (λ d. cheapest_by_shift (offers_by c offered price d)) ≡ Some (cost, offers) →
+        IsFirstLeast (row_cost_at c n price) (offered_rows c n offered) (choices_of offers) }
+    ensures cost { (c : Meaning) (n : ℕ) (offered : ℕ → Choice → Bool) (price : ℕ → Choice → ℕ)
+        (cost : ℕ) (offers : List Offer) →
+        best_over c n (λ d. cheapest_by_shift (offers_by c offered price d)) ≡ Some (cost, offers) →
+        row_cost_at c n price (choices_of offers) ≡ due c n [] + cost }
 {}
 
 /// For a roster that fits the case and keeps the hard rules, the search over a nurse's offers gives a row. It is the nurse's best
 /// row, and the roster's penalty with it is what the other nurses' rows cost, what the start owes, and the cost that the search
 /// gives. In a case with small numbers that cost is below the label of no row.
 pub fn best_row_is_found_by_states()
-    ensures some { (c : Meaning) (from : ℕ) (r : Rows) → fits_case c r ≡ true → keeps_hard c r ≡ true → (n : ℕ) → n < nurse_count c → IsSome (best_by_states c from r n) }
-    ensures best { (c : Meaning) (from : ℕ) (r : Rows) → fits_case c r ≡ true → keeps_hard c r ≡ true → (n : ℕ) → n < nurse_count c → (cost : ℕ) (offers : List Offer) → best_by_states c from r n ≡ Some (cost, offers) → IsBestRow c from r n (choices_of offers) }
-    ensures below { (c : Meaning) (from : ℕ) (r : Rows) → fits_case c r ≡ true → keeps_hard c r ≡ true → (n : ℕ) → n < nurse_count c → (cost : ℕ) (offers : List Offer) → best_by_states c from r n ≡ Some (cost, offers) → HasSmallNumbers c → shift_count c ≤ most_shifts → skill_count c ≤ most_skills → week_count c ≤ most_weeks → cost < no_row }
-    ensures penalty { (c : Meaning) (from : ℕ) (r : Rows) → fits_case c r ≡ true → keeps_hard c r ≡ true → (n : ℕ) → n < nurse_count c → (cost : ℕ) (offers : List Offer) → best_by_states c from r n ≡ Some (cost, offers) → penalty_with c r n (choices_of offers) ≡ rest_of c r n + due c n [] + cost }
+    ensures some { (c : Meaning) (from : ℕ) (r : Rows) → fits_case c r ≡ true →
+        keeps_hard c r ≡ true → (n : ℕ) → n < nurse_count c → IsSome (best_by_states c from r n) }
+    ensures best { (c : Meaning) (from : ℕ) (r : Rows) → fits_case c r ≡ true →
+        keeps_hard c r ≡ true → (n : ℕ) → n < nurse_count c → (cost : ℕ) (offers : List Offer) →
+        best_by_states c from r n ≡ Some (cost, offers) → IsBestRow c from r n (choices_of offers) }
+    ensures below { (c : Meaning) (from : ℕ) (r : Rows) → fits_case c r ≡ true →
+        keeps_hard c r ≡ true → (n : ℕ) → n < nurse_count c → (cost : ℕ) (offers : List Offer) →
+        best_by_states c from r n ≡ Some (cost, offers) → HasSmallNumbers c →
+        shift_count c ≤ most_shifts → skill_count c ≤ most_skills → week_count c ≤ most_weeks →
+        cost < no_row }
+    ensures penalty { (c : Meaning) (from : ℕ) (r : Rows) → fits_case c r ≡ true →
+        keeps_hard c r ≡ true → (n : ℕ) → n < nurse_count c → (cost : ℕ) (offers : List Offer) →
+        best_by_states c from r n ≡ Some (cost, offers) →
+        penalty_with c r n (choices_of offers) ≡ rest_of c r n + due c n [] + cost }
 {}
 
 /// In a case with small numbers a label, what the best row of some days costs from a state on, is at most 714,703,850, below that of no
@@ -57,27 +77,45 @@ pub fn labels_are_low()
 /// the case and keeps the hard rules there is one at least, and on a frozen day just one: the present choice. On another day all
 /// that is open is offered.
 pub fn offers_are_few()
-    ensures each { (c : Meaning) → HasSmallNumbers c → shift_count c ≤ most_shifts → skill_count c ≤ most_skills → (from : ℕ) (r : Rows) (n d : ℕ) → All (IsOfferOf c) (offers_of c from r n d) }
-    ensures few { (c : Meaning) (from : ℕ) (r : Rows) (n d : ℕ) → length (offers_of c from r n d) ≤ choice_count c n }
-    ensures some { (c : Meaning) (from : ℕ) (r : Rows) → fits_case c r ≡ true → keeps_hard c r ≡ true → (n : ℕ) → n < nurse_count c → (d : ℕ) → d < day_count c → 0 < length (offers_of c from r n d) }
-    ensures frozen { (c : Meaning) (from : ℕ) (r : Rows) → fits_case c r ≡ true → keeps_hard c r ≡ true → (n : ℕ) → n < nurse_count c → (d : ℕ) → d < day_count c → is_frozen from d ≡ true → offers_of c from r n d ≡ offer_of c r n d (choice_on (row_of r n) d) ∷ [] }
-    ensures free { (c : Meaning) (from : ℕ) (r : Rows) (n d : ℕ) → is_frozen from d ≡ false → offers_of c from r n d ≡ open_offers c r n d }
+    ensures each { (c : Meaning) → HasSmallNumbers c → shift_count c ≤ most_shifts →
+        skill_count c ≤ most_skills → (from : ℕ) (r : Rows) (n d : ℕ) →
+        All (IsOfferOf c) (offers_of c from r n d) }
+    ensures few { (c : Meaning) (from : ℕ) (r : Rows) (n d : ℕ) →
+        length (offers_of c from r n d) ≤ choice_count c n }
+    ensures some { (c : Meaning) (from : ℕ) (r : Rows) → fits_case c r ≡ true →
+        keeps_hard c r ≡ true → (n : ℕ) → n < nurse_count c → (d : ℕ) → d < day_count c →
+        0 < length (offers_of c from r n d) }
+    ensures frozen { (c : Meaning) (from : ℕ) (r : Rows) → fits_case c r ≡ true →
+        keeps_hard c r ≡ true → (n : ℕ) → n < nurse_count c → (d : ℕ) → d < day_count c →
+        is_frozen from d ≡ true → offers_of c from r n d ≡ offer_of c r n d
+        (choice_on (row_of r n) d) ∷ [] }
+    ensures free { (c : Meaning) (from : ℕ) (r : Rows) (n d : ℕ) → is_frozen from d ≡ false →
+        offers_of c from r n d ≡ open_offers c r n d }
 {}
 
 /// Of the offers for one shift the first of the cheapest is enough: over these the best row, with its cost, is the best row over
 /// all, also where several are equally cheap. They are some of all, one at least where there is one, and of a roster's on a day at
 /// most one for each shift and one to be off.
 pub fn one_offer_for_each_shift_is_enough()
-    ensures best { (c : Meaning) (n : ℕ) (offers : ℕ → List Offer) (m d : ℕ) (s : Summary) → best_of_offers c n (λ day. cheapest_by_shift (offers day)) m d s ≡ best_of_offers c n offers m d s }
-    ensures among { (offers : List Offer) (x : Offer) → Contains (cheapest_by_shift offers) x → Contains offers x }
+    ensures best { (c : Meaning) (n : ℕ) (offers : ℕ → List Offer) (m d : ℕ) (s : Summary) →
+        best_of_offers c n (λ day. cheapest_by_shift (offers day)) m d s ≡ best_of_offers c n offers
+        m d s }
+    ensures among { (offers : List Offer) (x : Offer) → Contains (cheapest_by_shift offers) x →
+        Contains offers x }
     ensures fewer { (offers : List Offer) → length (cheapest_by_shift offers) ≤ length offers }
-    ensures some { (offers : List Offer) → 0 < length offers → 0 < length (cheapest_by_shift offers) }
-    ensures few { (c : Meaning) (from : ℕ) (r : Rows) (n d : ℕ) → length (shift_offers c from r n d) ≤ 1 + shift_count c }
+    ensures some { (offers : List Offer) → 0 < length offers →
+        0 < length (cheapest_by_shift offers) }
+    ensures few { (c : Meaning) (from : ℕ) (r : Rows) (n d : ℕ) →
+        length (shift_offers c from r n d) ≤ 1 + shift_count c }
 {}
 
 /// After prices have changed, the best row costs less by no more than the days say. On each day let every new offer have an old one for the
 /// same shift, and let its price be higher than that one's by `rise` of the day at least, less `fall` of the day. Where the new offers
 /// have a best row, so have the old ones, and its cost with all that has risen is at most the new one's with all that has fallen.
 pub fn cost_rises_with_prices()
-    ensures { (c : Meaning) (n : ℕ) (old new : ℕ → List Offer) (rise fall : ℕ → ℕ) → ((d : ℕ) → d < day_count c → AllHaveRisen (rise d) (fall d) (old d) (new d)) → (cost : ℕ) (offers : List Offer) → best_over c n new ≡ Some (cost, offers) → IsSomeAnd (best_over c n old) (λ best. best.0 + sum_below (day_count c) rise ≤ cost + sum_below (day_count c) fall) }
+    ensures { (c : Meaning) (n : ℕ) (old new : ℕ → List Offer) (rise fall : ℕ → ℕ) →
+        ((d : ℕ) → d < day_count c → AllHaveRisen (rise d) (fall d) (old d) (new d)) →
+        (cost : ℕ) (offers : List Offer) → best_over c n new ≡ Some (cost, offers) →
+        IsSomeAnd (best_over c n old) (λ best. best.0 + sum_below (day_count c) rise ≤ cost
+        + sum_below (day_count c) fall) }
 {}

@@ -32,7 +32,8 @@ pub fn cost_of_requests(
 pub fn has_some_wish(case: &Case, nurse: usize, day: u16) -> bool
     requires { nurse < nurse_count case.now }
     ensures some { result ≡ not (meets_wishes case.now nurse day None) }
-    ensures free { (shift : Option Shift) → result ≡ false → wish_cost_on case.now nurse day shift ≡ 0 }
+    ensures free { (shift : Option Shift) → result ≡ false →
+        wish_cost_on case.now nurse day shift ≡ 0 }
 {
     let wishes = case.wishes(nurse, day);
     let mut some = wishes.any;

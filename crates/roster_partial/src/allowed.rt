@@ -39,7 +39,8 @@ pub fn allow(case: &Case, state: State, offers: &[Offer], allowed: &mut Allowed,
     ensures each { AreTold case.now offers.now allowed.new }
     ensures looked { IsNone (told_after allowed.old state.last) → IsSomeAnd (told_after allowed.new state.last)
         (λ places. meter.new + length places.items ≡ meter.old + length offers.now) }
-    ensures kept { IsSome (told_after allowed.old state.last) → (allowed.new ≡ allowed.old) × (meter.new ≡ meter.old) }
+    ensures kept { IsSome (told_after allowed.old state.last) →
+        (allowed.new ≡ allowed.old) × (meter.new ≡ meter.old) }
 {
     let digit = state.last_number() as usize;
     if allowed[digit].is_none() {

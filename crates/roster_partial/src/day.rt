@@ -81,9 +81,13 @@ fn beside_after(
 ) -> Beside
     requires search { IsSearch limited.now }
     requires day { day ≤ day_count limited.now.floors.search.case.now }
-    requires fits { fits_sizes (sizes_of limited.now.floors.search.case.now limited.now.floors.search.nurse) state.now ≡ true }
-    requires worked { is_some shift ≡ true → IsBeside limited.now.floors.search.case.now limited.now.floors.search.nurse limited.now.floors.rates day state.now.assignments state.now.weekends ahead.now.beside }
-    ensures { IsBeside limited.now.floors.search.case.now limited.now.floors.search.nurse limited.now.floors.rates day state.now.assignments state.now.weekends result }
+    requires fits { fits_sizes (sizes_of limited.now.floors.search.case.now
+        limited.now.floors.search.nurse) state.now ≡ true }
+    requires worked { is_some shift ≡ true → IsBeside limited.now.floors.search.case.now
+        limited.now.floors.search.nurse limited.now.floors.rates day state.now.assignments
+        state.now.weekends ahead.now.beside }
+    ensures { IsBeside limited.now.floors.search.case.now limited.now.floors.search.nurse
+        limited.now.floors.rates day state.now.assignments state.now.weekends result }
 {
     match shift {
         Some(_) => ahead.beside,
@@ -96,9 +100,15 @@ fn beside_after(
 fn is_dear(limited: &LimitedSearch<'_>, day: u16, state: &State, cost: u32, beside: &Beside) -> bool
     requires search { IsSearch limited.now }
     requires day { day ≤ day_count limited.now.floors.search.case.now }
-    requires fits { fits_sizes (sizes_of limited.now.floors.search.case.now limited.now.floors.search.nurse) state.now ≡ true }
-    requires beside { IsBeside limited.now.floors.search.case.now limited.now.floors.search.nurse limited.now.floors.rates day state.now.assignments state.now.weekends beside.now }
-    ensures dear { result ≡ true → (rest : ℕ) (row : List Offer) → best_of_offers limited.now.floors.search.case.now limited.now.floors.search.nurse (offers_on limited.now.floors.search.offers.now) (day_count limited.now.floors.search.case.now - day) day state.now ≡ Some (rest, row) → limited.now.limit < cost + rest }
+    requires fits { fits_sizes (sizes_of limited.now.floors.search.case.now
+        limited.now.floors.search.nurse) state.now ≡ true }
+    requires beside { IsBeside limited.now.floors.search.case.now limited.now.floors.search.nurse
+        limited.now.floors.rates day state.now.assignments state.now.weekends beside.now }
+    ensures dear { result ≡ true → (rest : ℕ) (row : List Offer) →
+        best_of_offers limited.now.floors.search.case.now limited.now.floors.search.nurse
+        (offers_on limited.now.floors.search.offers.now)
+        (day_count limited.now.floors.search.case.now - day) day state.now ≡ Some (rest, row) →
+        limited.now.limit < cost + rest }
     ensures low { result ≡ false → cost ≤ limited.now.limit }
 {
     let least = at_least_beside(&limited.floors, day, state, beside);
@@ -133,7 +143,8 @@ fn put(
     requires most { limited.now.most ≤ most_rows }
     requires before { link.before < most_rows }
     requires offer { link.offer < 16 }
-    requires linked { (e : Entry) → e.before ≡ link.before → e.offer ≡ link.offer → IsLinked days.offers days.earlier days.day e }
+    requires linked { (e : Entry) → e.before ≡ link.before → e.offer ≡ link.offer →
+        IsLinked days.offers days.earlier days.day e }
     requires entries { All (IsEntryOf days) (drop at.end (rows_in rows.old)) }
     requires held { AreHeld limited.now rows.old }
     ensures front { take at.end (rows_in rows.new) ≡ take at.end (rows_in rows.old) }
@@ -183,7 +194,8 @@ pub fn go_on(
     requires day { at.day < day_count limited.now.floors.search.case.now }
     requires end { at.end ≤ length (rows_in rows.old) }
     requires before { going.link.before < at.end }
-    requires offer { going.link.offer < length (offers_on limited.now.floors.search.offers.now at.day) }
+    requires offer { going.link.offer < length (offers_on limited.now.floors.search.offers.now
+        at.day) }
     requires from { IsEntryOf (days_on limited.now at.day (take at.end (rows_in rows.old)))
         (entry_numbered (take at.end (rows_in rows.old)) going.link.before) }
     requires state { going.state

@@ -42,14 +42,18 @@ pub fn row_within(
     requires row_room { day_count limited.now.floors.search.case.now ≤ length row.old }
     requires room { meter.old ≤ most }
     requires cells { 1 + 4 * limited.now.most ≤ length rows.old }
-    ensures best { (cost : ℕ) → result ≡ Found cost → IsFound (best_over limited.now.floors.search.case.now limited.now.floors.search.nurse (offers_on limited.now.floors.search.offers.now)) cost (take (day_count limited.now.floors.search.case.now) row.new) }
+    ensures best { (cost : ℕ) → result ≡ Found cost →
+        IsFound (best_over limited.now.floors.search.case.now limited.now.floors.search.nurse
+        (offers_on limited.now.floors.search.offers.now)) cost
+        (take (day_count limited.now.floors.search.case.now) row.new) }
     ensures below { (cost : ℕ) → result ≡ Found cost → cost < no_row }
     ensures full { result ≡ Full → IsFull limited.now.most most rows.new meter.new }
     ensures dearer { result ≡ Dearer
         → within limited.now.limit
         (best_over limited.now.floors.search.case.now limited.now.floors.search.nurse
         (offers_on limited.now.floors.search.offers.now)) ≡ None }
-    ensures each_day { (cost : ℕ) → result ≡ Found cost → meter.old + day_count limited.now.floors.search.case.now ≤ meter.new }
+    ensures each_day { (cost : ℕ) → result ≡ Found cost →
+        meter.old + day_count limited.now.floors.search.case.now ≤ meter.new }
     ensures counted { (meter.old ≤ meter.new) × (meter.new ≤ most) }
     ensures length { length row.new ≡ length row.old }
 {
@@ -72,7 +76,9 @@ pub fn row_within(
 fn start_entry(limited: &LimitedSearch<'_>) -> Entry
     requires search { IsSearch limited.now }
     ensures entry { IsEntryOf (days_on limited.now 0 []) result }
-    ensures best { best_of (days_on limited.now 0 []) result ≡ within limited.now.limit (best_over limited.now.floors.search.case.now limited.now.floors.search.nurse (offers_on limited.now.floors.search.offers.now)) }
+    ensures best { best_of (days_on limited.now 0 []) result ≡ within limited.now.limit
+        (best_over limited.now.floors.search.case.now limited.now.floors.search.nurse
+        (offers_on limited.now.floors.search.offers.now)) }
     ensures first { result.offer ≡ 0 }
     ensures last { shift_digit result.state.last < 16 }
 {

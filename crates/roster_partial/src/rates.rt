@@ -74,8 +74,10 @@ pub fn set_best_floors(
     requires offers { AreOffers search.now.case.now search.now.nurse search.now.offers.now }
     requires room { meter.old ≤ most }
     ensures small { IfSome result (λ aim. AreSmall aim.rates) }
-    ensures floors { IfSome result (λ aim. AreFloors search.now.case.now search.now.nurse aim.rates (offers_on search.now.offers.now) floors.new) }
-    ensures inside { IfSome result (λ aim. (day_count search.now.case.now + 1) * floor_count (sizes_of search.now.case.now search.now.nurse) ≤ length floors.new) }
+    ensures floors { IfSome result (λ aim. AreFloors search.now.case.now search.now.nurse aim.rates
+        (offers_on search.now.offers.now) floors.new) }
+    ensures inside { IfSome result (λ aim. (day_count search.now.case.now + 1) * floor_count
+        (sizes_of search.now.case.now search.now.nurse) ≤ length floors.new) }
     ensures counted { CountsPartial search.now.case.now search.now.nurse
         (offers_on search.now.offers.now) meter.old meter.new }
     ensures most { meter.new ≤ most }
@@ -133,7 +135,8 @@ fn plan_by(search: &RowSearch<'_>, guess: Option<Guess>, most: u64, meter: &mut 
     ensures small { AreSmall result.rates }
     ensures trials { result.trials ≤ 11 }
     ensures most { result.most ≡ most }
-    ensures counted { (meter.old ≤ meter.new) × (meter.new ≤ meter.old + most_offers * day_count search.now.case.now) }
+    ensures counted { (meter.old ≤ meter.new) × (meter.new ≤ meter.old
+        + most_offers * day_count search.now.case.now) }
 {
     let none = Rates { day: 0, weekend: 0 };
     let first = first_trials(search.case);
@@ -202,11 +205,14 @@ fn trial(search: &RowSearch<'_>, rates: Rates, floors: &[u32], meter: &mut Meter
     requires nurse { search.now.nurse < nurse_count search.now.case.now }
     requires offers { AreOffers search.now.case.now search.now.nurse search.now.offers.now }
     requires small { AreSmall rates }
-    requires floors { AreFloors search.now.case.now search.now.nurse rates (offers_on search.now.offers.now) floors.now }
-    requires inside { (day_count search.now.case.now + 1) * floor_count (sizes_of search.now.case.now search.now.nurse) ≤ length floors.now }
+    requires floors { AreFloors search.now.case.now search.now.nurse rates
+        (offers_on search.now.offers.now) floors.now }
+    requires inside { (day_count search.now.case.now + 1) * floor_count
+        (sizes_of search.now.case.now search.now.nurse) ≤ length floors.now }
     requires room { meter.old + most_offers * day_count search.now.case.now ≤ greatest_u64 }
     ensures rates { (result.rates ≡ rates) × (result.set ≡ rates) }
-    ensures counted { (meter.old ≤ meter.new) × (meter.new ≤ meter.old + most_offers * day_count search.now.case.now) }
+    ensures counted { (meter.old ≤ meter.new) × (meter.new ≤ meter.old
+        + most_offers * day_count search.now.case.now) }
 {
     let RowSearch {
         case,
@@ -247,11 +253,13 @@ fn try_rates(
 ) -> Tried
     requires nurse { search.now.nurse < nurse_count search.now.case.now }
     requires offers { AreOffers search.now.case.now search.now.nurse search.now.offers.now }
-    requires tried { IsTried search.now.case.now search.now.nurse (offers_on search.now.offers.now) floors.old first }
+    requires tried { IsTried search.now.case.now search.now.nurse (offers_on search.now.offers.now)
+        floors.old first }
     requires room { meter.old
         + floor_steps search.now.case.now search.now.nurse (offers_on search.now.offers.now)
         ≤ plan.most }
-    ensures tried { IsTried search.now.case.now search.now.nurse (offers_on search.now.offers.now) floors.new result }
+    ensures tried { IsTried search.now.case.now search.now.nurse (offers_on search.now.offers.now)
+        floors.new result }
     ensures counted { CountsSets search.now.case.now search.now.nurse
         (offers_on search.now.offers.now) plan.trials meter.old meter.new }
     ensures most { meter.new
@@ -289,11 +297,13 @@ fn try_more(
     requires nurse { search.now.nurse < nurse_count search.now.case.now }
     requires offers { AreOffers search.now.case.now search.now.nurse search.now.offers.now }
     requires small { AreSmall rates }
-    requires tried { IsTried search.now.case.now search.now.nurse (offers_on search.now.offers.now) floors.old tried }
+    requires tried { IsTried search.now.case.now search.now.nurse (offers_on search.now.offers.now)
+        floors.old tried }
     requires room { meter.old
         + trial_steps search.now.case.now search.now.nurse (offers_on search.now.offers.now)
         ≤ greatest_u64 }
-    ensures tried { IsTried search.now.case.now search.now.nurse (offers_on search.now.offers.now) floors.new result }
+    ensures tried { IsTried search.now.case.now search.now.nurse (offers_on search.now.offers.now)
+        floors.new result }
     ensures counted { CountsSets search.now.case.now search.now.nurse
         (offers_on search.now.offers.now) 1 meter.old meter.new }
     ensures few { meter.new ≤ meter.old
@@ -380,7 +390,8 @@ fn follow(
     requires offers { AreOffers search.now.case.now search.now.nurse search.now.offers.now }
     requires ready { IfSome floors (λ at. AreReady at.now × (at.now.search ≡ search.now)) }
     requires room { meter.old + most_offers * day_count search.now.case.now ≤ greatest_u64 }
-    ensures counted { (meter.old ≤ meter.new) × (meter.new ≤ meter.old + most_offers * day_count search.now.case.now) }
+    ensures counted { (meter.old ≤ meter.new) × (meter.new ≤ meter.old
+        + most_offers * day_count search.now.case.now) }
 {
     let case = search.case;
     let nurse = search.nurse;
@@ -430,7 +441,8 @@ fn best_step(
     requires day { day < day_count search.now.case.now }
     requires fits { fits_sizes (sizes_of search.now.case.now search.now.nurse) state ≡ true }
     requires room { meter.old + most_offers ≤ greatest_u64 }
-    ensures fits { IfSome result (λ step. fits_sizes (sizes_of search.now.case.now search.now.nurse) step.state ≡ true) }
+    ensures fits { IfSome result (λ step. fits_sizes (sizes_of search.now.case.now search.now.nurse)
+        step.state ≡ true) }
     ensures counted { (meter.old ≤ meter.new) × (meter.new ≤ meter.old + most_offers) }
 {
     let RowSearch {

@@ -80,20 +80,24 @@ pub fn search_row(
 ) -> u32
     requires nurse { search.now.nurse < nurse_count search.now.case.now }
     requires offers { AreOffers search.now.case.now search.now.nurse search.now.offers.now }
-    requires some { IsSome (best_over search.now.case.now search.now.nurse (offers_on search.now.offers.now)) }
+    requires some { IsSome (best_over search.now.case.now search.now.nurse
+        (offers_on search.now.offers.now)) }
     requires tables { HasTables search.now.case.now search.now.nurse tables.old }
     requires row_room { day_count search.now.case.now ≤ length row.old }
-    requires room { meter.old + extension_count search.now.case.now search.now.nurse ≤ greatest_u64 }
+    requires room { meter.old + extension_count search.now.case.now
+        search.now.nurse ≤ greatest_u64 }
 
     // The row, and its cost.
-    ensures best { IsFound (best_over search.now.case.now search.now.nurse (offers_on search.now.offers.now)) result (take (day_count search.now.case.now) row.new) }
+    ensures best { IsFound (best_over search.now.case.now search.now.nurse
+        (offers_on search.now.offers.now)) result (take (day_count search.now.case.now) row.new) }
     ensures below { result < no_row }
     ensures length { length row.new ≡ length row.old }
 
     // What it takes.
     ensures each_day { meter.old + day_count search.now.case.now ≤ meter.new }
     ensures counted { meter.new ≤ meter.old + extension_count search.now.case.now search.now.nurse }
-    ensures standing { CountsSearch search.now.case.now search.now.nurse (offers_on search.now.offers.now) meter.old meter.new }
+    ensures standing { CountsSearch search.now.case.now search.now.nurse
+        (offers_on search.now.offers.now) meter.old meter.new }
     ensures tables { tables.new ≡ tables.old }
 {
     stand_days(search, areas);
@@ -237,20 +241,25 @@ fn search_within(
     requires nurse { search.now.nurse < nurse_count search.now.case.now }
     requires offers { AreOffers search.now.case.now search.now.nurse search.now.offers.now }
     requires small { AreSmall attempt.now.rates }
-    requires inside { (day_count search.now.case.now + 1) * floor_count (sizes_of search.now.case.now search.now.nurse) ≤ length attempt.now.floors.now }
-    requires floors { AreFloors search.now.case.now search.now.nurse attempt.now.rates (offers_on search.now.offers.now) attempt.now.floors.now }
+    requires inside { (day_count search.now.case.now + 1) * floor_count
+        (sizes_of search.now.case.now search.now.nurse) ≤ length attempt.now.floors.now }
+    requires floors { AreFloors search.now.case.now search.now.nurse attempt.now.rates
+        (offers_on search.now.offers.now) attempt.now.floors.now }
     requires limit { attempt.now.limit < no_row }
     requires cells { 0 < length rows.old }
     requires row_room { day_count search.now.case.now ≤ length row.old }
     requires room { meter.old ≤ attempt.now.most }
-    ensures best { (cost : ℕ) → result ≡ Found cost → IsFound (best_over search.now.case.now search.now.nurse (offers_on search.now.offers.now)) cost (take (day_count search.now.case.now) row.new) }
+    ensures best { (cost : ℕ) → result ≡ Found cost →
+        IsFound (best_over search.now.case.now search.now.nurse (offers_on search.now.offers.now))
+        cost (take (day_count search.now.case.now) row.new) }
     ensures below { (cost : ℕ) → result ≡ Found cost → cost < no_row }
     ensures full { result ≡ Full
         → IsFull (min ((length rows.old - 1) / 4) most_rows) attempt.now.most rows.new meter.new }
     ensures dearer { result ≡ Dearer
         → within attempt.now.limit
         (best_over search.now.case.now search.now.nurse (offers_on search.now.offers.now)) ≡ None }
-    ensures each_day { (cost : ℕ) → result ≡ Found cost → meter.old + day_count search.now.case.now ≤ meter.new }
+    ensures each_day { (cost : ℕ) → result ≡ Found cost →
+        meter.old + day_count search.now.case.now ≤ meter.new }
     ensures counted { (meter.old ≤ meter.new) × (meter.new ≤ attempt.now.most) }
     ensures length { length row.new ≡ length row.old }
 {

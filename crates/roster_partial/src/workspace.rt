@@ -113,8 +113,10 @@ impl Workspace {
     ///
     /// A growth was refused.
     pub fn for_case(alloc: Global, case: &Case) -> Result<Workspace, BestFault>
-        ensures labels { IfOk result (λ workspace. workspace.labels ≡ 2 * greatest_state_count case.now) }
-        ensures pointers { IfOk result (λ workspace. workspace.pointers ≡ greatest_state_count case.now * day_count case.now) }
+        ensures labels { IfOk result (λ workspace. workspace.labels ≡ 2 * greatest_state_count
+            case.now) }
+        ensures pointers { IfOk result (λ workspace. workspace.pointers ≡ greatest_state_count
+            case.now * day_count case.now) }
         ensures row { IfOk result (λ workspace. workspace.row ≡ []) }
         ensures fits { IfOk result (λ workspace. fits_space case.now workspace ≡ true) }
     {
@@ -162,18 +164,23 @@ impl Workspace {
     pub fn search(&mut self, search: &RowSearch<'_>, meter: &mut Meter) -> u32
         requires nurse { search.now.nurse < nurse_count search.now.case.now }
         requires offers { AreOffers search.now.case.now search.now.nurse search.now.offers.now }
-        requires some { IsSome (best_over search.now.case.now search.now.nurse (offers_on search.now.offers.now)) }
+        requires some { IsSome (best_over search.now.case.now search.now.nurse
+            (offers_on search.now.offers.now)) }
         requires fits { fits_space search.now.case.now self.old ≡ true }
-        requires room { meter.old + extension_count search.now.case.now search.now.nurse ≤ greatest_u64 }
+        requires room { meter.old + extension_count search.now.case.now
+            search.now.nurse ≤ greatest_u64 }
 
         // The row, and its cost.
-        ensures best { IsFound (best_over search.now.case.now search.now.nurse (offers_on search.now.offers.now)) result self.new.row }
+        ensures best { IsFound (best_over search.now.case.now search.now.nurse
+            (offers_on search.now.offers.now)) result self.new.row }
         ensures below { result < no_row }
 
         // What it takes.
         ensures each_day { meter.old + day_count search.now.case.now ≤ meter.new }
-        ensures counted { meter.new ≤ meter.old + extension_count search.now.case.now search.now.nurse }
-        ensures standing { CountsSearch search.now.case.now search.now.nurse (offers_on search.now.offers.now) meter.old meter.new }
+        ensures counted { meter.new ≤ meter.old + extension_count search.now.case.now
+            search.now.nurse }
+        ensures standing { CountsSearch search.now.case.now search.now.nurse
+            (offers_on search.now.offers.now) meter.old meter.new }
         ensures same_room { SameRoom self.old self.new }
         ensures fits { fits_space search.now.case.now self.new ≡ true }
         ensures offers { self.new.offers ≡ self.old.offers }
@@ -212,13 +219,15 @@ impl Workspace {
         requires room { meter.old + extension_count case.now nurse ≤ greatest_u64 }
 
         // The row, and its cost.
-        ensures best { IsFound (best_over case.now nurse (offers_on self.old.offers)) result self.new.row }
+        ensures best { IsFound (best_over case.now nurse (offers_on self.old.offers)) result
+            self.new.row }
         ensures below { result < no_row }
 
         // What it takes.
         ensures each_day { meter.old + day_count case.now ≤ meter.new }
         ensures counted { meter.new ≤ meter.old + extension_count case.now nurse }
-        ensures standing { CountsSearch case.now nurse (offers_on self.old.offers) meter.old meter.new }
+        ensures standing { CountsSearch case.now nurse (offers_on self.old.offers) meter.old
+            meter.new }
         ensures same_room { SameRoom self.old self.new }
         ensures fits { fits_space case.now self.new ≡ true }
         ensures offers { self.new.offers ≡ self.old.offers }
@@ -244,18 +253,23 @@ impl SearchSpace {
     fn search(&mut self, search: &RowSearch<'_>, meter: &mut Meter) -> u32
         requires nurse { search.now.nurse < nurse_count search.now.case.now }
         requires offers { AreOffers search.now.case.now search.now.nurse search.now.offers.now }
-        requires some { IsSome (best_over search.now.case.now search.now.nurse (offers_on search.now.offers.now)) }
+        requires some { IsSome (best_over search.now.case.now search.now.nurse
+            (offers_on search.now.offers.now)) }
         requires fits { fits_space search.now.case.now self.old ≡ true }
-        requires room { meter.old + extension_count search.now.case.now search.now.nurse ≤ greatest_u64 }
+        requires room { meter.old + extension_count search.now.case.now
+            search.now.nurse ≤ greatest_u64 }
 
         // The row, and its cost.
-        ensures best { IsFound (best_over search.now.case.now search.now.nurse (offers_on search.now.offers.now)) result self.new.row }
+        ensures best { IsFound (best_over search.now.case.now search.now.nurse
+            (offers_on search.now.offers.now)) result self.new.row }
         ensures below { result < no_row }
 
         // What it takes.
         ensures each_day { meter.old + day_count search.now.case.now ≤ meter.new }
-        ensures counted { meter.new ≤ meter.old + extension_count search.now.case.now search.now.nurse }
-        ensures standing { CountsSearch search.now.case.now search.now.nurse (offers_on search.now.offers.now) meter.old meter.new }
+        ensures counted { meter.new ≤ meter.old + extension_count search.now.case.now
+            search.now.nurse }
+        ensures standing { CountsSearch search.now.case.now search.now.nurse
+            (offers_on search.now.offers.now) meter.old meter.new }
         ensures same_room { SameRoom self.old self.new }
         ensures fits { fits_space search.now.case.now self.new ≡ true }
     {

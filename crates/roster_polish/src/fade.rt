@@ -42,16 +42,21 @@ pub(crate) fn try_fade(
 ) -> bool
     requires fits { FitsPolish held.old.case space.old }
     requires kept { space.old.kept ≡ held.old.roster }
-    requires room { meter.old + extensions_of held.old.case kicking.old.searches.left ≤ greatest_u64 }
+    requires room { meter.old + extensions_of held.old.case
+        kicking.old.searches.left ≤ greatest_u64 }
     ensures case { held.new.case ≡ held.old.case }
     ensures kept { space.new.kept ≡ held.new.roster }
     ensures none { kicking.old.passes ≡ 0 → result ≡ false }
-    ensures stayed { result ≡ true → IsSettled held.old.case kicking.old.searches.from held.new.roster }
+    ensures stayed { result ≡ true → IsSettled held.old.case kicking.old.searches.from
+        held.new.roster }
     ensures back { result ≡ false → held.new.roster ≡ held.old.roster }
-    ensures frozen { FrozenDaysStay held.old.case kicking.old.searches.from held.old.roster held.new.roster }
-    ensures no_dearer { penalty held.old.case held.new.roster ≤ penalty held.old.case held.old.roster }
+    ensures frozen { FrozenDaysStay held.old.case kicking.old.searches.from held.old.roster
+        held.new.roster }
+    ensures no_dearer { penalty held.old.case held.new.roster ≤ penalty held.old.case
+        held.old.roster }
     ensures from { kicking.new.searches.from ≡ kicking.old.searches.from }
-    ensures spends { Spends held.old.case meter.old kicking.old.searches.left meter.new kicking.new.searches.left }
+    ensures spends { Spends held.old.case meter.old kicking.old.searches.left meter.new
+        kicking.new.searches.left }
     ensures fits { FitsPolish held.old.case space.new }
 {
     held.keeps_rules();
@@ -82,12 +87,15 @@ pub(crate) fn fade_rows(
     requires given { fits_case base.now.case.now base.now.given.now ≡ true }
     requires each { HaveRows base.now.case.now base.now.from base.now.given.now }
     requires fits { FitsPolish base.now.case.now space.old }
-    requires room { meter.old + extensions_of base.now.case.now kicking.old.searches.left ≤ greatest_u64 }
+    requires room { meter.old + extensions_of base.now.case.now
+        kicking.old.searches.left ≤ greatest_u64 }
     ensures kept { space.new.kept ≡ space.old.kept }
     ensures keeps { result ≡ true → keeps_hard base.now.case.now space.new.faded ≡ true }
-    ensures frozen { FrozenDaysStay base.now.case.now base.now.from base.now.given.now space.new.faded }
+    ensures frozen { FrozenDaysStay base.now.case.now base.now.from base.now.given.now
+        space.new.faded }
     ensures from { kicking.new.searches.from ≡ kicking.old.searches.from }
-    ensures spends { Spends base.now.case.now meter.old kicking.old.searches.left meter.new kicking.new.searches.left }
+    ensures spends { Spends base.now.case.now meter.old kicking.old.searches.left meter.new
+        kicking.new.searches.left }
     ensures fits { FitsPolish base.now.case.now space.new }
 {
     let passes = kicking.passes;
@@ -139,12 +147,16 @@ pub(crate) fn make_fade_pass(
 )
     requires each { HaveRows base.now.case.now base.now.from base.now.given.now }
     requires fits { FitsPolish base.now.case.now space.old }
-    requires frozen { FrozenDaysStay base.now.case.now base.now.from base.now.given.now space.old.faded }
-    requires room { meter.old + extensions_of base.now.case.now kicking.old.searches.left ≤ greatest_u64 }
+    requires frozen { FrozenDaysStay base.now.case.now base.now.from base.now.given.now
+        space.old.faded }
+    requires room { meter.old + extensions_of base.now.case.now
+        kicking.old.searches.left ≤ greatest_u64 }
     ensures kept { space.new.kept ≡ space.old.kept }
-    ensures frozen { FrozenDaysStay base.now.case.now base.now.from base.now.given.now space.new.faded }
+    ensures frozen { FrozenDaysStay base.now.case.now base.now.from base.now.given.now
+        space.new.faded }
     ensures from { kicking.new.searches.from ≡ kicking.old.searches.from }
-    ensures spends { Spends base.now.case.now meter.old kicking.old.searches.left meter.new kicking.new.searches.left }
+    ensures spends { Spends base.now.case.now meter.old kicking.old.searches.left meter.new
+        kicking.new.searches.left }
     ensures fits { FitsPolish base.now.case.now space.new }
 {
     base.case.keeps_limits();
@@ -171,10 +183,12 @@ fn fade_nurse(
     requires each { HaveRows base.now.case.now base.now.from base.now.given.now }
     requires nurse { nurse < nurse_count base.now.case.now }
     requires fits { FitsPolish base.now.case.now space.old }
-    requires frozen { FrozenDaysStay base.now.case.now base.now.from base.now.given.now space.old.faded }
+    requires frozen { FrozenDaysStay base.now.case.now base.now.from base.now.given.now
+        space.old.faded }
     requires room { meter.old + extension_count base.now.case.now nurse ≤ greatest_u64 }
     ensures kept { space.new.kept ≡ space.old.kept }
-    ensures frozen { FrozenDaysStay base.now.case.now base.now.from base.now.given.now space.new.faded }
+    ensures frozen { FrozenDaysStay base.now.case.now base.now.from base.now.given.now
+        space.new.faded }
     ensures counted { meter.new ≤ meter.old + extension_count base.now.case.now nurse }
     ensures fits { FitsPolish base.now.case.now space.new }
 {

@@ -51,15 +51,20 @@ pub(crate) fn try_kick(
 ) -> bool
     requires fits { FitsPolish held.old.case space.old }
     requires kept { space.old.kept ≡ held.old.roster }
-    requires room { meter.old + extensions_of held.old.case kicking.old.searches.left ≤ greatest_u64 }
+    requires room { meter.old + extensions_of held.old.case
+        kicking.old.searches.left ≤ greatest_u64 }
     ensures case { held.new.case ≡ held.old.case }
     ensures kept { space.new.kept ≡ held.new.roster }
-    ensures stayed { result ≡ true → IsSettled held.old.case kicking.old.searches.from held.new.roster }
+    ensures stayed { result ≡ true → IsSettled held.old.case kicking.old.searches.from
+        held.new.roster }
     ensures back { result ≡ false → held.new.roster ≡ held.old.roster }
-    ensures frozen { FrozenDaysStay held.old.case kicking.old.searches.from held.old.roster held.new.roster }
-    ensures no_dearer { penalty held.old.case held.new.roster ≤ penalty held.old.case held.old.roster }
+    ensures frozen { FrozenDaysStay held.old.case kicking.old.searches.from held.old.roster
+        held.new.roster }
+    ensures no_dearer { penalty held.old.case held.new.roster ≤ penalty held.old.case
+        held.old.roster }
     ensures from { kicking.new.searches.from ≡ kicking.old.searches.from }
-    ensures spends { Spends held.old.case meter.old kicking.old.searches.left meter.new kicking.new.searches.left }
+    ensures spends { Spends held.old.case meter.old kicking.old.searches.left meter.new
+        kicking.new.searches.left }
     ensures fits { FitsPolish held.old.case space.new }
 {
     held.keeps_rules();
@@ -77,12 +82,15 @@ fn kick_nurses(
     meter: &mut Meter,
 ) -> usize
     requires fits { FitsPolish held.old.case space.old }
-    requires room { meter.old + extensions_of held.old.case kicking.old.searches.left ≤ greatest_u64 }
+    requires room { meter.old + extensions_of held.old.case
+        kicking.old.searches.left ≤ greatest_u64 }
     ensures case { held.new.case ≡ held.old.case }
     ensures kept { space.new.kept ≡ space.old.kept }
-    ensures frozen { FrozenDaysStay held.old.case kicking.old.searches.from held.old.roster held.new.roster }
+    ensures frozen { FrozenDaysStay held.old.case kicking.old.searches.from held.old.roster
+        held.new.roster }
     ensures from { kicking.new.searches.from ≡ kicking.old.searches.from }
-    ensures spends { Spends held.old.case meter.old kicking.old.searches.left meter.new kicking.new.searches.left }
+    ensures spends { Spends held.old.case meter.old kicking.old.searches.left meter.new
+        kicking.new.searches.left }
     ensures fits { FitsPolish held.old.case space.new }
 {
     let draw = draw_kick(held.case().weeks(), kicking);
@@ -127,12 +135,15 @@ fn kick_one(
 ) -> usize
     requires left { 0 < kicking.old.searches.left }
     requires fits { FitsPolish held.old.case space.old }
-    requires room { meter.old + extensions_of held.old.case kicking.old.searches.left ≤ greatest_u64 }
+    requires room { meter.old + extensions_of held.old.case
+        kicking.old.searches.left ≤ greatest_u64 }
     ensures case { held.new.case ≡ held.old.case }
     ensures kept { space.new.kept ≡ space.old.kept }
-    ensures frozen { FrozenDaysStay held.old.case kicking.old.searches.from held.old.roster held.new.roster }
+    ensures frozen { FrozenDaysStay held.old.case kicking.old.searches.from held.old.roster
+        held.new.roster }
     ensures from { kicking.new.searches.from ≡ kicking.old.searches.from }
-    ensures spends { Spends held.old.case meter.old kicking.old.searches.left meter.new kicking.new.searches.left }
+    ensures spends { Spends held.old.case meter.old kicking.old.searches.left meter.new
+        kicking.new.searches.left }
     ensures fits { FitsPolish held.old.case space.new }
 {
     held.case().keeps_limits();

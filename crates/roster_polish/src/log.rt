@@ -15,8 +15,10 @@ pub(crate) fn log_kick<W: Write>(
     kick: u32,
     total: u64,
 ) -> Result<usize, WriteFault>
-    ensures ok { IfOk result (λ after. Sends W.contents log.old log.new sent after (line (codes "kick " ++ decimal kick) total)) }
-    ensures err { IfErr result (BreaksIn W.contents log.old log.new sent (line (codes "kick " ++ decimal kick) total)) }
+    ensures ok { IfOk result (λ after. Sends W.contents log.old log.new sent after
+        (line (codes "kick " ++ decimal kick) total)) }
+    ensures err { IfErr result (BreaksIn W.contents log.old log.new sent
+        (line (codes "kick " ++ decimal kick) total)) }
 {
     send_pieces(
         log,

@@ -96,7 +96,8 @@ fn missing_before(case: &Case, roster: &Roster, days: u16) -> u64
 #[tactic(auto, using(roster_rules::proofs::CountLemmas::sum_more))]
 fn missing_on(case: &Case, roster: &Roster, day: u16) -> u32
     requires { day < day_count case.now }
-    ensures missing { result ≡ lacking case.now (minimum case.now day) (present case.now roster.now day) }
+    ensures missing { result ≡ lacking case.now (minimum case.now day)
+        (present case.now roster.now day) }
     ensures within { result ≤ 4194304 }
 {
     case.keeps_limits();
@@ -183,7 +184,8 @@ fn begin_plan(
     requires fits { FitsPolish base.now.case.now space.old }
     requires room { meter.old + extensions_of base.now.case.now course.now.searches ≤ greatest_u64 }
     ensures kept { space.new.kept ≡ base.now.given.now }
-    ensures spends { Spends base.now.case.now meter.old course.now.searches meter.new result.searches.left }
+    ensures spends { Spends base.now.case.now meter.old course.now.searches meter.new
+        result.searches.left }
     ensures fits { FitsPolish base.now.case.now space.new }
 {
     base.case.keeps_limits();
@@ -211,10 +213,14 @@ fn fade_until_kept(
     requires roster { fits_case base.now.case.now base.now.given.now ≡ true }
     requires each { HaveRows base.now.case.now base.now.from base.now.given.now }
     requires fits { FitsPolish base.now.case.now space.old }
-    requires kept { FrozenDaysStay base.now.case.now base.now.from base.now.given.now space.old.kept }
-    requires room { meter.old + extensions_of base.now.case.now kicking.old.searches.left ≤ greatest_u64 }
-    ensures kept { FrozenDaysStay base.now.case.now base.now.from base.now.given.now space.new.kept }
-    ensures spends { Spends base.now.case.now meter.old kicking.old.searches.left meter.new kicking.new.searches.left }
+    requires kept { FrozenDaysStay base.now.case.now base.now.from base.now.given.now
+        space.old.kept }
+    requires room { meter.old + extensions_of base.now.case.now
+        kicking.old.searches.left ≤ greatest_u64 }
+    ensures kept { FrozenDaysStay base.now.case.now base.now.from base.now.given.now
+        space.new.kept }
+    ensures spends { Spends base.now.case.now meter.old kicking.old.searches.left meter.new
+        kicking.new.searches.left }
     ensures fits { FitsPolish base.now.case.now space.new }
 {
     let mut least = u64::MAX;

@@ -55,15 +55,18 @@ pub fn polish<W: Write>(
     log: &mut Watch<W>,
 ) -> Result<Polished, LogFault>
     requires fits { FitsPolish held.old.case space.old }
-    requires room { meter.old + extensions_of held.old.case (course.now.searches + first_searches held.old.case) ≤ greatest_u64 }
+    requires room { meter.old + extensions_of held.old.case
+        (course.now.searches + first_searches held.old.case) ≤ greatest_u64 }
     ensures case { held.new.case ≡ held.old.case }
     ensures ok { IfOk result (Polishes W.contents held.old.case course.now.from held.old.roster (penalty held.old.case held.old.roster)
         course.now.searches course.now.kicks held.new.roster log.old log.new) }
     ensures err { IfErr result (PolishLogStops W.contents held.old.case course.now.from held.old.roster (penalty held.old.case held.old.roster)
         course.now.searches course.now.kicks held.new.roster log.old log.new) }
-    ensures no_dearer { penalty held.old.case held.new.roster ≤ penalty held.old.case held.old.roster }
+    ensures no_dearer { penalty held.old.case held.new.roster ≤ penalty held.old.case
+        held.old.roster }
     ensures frozen { FrozenDaysStay held.old.case course.now.from held.old.roster held.new.roster }
-    ensures counted { meter.new ≤ meter.old + extensions_of held.old.case (course.now.searches + settling_searches held.old.case course.now.from held.old.roster) }
+    ensures counted { meter.new ≤ meter.old + extensions_of held.old.case
+        (course.now.searches + settling_searches held.old.case course.now.from held.old.roster) }
     ensures fits { FitsPolish held.old.case space.new }
 {
     let start = held.total();
@@ -84,15 +87,18 @@ pub fn polish_found<W: Write>(
     log: &mut Watch<W>,
 ) -> Result<Polished, LogFault>
     requires fits { FitsPolish held.old.case space.old }
-    requires room { meter.old + extensions_of held.old.case (course.now.searches + first_searches held.old.case) ≤ greatest_u64 }
+    requires room { meter.old + extensions_of held.old.case
+        (course.now.searches + first_searches held.old.case) ≤ greatest_u64 }
     ensures case { held.new.case ≡ held.old.case }
     ensures ok { IfOk result (Polishes W.contents held.old.case course.now.from held.old.roster start
         course.now.searches course.now.kicks held.new.roster log.old log.new) }
     ensures err { IfErr result (PolishLogStops W.contents held.old.case course.now.from held.old.roster start
         course.now.searches course.now.kicks held.new.roster log.old log.new) }
-    ensures no_dearer { penalty held.old.case held.new.roster ≤ penalty held.old.case held.old.roster }
+    ensures no_dearer { penalty held.old.case held.new.roster ≤ penalty held.old.case
+        held.old.roster }
     ensures frozen { FrozenDaysStay held.old.case course.now.from held.old.roster held.new.roster }
-    ensures counted { meter.new ≤ meter.old + extensions_of held.old.case (course.now.searches + settling_searches held.old.case course.now.from held.old.roster) }
+    ensures counted { meter.new ≤ meter.old + extensions_of held.old.case
+        (course.now.searches + settling_searches held.old.case course.now.from held.old.roster) }
     ensures fits { FitsPolish held.old.case space.new }
 {
     held.keeps_rules();
@@ -139,7 +145,8 @@ fn begin(held: &Held, course: &Course, space: &mut PolishSpace, meter: &mut Mete
     ensures kept { space.new.kept ≡ held.now.roster }
     ensures from { result.searches.from ≡ course.now.from }
     ensures fadeless { course.now.kicks ≡ true → result.passes ≡ 0 }
-    ensures counted { meter.new + extensions_of held.now.case result.searches.left ≤ meter.old + extensions_of held.now.case course.now.searches }
+    ensures counted { meter.new + extensions_of held.now.case result.searches.left ≤ meter.old
+        + extensions_of held.now.case course.now.searches }
     ensures fits { FitsPolish held.now.case space.new }
 {
     held.case().keeps_limits();

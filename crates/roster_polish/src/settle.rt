@@ -48,11 +48,13 @@ pub(crate) fn settle_first(
     meter: &mut Meter,
 ) -> bool
     requires fits { FitsPolish held.old.case space.old }
-    requires room { meter.old + extensions_of held.old.case (first_searches held.old.case) ≤ greatest_u64 }
+    requires room { meter.old + extensions_of held.old.case
+        (first_searches held.old.case) ≤ greatest_u64 }
     ensures case { held.new.case ≡ held.old.case }
     ensures roster { held.new.roster ≡ (first_run held.old.case from held.old.roster).roster }
     ensures settled { result ≡ (first_run held.old.case from held.old.roster).is_settled }
-    ensures counted { meter.new ≤ meter.old + extensions_of held.old.case (settling_searches held.old.case from held.old.roster) }
+    ensures counted { meter.new ≤ meter.old + extensions_of held.old.case
+        (settling_searches held.old.case from held.old.roster) }
     ensures fits { FitsPolish held.old.case space.new }
 {
     held.case().keeps_limits();
@@ -83,9 +85,12 @@ pub(crate) fn settle_in(
     ensures case { held.new.case ≡ held.old.case }
     ensures kept { space.new.kept ≡ space.old.kept }
     ensures settled { result ≡ true → IsSettled held.old.case searches.old.from held.new.roster }
-    ensures given_up { result ≡ false → IsGivenUp held.old.case aim.most searches.new.left held.old.roster held.new.roster }
-    ensures frozen { FrozenDaysStay held.old.case searches.old.from held.old.roster held.new.roster }
-    ensures no_dearer { penalty held.old.case held.new.roster ≤ penalty held.old.case held.old.roster }
+    ensures given_up { result ≡ false → IsGivenUp held.old.case aim.most searches.new.left
+        held.old.roster held.new.roster }
+    ensures frozen { FrozenDaysStay held.old.case searches.old.from held.old.roster
+        held.new.roster }
+    ensures no_dearer { penalty held.old.case held.new.roster ≤ penalty held.old.case
+        held.old.roster }
     ensures from { searches.new.from ≡ searches.old.from }
     ensures spends { Spends held.old.case meter.old searches.old.left meter.new searches.new.left }
     ensures fits { FitsPolish held.old.case space.new }
@@ -110,9 +115,12 @@ fn settle(
     requires room { meter.old + extensions_of held.old.case searches.old.left ≤ greatest_u64 }
     ensures case { held.new.case ≡ held.old.case }
     ensures settled { result ≡ true → IsSettled held.old.case searches.old.from held.new.roster }
-    ensures given_up { result ≡ false → IsGivenUp held.old.case aim.most searches.new.left held.old.roster held.new.roster }
-    ensures frozen { FrozenDaysStay held.old.case searches.old.from held.old.roster held.new.roster }
-    ensures no_dearer { penalty held.old.case held.new.roster ≤ penalty held.old.case held.old.roster }
+    ensures given_up { result ≡ false → IsGivenUp held.old.case aim.most searches.new.left
+        held.old.roster held.new.roster }
+    ensures frozen { FrozenDaysStay held.old.case searches.old.from held.old.roster
+        held.new.roster }
+    ensures no_dearer { penalty held.old.case held.new.roster ≤ penalty held.old.case
+        held.old.roster }
     ensures from { searches.new.from ≡ searches.old.from }
     ensures spends { Spends held.old.case meter.old searches.old.left meter.new searches.new.left }
     ensures fits { fits_space held.old.case workspace.new ≡ true }
@@ -155,13 +163,20 @@ fn make_pass(
     requires known { IsKnown held.old.case last.old }
     requires room { meter.old + extensions_of held.old.case searches.old.left ≤ greatest_u64 }
     ensures case { held.new.case ≡ held.old.case }
-    ensures round { first ≡ 0 → nurse_count held.old.case ≤ searches.old.left → held.new.roster ≡ round held.old.case (best_row held.old.case searches.old.from) held.old.roster }
-    ensures end { first ≡ 0 → nurse_count held.old.case ≤ searches.old.left → result ≡ (if same_rows held.new.roster held.old.roster then Unchanged else Changed) }
+    ensures round { first ≡ 0 → nurse_count held.old.case ≤ searches.old.left →
+        held.new.roster ≡ round held.old.case (best_row held.old.case searches.old.from)
+        held.old.roster }
+    ensures end { first ≡ 0 → nurse_count held.old.case ≤ searches.old.left →
+        result ≡ (if same_rows held.new.roster held.old.roster then Unchanged else Changed) }
     ensures stopped { result ≡ Stopped → searches.new.left ≡ 0 }
-    ensures falls { result ≡ Changed → penalty held.old.case held.new.roster < penalty held.old.case held.old.roster }
-    ensures unchanged { result ≡ Unchanged → (n : ℕ) → first ≤ n → n < nurse_count held.old.case → HasBestRow held.old.case searches.old.from held.new.roster n }
-    ensures frozen { FrozenDaysStay held.old.case searches.old.from held.old.roster held.new.roster }
-    ensures no_dearer { penalty held.old.case held.new.roster ≤ penalty held.old.case held.old.roster }
+    ensures falls { result ≡ Changed → penalty held.old.case held.new.roster < penalty held.old.case
+        held.old.roster }
+    ensures unchanged { result ≡ Unchanged → (n : ℕ) → first ≤ n → n < nurse_count held.old.case →
+        HasBestRow held.old.case searches.old.from held.new.roster n }
+    ensures frozen { FrozenDaysStay held.old.case searches.old.from held.old.roster
+        held.new.roster }
+    ensures no_dearer { penalty held.old.case held.new.roster ≤ penalty held.old.case
+        held.old.roster }
     ensures from { searches.new.from ≡ searches.old.from }
     ensures few { first ≡ 0 → searches.old.left ≤ searches.new.left + nurse_count held.old.case }
     ensures spends { Spends held.old.case meter.old searches.old.left meter.new searches.new.left }
@@ -197,9 +212,11 @@ fn step_within(
     requires known { IsKnown held.old.case last.old }
     requires room { meter.old + extensions_of held.old.case searches.old.left ≤ greatest_u64 }
     ensures case { held.new.case ≡ held.old.case }
-    ensures roster { held.new.roster ≡ step held.old.case (best_row held.old.case searches.old.from) held.old.roster nurse }
+    ensures roster { held.new.roster ≡ step held.old.case (best_row held.old.case searches.old.from)
+        held.old.roster nurse }
     ensures changed { result ≡ not (same_rows held.new.roster held.old.roster) }
-    ensures frozen { FrozenDaysStay held.old.case searches.old.from held.old.roster held.new.roster }
+    ensures frozen { FrozenDaysStay held.old.case searches.old.from held.old.roster
+        held.new.roster }
     ensures from { searches.new.from ≡ searches.old.from }
     ensures one { searches.old.left ≤ searches.new.left + 1 }
     ensures spends { Spends held.old.case meter.old searches.old.left meter.new searches.new.left }

@@ -101,7 +101,8 @@ impl PolishSpace {
 /// Puts each number in its place.
 fn put_in_order(order: &mut [usize])
     ensures count { length order.new ≡ length order.old }
-    ensures each { (end : ℕ) → length order.old ≤ end → All (λ n. n < end) order.old → All (λ n. n < end) order.new }
+    ensures each { (end : ℕ) → length order.old ≤ end → All (λ n. n < end) order.old →
+        All (λ n. n < end) order.new }
 {
     for place in 0..order.len() {
         order[place] = place;

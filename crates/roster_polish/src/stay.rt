@@ -26,14 +26,16 @@ pub(crate) fn stay_if_no_dearer(
     requires fits { FitsPolish held.old.case space.old }
     requires keeps { keeps_hard held.old.case space.old.kept ≡ true }
     requires most { aim.most ≡ penalty held.old.case space.old.kept }
-    requires frozen { FrozenDaysStay held.old.case searches.old.from space.old.kept held.old.roster }
+    requires frozen { FrozenDaysStay held.old.case searches.old.from space.old.kept
+        held.old.roster }
     requires room { meter.old + extensions_of held.old.case searches.old.left ≤ greatest_u64 }
     ensures case { held.new.case ≡ held.old.case }
     ensures kept { space.new.kept ≡ held.new.roster }
     ensures stayed { result ≡ true → IsSettled held.old.case searches.old.from held.new.roster }
     ensures back { result ≡ false → held.new.roster ≡ space.old.kept }
     ensures frozen { FrozenDaysStay held.old.case searches.old.from space.old.kept held.new.roster }
-    ensures no_dearer { penalty held.old.case held.new.roster ≤ penalty held.old.case space.old.kept }
+    ensures no_dearer { penalty held.old.case held.new.roster ≤ penalty held.old.case
+        space.old.kept }
     ensures from { searches.new.from ≡ searches.old.from }
     ensures spends { Spends held.old.case meter.old searches.old.left meter.new searches.new.left }
     ensures fits { FitsPolish held.old.case space.new }

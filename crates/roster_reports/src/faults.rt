@@ -88,7 +88,8 @@ pub fn write_hard_line<Log: Write>(
     log: &mut Watch<Log>,
 ) -> Result<(), WriteFault>
     ensures ok { OnOk result (Writes Log.contents log.old log.new (hard_line fault names.entry)) }
-    ensures err { IfErr result (StopsIn Log.contents log.old log.new (hard_line fault names.entry)) }
+    ensures err { IfErr result (StopsIn Log.contents log.old log.new
+        (hard_line fault names.entry)) }
 {
     match fault {
         HardFault::H2 {
@@ -118,8 +119,10 @@ fn write_missing<'a, Log: Write>(
     need: u16,
     log: &mut Watch<Log>,
 ) -> Result<(), WriteFault>
-    ensures ok { OnOk result (Writes Log.contents log.old log.new (missing_line week weekday.now names.entry have need)) }
-    ensures err { IfErr result (StopsIn Log.contents log.old log.new (missing_line week weekday.now names.entry have need)) }
+    ensures ok { OnOk result (Writes Log.contents log.old log.new
+        (missing_line week weekday.now names.entry have need)) }
+    ensures err { IfErr result (StopsIn Log.contents log.old log.new
+        (missing_line week weekday.now names.entry have need)) }
 {
     write_pieces(
         log,
@@ -149,8 +152,10 @@ fn write_nurse_day<'a, Log: Write>(
     nurse: &'a [u8],
     log: &mut Watch<Log>,
 ) -> Result<(), WriteFault>
-    ensures ok { OnOk result (Writes Log.contents log.old log.new (nurse_day_line rule.now week weekday.now nurse.now)) }
-    ensures err { IfErr result (StopsIn Log.contents log.old log.new (nurse_day_line rule.now week weekday.now nurse.now)) }
+    ensures ok { OnOk result (Writes Log.contents log.old log.new
+        (nurse_day_line rule.now week weekday.now nurse.now)) }
+    ensures err { IfErr result (StopsIn Log.contents log.old log.new
+        (nurse_day_line rule.now week weekday.now nurse.now)) }
 {
     write_pieces(
         log,
@@ -169,8 +174,10 @@ fn write_nurse_day<'a, Log: Write>(
 
 /// Writes what is wrong on a line of the input.
 fn write_at<Log: Write>(line: usize, what: &[u8], log: &mut Watch<Log>) -> Result<(), WriteFault>
-    ensures ok { OnOk result (Writes Log.contents log.old log.new (codes "line " ++ decimal line ++ what.now)) }
-    ensures err { IfErr result (StopsIn Log.contents log.old log.new (codes "line " ++ decimal line ++ what.now)) }
+    ensures ok { OnOk result (Writes Log.contents log.old log.new
+        (codes "line " ++ decimal line ++ what.now)) }
+    ensures err { IfErr result (StopsIn Log.contents log.old log.new
+        (codes "line " ++ decimal line ++ what.now)) }
 {
     write_pieces(
         log,

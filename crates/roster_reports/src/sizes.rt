@@ -29,7 +29,8 @@ fn write_sizes_of<W: Write>(
 ) -> Result<(), WriteFault>
     requires { nurse < nurse_count case.now }
     ensures ok { OnOk result (Writes W.contents output.old output.new (sizes_line case.now nurse)) }
-    ensures err { IfErr result (StopsIn W.contents output.old output.new (sizes_line case.now nurse)) }
+    ensures err { IfErr result (StopsIn W.contents output.old output.new
+        (sizes_line case.now nurse)) }
 {
     let states = Ranges::of(case, nurse).product() as u64;
     let days = case.days() as u64;

@@ -18,8 +18,10 @@ pub fn write_weeks<W: Write>(
     roster: &Roster,
 ) -> Result<(), WriteFault>
     requires { fits_case case.now roster.now ≡ true }
-    ensures ok { OnOk result (Writes W.contents output.old output.new (weeks_text case.now roster.now)) }
-    ensures err { OnErr result (Stops W.contents output.old output.new (weeks_text case.now roster.now)) }
+    ensures ok { OnOk result (Writes W.contents output.old output.new
+        (weeks_text case.now roster.now)) }
+    ensures err { OnErr result (Stops W.contents output.old output.new
+        (weeks_text case.now roster.now)) }
 {
     for week in 0..case.weeks() {
         write_week(output, case, roster, week)?;
@@ -36,8 +38,12 @@ fn write_week<W: Write>(
 ) -> Result<(), WriteFault>
     requires fitting { fits_case case.now roster.now ≡ true }
     requires within { week < week_count case.now }
-    ensures ok { OnOk result (Writes W.contents output.old output.new ((if nat_lt 0 week then codes "\n" else []) ++ canonical (shown_week case.now roster.now week))) }
-    ensures err { OnErr result (Stops W.contents output.old output.new ((if nat_lt 0 week then codes "\n" else []) ++ canonical (shown_week case.now roster.now week))) }
+    ensures ok { OnOk result (Writes W.contents output.old output.new
+        ((if nat_lt 0 week then codes "\n" else [])
+        ++ canonical (shown_week case.now roster.now week))) }
+    ensures err { OnErr result (Stops W.contents output.old output.new
+        ((if nat_lt 0 week then codes "\n" else [])
+        ++ canonical (shown_week case.now roster.now week))) }
 {
     if week > 0 {
         write_bytes(output, b"\n")?;

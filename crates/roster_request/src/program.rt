@@ -85,7 +85,8 @@ pub(crate) fn program<'a>(alloc: Global) -> Result<Command<'a>, AllocError>
 
 /// A program with the commands that search, after those that it has.
 fn with_search_commands<'a>(alloc: Global, program: Made<'a>) -> Made<'a>
-    ensures { IfOk result (λ c. IsOkAnd program.entry (λ p. app_of c ≡ fold with_subcommand (app_of p) (drop 3 commands))) }
+    ensures { IfOk result (λ c. IsOkAnd program.entry
+        (λ p. app_of c ≡ fold with_subcommand (app_of p) (drop 3 commands))) }
 {
     let with_best = with_command(program, best_command(alloc));
     let improve = rounds_command(alloc, "improve", IMPROVE, IMPROVE_HELP);
@@ -118,7 +119,8 @@ fn with_files_command<'a>(
     about: &'a str,
     help: &'a str,
 ) -> Made<'a>
-    ensures { IfOk result (λ c. IsOkAnd program.entry (λ p. app_of c ≡ with_subcommand (app_of p) (command_of name.now).top)) }
+    ensures { IfOk result (λ c. IsOkAnd program.entry
+        (λ p. app_of c ≡ with_subcommand (app_of p) (command_of name.now).top)) }
 {
     let command = Ok(command(alloc, name, about, help));
     with_command(program, with_files(alloc, command))
@@ -126,7 +128,9 @@ fn with_files_command<'a>(
 
 /// A program with one more command.
 fn with_command<'a>(program: Made<'a>, command: Made<'a>) -> Made<'a>
-    ensures { IfOk result (λ c. IsOkAnd program.entry (λ p. IsOkAnd command.entry (λ added. (app_of added).top.is_plain ≡ true → app_of c ≡ with_subcommand (app_of p) (app_of added).top))) }
+    ensures { IfOk result (λ c. IsOkAnd program.entry
+        (λ p. IsOkAnd command.entry (λ added. (app_of added).top.is_plain ≡ true →
+        app_of c ≡ with_subcommand (app_of p) (app_of added).top))) }
 {
     match (program, command) {
         (Ok(program), Ok(command)) => program.subcommand(command),
@@ -139,7 +143,8 @@ fn with_command<'a>(program: Made<'a>, command: Made<'a>) -> Made<'a>
 
 /// The command `best`.
 fn best_command<'a>(alloc: Global) -> Made<'a>
-    ensures { IfOk result (λ c. app_of c ≡ own_command_of (nurse_rule ∷ from_rule ∷ []) (codes "best")) }
+    ensures { IfOk result (λ c. app_of c ≡ own_command_of (nurse_rule ∷ from_rule ∷ [])
+        (codes "best")) }
 {
     let with_nurse = command(alloc, "best", BEST, BEST_HELP).arg(nurse_arg(alloc));
     with_weeks(alloc, with_nurse)
@@ -155,7 +160,8 @@ fn rounds_command<'a>(alloc: Global, name: &'a str, about: &'a str, help: &'a st
 
 /// The command `polish`.
 fn polish_command<'a>(alloc: Global) -> Made<'a>
-    ensures { IfOk result (λ c. app_of c ≡ own_command_of (searches_rule ∷ seed_rule ∷ kicks_rule ∷ from_rule ∷ []) (codes "polish")) }
+    ensures { IfOk result (λ c. app_of c ≡ own_command_of
+        (searches_rule ∷ seed_rule ∷ kicks_rule ∷ from_rule ∷ []) (codes "polish")) }
 {
     let searching = searching_command(alloc, "polish", POLISH, POLISH_HELP);
     with_weeks(alloc, with_kicks(alloc, searching))
@@ -187,28 +193,33 @@ fn command<'a>(alloc: Global, name: &'a str, about: &'a str, help: &'a str) -> C
 
 /// A command with a first week that may change, and the files, as its last arguments.
 fn with_weeks<'a>(alloc: Global, command: Made<'a>) -> Made<'a>
-    ensures { IfOk result (λ c. IsOkAnd command.entry (λ before. app_of c ≡ with_rule (with_rule (app_of before) from_rule) files_rule)) }
+    ensures { IfOk result (λ c. IsOkAnd command.entry
+        (λ before. app_of c ≡ with_rule (with_rule (app_of before) from_rule) files_rule)) }
 {
     with_files(alloc, with_number(alloc, command, FROM))
 }
 
 /// A command with one more number that may be left out.
 fn with_number<'a>(alloc: Global, command: Made<'a>, option: NumberOption) -> Made<'a>
-    ensures { IfOk result (λ c. IsOkAnd command.entry (λ before. app_of c ≡ with_rule (app_of before) (number_rule option.name.now option.most option.default.now))) }
+    ensures { IfOk result (λ c. IsOkAnd command.entry
+        (λ before. app_of c ≡ with_rule (app_of before)
+        (number_rule option.name.now option.most option.default.now))) }
 {
     command?.arg(number_arg(alloc, option))
 }
 
 /// A command that may be asked for kicks alone.
 fn with_kicks<'a>(alloc: Global, command: Made<'a>) -> Made<'a>
-    ensures { IfOk result (λ c. IsOkAnd command.entry (λ before. app_of c ≡ with_rule (app_of before) kicks_rule)) }
+    ensures { IfOk result (λ c. IsOkAnd command.entry
+        (λ before. app_of c ≡ with_rule (app_of before) kicks_rule)) }
 {
     command?.arg(kicks_arg(alloc))
 }
 
 /// A command that reads any number of files.
 fn with_files<'a>(alloc: Global, command: Made<'a>) -> Made<'a>
-    ensures { IfOk result (λ c. IsOkAnd command.entry (λ before. app_of c ≡ with_rule (app_of before) files_rule)) }
+    ensures { IfOk result (λ c. IsOkAnd command.entry
+        (λ before. app_of c ≡ with_rule (app_of before) files_rule)) }
 {
     command?.arg(files_arg(alloc))
 }

@@ -52,13 +52,16 @@ fn request_in(alloc: Global, matches: &ArgMatches<'_>) -> Result<Request, CliFau
 /// The command of this name, with its own arguments.
 fn command_in(alloc: Global, name: &str, given: &ArgMatches<'_>) -> Result<Command, AllocError>
     requires name { IsNameOf commands name.now }
-    requires nurse { name.now ≡ codes "best" → is_some (first_of (codes "nurse") (rows_of (found_of given.now))) ≡ true }
+    requires nurse { name.now ≡ codes "best" → is_some
+        (first_of (codes "nurse") (rows_of (found_of given.now))) ≡ true }
     requires rounds { IsOneOf with_rounds name.now → HasRounds (rows_of (found_of given.now)) }
-    requires searches { IsOneOf with_searches name.now → HasSearches (rows_of (found_of given.now)) }
+    requires searches { IsOneOf with_searches name.now →
+        HasSearches (rows_of (found_of given.now)) }
     requires seed { IsOneOf with_searches name.now → HasSeed (rows_of (found_of given.now)) }
     requires from { IsOneOf with_from name.now → HasFrom (rows_of (found_of given.now)) }
     ensures name { IfOk result (λ command. name_of command ≡ name.now) }
-    ensures arguments { IfOk result (λ command. HasArguments command (rows_of (found_of given.now))) }
+    ensures arguments { IfOk result (λ command. HasArguments command
+        (rows_of (found_of given.now))) }
     ensures range { IfOk result IsInRange }
 {
     match name {
@@ -95,7 +98,8 @@ fn command_in(alloc: Global, name: &str, given: &ArgMatches<'_>) -> Result<Comma
 /// The nurse's name, which `clap` asks for.
 fn given_nurse(alloc: Global, given: &ArgMatches<'_>) -> Result<String, AllocError>
     requires { is_some (first_of (codes "nurse") (rows_of (found_of given.now))) ≡ true }
-    ensures { IfOk result (λ nurse. first_of (codes "nurse") (rows_of (found_of given.now)) ≡ Some (string_bytes nurse)) }
+    ensures { IfOk result (λ nurse. first_of (codes "nurse") (rows_of (found_of given.now)) ≡ Some
+        (string_bytes nurse)) }
 {
     let Some(nurse) = given.get_str(NURSE) else {
         unreachable!()
@@ -158,7 +162,8 @@ fn number_of(given: &ArgMatches<'_>, option: NumberOption) -> u32
 }
 
 fn files_of(alloc: Global, given: &ArgMatches<'_>) -> Result<Vec<String>, AllocError>
-    ensures { IfOk result (λ files. map string_bytes files.items ≡ files_in (rows_of (found_of given.now))) }
+    ensures { IfOk result (λ files. map string_bytes files.items ≡ files_in
+        (rows_of (found_of given.now))) }
 {
     let mut files = Vec::new(alloc);
     for file in given.get_strs(FILES).unwrap_or(&[]) {

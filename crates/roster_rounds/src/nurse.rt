@@ -29,7 +29,8 @@ pub fn step(
     requires fits { fits_space held.old.case workspace.old ≡ true }
     requires room { meter.old + extension_count held.old.case nurse ≤ greatest_u64 }
     ensures case { held.new.case ≡ held.old.case }
-    ensures roster { held.new.roster ≡ step held.old.case (best_row held.old.case from) held.old.roster nurse }
+    ensures roster { held.new.roster ≡ step held.old.case (best_row held.old.case from)
+        held.old.roster nurse }
     ensures frozen { FrozenDaysStay held.old.case from held.old.roster held.new.roster }
     ensures before { result.before ≡ penalty held.old.case held.old.roster }
     ensures after { result.after ≡ penalty held.old.case held.new.roster }
@@ -59,7 +60,8 @@ pub fn step_unless_known(
     requires known { IsKnown held.old.case last.old }
     requires room { meter.old + extension_count held.old.case nurse ≤ greatest_u64 }
     ensures case { held.new.case ≡ held.old.case }
-    ensures roster { held.new.roster ≡ step held.old.case (best_row held.old.case from) held.old.roster nurse }
+    ensures roster { held.new.roster ≡ step held.old.case (best_row held.old.case from)
+        held.old.roster nurse }
     ensures frozen { FrozenDaysStay held.old.case from held.old.roster held.new.roster }
     ensures before { result.before ≡ penalty held.old.case held.old.roster }
     ensures after { result.after ≡ penalty held.old.case held.new.roster }
@@ -83,11 +85,15 @@ pub fn step_unless_known(
 /// Puts the best row that the workspace shows in where the roster's penalty becomes strictly smaller, and else changes nothing.
 fn put_in_cheaper(held: &mut Held, nurse: usize, best: Best, workspace: &Workspace) -> Step
     requires nurse { nurse < nurse_count held.old.case }
-    requires best { (from : ℕ) × IsBestRow held.old.case from held.old.roster nurse workspace.now.row }
+    requires best { (from : ℕ) × IsBestRow held.old.case from held.old.roster nurse
+        workspace.now.row }
     requires keeps { row_keeps held.old.case held.old.roster nurse workspace.now.row ≡ true }
-    requires total { best.total ≡ penalty_with held.old.case held.old.roster nurse workspace.now.row }
+    requires total { best.total ≡ penalty_with held.old.case held.old.roster nurse
+        workspace.now.row }
     ensures case { held.new.case ≡ held.old.case }
-    ensures roster { (from : ℕ) → IsBestRow held.old.case from held.old.roster nurse workspace.now.row → held.new.roster ≡ step held.old.case (best_row held.old.case from) held.old.roster nurse }
+    ensures roster { (from : ℕ) → IsBestRow held.old.case from held.old.roster nurse
+        workspace.now.row → held.new.roster ≡ step held.old.case (best_row held.old.case from)
+        held.old.roster nurse }
     ensures before { result.before ≡ penalty held.old.case held.old.roster }
     ensures after { result.after ≡ penalty held.old.case held.new.roster }
     ensures changed { result.changed ≡ not (same_rows held.new.roster held.old.roster) }

@@ -32,7 +32,8 @@ pub fn greatest_extensions(case: &Case) -> u64
 
 /// A law: no search of a case extends a label more often than the limits allow.
 pub fn extensions_are_few(case: &Case)
-    ensures { greatest_extension_count case.now ≤ most_states * most_days * (1 + most_shifts * most_skills) }
+    ensures { greatest_extension_count case.now ≤ most_states * most_days
+        * (1 + most_shifts * most_skills) }
 {
     case.keeps_limits();
     case.keeps_sizes();

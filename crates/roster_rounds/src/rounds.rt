@@ -156,12 +156,18 @@ fn make_round<W: Write, S: Steps>(
     mut sent: usize,
 ) -> Result<Round, WriteFault>
     requires ready { S.IsReady held.old.case steps.old }
-    requires room { meter.old + nurse_count held.old.case * greatest_extension_count held.old.case ≤ greatest_u64 }
+    requires room { meter.old + nurse_count held.old.case * greatest_extension_count
+        held.old.case ≤ greatest_u64 }
     ensures case { held.new.case ≡ held.old.case }
-    ensures ok { IfOk result (λ made. RoundMade W.contents held.old.case (best_row held.old.case plan.from) plan.round held.old.roster held.new.roster log.old log.new sent made.sent made.changes) }
-    ensures err { IfErr result (BreaksAmong W.contents held.old.case (round_log held.old.case (best_row held.old.case plan.from) plan.round held.old.roster) held.new.roster log.old log.new sent) }
+    ensures ok { IfOk result (λ made. RoundMade W.contents held.old.case
+        (best_row held.old.case plan.from) plan.round held.old.roster held.new.roster log.old
+        log.new sent made.sent made.changes) }
+    ensures err { IfErr result (BreaksAmong W.contents held.old.case
+        (round_log held.old.case (best_row held.old.case plan.from) plan.round held.old.roster)
+        held.new.roster log.old log.new sent) }
     ensures frozen { FrozenDaysStay held.old.case plan.from held.old.roster held.new.roster }
-    ensures counted { meter.new ≤ meter.old + nurse_count held.old.case * greatest_extension_count held.old.case }
+    ensures counted { meter.new ≤ meter.old + nurse_count held.old.case * greatest_extension_count
+        held.old.case }
     ensures same_room { SameRoom (S.space steps.old) (S.space steps.new) }
     ensures ready { S.IsReady held.old.case steps.new }
 {

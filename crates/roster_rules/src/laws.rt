@@ -14,19 +14,33 @@ ghost use Rattle.roster_instance.specs.declared.rules.Limits.{Limits};
 pub fn runs_grow_by_a_day()
     ensures no_violations { (l : Limits) (b : ℕ) (p : ℕ → Bool) → run_violations l b p 0 ≡ 0 }
     ensures border { (b : ℕ) (p : ℕ → Bool) → open_run b p 0 ≡ b }
-    ensures violations { (l : Limits) (b : ℕ) (p : ℕ → Bool) (d : ℕ) → run_violations l b p (suc d) ≡ run_violations l b p d + day_violations l (open_run b p d) (p d) }
-    ensures open { (b : ℕ) (p : ℕ → Bool) (d : ℕ) → open_run b p (suc d) ≡ (if p d then open_run b p d + 1 else 0) }
+    ensures violations { (l : Limits) (b : ℕ) (p : ℕ → Bool) (d : ℕ) →
+        run_violations l b p (suc d) ≡ run_violations l b p d
+        + day_violations l (open_run b p d) (p d) }
+    ensures open { (b : ℕ) (p : ℕ → Bool) (d : ℕ) →
+        open_run b p (suc d) ≡ (if p d then open_run b p d + 1 else 0) }
 {}
 
 /// The same of a row with one day more, where the kind is a test of the day's shift.
 pub fn runs_of_a_row_grow_by_a_day()
-    ensures violations { (l : Limits) (b : ℕ) (t : Option Shift → Bool) (days : Days) (c : Option Shift) → run_violations l b (λ k. t (shift_on (days ++ c ∷ []) k)) (length (days ++ c ∷ [])) ≡ run_violations l b (λ k. t (shift_on days k)) (length days) + day_violations l (open_run b (λ k. t (shift_on days k)) (length days)) (t c) }
-    ensures open { (b : ℕ) (t : Option Shift → Bool) (days : Days) (c : Option Shift) → open_run b (λ k. t (shift_on (days ++ c ∷ []) k)) (length (days ++ c ∷ [])) ≡ (if t c then open_run b (λ k. t (shift_on days k)) (length days) + 1 else 0) }
+    ensures violations { (l : Limits) (b : ℕ) (t : Option Shift → Bool) (days : Days)
+        (c : Option Shift) → run_violations l b (λ k. t (shift_on (days ++ c ∷ []) k))
+        (length (days ++ c ∷ [])) ≡ run_violations l b (λ k. t (shift_on days k)) (length days)
+        + day_violations l (open_run b (λ k. t (shift_on days k)) (length days)) (t c) }
+    ensures open { (b : ℕ) (t : Option Shift → Bool) (days : Days) (c : Option Shift) →
+        open_run b (λ k. t (shift_on (days ++ c ∷ []) k))
+        (length (days ++ c ∷ [])) ≡ (if t c then open_run b (λ k. t (shift_on days k)) (length days)
+        + 1 else 0) }
 {}
 
 /// The worked days, the worked weekends and the split ones of a row with one day more.
 pub fn weekends_grow_by_a_day()
-    ensures worked { (days : Days) (c : Option Shift) → days_worked (days ++ c ∷ []) ≡ days_worked days + one_if (is_some c) }
-    ensures weekends { (days : Days) (c : Option Shift) → worked_weekends (days ++ c ∷ []) ≡ worked_weekends days + weekends_more (length days) (works days (length days - 1)) (is_some c) }
-    ensures split { (days : Days) (c : Option Shift) → split_weekends (days ++ c ∷ []) ≡ split_weekends days + splits_more (length days) (works days (length days - 1)) (is_some c) }
+    ensures worked { (days : Days) (c : Option Shift) →
+        days_worked (days ++ c ∷ []) ≡ days_worked days + one_if (is_some c) }
+    ensures weekends { (days : Days) (c : Option Shift) →
+        worked_weekends (days ++ c ∷ []) ≡ worked_weekends days
+        + weekends_more (length days) (works days (length days - 1)) (is_some c) }
+    ensures split { (days : Days) (c : Option Shift) →
+        split_weekends (days ++ c ∷ []) ≡ split_weekends days
+        + splits_more (length days) (works days (length days - 1)) (is_some c) }
 {}

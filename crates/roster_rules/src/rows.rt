@@ -6,6 +6,8 @@ ghost use Rattle.roster_rules.specs.AllowedRows.{IsFirstLeast, first_least};
 
 /// The first of the least rows is one row at most, and it is the one that `first_least` gives.
 pub fn one_first_least_row()
-    ensures found { (cost : Row → ℕ) (rows : List Row) (row : Row) → first_least cost rows ≡ Some row → IsFirstLeast cost rows row }
-    ensures only { (cost : Row → ℕ) (rows : List Row) (row : Row) → IsFirstLeast cost rows row → first_least cost rows ≡ Some row }
+    ensures found { (cost : Row → ℕ) (rows : List Row) (row : Row) →
+        first_least cost rows ≡ Some row → IsFirstLeast cost rows row }
+    ensures only { (cost : Row → ℕ) (rows : List Row) (row : Row) → IsFirstLeast cost rows row →
+        first_least cost rows ≡ Some row }
 {}

@@ -11,29 +11,48 @@ ghost use Rattle.roster_run_examples.specs.Tight.{after_shift, beginning, early_
 /// From Monday to Friday a nurse is needed, and Bob is off: Ann can choose her weekend. The row that is the best without minimums
 /// is not allowed. Where Bob works on Tuesday Ann can be off on that day too.
 pub fn rows_that_minimums_exclude()
-    ensures allowed { allowed_rows (needing (0 ∷ 1 ∷ 2 ∷ 3 ∷ 4 ∷ [])) 0 all_free ann ≡ early_on (0 ∷ 1 ∷ 2 ∷ 3 ∷ 4 ∷ []) ∷ early_on (0 ∷ 1 ∷ 2 ∷ 3 ∷ 4 ∷ 6 ∷ []) ∷ early_on (0 ∷ 1 ∷ 2 ∷ 3 ∷ 4 ∷ 5 ∷ []) ∷ early_on (0 ∷ 1 ∷ 2 ∷ 3 ∷ 4 ∷ 5 ∷ 6 ∷ []) ∷ [] }
-    ensures kept { filter (row_keeps (needing (0 ∷ 1 ∷ 2 ∷ 3 ∷ 4 ∷ [])) all_free ann) (map early_but (0 ∷ 1 ∷ 2 ∷ 3 ∷ 4 ∷ 5 ∷ 6 ∷ [])) ≡ early_but 5 ∷ early_but 6 ∷ [] }
-    ensures best { best_row (needing (0 ∷ 1 ∷ 2 ∷ 3 ∷ 4 ∷ [])) 0 all_free ann ≡ Some (early_on (0 ∷ 1 ∷ 2 ∷ 3 ∷ 4 ∷ [])) }
-    ensures penalty_of_the_best { penalty_with (needing (0 ∷ 1 ∷ 2 ∷ 3 ∷ 4 ∷ [])) all_free ann (early_on (0 ∷ 1 ∷ 2 ∷ 3 ∷ 4 ∷ [])) ≡ 190 }
-    ensures penalty_of_an_excluded { penalty_with (needing (0 ∷ 1 ∷ 2 ∷ 3 ∷ 4 ∷ [])) all_free ann (early_but 1) ≡ 180 }
-    ensures allowed_beside_bob { allowed_rows (needing (0 ∷ 1 ∷ 2 ∷ 3 ∷ 4 ∷ [])) 0 (free_week ∷ early_on (1 ∷ []) ∷ []) ann ≡ early_on (0 ∷ 2 ∷ 3 ∷ 4 ∷ []) ∷ early_on (0 ∷ 2 ∷ 3 ∷ 4 ∷ 6 ∷ []) ∷ early_on (0 ∷ 2 ∷ 3 ∷ 4 ∷ 5 ∷ []) ∷ early_on (0 ∷ 2 ∷ 3 ∷ 4 ∷ 5 ∷ 6 ∷ []) ∷ early_on (0 ∷ 1 ∷ 2 ∷ 3 ∷ 4 ∷ []) ∷ early_on (0 ∷ 1 ∷ 2 ∷ 3 ∷ 4 ∷ 6 ∷ []) ∷ early_on (0 ∷ 1 ∷ 2 ∷ 3 ∷ 4 ∷ 5 ∷ []) ∷ early_on (0 ∷ 1 ∷ 2 ∷ 3 ∷ 4 ∷ 5 ∷ 6 ∷ []) ∷ [] }
-    ensures best_beside_bob { best_row (needing (0 ∷ 1 ∷ 2 ∷ 3 ∷ 4 ∷ [])) 0 (free_week ∷ early_on (1 ∷ []) ∷ []) ann ≡ Some (early_but 1) }
+    ensures allowed { allowed_rows (needing (0 ∷ 1 ∷ 2 ∷ 3 ∷ 4 ∷ [])) 0 all_free ann ≡ early_on
+        (0 ∷ 1 ∷ 2 ∷ 3 ∷ 4 ∷ []) ∷ early_on (0 ∷ 1 ∷ 2 ∷ 3 ∷ 4 ∷ 6 ∷ [])
+        ∷ early_on (0 ∷ 1 ∷ 2 ∷ 3 ∷ 4 ∷ 5 ∷ []) ∷ early_on (0 ∷ 1 ∷ 2 ∷ 3 ∷ 4 ∷ 5 ∷ 6 ∷ []) ∷ [] }
+    ensures kept { filter (row_keeps (needing (0 ∷ 1 ∷ 2 ∷ 3 ∷ 4 ∷ [])) all_free ann)
+        (map early_but (0 ∷ 1 ∷ 2 ∷ 3 ∷ 4 ∷ 5 ∷ 6 ∷ [])) ≡ early_but 5 ∷ early_but 6 ∷ [] }
+    ensures best { best_row (needing (0 ∷ 1 ∷ 2 ∷ 3 ∷ 4 ∷ [])) 0 all_free ann ≡ Some
+        (early_on (0 ∷ 1 ∷ 2 ∷ 3 ∷ 4 ∷ [])) }
+    ensures penalty_of_the_best { penalty_with (needing (0 ∷ 1 ∷ 2 ∷ 3 ∷ 4 ∷ [])) all_free ann
+        (early_on (0 ∷ 1 ∷ 2 ∷ 3 ∷ 4 ∷ [])) ≡ 190 }
+    ensures penalty_of_an_excluded { penalty_with (needing (0 ∷ 1 ∷ 2 ∷ 3 ∷ 4 ∷ [])) all_free ann
+        (early_but 1) ≡ 180 }
+    ensures allowed_beside_bob { allowed_rows (needing (0 ∷ 1 ∷ 2 ∷ 3 ∷ 4 ∷ [])) 0
+        (free_week ∷ early_on (1 ∷ []) ∷ []) ann ≡ early_on (0 ∷ 2 ∷ 3 ∷ 4 ∷ [])
+        ∷ early_on (0 ∷ 2 ∷ 3 ∷ 4 ∷ 6 ∷ []) ∷ early_on (0 ∷ 2 ∷ 3 ∷ 4 ∷ 5 ∷ [])
+        ∷ early_on (0 ∷ 2 ∷ 3 ∷ 4 ∷ 5 ∷ 6 ∷ []) ∷ early_on (0 ∷ 1 ∷ 2 ∷ 3 ∷ 4 ∷ [])
+        ∷ early_on (0 ∷ 1 ∷ 2 ∷ 3 ∷ 4 ∷ 6 ∷ []) ∷ early_on (0 ∷ 1 ∷ 2 ∷ 3 ∷ 4 ∷ 5 ∷ [])
+        ∷ early_on (0 ∷ 1 ∷ 2 ∷ 3 ∷ 4 ∷ 5 ∷ 6 ∷ []) ∷ [] }
+    ensures best_beside_bob { best_row (needing (0 ∷ 1 ∷ 2 ∷ 3 ∷ 4 ∷ [])) 0
+        (free_week ∷ early_on (1 ∷ []) ∷ []) ann ≡ Some (early_but 1) }
 {}
 
 /// A nurse is needed on Wednesday and Friday, and Early may not follow Early: Ann can work on Monday and Sunday too, or not. Of
 /// the two best rows the first is the one that is off on Sunday. Where she worked Early on the day before, Monday is off.
 pub fn rows_that_successions_exclude()
-    ensures allowed { allowed_rows (resting (needing (2 ∷ 4 ∷ []))) 0 all_free ann ≡ early_on (2 ∷ 4 ∷ []) ∷ early_on (2 ∷ 4 ∷ 6 ∷ []) ∷ early_on (0 ∷ 2 ∷ 4 ∷ []) ∷ early_on (0 ∷ 2 ∷ 4 ∷ 6 ∷ []) ∷ [] }
-    ensures best { best_row (resting (needing (2 ∷ 4 ∷ []))) 0 all_free ann ≡ Some (early_on (0 ∷ 2 ∷ 4 ∷ [])) }
-    ensures allowed_after_early { allowed_rows (after_shift 0 (resting (needing (2 ∷ 4 ∷ [])))) 0 all_free ann ≡ early_on (2 ∷ 4 ∷ []) ∷ early_on (2 ∷ 4 ∷ 6 ∷ []) ∷ [] }
-    ensures best_after_early { best_row (after_shift 0 (resting (needing (2 ∷ 4 ∷ [])))) 0 all_free ann ≡ Some (early_on (2 ∷ 4 ∷ [])) }
+    ensures allowed { allowed_rows (resting (needing (2 ∷ 4 ∷ []))) 0 all_free ann ≡ early_on
+        (2 ∷ 4 ∷ []) ∷ early_on (2 ∷ 4 ∷ 6 ∷ []) ∷ early_on (0 ∷ 2 ∷ 4 ∷ [])
+        ∷ early_on (0 ∷ 2 ∷ 4 ∷ 6 ∷ []) ∷ [] }
+    ensures best { best_row (resting (needing (2 ∷ 4 ∷ []))) 0 all_free ann ≡ Some
+        (early_on (0 ∷ 2 ∷ 4 ∷ [])) }
+    ensures allowed_after_early { allowed_rows (after_shift 0 (resting (needing (2 ∷ 4 ∷ [])))) 0
+        all_free ann ≡ early_on (2 ∷ 4 ∷ []) ∷ early_on (2 ∷ 4 ∷ 6 ∷ []) ∷ [] }
+    ensures best_after_early { best_row (after_shift 0 (resting (needing (2 ∷ 4 ∷ [])))) 0 all_free
+        ann ≡ Some (early_on (2 ∷ 4 ∷ [])) }
 {}
 
 /// Ann lacks the skill: she can only be off. Where a nurse is needed and Bob is off too, no row of hers is allowed, and her step
 /// changes nothing.
 pub fn rows_that_skills_exclude()
-    ensures allowed { allowed_rows (unskilled (needing (1 ∷ []))) 0 (free_week ∷ early_on (1 ∷ []) ∷ []) ann ≡ free_week ∷ [] }
-    ensures best { best_row (unskilled (needing (1 ∷ []))) 0 (free_week ∷ early_on (1 ∷ []) ∷ []) ann ≡ Some free_week }
+    ensures allowed { allowed_rows (unskilled (needing (1 ∷ []))) 0
+        (free_week ∷ early_on (1 ∷ []) ∷ []) ann ≡ free_week ∷ [] }
+    ensures best { best_row (unskilled (needing (1 ∷ []))) 0 (free_week ∷ early_on (1 ∷ []) ∷ [])
+        ann ≡ Some free_week }
     ensures nothing_allowed { allowed_rows (unskilled (needing (1 ∷ []))) 0 all_free ann ≡ [] }
     ensures none { best_row (unskilled (needing (1 ∷ []))) 0 all_free ann ≡ None }
 {}
@@ -41,26 +60,55 @@ pub fn rows_that_skills_exclude()
 /// Ann is absent from Monday to Friday: she can choose her weekend. Where a nurse is needed in an absence and Bob is off, no row of
 /// hers is allowed.
 pub fn rows_that_absences_exclude()
-    ensures allowed { allowed_rows (needing_without_ann [] (0 ∷ 1 ∷ 2 ∷ 3 ∷ 4 ∷ [])) 0 all_free ann ≡ free_week ∷ early_on (6 ∷ []) ∷ early_on (5 ∷ []) ∷ early_on (5 ∷ 6 ∷ []) ∷ [] }
-    ensures best { best_row (needing_without_ann [] (0 ∷ 1 ∷ 2 ∷ 3 ∷ 4 ∷ [])) 0 all_free ann ≡ Some (early_on (5 ∷ 6 ∷ [])) }
-    ensures penalty_of_the_best { penalty_with (needing_without_ann [] (0 ∷ 1 ∷ 2 ∷ 3 ∷ 4 ∷ [])) all_free ann (early_on (5 ∷ 6 ∷ [])) ≡ 310 }
-    ensures nothing_allowed { allowed_rows (needing_without_ann (0 ∷ []) (0 ∷ [])) 0 all_free ann ≡ [] }
-    ensures of_ann_alone { filter (row_keeps (needing_without_ann [] (1 ∷ [])) all_free bob) (early_on (1 ∷ []) ∷ early_on (2 ∷ []) ∷ []) ≡ early_on (1 ∷ []) ∷ early_on (2 ∷ []) ∷ [] }
+    ensures allowed { allowed_rows (needing_without_ann [] (0 ∷ 1 ∷ 2 ∷ 3 ∷ 4 ∷ [])) 0 all_free
+        ann ≡ free_week ∷ early_on (6 ∷ []) ∷ early_on (5 ∷ []) ∷ early_on (5 ∷ 6 ∷ []) ∷ [] }
+    ensures best { best_row (needing_without_ann [] (0 ∷ 1 ∷ 2 ∷ 3 ∷ 4 ∷ [])) 0 all_free ann ≡ Some
+        (early_on (5 ∷ 6 ∷ [])) }
+    ensures penalty_of_the_best { penalty_with (needing_without_ann [] (0 ∷ 1 ∷ 2 ∷ 3 ∷ 4 ∷ []))
+        all_free ann (early_on (5 ∷ 6 ∷ [])) ≡ 310 }
+    ensures nothing_allowed { allowed_rows (needing_without_ann (0 ∷ []) (0 ∷ [])) 0 all_free
+        ann ≡ [] }
+    ensures of_ann_alone { filter (row_keeps (needing_without_ann [] (1 ∷ [])) all_free bob)
+        (early_on (1 ∷ []) ∷ early_on (2 ∷ []) ∷ []) ≡ early_on (1 ∷ []) ∷ early_on (2 ∷ []) ∷ [] }
 {}
 
 /// Night forbids Early on the next day, also the night before the first Monday. A head can't work as a nurse. And a row has a choice
 /// for each day, with a shift and a skill of the case.
 pub fn rows_that_are_kept()
-    ensures after_a_night { filter (row_keeps mini all_free ann) (beginning (night_shift ∷ early_shift ∷ []) ∷ beginning (early_shift ∷ night_shift ∷ []) ∷ beginning (night_shift ∷ Off ∷ early_shift ∷ []) ∷ beginning (night_shift ∷ night_shift ∷ []) ∷ []) ≡ beginning (early_shift ∷ night_shift ∷ []) ∷ beginning (night_shift ∷ Off ∷ early_shift ∷ []) ∷ beginning (night_shift ∷ night_shift ∷ []) ∷ [] }
-    ensures after_the_last_night { filter (row_keeps (after_shift 1 mini) all_free ann) (beginning (early_shift ∷ []) ∷ beginning (night_shift ∷ []) ∷ beginning (Off ∷ early_shift ∷ []) ∷ []) ≡ beginning (night_shift ∷ []) ∷ beginning (Off ∷ early_shift ∷ []) ∷ [] }
-    ensures with_the_skill { filter (row_keeps with_heads all_free ann) (beginning (early_shift ∷ []) ∷ beginning (early_as_head ∷ []) ∷ free_week ∷ []) ≡ beginning (early_as_head ∷ []) ∷ free_week ∷ [] }
-    ensures rows_of_the_case { filter (row_keeps mini_of_one_shift all_free ann) ([] ∷ (early_shift ∷ []) ∷ beginning (night_shift ∷ []) ∷ beginning (early_as_head ∷ []) ∷ beginning (early_shift ∷ []) ∷ []) ≡ beginning (early_shift ∷ []) ∷ [] }
+    ensures after_a_night { filter (row_keeps mini all_free ann)
+        (beginning (night_shift ∷ early_shift ∷ []) ∷ beginning (early_shift ∷ night_shift ∷ [])
+        ∷ beginning (night_shift ∷ Off ∷ early_shift ∷ [])
+        ∷ beginning (night_shift ∷ night_shift ∷ []) ∷ []) ≡ beginning
+        (early_shift ∷ night_shift ∷ []) ∷ beginning (night_shift ∷ Off ∷ early_shift ∷ [])
+        ∷ beginning (night_shift ∷ night_shift ∷ []) ∷ [] }
+    ensures after_the_last_night { filter (row_keeps (after_shift 1 mini) all_free ann)
+        (beginning (early_shift ∷ []) ∷ beginning (night_shift ∷ [])
+        ∷ beginning (Off ∷ early_shift ∷ []) ∷ []) ≡ beginning (night_shift ∷ [])
+        ∷ beginning (Off ∷ early_shift ∷ []) ∷ [] }
+    ensures with_the_skill { filter (row_keeps with_heads all_free ann)
+        (beginning (early_shift ∷ []) ∷ beginning (early_as_head ∷ []) ∷ free_week ∷ []) ≡ beginning
+        (early_as_head ∷ []) ∷ free_week ∷ [] }
+    ensures rows_of_the_case { filter (row_keeps mini_of_one_shift all_free ann)
+        ([] ∷ (early_shift ∷ []) ∷ beginning (night_shift ∷ []) ∷ beginning (early_as_head ∷ [])
+        ∷ beginning (early_shift ∷ []) ∷ []) ≡ beginning (early_shift ∷ []) ∷ [] }
 {}
 
 /// Two rounds that change something, and a third that doesn't. With two rounds the run is stopped, with the same roster.
 pub fn run_of_three_rounds()
-    ensures log { flat_map (line_of mini_of_one_shift) (log_of mini_of_one_shift (best_row mini_of_one_shift 0) 3 all_free) ≡ codes "start 470\n1 Ann 180\n1 Bob 20\nround 1 20\n2 Ann 0\nround 2 0\nround 3 0\nsettled 0\n" }
-    ensures settled { run mini_of_one_shift (best_row mini_of_one_shift 0) 3 all_free ≡ record { roster = early_on (0 ∷ 2 ∷ 3 ∷ 4 ∷ []) ∷ early_on (1 ∷ 5 ∷ 6 ∷ []) ∷ []; is_settled = true } }
-    ensures stopped { run mini_of_one_shift (best_row mini_of_one_shift 0) 2 all_free ≡ record { roster = early_on (0 ∷ 2 ∷ 3 ∷ 4 ∷ []) ∷ early_on (1 ∷ 5 ∷ 6 ∷ []) ∷ []; is_settled = false } }
-    ensures stopped_log { flat_map (line_of mini_of_one_shift) (log_of mini_of_one_shift (best_row mini_of_one_shift 0) 2 all_free) ≡ codes "start 470\n1 Ann 180\n1 Bob 20\nround 1 20\n2 Ann 0\nround 2 0\nstopped 0\n" }
+    ensures log { flat_map (line_of mini_of_one_shift)
+        (log_of mini_of_one_shift (best_row mini_of_one_shift 0) 3 all_free) ≡ codes
+        "start 470\n1 Ann 180\n1 Bob 20\nround 1 20\n2 Ann 0\nround 2 0\nround 3 0\nsettled 0\n" }
+    ensures settled { run mini_of_one_shift (best_row mini_of_one_shift 0) 3 all_free ≡ record {
+      roster = early_on (0 ∷ 2 ∷ 3 ∷ 4 ∷ []) ∷ early_on (1 ∷ 5 ∷ 6 ∷ [])
+          ∷ [];
+      is_settled = true;
+    } }
+    ensures stopped { run mini_of_one_shift (best_row mini_of_one_shift 0) 2 all_free ≡ record {
+      roster = early_on (0 ∷ 2 ∷ 3 ∷ 4 ∷ []) ∷ early_on (1 ∷ 5 ∷ 6 ∷ [])
+          ∷ [];
+      is_settled = false;
+    } }
+    ensures stopped_log { flat_map (line_of mini_of_one_shift)
+        (log_of mini_of_one_shift (best_row mini_of_one_shift 0) 2 all_free) ≡ codes
+        "start 470\n1 Ann 180\n1 Bob 20\nround 1 20\n2 Ann 0\nround 2 0\nstopped 0\n" }
 {}

@@ -12,17 +12,22 @@ ghost use Rattle.roster_run_examples.specs.Mini.{all_free, ann, early_but, mini,
 
 /// Rows in their order, and the first of the least: one day off in the week costs the same from Tuesday to Friday.
 pub fn rows_in_order()
-    ensures order { all_rows {A = ℕ} (0 ∷ 1 ∷ []) 2 ≡ (0 ∷ 0 ∷ []) ∷ (0 ∷ 1 ∷ []) ∷ (1 ∷ 0 ∷ []) ∷ (1 ∷ 1 ∷ []) ∷ [] }
-    ensures first_of_equals { first_least (penalty_with mini all_free ann) (map early_but (0 ∷ 1 ∷ 2 ∷ 3 ∷ 4 ∷ 5 ∷ 6 ∷ [])) ≡ Some (early_but 1) }
+    ensures order { all_rows {A = ℕ} (0 ∷ 1 ∷ []) 2 ≡ (0 ∷ 0 ∷ []) ∷ (0 ∷ 1 ∷ []) ∷ (1 ∷ 0 ∷ [])
+        ∷ (1 ∷ 1 ∷ []) ∷ [] }
+    ensures first_of_equals { first_least (penalty_with mini all_free ann)
+        (map early_but (0 ∷ 1 ∷ 2 ∷ 3 ∷ 4 ∷ 5 ∷ 6 ∷ [])) ≡ Some (early_but 1) }
     ensures best { best_row mini_of_one_shift 0 all_free ann ≡ Some (early_but 1) }
 {}
 
 /// What a prefix owes, and its summary.
 pub fn prefixes_of_rows()
-    ensures before_monday { summary_of mini ann [] ≡ record { last = None; run = 1; shift_run = 0; assignments = 0; weekends = 0 } }
+    ensures before_monday { summary_of mini ann [] ≡ record
+        { last = None; run = 1; shift_run = 0; assignments = 0; weekends = 0 } }
     ensures nothing_due { due mini ann [] ≡ 0 }
-    ensures monday_worked { summary_of mini ann (Some (shift_at 0) ∷ []) ≡ record { last = Some (shift_at 0); run = 1; shift_run = 1; assignments = 1; weekends = 0 } }
-    ensures a_week_off { summary_of mini ann (replicate 7 None) ≡ record { last = None; run = 5; shift_run = 0; assignments = 0; weekends = 0 } }
+    ensures monday_worked { summary_of mini ann (Some (shift_at 0) ∷ []) ≡ record
+        { last = Some (shift_at 0); run = 1; shift_run = 1; assignments = 1; weekends = 0 } }
+    ensures a_week_off { summary_of mini ann (replicate 7 None) ≡ record
+        { last = None; run = 5; shift_run = 0; assignments = 0; weekends = 0 } }
     ensures a_week_off_due { due mini ann (replicate 7 None) ≡ 90 }
     ensures a_week_off_in_all { own_cost mini ann (replicate 7 None) ≡ 130 }
     ensures a_long_week { due mini ann (days_of (early_but 1)) ≡ 20 }
@@ -30,5 +35,6 @@ pub fn prefixes_of_rows()
 
 /// The log of a run of no rounds.
 pub fn log_of_no_rounds()
-    ensures { flat_map (line_of mini) (log_of mini (best_row mini 0) 0 all_free) ≡ codes "start 470\nstopped 470\n" }
+    ensures { flat_map (line_of mini) (log_of mini (best_row mini 0) 0 all_free) ≡ codes
+        "start 470\nstopped 470\n" }
 {}

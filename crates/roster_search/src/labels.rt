@@ -75,8 +75,11 @@ fn label_group_end(
     requires first { (group.weekends ≡ 0) × (group.assignments ≡ 0) }
     requires area { area.now ≡ area_at here (shift_digit group.last) }
     requires places { product ranges.now ≤ length labels.old }
-    ensures labels { LabelsOf (StandsLike case.now nurse here group) case.now nurse (best_at_end case.now nurse) labels.new }
-    ensures others { SameOutside (code_of ranges.now group) (code_of ranges.now group + ranges.now.weekends * ranges.now.assignments) labels.old labels.new }
+    ensures labels { LabelsOf (StandsLike case.now nurse here group) case.now nurse
+        (best_at_end case.now nurse) labels.new }
+    ensures others { SameOutside (code_of ranges.now group)
+        (code_of ranges.now group + ranges.now.weekends * ranges.now.assignments) labels.old
+        labels.new }
     ensures length { length labels.new ≡ length labels.old }
 {
     let (first, end) = area.weekends.below(ranges.weekends());
@@ -92,8 +95,11 @@ fn label_block_end(case: &Case, nurse: usize, ranges: &Ranges, block: Block, lab
     requires ranges { ranges.now ≡ sizes_of case.now nurse }
     requires fits { fits_sizes ranges.now block ≡ true }
     requires places { product ranges.now ≤ length labels.old }
-    ensures labels { (a : ℕ) → a < ranges.now.assignments → slice_index_or labels.new (code_of ranges.now block + a) 0 ≡ label_of (best_at_end case.now nurse (with_assignments block a)) }
-    ensures others { SameOutside (code_of ranges.now block) (code_of ranges.now block + ranges.now.assignments) labels.old labels.new }
+    ensures labels { (a : ℕ) → a < ranges.now.assignments →
+        slice_index_or labels.new (code_of ranges.now block + a) 0 ≡ label_of
+        (best_at_end case.now nurse (with_assignments block a)) }
+    ensures others { SameOutside (code_of ranges.now block)
+        (code_of ranges.now block + ranges.now.assignments) labels.old labels.new }
     ensures length { length labels.new ≡ length labels.old }
 {
     let code = block.first(ranges) as usize;
@@ -117,13 +123,20 @@ pub fn label_day(
     requires pointers_room { day.now.first + product day.now.at.ranges ≤ length pointers.old }
     requires room { meter.old + states_on day.now.case.now day.now.at.nurse rest.here
         * length day.now.offers.now ≤ greatest_u64 }
-    ensures labels { AreLabels day.now.case.now day.now.at.nurse rest.here (best_on day.now.case.now day.now.at day.now.offers.now rest.best) labels.new }
-    ensures pointers { ArePointers day.now.case.now day.now.at rest.here day.now.offers.now rest.best day.now.first pointers.new }
-    ensures others { SameOutside day.now.first (day.now.first + product day.now.at.ranges) pointers.old pointers.new }
-    ensures lengths { (length labels.new ≡ length labels.old) × (length pointers.new ≡ length pointers.old) }
-    ensures some { 0 < length day.now.offers.now → (s : Summary) → Stands day.now.case.now day.now.at.nurse rest.here s → meter.old < meter.new }
-    ensures counted { meter.new ≤ meter.old + product day.now.at.ranges * length day.now.offers.now }
-    ensures exactly { meter.new ≡ meter.old + states_on day.now.case.now day.now.at.nurse rest.here * length day.now.offers.now }
+    ensures labels { AreLabels day.now.case.now day.now.at.nurse rest.here
+        (best_on day.now.case.now day.now.at day.now.offers.now rest.best) labels.new }
+    ensures pointers { ArePointers day.now.case.now day.now.at rest.here day.now.offers.now
+        rest.best day.now.first pointers.new }
+    ensures others { SameOutside day.now.first (day.now.first + product day.now.at.ranges)
+        pointers.old pointers.new }
+    ensures lengths { (length labels.new ≡ length labels.old)
+        × (length pointers.new ≡ length pointers.old) }
+    ensures some { 0 < length day.now.offers.now → (s : Summary) →
+        Stands day.now.case.now day.now.at.nurse rest.here s → meter.old < meter.new }
+    ensures counted { meter.new ≤ meter.old + product day.now.at.ranges * length
+        day.now.offers.now }
+    ensures exactly { meter.new ≡ meter.old + states_on day.now.case.now day.now.at.nurse rest.here
+        * length day.now.offers.now }
 {
     let ranges = day.at.ranges;
     let (runs, shift_runs) = (ranges.run(), ranges.shift_run());
@@ -183,18 +196,29 @@ fn label_group(
     requires here { rest.here ≡ day.now.areas.now }
     requires fits { fits_sizes day.now.at.ranges group ≡ true }
     requires first { (group.weekends ≡ 0) × (group.assignments ≡ 0) }
-    requires runs { (InSpan (area_at rest.here (shift_digit group.last)).run group.run) × (InSpan (area_at rest.here (shift_digit group.last)).shift_run group.shift_run) }
+    requires runs { (InSpan (area_at rest.here (shift_digit group.last)).run group.run)
+        × (InSpan (area_at rest.here (shift_digit group.last)).shift_run group.shift_run) }
     requires labels_room { product day.now.at.ranges ≤ length labels.old }
     requires pointers_room { day.now.first + product day.now.at.ranges ≤ length pointers.old }
     requires room { meter.old + states_with day.now.case.now day.now.at.nurse rest.here group
         * length day.now.offers.now ≤ greatest_u64 }
-    ensures labels { LabelsOf (StandsLike day.now.case.now day.now.at.nurse rest.here group) day.now.case.now day.now.at.nurse (best_on day.now.case.now day.now.at day.now.offers.now rest.best) labels.new }
-    ensures pointers { PointersOf (StandsLike day.now.case.now day.now.at.nurse rest.here group) day.now.case.now day.now.at day.now.offers.now rest.best day.now.first pointers.new }
-    ensures labels_others { SameOutside (code_of day.now.at.ranges group) (code_of day.now.at.ranges group + day.now.at.ranges.weekends * day.now.at.ranges.assignments) labels.old labels.new }
-    ensures pointers_others { SameOutside (day.now.first + code_of day.now.at.ranges group) (day.now.first + code_of day.now.at.ranges group + day.now.at.ranges.weekends * day.now.at.ranges.assignments) pointers.old pointers.new }
-    ensures lengths { (length labels.new ≡ length labels.old) × (length pointers.new ≡ length pointers.old) }
-    ensures some { 0 < length day.now.offers.now → (s : Summary) → StandsLike day.now.case.now day.now.at.nurse rest.here group s → meter.old < meter.new }
-    ensures exactly { meter.new ≡ meter.old + states_with day.now.case.now day.now.at.nurse rest.here group * length day.now.offers.now }
+    ensures labels { LabelsOf (StandsLike day.now.case.now day.now.at.nurse rest.here group)
+        day.now.case.now day.now.at.nurse
+        (best_on day.now.case.now day.now.at day.now.offers.now rest.best) labels.new }
+    ensures pointers { PointersOf (StandsLike day.now.case.now day.now.at.nurse rest.here group)
+        day.now.case.now day.now.at day.now.offers.now rest.best day.now.first pointers.new }
+    ensures labels_others { SameOutside (code_of day.now.at.ranges group)
+        (code_of day.now.at.ranges group
+        + day.now.at.ranges.weekends * day.now.at.ranges.assignments) labels.old labels.new }
+    ensures pointers_others { SameOutside (day.now.first + code_of day.now.at.ranges group)
+        (day.now.first + code_of day.now.at.ranges group
+        + day.now.at.ranges.weekends * day.now.at.ranges.assignments) pointers.old pointers.new }
+    ensures lengths { (length labels.new ≡ length labels.old)
+        × (length pointers.new ≡ length pointers.old) }
+    ensures some { 0 < length day.now.offers.now → (s : Summary) →
+        StandsLike day.now.case.now day.now.at.nurse rest.here group s → meter.old < meter.new }
+    ensures exactly { meter.new ≡ meter.old + states_with day.now.case.now day.now.at.nurse
+        rest.here group * length day.now.offers.now }
 {
     let at = day.at;
     day.case.keeps_limits();
@@ -251,15 +275,27 @@ fn label_rows(
     ghost rest: { Around }
     requires ready { IsReady day.now.case.now day.now.at rest day.now.offers.now day.now.later.now }
     requires stretch { IsStretchOf day.now.case.now day.now.at rest.here rows.now }
-    requires alike { 1 < rows.now.rows → rows.now.block.weekends + rows.now.rows + weekends_more day.now.at.day (is_some rows.now.block.last) true ≤ (contract_of day.now.case.now day.now.at.nurse).weekends + 1 }
+    requires alike { 1 < rows.now.rows → rows.now.block.weekends + rows.now.rows
+        + weekends_more day.now.at.day (is_some rows.now.block.last)
+        true ≤ (contract_of day.now.case.now day.now.at.nurse).weekends + 1 }
     requires labels_room { product day.now.at.ranges ≤ length labels.old }
     requires pointers_room { day.now.first + product day.now.at.ranges ≤ length pointers.old }
-    requires room { meter.old + length day.now.offers.now * (rows.now.rows * (rows.now.end - rows.now.from)) ≤ greatest_u64 }
-    ensures least { StretchCells day.now.case.now day.now.at rest.best rows.now.block day.now.offers.now rows.now.rows rows.now.from rows.now.end (code_of day.now.at.ranges rows.now.block) (day.now.first + code_of day.now.at.ranges rows.now.block) labels.new pointers.new }
-    ensures labels_others { SameOutside (code_of day.now.at.ranges rows.now.block) (code_of day.now.at.ranges rows.now.block + rows.now.rows * day.now.at.ranges.assignments) labels.old labels.new }
-    ensures pointers_others { SameOutside (day.now.first + code_of day.now.at.ranges rows.now.block) (day.now.first + code_of day.now.at.ranges rows.now.block + rows.now.rows * day.now.at.ranges.assignments) pointers.old pointers.new }
-    ensures lengths { (length labels.new ≡ length labels.old) × (length pointers.new ≡ length pointers.old) }
-    ensures counted { meter.new ≡ meter.old + length day.now.offers.now * (rows.now.rows * (rows.now.end - rows.now.from)) }
+    requires room { meter.old + length day.now.offers.now
+        * (rows.now.rows * (rows.now.end - rows.now.from)) ≤ greatest_u64 }
+    ensures least { StretchCells day.now.case.now day.now.at rest.best rows.now.block
+        day.now.offers.now rows.now.rows rows.now.from rows.now.end
+        (code_of day.now.at.ranges rows.now.block)
+        (day.now.first + code_of day.now.at.ranges rows.now.block) labels.new pointers.new }
+    ensures labels_others { SameOutside (code_of day.now.at.ranges rows.now.block)
+        (code_of day.now.at.ranges rows.now.block + rows.now.rows * day.now.at.ranges.assignments)
+        labels.old labels.new }
+    ensures pointers_others { SameOutside (day.now.first + code_of day.now.at.ranges rows.now.block)
+        (day.now.first + code_of day.now.at.ranges rows.now.block
+        + rows.now.rows * day.now.at.ranges.assignments) pointers.old pointers.new }
+    ensures lengths { (length labels.new ≡ length labels.old)
+        × (length pointers.new ≡ length pointers.old) }
+    ensures counted { meter.new ≡ meter.old + length day.now.offers.now
+        * (rows.now.rows * (rows.now.end - rows.now.from)) }
 {
     let (case, nurse) = (day.case, day.at.nurse);
     let end = rows.alike_end(case, nurse);
@@ -288,17 +324,29 @@ fn label_stretch(
     ghost rest: { Around }
     requires ready { IsReady day.now.case.now day.now.at rest day.now.offers.now day.now.later.now }
     requires stretch { IsStretchOf day.now.case.now day.now.at rest.here stretch.now }
-    requires alike { IsAlike day.now.case.now day.now.at.nurse day.now.at.day stretch.now.block stretch.now.rows stretch.now.from stretch.now.end }
+    requires alike { IsAlike day.now.case.now day.now.at.nurse day.now.at.day stretch.now.block
+        stretch.now.rows stretch.now.from stretch.now.end }
     requires labels_room { product day.now.at.ranges ≤ length labels.old }
     requires pointers_room { day.now.first + product day.now.at.ranges ≤ length pointers.old }
     requires numbers_room { most_places ≤ length numbers.old }
-    requires room { meter.old + length day.now.offers.now * (stretch.now.rows * (stretch.now.end - stretch.now.from)) ≤ greatest_u64 }
-    ensures least { StretchCells day.now.case.now day.now.at rest.best stretch.now.block day.now.offers.now stretch.now.rows stretch.now.from stretch.now.end (code_of day.now.at.ranges stretch.now.block) (day.now.first + code_of day.now.at.ranges stretch.now.block) labels.new pointers.new }
-    ensures labels_others { SameOutside (code_of day.now.at.ranges stretch.now.block) (code_of day.now.at.ranges stretch.now.block + stretch.now.rows * day.now.at.ranges.assignments) labels.old labels.new }
-    ensures pointers_others { SameOutside (day.now.first + code_of day.now.at.ranges stretch.now.block) (day.now.first + code_of day.now.at.ranges stretch.now.block + stretch.now.rows * day.now.at.ranges.assignments) pointers.old pointers.new }
-    ensures lengths { (length labels.new ≡ length labels.old) × (length pointers.new ≡ length pointers.old) }
+    requires room { meter.old + length day.now.offers.now
+        * (stretch.now.rows * (stretch.now.end - stretch.now.from)) ≤ greatest_u64 }
+    ensures least { StretchCells day.now.case.now day.now.at rest.best stretch.now.block
+        day.now.offers.now stretch.now.rows stretch.now.from stretch.now.end
+        (code_of day.now.at.ranges stretch.now.block)
+        (day.now.first + code_of day.now.at.ranges stretch.now.block) labels.new pointers.new }
+    ensures labels_others { SameOutside (code_of day.now.at.ranges stretch.now.block)
+        (code_of day.now.at.ranges stretch.now.block
+        + stretch.now.rows * day.now.at.ranges.assignments) labels.old labels.new }
+    ensures pointers_others { SameOutside (day.now.first
+        + code_of day.now.at.ranges stretch.now.block)
+        (day.now.first + code_of day.now.at.ranges stretch.now.block
+        + stretch.now.rows * day.now.at.ranges.assignments) pointers.old pointers.new }
+    ensures lengths { (length labels.new ≡ length labels.old)
+        × (length pointers.new ≡ length pointers.old) }
     ensures numbers { length numbers.new ≡ length numbers.old }
-    ensures counted { meter.new ≡ meter.old + length day.now.offers.now * (stretch.now.rows * (stretch.now.end - stretch.now.from)) }
+    ensures counted { meter.new ≡ meter.old + length day.now.offers.now
+        * (stretch.now.rows * (stretch.now.end - stretch.now.from)) }
 {
     let ranges = day.at.ranges;
     let code = stretch.block.first(&ranges) as usize + stretch.from as usize;
@@ -327,17 +375,32 @@ fn label_apart(
     ghost rest: { Around }
     requires ready { IsReady day.now.case.now day.now.at rest day.now.offers.now day.now.later.now }
     requires stretch { IsStretchOf day.now.case.now day.now.at rest.here stretch.now }
-    requires alike { IsAlike day.now.case.now day.now.at.nurse day.now.at.day stretch.now.block stretch.now.rows stretch.now.from stretch.now.end }
+    requires alike { IsAlike day.now.case.now day.now.at.nurse day.now.at.day stretch.now.block
+        stretch.now.rows stretch.now.from stretch.now.end }
     requires labels_room { product day.now.at.ranges ≤ length labels.old }
     requires pointers_room { day.now.first + product day.now.at.ranges ≤ length pointers.old }
-    requires room { meter.old + length day.now.offers.now * (stretch.now.rows * (stretch.now.end - stretch.now.from)) ≤ greatest_u64 }
-    ensures least { StretchCells day.now.case.now day.now.at rest.best stretch.now.block day.now.offers.now stretch.now.rows stretch.now.from stretch.now.end (code_of day.now.at.ranges stretch.now.block) (day.now.first + code_of day.now.at.ranges stretch.now.block) labels.new pointers.new }
-    ensures labels_kept { PlacesKept stretch.now.rows stretch.now.from day.now.at.ranges.assignments (code_of day.now.at.ranges stretch.now.block) labels.old labels.new }
-    ensures pointers_kept { PlacesKept stretch.now.rows stretch.now.from day.now.at.ranges.assignments (day.now.first + code_of day.now.at.ranges stretch.now.block) pointers.old pointers.new }
-    ensures labels_others { SameOutside (code_of day.now.at.ranges stretch.now.block) (code_of day.now.at.ranges stretch.now.block + stretch.now.rows * day.now.at.ranges.assignments) labels.old labels.new }
-    ensures pointers_others { SameOutside (day.now.first + code_of day.now.at.ranges stretch.now.block) (day.now.first + code_of day.now.at.ranges stretch.now.block + stretch.now.rows * day.now.at.ranges.assignments) pointers.old pointers.new }
-    ensures lengths { (length labels.new ≡ length labels.old) × (length pointers.new ≡ length pointers.old) }
-    ensures counted { meter.new ≡ meter.old + length day.now.offers.now * (stretch.now.rows * (stretch.now.end - stretch.now.from)) }
+    requires room { meter.old + length day.now.offers.now
+        * (stretch.now.rows * (stretch.now.end - stretch.now.from)) ≤ greatest_u64 }
+    ensures least { StretchCells day.now.case.now day.now.at rest.best stretch.now.block
+        day.now.offers.now stretch.now.rows stretch.now.from stretch.now.end
+        (code_of day.now.at.ranges stretch.now.block)
+        (day.now.first + code_of day.now.at.ranges stretch.now.block) labels.new pointers.new }
+    ensures labels_kept { PlacesKept stretch.now.rows stretch.now.from day.now.at.ranges.assignments
+        (code_of day.now.at.ranges stretch.now.block) labels.old labels.new }
+    ensures pointers_kept { PlacesKept stretch.now.rows stretch.now.from
+        day.now.at.ranges.assignments (day.now.first + code_of day.now.at.ranges stretch.now.block)
+        pointers.old pointers.new }
+    ensures labels_others { SameOutside (code_of day.now.at.ranges stretch.now.block)
+        (code_of day.now.at.ranges stretch.now.block
+        + stretch.now.rows * day.now.at.ranges.assignments) labels.old labels.new }
+    ensures pointers_others { SameOutside (day.now.first
+        + code_of day.now.at.ranges stretch.now.block)
+        (day.now.first + code_of day.now.at.ranges stretch.now.block
+        + stretch.now.rows * day.now.at.ranges.assignments) pointers.old pointers.new }
+    ensures lengths { (length labels.new ≡ length labels.old)
+        × (length pointers.new ≡ length pointers.old) }
+    ensures counted { meter.new ≡ meter.old + length day.now.offers.now
+        * (stretch.now.rows * (stretch.now.end - stretch.now.from)) }
 {
     let StretchRoom {
         labels: apart,
@@ -358,14 +421,20 @@ fn label_room(
     ghost rest: { Around }
     requires ready { IsReady day.now.case.now day.now.at rest day.now.offers.now day.now.later.now }
     requires stretch { IsStretchOf day.now.case.now day.now.at rest.here stretch.now }
-    requires alike { IsAlike day.now.case.now day.now.at.nurse day.now.at.day stretch.now.block stretch.now.rows stretch.now.from stretch.now.end }
+    requires alike { IsAlike day.now.case.now day.now.at.nurse day.now.at.day stretch.now.block
+        stretch.now.rows stretch.now.from stretch.now.end }
     requires apart_room { most_places ≤ length apart.old }
     requires numbers_room { most_places ≤ length numbers.old }
-    requires room { meter.old + length day.now.offers.now * (stretch.now.rows * (stretch.now.end - stretch.now.from)) ≤ greatest_u64 }
-    ensures least { RunCells day.now.case.now day.now.at rest.best stretch.now day.now.offers.now apart.new numbers.new }
-    ensures small { (a : ℕ) → a < (stretch.now.rows - 1) * day.now.at.ranges.assignments + (stretch.now.end - stretch.now.from) → slice_index_or numbers.new a 0 < 16 }
-    ensures lengths { (length apart.new ≡ length apart.old) × (length numbers.new ≡ length numbers.old) }
-    ensures counted { meter.new ≡ meter.old + length day.now.offers.now * (stretch.now.rows * (stretch.now.end - stretch.now.from)) }
+    requires room { meter.old + length day.now.offers.now
+        * (stretch.now.rows * (stretch.now.end - stretch.now.from)) ≤ greatest_u64 }
+    ensures least { RunCells day.now.case.now day.now.at rest.best stretch.now day.now.offers.now
+        apart.new numbers.new }
+    ensures small { (a : ℕ) → a < (stretch.now.rows - 1) * day.now.at.ranges.assignments
+        + (stretch.now.end - stretch.now.from) → slice_index_or numbers.new a 0 < 16 }
+    ensures lengths { (length apart.new ≡ length apart.old)
+        × (length numbers.new ≡ length numbers.old) }
+    ensures counted { meter.new ≡ meter.old + length day.now.offers.now
+        * (stretch.now.rows * (stretch.now.end - stretch.now.from)) }
 {
     let between = (stretch.rows - 1) * day.at.ranges.assignments();
     let count = (between + (stretch.end - stretch.from)) as usize;
@@ -389,18 +458,32 @@ fn put_rows(
 )
     ghost rest: { Around }
     requires stretch { IsStretchOf day.now.case.now day.now.at rest.here stretch.now }
-    requires least { RunCells day.now.case.now day.now.at rest.best stretch.now day.now.offers.now apart.now numbers.now }
-    requires small { (a : ℕ) → a < (stretch.now.rows - 1) * day.now.at.ranges.assignments + (stretch.now.end - stretch.now.from) → slice_index_or numbers.now a 0 < 16 }
+    requires least { RunCells day.now.case.now day.now.at rest.best stretch.now day.now.offers.now
+        apart.now numbers.now }
+    requires small { (a : ℕ) → a < (stretch.now.rows - 1) * day.now.at.ranges.assignments
+        + (stretch.now.end - stretch.now.from) → slice_index_or numbers.now a 0 < 16 }
     requires apart_room { most_places ≤ length apart.now }
     requires numbers_room { most_places ≤ length numbers.now }
     requires labels_room { product day.now.at.ranges ≤ length labels.old }
     requires pointers_room { day.now.first + product day.now.at.ranges ≤ length pointers.old }
-    ensures least { StretchCells day.now.case.now day.now.at rest.best stretch.now.block day.now.offers.now stretch.now.rows stretch.now.from stretch.now.end (code_of day.now.at.ranges stretch.now.block) (day.now.first + code_of day.now.at.ranges stretch.now.block) labels.new pointers.new }
-    ensures labels_kept { PlacesKept stretch.now.rows stretch.now.from day.now.at.ranges.assignments (code_of day.now.at.ranges stretch.now.block) labels.old labels.new }
-    ensures pointers_kept { PlacesKept stretch.now.rows stretch.now.from day.now.at.ranges.assignments (day.now.first + code_of day.now.at.ranges stretch.now.block) pointers.old pointers.new }
-    ensures labels_others { SameOutside (code_of day.now.at.ranges stretch.now.block) (code_of day.now.at.ranges stretch.now.block + stretch.now.rows * day.now.at.ranges.assignments) labels.old labels.new }
-    ensures pointers_others { SameOutside (day.now.first + code_of day.now.at.ranges stretch.now.block) (day.now.first + code_of day.now.at.ranges stretch.now.block + stretch.now.rows * day.now.at.ranges.assignments) pointers.old pointers.new }
-    ensures lengths { (length labels.new ≡ length labels.old) × (length pointers.new ≡ length pointers.old) }
+    ensures least { StretchCells day.now.case.now day.now.at rest.best stretch.now.block
+        day.now.offers.now stretch.now.rows stretch.now.from stretch.now.end
+        (code_of day.now.at.ranges stretch.now.block)
+        (day.now.first + code_of day.now.at.ranges stretch.now.block) labels.new pointers.new }
+    ensures labels_kept { PlacesKept stretch.now.rows stretch.now.from day.now.at.ranges.assignments
+        (code_of day.now.at.ranges stretch.now.block) labels.old labels.new }
+    ensures pointers_kept { PlacesKept stretch.now.rows stretch.now.from
+        day.now.at.ranges.assignments (day.now.first + code_of day.now.at.ranges stretch.now.block)
+        pointers.old pointers.new }
+    ensures labels_others { SameOutside (code_of day.now.at.ranges stretch.now.block)
+        (code_of day.now.at.ranges stretch.now.block
+        + stretch.now.rows * day.now.at.ranges.assignments) labels.old labels.new }
+    ensures pointers_others { SameOutside (day.now.first
+        + code_of day.now.at.ranges stretch.now.block)
+        (day.now.first + code_of day.now.at.ranges stretch.now.block
+        + stretch.now.rows * day.now.at.ranges.assignments) pointers.old pointers.new }
+    ensures lengths { (length labels.new ≡ length labels.old)
+        × (length pointers.new ≡ length pointers.old) }
 {
     let ranges = day.at.ranges;
     let side = ranges.assignments() as usize;
@@ -441,14 +524,21 @@ fn label_run(
     ghost rest: { Around }
     requires ready { IsReady day.now.case.now day.now.at rest day.now.offers.now day.now.later.now }
     requires stretch { IsStretchOf day.now.case.now day.now.at rest.here stretch.now }
-    requires alike { IsAlike day.now.case.now day.now.at.nurse day.now.at.day stretch.now.block stretch.now.rows stretch.now.from stretch.now.end }
-    requires labels_length { length labels.old ≡ (stretch.now.rows - 1) * day.now.at.ranges.assignments + (stretch.now.end - stretch.now.from) }
-    requires numbers_length { length numbers.old ≡ (stretch.now.rows - 1) * day.now.at.ranges.assignments + (stretch.now.end - stretch.now.from) }
-    requires room { meter.old + length day.now.offers.now * (stretch.now.rows * (stretch.now.end - stretch.now.from)) ≤ greatest_u64 }
-    ensures least { RunCells day.now.case.now day.now.at rest.best stretch.now day.now.offers.now labels.new numbers.new }
+    requires alike { IsAlike day.now.case.now day.now.at.nurse day.now.at.day stretch.now.block
+        stretch.now.rows stretch.now.from stretch.now.end }
+    requires labels_length { length labels.old ≡ (stretch.now.rows - 1)
+        * day.now.at.ranges.assignments + (stretch.now.end - stretch.now.from) }
+    requires numbers_length { length numbers.old ≡ (stretch.now.rows - 1)
+        * day.now.at.ranges.assignments + (stretch.now.end - stretch.now.from) }
+    requires room { meter.old + length day.now.offers.now
+        * (stretch.now.rows * (stretch.now.end - stretch.now.from)) ≤ greatest_u64 }
+    ensures least { RunCells day.now.case.now day.now.at rest.best stretch.now day.now.offers.now
+        labels.new numbers.new }
     ensures small { (a : ℕ) → a < length numbers.new → slice_index_or numbers.new a 0 < 16 }
-    ensures lengths { (length labels.new ≡ length labels.old) × (length numbers.new ≡ length numbers.old) }
-    ensures counted { meter.new ≡ meter.old + length day.now.offers.now * (stretch.now.rows * (stretch.now.end - stretch.now.from)) }
+    ensures lengths { (length labels.new ≡ length labels.old)
+        × (length numbers.new ≡ length numbers.old) }
+    ensures counted { meter.new ≡ meter.old + length day.now.offers.now
+        * (stretch.now.rows * (stretch.now.end - stretch.now.from)) }
 {
     let (case, nurse) = (day.case, day.at.nurse);
     let rules = case.contract_rules(nurse);
@@ -485,18 +575,30 @@ fn set_run(
     ghost rest: { Around }
     requires ready { IsReady day.now.case.now day.now.at rest day.now.offers.now day.now.later.now }
     requires stretch { IsStretchOf day.now.case.now day.now.at rest.here from.now.stretch }
-    requires alike { IsAlike day.now.case.now day.now.at.nurse day.now.at.day from.now.stretch.block from.now.stretch.rows from.now.stretch.from from.now.stretch.end }
+    requires alike { IsAlike day.now.case.now day.now.at.nurse day.now.at.day from.now.stretch.block
+        from.now.stretch.rows from.now.stretch.from from.now.stretch.end }
     requires place { place < length day.now.offers.now }
-    requires labels_length { length labels.old ≡ (from.now.stretch.rows - 1) * day.now.at.ranges.assignments + (from.now.stretch.end - from.now.stretch.from) }
-    requires numbers_length { length numbers.old ≡ (from.now.stretch.rows - 1) * day.now.at.ranges.assignments + (from.now.stretch.end - from.now.stretch.from) }
-    requires none { RunCells day.now.case.now day.now.at rest.best from.now.stretch (take place day.now.offers.now) (replicate (length labels.old) no_row) (replicate (length labels.old) 0) }
-    requires room { meter.old + from.now.stretch.rows * (from.now.stretch.end - from.now.stretch.from) ≤ greatest_u64 }
+    requires labels_length { length labels.old ≡ (from.now.stretch.rows - 1)
+        * day.now.at.ranges.assignments + (from.now.stretch.end - from.now.stretch.from) }
+    requires numbers_length { length numbers.old ≡ (from.now.stretch.rows - 1)
+        * day.now.at.ranges.assignments + (from.now.stretch.end - from.now.stretch.from) }
+    requires none { RunCells day.now.case.now day.now.at rest.best from.now.stretch
+        (take place day.now.offers.now) (replicate (length labels.old) no_row)
+        (replicate (length labels.old) 0) }
+    requires room { meter.old + from.now.stretch.rows
+        * (from.now.stretch.end - from.now.stretch.from) ≤ greatest_u64 }
     requires from { IsStretchDay day.now.case.now day.now.at from.now }
-    ensures least { result ≡ true → RunCells day.now.case.now day.now.at rest.best from.now.stretch (take (place + 1) day.now.offers.now) labels.new numbers.new }
-    ensures small { result ≡ true → (a : ℕ) → a < length numbers.new → slice_index_or numbers.new a 0 < 16 }
-    ensures none { result ≡ false → RunCells day.now.case.now day.now.at rest.best from.now.stretch (take (place + 1) day.now.offers.now) (replicate (length labels.new) no_row) (replicate (length labels.new) 0) }
-    ensures lengths { (length labels.new ≡ length labels.old) × (length numbers.new ≡ length numbers.old) }
-    ensures counted { meter.new ≡ meter.old + from.now.stretch.rows * (from.now.stretch.end - from.now.stretch.from) }
+    ensures least { result ≡ true → RunCells day.now.case.now day.now.at rest.best from.now.stretch
+        (take (place + 1) day.now.offers.now) labels.new numbers.new }
+    ensures small { result ≡ true → (a : ℕ) → a < length numbers.new →
+        slice_index_or numbers.new a 0 < 16 }
+    ensures none { result ≡ false → RunCells day.now.case.now day.now.at rest.best from.now.stretch
+        (take (place + 1) day.now.offers.now) (replicate (length labels.new) no_row)
+        (replicate (length labels.new) 0) }
+    ensures lengths { (length labels.new ≡ length labels.old)
+        × (length numbers.new ≡ length numbers.old) }
+    ensures counted { meter.new ≡ meter.old + from.now.stretch.rows
+        * (from.now.stretch.end - from.now.stretch.from) }
 {
     let at = day.at;
     let offer = day.offers[place];
@@ -530,18 +632,26 @@ fn lower_run(
     ghost rest: { Around }
     requires ready { IsReady day.now.case.now day.now.at rest day.now.offers.now day.now.later.now }
     requires stretch { IsStretchOf day.now.case.now day.now.at rest.here from.now.stretch }
-    requires alike { IsAlike day.now.case.now day.now.at.nurse day.now.at.day from.now.stretch.block from.now.stretch.rows from.now.stretch.from from.now.stretch.end }
+    requires alike { IsAlike day.now.case.now day.now.at.nurse day.now.at.day from.now.stretch.block
+        from.now.stretch.rows from.now.stretch.from from.now.stretch.end }
     requires place { place < length day.now.offers.now }
-    requires labels_length { length labels.old ≡ (from.now.stretch.rows - 1) * day.now.at.ranges.assignments + (from.now.stretch.end - from.now.stretch.from) }
-    requires numbers_length { length numbers.old ≡ (from.now.stretch.rows - 1) * day.now.at.ranges.assignments + (from.now.stretch.end - from.now.stretch.from) }
-    requires least { RunCells day.now.case.now day.now.at rest.best from.now.stretch (take place day.now.offers.now) labels.old numbers.old }
+    requires labels_length { length labels.old ≡ (from.now.stretch.rows - 1)
+        * day.now.at.ranges.assignments + (from.now.stretch.end - from.now.stretch.from) }
+    requires numbers_length { length numbers.old ≡ (from.now.stretch.rows - 1)
+        * day.now.at.ranges.assignments + (from.now.stretch.end - from.now.stretch.from) }
+    requires least { RunCells day.now.case.now day.now.at rest.best from.now.stretch
+        (take place day.now.offers.now) labels.old numbers.old }
     requires small { (a : ℕ) → a < length numbers.old → slice_index_or numbers.old a 0 < 16 }
-    requires room { meter.old + from.now.stretch.rows * (from.now.stretch.end - from.now.stretch.from) ≤ greatest_u64 }
+    requires room { meter.old + from.now.stretch.rows
+        * (from.now.stretch.end - from.now.stretch.from) ≤ greatest_u64 }
     requires from { IsStretchDay day.now.case.now day.now.at from.now }
-    ensures least { RunCells day.now.case.now day.now.at rest.best from.now.stretch (take (place + 1) day.now.offers.now) labels.new numbers.new }
+    ensures least { RunCells day.now.case.now day.now.at rest.best from.now.stretch
+        (take (place + 1) day.now.offers.now) labels.new numbers.new }
     ensures small { (a : ℕ) → a < length numbers.new → slice_index_or numbers.new a 0 < 16 }
-    ensures lengths { (length labels.new ≡ length labels.old) × (length numbers.new ≡ length numbers.old) }
-    ensures counted { meter.new ≡ meter.old + from.now.stretch.rows * (from.now.stretch.end - from.now.stretch.from) }
+    ensures lengths { (length labels.new ≡ length labels.old)
+        × (length numbers.new ≡ length numbers.old) }
+    ensures counted { meter.new ≡ meter.old + from.now.stretch.rows
+        * (from.now.stretch.end - from.now.stretch.from) }
 {
     let at = day.at;
     let offer = day.offers[place];

@@ -74,7 +74,8 @@ impl Pointers {
     pub fn set_run(&mut self, first: usize, run: &[u8])
         requires within { first + length run.now ≤ length self.old }
         requires small { (i : ℕ) → i < length run.now → slice_index_or run.now i 0 < 16 }
-        ensures inside { (i : ℕ) → i < length run.now → slice_index_or self.new (first + i) 0 ≡ slice_index_or run.now i 0 }
+        ensures inside { (i : ℕ) → i < length run.now →
+            slice_index_or self.new (first + i) 0 ≡ slice_index_or run.now i 0 }
         ensures others { SameOutside first (first + length run.now) self.old self.new }
         ensures length { length self.new ≡ length self.old }
     {

@@ -27,11 +27,14 @@ pub fn read_day(
     requires stands { Stands case.now at.now.nurse rest.here state.now }
     requires offers { All (IsOfferOf case.now) offers.now }
     requires leads { All (LeadsOn case.now at.now rest.here rest.next) offers.now }
-    requires pointers { ArePointers case.now at.now rest.here offers.now rest.best first pointers.now }
+    requires pointers { ArePointers case.now at.now rest.here offers.now rest.best first
+        pointers.now }
     requires long { first + product at.now.ranges ≤ length pointers.now }
     requires some { IsSome (best_on case.now at.now offers.now rest.best state.now) }
-    requires low { IfSome (best_on case.now at.now offers.now rest.best state.now) (λ row. row.0 < no_row) }
-    ensures begins { (row : ℕ × List Offer) → best_on case.now at.now offers.now rest.best state.now ≡ Some row → BeginsWith rest.best row result.0 result.1 }
+    requires low { IfSome (best_on case.now at.now offers.now rest.best state.now)
+        (λ row. row.0 < no_row) }
+    ensures begins { (row : ℕ × List Offer) → best_on case.now at.now offers.now rest.best
+        state.now ≡ Some row → BeginsWith rest.best row result.0 result.1 }
     ensures stands { Stands case.now at.now.nurse rest.next result.1 }
 {
     let pointer = pointers.get(first as usize + state.code(&at.ranges) as usize);

@@ -38,7 +38,8 @@ pub fn search_row(
 ) -> u32
     requires nurse { search.now.nurse < nurse_count search.now.case.now }
     requires offers { AreOffers search.now.case.now search.now.nurse search.now.offers.now }
-    requires some { IsSome (best_over search.now.case.now search.now.nurse (offers_on search.now.offers.now)) }
+    requires some { IsSome (best_over search.now.case.now search.now.nurse
+        (offers_on search.now.offers.now)) }
     requires tables { HasTables search.now.case.now search.now.nurse tables.old }
     requires row_room { day_count search.now.case.now ≤ length row.old }
     requires standing { AreStanding search.now.case.now search.now.nurse
@@ -47,7 +48,8 @@ pub fn search_row(
         (offers_on search.now.offers.now) areas.now.days ≤ greatest_u64 }
 
     // The row, and its cost.
-    ensures best { IsFound (best_over search.now.case.now search.now.nurse (offers_on search.now.offers.now)) result (take (day_count search.now.case.now) row.new) }
+    ensures best { IsFound (best_over search.now.case.now search.now.nurse
+        (offers_on search.now.offers.now)) result (take (day_count search.now.case.now) row.new) }
     ensures below { result < no_row }
     ensures length { length row.new ≡ length row.old }
 
@@ -109,16 +111,20 @@ fn label_days(
     requires ranges { days.now.ranges ≡ sizes_of days.now.case.now days.now.nurse }
     requires offers { AreOffers days.now.case.now days.now.nurse days.now.offers.now }
     requires areas_room { day_count days.now.case.now < length days.now.areas.now }
-    requires lead { AreasLead days.now.case.now days.now.nurse (offers_on days.now.offers.now) days.now.areas.now }
-    requires stand { (day : ℕ) → day < day_count days.now.case.now → SomeStands days.now.case.now days.now.nurse (areas_on days.now.areas.now day) }
+    requires lead { AreasLead days.now.case.now days.now.nurse (offers_on days.now.offers.now)
+        days.now.areas.now }
+    requires stand { (day : ℕ) → day < day_count days.now.case.now →
+        SomeStands days.now.case.now days.now.nurse (areas_on days.now.areas.now day) }
     requires labels_room { product days.now.ranges ≤ length even.old }
     requires same_room { length odd.old ≡ length even.old }
-    requires pointers_room { day_count days.now.case.now * product days.now.ranges ≤ length pointers.old }
+    requires pointers_room { day_count days.now.case.now * product days.now.ranges ≤ length
+        pointers.old }
     requires room { meter.old + standing_steps days.now.case.now days.now.nurse
         (offers_on days.now.offers.now) days.now.areas.now ≤ greatest_u64 }
     ensures labels { AreLabels days.now.case.now days.now.nurse (areas_on days.now.areas.now 0)
         (onward days.now.case.now days.now.nurse (offers_on days.now.offers.now) 0) even.new }
-    ensures pointers { PointersFrom days.now.case.now days.now.nurse (offers_on days.now.offers.now) days.now.areas.now 0 pointers.new }
+    ensures pointers { PointersFrom days.now.case.now days.now.nurse (offers_on days.now.offers.now)
+        days.now.areas.now 0 pointers.new }
     ensures lengths { (length even.new ≡ length even.old) × (length odd.new ≡ length odd.old)
         × (length pointers.new ≡ length pointers.old) }
     ensures each_day { meter.old + day_count days.now.case.now ≤ meter.new }
@@ -170,20 +176,31 @@ fn label_before(
     requires offers { AreOffers days.now.case.now ahead.now.at.nurse days.now.offers.now }
     requires here { rest.here ≡ areas_on days.now.areas.now ahead.now.at.day }
     requires areas_room { day_count days.now.case.now < length days.now.areas.now }
-    requires leads { All (LeadsOn days.now.case.now ahead.now.at rest.here rest.next) (offers_on days.now.offers.now ahead.now.at.day) }
+    requires leads { All (LeadsOn days.now.case.now ahead.now.at rest.here rest.next)
+        (offers_on days.now.offers.now ahead.now.at.day) }
     requires stand { SomeStands days.now.case.now ahead.now.at.nurse rest.here }
-    requires later { AreLabels days.now.case.now ahead.now.at.nurse rest.next rest.best ahead.now.later.now }
+    requires later { AreLabels days.now.case.now ahead.now.at.nurse rest.next rest.best
+        ahead.now.later.now }
     requires all { product ahead.now.at.ranges ≤ length ahead.now.later.now }
     requires labels_room { product ahead.now.at.ranges ≤ length labels.old }
-    requires pointers_room { day_count days.now.case.now * product ahead.now.at.ranges ≤ length pointers.old }
+    requires pointers_room { day_count days.now.case.now * product ahead.now.at.ranges ≤ length
+        pointers.old }
     requires room { meter.old + states_on days.now.case.now ahead.now.at.nurse rest.here
         * length (offers_on days.now.offers.now ahead.now.at.day) ≤ greatest_u64 }
-    ensures labels { AreLabels days.now.case.now ahead.now.at.nurse rest.here (best_on days.now.case.now ahead.now.at (offers_on days.now.offers.now ahead.now.at.day) rest.best) labels.new }
-    ensures pointers { ArePointers days.now.case.now ahead.now.at rest.here (offers_on days.now.offers.now ahead.now.at.day) rest.best (ahead.now.at.day * product ahead.now.at.ranges) pointers.new }
-    ensures others { SameOutside (ahead.now.at.day * product ahead.now.at.ranges) (ahead.now.at.day * product ahead.now.at.ranges + product ahead.now.at.ranges) pointers.old pointers.new }
-    ensures lengths { (length labels.new ≡ length labels.old) × (length pointers.new ≡ length pointers.old) }
+    ensures labels { AreLabels days.now.case.now ahead.now.at.nurse rest.here
+        (best_on days.now.case.now ahead.now.at (offers_on days.now.offers.now ahead.now.at.day)
+        rest.best) labels.new }
+    ensures pointers { ArePointers days.now.case.now ahead.now.at rest.here
+        (offers_on days.now.offers.now ahead.now.at.day) rest.best
+        (ahead.now.at.day * product ahead.now.at.ranges) pointers.new }
+    ensures others { SameOutside (ahead.now.at.day * product ahead.now.at.ranges)
+        (ahead.now.at.day * product ahead.now.at.ranges + product ahead.now.at.ranges) pointers.old
+        pointers.new }
+    ensures lengths { (length labels.new ≡ length labels.old)
+        × (length pointers.new ≡ length pointers.old) }
     ensures some { meter.old < meter.new }
-    ensures exactly { meter.new ≡ meter.old + states_on days.now.case.now ahead.now.at.nurse rest.here * length (offers_on days.now.offers.now ahead.now.at.day) }
+    ensures exactly { meter.new ≡ meter.old + states_on days.now.case.now ahead.now.at.nurse
+        rest.here * length (offers_on days.now.offers.now ahead.now.at.day) }
 {
     let Ahead { at, later } = *ahead;
     let case = days.case;
@@ -206,14 +223,22 @@ fn read_row(days: &Days<'_>, pointers: &Pointers, row: &mut [Choice])
     requires nurse { days.now.nurse < nurse_count days.now.case.now }
     requires ranges { days.now.ranges ≡ sizes_of days.now.case.now days.now.nurse }
     requires offers { AreOffers days.now.case.now days.now.nurse days.now.offers.now }
-    requires start { Stands days.now.case.now days.now.nurse (areas_on days.now.areas.now 0) (summary_of days.now.case.now days.now.nurse []) }
-    requires lead { AreasLead days.now.case.now days.now.nurse (offers_on days.now.offers.now) days.now.areas.now }
-    requires pointers { PointersFrom days.now.case.now days.now.nurse (offers_on days.now.offers.now) days.now.areas.now 0 pointers.now }
-    requires pointers_room { day_count days.now.case.now * product days.now.ranges ≤ length pointers.now }
+    requires start { Stands days.now.case.now days.now.nurse (areas_on days.now.areas.now 0)
+        (summary_of days.now.case.now days.now.nurse []) }
+    requires lead { AreasLead days.now.case.now days.now.nurse (offers_on days.now.offers.now)
+        days.now.areas.now }
+    requires pointers { PointersFrom days.now.case.now days.now.nurse
+        (offers_on days.now.offers.now) days.now.areas.now 0 pointers.now }
+    requires pointers_room { day_count days.now.case.now * product days.now.ranges ≤ length
+        pointers.now }
     requires row_room { day_count days.now.case.now ≤ length row.old }
-    requires some { IsSome (best_over days.now.case.now days.now.nurse (offers_on days.now.offers.now)) }
-    requires low { IfSome (best_over days.now.case.now days.now.nurse (offers_on days.now.offers.now)) (λ row. row.0 < no_row) }
-    ensures row { (cost : ℕ) (offers : List Offer) → best_over days.now.case.now days.now.nurse (offers_on days.now.offers.now) ≡ Some (cost, offers) → take (day_count days.now.case.now) row.new ≡ choices_of offers }
+    requires some { IsSome (best_over days.now.case.now days.now.nurse
+        (offers_on days.now.offers.now)) }
+    requires low { IfSome (best_over days.now.case.now days.now.nurse
+        (offers_on days.now.offers.now)) (λ row. row.0 < no_row) }
+    ensures row { (cost : ℕ) (offers : List Offer) →
+        best_over days.now.case.now days.now.nurse (offers_on days.now.offers.now) ≡ Some
+        (cost, offers) → take (day_count days.now.case.now) row.new ≡ choices_of offers }
     ensures length { length row.new ≡ length row.old }
 {
     let case = days.case;
@@ -240,13 +265,21 @@ fn read_choice(
     ghost rest: { Around }
     requires day { IsDayOf days.now.case.now at.now }
     requires stands { Stands days.now.case.now at.now.nurse rest.here state.now }
-    requires leads { All (LeadsOn days.now.case.now at.now rest.here rest.next) (offers_on days.now.offers.now at.now.day) }
-    requires pointers { ArePointers days.now.case.now at.now rest.here (offers_on days.now.offers.now at.now.day) rest.best (at.now.day * product at.now.ranges) pointers.now }
-    requires pointers_room { day_count days.now.case.now * product at.now.ranges ≤ length pointers.now }
-    requires some { IsSome (best_on days.now.case.now at.now (offers_on days.now.offers.now at.now.day) rest.best state.now) }
-    requires low { IfSome (best_on days.now.case.now at.now (offers_on days.now.offers.now at.now.day) rest.best state.now) (λ row. row.0 < no_row) }
+    requires leads { All (LeadsOn days.now.case.now at.now rest.here rest.next)
+        (offers_on days.now.offers.now at.now.day) }
+    requires pointers { ArePointers days.now.case.now at.now rest.here
+        (offers_on days.now.offers.now at.now.day) rest.best (at.now.day * product at.now.ranges)
+        pointers.now }
+    requires pointers_room { day_count days.now.case.now * product at.now.ranges ≤ length
+        pointers.now }
+    requires some { IsSome (best_on days.now.case.now at.now
+        (offers_on days.now.offers.now at.now.day) rest.best state.now) }
+    requires low { IfSome (best_on days.now.case.now at.now
+        (offers_on days.now.offers.now at.now.day) rest.best state.now) (λ row. row.0 < no_row) }
     requires offers { AreOffers days.now.case.now at.now.nurse days.now.offers.now }
-    ensures begins { (row : ℕ × List Offer) → best_on days.now.case.now at.now (offers_on days.now.offers.now at.now.day) rest.best state.now ≡ Some row → BeginsWith rest.best row result.0 result.1 }
+    ensures begins { (row : ℕ × List Offer) → best_on days.now.case.now at.now
+        (offers_on days.now.offers.now at.now.day) rest.best state.now ≡ Some row →
+        BeginsWith rest.best row result.0 result.1 }
     ensures stands { Stands days.now.case.now at.now.nurse rest.next result.1 }
 {
     let case = days.case;

@@ -140,7 +140,8 @@ pub fn areas_of(state: &State) -> [Area; 9]
     requires { shift_digit state.now.last < 9 }
     ensures inside { InArea (area_at result (shift_digit state.now.last)) state.now }
     ensures alone { area_at result (shift_digit state.now.last) ≡ one_state state.now }
-    ensures others { (digit : ℕ) → digit ≢ shift_digit state.now.last → area_at result digit ≡ nowhere }
+    ensures others { (digit : ℕ) → digit ≢ shift_digit state.now.last →
+        area_at result digit ≡ nowhere }
 {
     let mut areas = [NOWHERE; AREAS];
     areas[shift_digit(state.last) as usize] = Area::of(state);
@@ -160,8 +161,12 @@ pub fn widen(
     requires nurse { nurse < nurse_count case.now }
     requires day { day < day_count case.now }
     requires shift { IfSome shift (λ s. s.0 < shift_count case.now) }
-    ensures leads { (s : Summary) → shift_digit s.last < shift_count case.now + 1 → InArea (area_at areas.now (shift_digit s.last)) s → forbids case.now.successions s.last shift ≡ false → InArea (area_at after.new (shift_digit shift)) (next_of case.now nurse day s shift) }
-    ensures keeps { (digit : ℕ) (s : Summary) → InArea (area_at after.old digit) s → InArea (area_at after.new digit) s }
+    ensures leads { (s : Summary) → shift_digit s.last < shift_count case.now + 1 →
+        InArea (area_at areas.now (shift_digit s.last)) s →
+        forbids case.now.successions s.last shift ≡ false →
+        InArea (area_at after.new (shift_digit shift)) (next_of case.now nurse day s shift) }
+    ensures keeps { (digit : ℕ) (s : Summary) → InArea (area_at after.old digit) s →
+        InArea (area_at after.new digit) s }
 {
     case.keeps_limits();
     let to = shift_digit(shift) as usize;
@@ -184,7 +189,9 @@ fn area_with(
     shift: Option<Shift>,
 ) -> Area
     ensures keeps { (s : Summary) → InArea area.now s → InArea result s }
-    ensures leads { (s : Summary) → s.last ≡ last → InArea from.now s → forbids case.now.successions last shift ≡ false → InArea result (next_of case.now nurse day s shift) }
+    ensures leads { (s : Summary) → s.last ≡ last → InArea from.now s →
+        forbids case.now.successions last shift ≡ false →
+        InArea result (next_of case.now nurse day s shift) }
 {
     if from.is_empty() || case.forbids_next(last, shift) {
         return *area;
@@ -201,7 +208,8 @@ fn area_after(
     last: Option<Shift>,
     shift: Option<Shift>,
 ) -> Area
-    ensures { (s : Summary) → s.last ≡ last → InArea from.now s → InArea result (next_of case.now nurse day s shift) }
+    ensures { (s : Summary) → s.last ≡ last → InArea from.now s →
+        InArea result (next_of case.now nurse day s shift) }
 {
     let rules = case.contract_rules(nurse);
     let weekends = weekends_more(day, last, shift);
@@ -222,7 +230,8 @@ fn run_after(
     last: Option<Shift>,
     shift: Option<Shift>,
 ) -> Span
-    ensures { (s : Summary) → s.last ≡ last → InSpan run s.run → InSpan result (run_with case.now nurse s shift) }
+    ensures { (s : Summary) → s.last ≡ last → InSpan run s.run →
+        InSpan result (run_with case.now nurse s shift) }
 {
     let rules = case.contract_rules(nurse);
     match shift {
@@ -233,7 +242,8 @@ fn run_after(
 
 /// The runs of the last shift after a day.
 fn shift_run_after(case: &Case, shift_run: Span, last: Option<Shift>, shift: Option<Shift>) -> Span
-    ensures { (s : Summary) → s.last ≡ last → InSpan shift_run s.shift_run → InSpan result (shift_run_with case.now s shift) }
+    ensures { (s : Summary) → s.last ≡ last → InSpan shift_run s.shift_run →
+        InSpan result (shift_run_with case.now s shift) }
 {
     let Some(shift) = shift else {
         return Span::of(0);

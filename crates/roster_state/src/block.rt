@@ -57,8 +57,11 @@ impl Block {
     /// of their codes.
     pub fn numbered(ranges: &Ranges, number: u32) -> Block
         requires { number < blocks ranges.now }
-        ensures states { (a : ℕ) → a < ranges.now.assignments → state_at ranges.now (number * ranges.now.assignments + a) ≡ Some (with_assignments result a) }
-        ensures fit { (a : ℕ) → a < ranges.now.assignments → fits_sizes ranges.now (with_assignments result a) ≡ true }
+        ensures states { (a : ℕ) → a < ranges.now.assignments →
+            state_at ranges.now (number * ranges.now.assignments + a) ≡ Some
+            (with_assignments result a) }
+        ensures fit { (a : ℕ) → a < ranges.now.assignments →
+            fits_sizes ranges.now (with_assignments result a) ≡ true }
         ensures fits { fits_sizes ranges.now result ≡ true }
         ensures first { code_of ranges.now result ≡ number * ranges.now.assignments }
     {
@@ -79,7 +82,13 @@ impl Block {
     #[inline(always)]
     pub fn of_runs(last: u32, run: u16, shift_run: u16) -> Block
         requires { last ≤ 256 }
-        ensures { result ≡ record { last = shift_numbered last; run = run; shift_run = shift_run; assignments = 0; weekends = 0 } }
+        ensures { result ≡ record {
+          last = shift_numbered last;
+          run = run;
+          shift_run = shift_run;
+          assignments = 0;
+          weekends = 0;
+        } }
     {
         Block {
             state: State {
@@ -116,7 +125,8 @@ impl Block {
     /// Whether its states fit.
     pub fn fits(&self, ranges: &Ranges) -> bool
         ensures first { result ≡ fits_sizes ranges.now self.now }
-        ensures each { (a : ℕ) → a < ranges.now.assignments → fits_sizes ranges.now (with_assignments self.now a) ≡ result }
+        ensures each { (a : ℕ) → a < ranges.now.assignments →
+            fits_sizes ranges.now (with_assignments self.now a) ≡ result }
     {
         self.state.fits(ranges)
     }
@@ -163,7 +173,8 @@ impl Block {
     pub fn first(&self, ranges: &Ranges) -> u32
         requires { fits_sizes ranges.now self.now ≡ true }
         ensures first { result ≡ code_of ranges.now self.now }
-        ensures each { (a : ℕ) → a < ranges.now.assignments → code_of ranges.now (with_assignments self.now a) ≡ result + a }
+        ensures each { (a : ℕ) → a < ranges.now.assignments →
+            code_of ranges.now (with_assignments self.now a) ≡ result + a }
         ensures within { result + ranges.now.assignments ≤ product ranges.now }
     {
         self.state.code(ranges)
@@ -175,7 +186,9 @@ impl Block {
 #[inline(always)]
 fn can_work(state: &State, working: Limits, shift: Limits, more: u32) -> bool
     requires { more ≤ 65535 }
-    ensures { result ≡ (nat_le state.now.run (cap working) && nat_le state.now.shift_run (cap shift) && (nat_le (cap working) state.now.run || nat_le state.now.shift_run (state.now.run + more))) }
+    ensures { result ≡ (nat_le state.now.run (cap working) && nat_le state.now.shift_run (cap shift)
+        && (nat_le (cap working) state.now.run || nat_le state.now.shift_run
+        (state.now.run + more))) }
 {
     let is_full = working.cap() <= state.run;
     state.run <= working.cap()
@@ -266,9 +279,13 @@ pub fn extend_block(
     ensures forbidden { IsNone result ↔ forbids case.now.successions block.last shift ≡ true }
 
     // Each place goes where its state goes, at the same cost.
-    ensures steps { (a : ℕ) → a < (sizes_of case.now nurse).assignments → option_map (place_step (sizes_of case.now nurse).assignments a) result ≡ step_of case.now nurse day (with_assignments block a) shift }
-    ensures next_fits { IfSome result (λ step. fits_sizes (sizes_of case.now nurse) step.next ≡ true) }
-    ensures dearer { IfSome result (λ step. step.dearer_from ≤ (sizes_of case.now nurse).assignments) }
+    ensures steps { (a : ℕ) → a < (sizes_of case.now nurse).assignments →
+        option_map (place_step (sizes_of case.now nurse).assignments a) result ≡ step_of case.now
+        nurse day (with_assignments block a) shift }
+    ensures next_fits { IfSome result (λ step. fits_sizes (sizes_of case.now nurse)
+        step.next ≡ true) }
+    ensures dearer { IfSome result (λ step. step.dearer_from
+        ≤ (sizes_of case.now nurse).assignments) }
     ensures within { IfSome result (λ step. step.cost + assignment_weight ≤ most_of_step) }
 {
     let rules = case.contract_rules(nurse);
@@ -290,9 +307,13 @@ pub(crate) fn block_step(
     requires shift { IfSome shift (λ s. s.0 < shift_count case.now) }
     requires fits { fits_sizes (sizes_of case.now nurse) block ≡ true }
     ensures forbidden { IsNone result ↔ forbids case.now.successions block.last shift ≡ true }
-    ensures steps { (a : ℕ) → a < (sizes_of case.now nurse).assignments → option_map (place_step (sizes_of case.now nurse).assignments a) result ≡ step_of case.now nurse day (with_assignments block a) shift }
-    ensures next_fits { IfSome result (λ step. fits_sizes (sizes_of case.now nurse) step.next ≡ true) }
-    ensures dearer { IfSome result (λ step. step.dearer_from ≤ (sizes_of case.now nurse).assignments) }
+    ensures steps { (a : ℕ) → a < (sizes_of case.now nurse).assignments →
+        option_map (place_step (sizes_of case.now nurse).assignments a) result ≡ step_of case.now
+        nurse day (with_assignments block a) shift }
+    ensures next_fits { IfSome result (λ step. fits_sizes (sizes_of case.now nurse)
+        step.next ≡ true) }
+    ensures dearer { IfSome result (λ step. step.dearer_from
+        ≤ (sizes_of case.now nurse).assignments) }
     ensures within { IfSome result (λ step. step.cost + assignment_weight ≤ most_of_step) }
 {
     if case.forbids_next(block.state.last, shift) {

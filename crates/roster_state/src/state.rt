@@ -90,7 +90,8 @@ impl State {
         ensures within { result < product ranges.now }
 
         // Each state that fits has a number of its own, and is read back from it.
-        ensures one { (other : Summary) → fits_sizes ranges.now other ≡ true → code_of ranges.now other ≡ result → other ≡ self.now }
+        ensures one { (other : Summary) → fits_sizes ranges.now other ≡ true →
+            code_of ranges.now other ≡ result → other ≡ self.now }
         ensures back { state_at ranges.now result ≡ Some self.now }
     {
         let run = shift_digit(self.last) * ranges.run + self.run as u32;

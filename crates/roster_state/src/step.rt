@@ -61,8 +61,12 @@ pub fn extend(
     ensures forbidden { IsNone result ↔ forbids case.now.successions state.last shift ≡ true }
 
     // From the summary of some days it leads to that of those days and this one, at the cost by which what is owed rises.
-    ensures summary { IfSome result (λ step. (days : Days) → length days ≡ day → state ≡ summary_of case.now nurse days → step.0 ≡ summary_of case.now nurse (days ++ shift ∷ [])) }
-    ensures owed { IfSome result (λ step. (days : Days) → length days ≡ day → state ≡ summary_of case.now nurse days → due case.now nurse (days ++ shift ∷ []) ≡ due case.now nurse days + step.1) }
+    ensures summary { IfSome result (λ step. (days : Days) → length days ≡ day →
+        state ≡ summary_of case.now nurse days →
+        step.0 ≡ summary_of case.now nurse (days ++ shift ∷ [])) }
+    ensures owed { IfSome result (λ step. (days : Days) → length days ≡ day →
+        state ≡ summary_of case.now nurse days →
+        due case.now nurse (days ++ shift ∷ []) ≡ due case.now nurse days + step.1) }
 
     // From any state that fits the next one fits, and the step costs little.
     ensures next_fits { IfSome result (λ step. fits_sizes (sizes_of case.now nurse) step.0 ≡ true) }
@@ -95,7 +99,8 @@ pub fn extend_by(
     requires room { meter.old < greatest_u64 }
     ensures counted { meter.new ≡ meter.old + 1 }
     ensures step { result ≡ step_of days.now.case.now days.now.nurse day state shift }
-    ensures next_fits { IfSome result (λ step. fits_sizes (sizes_of days.now.case.now days.now.nurse) step.0 ≡ true) }
+    ensures next_fits { IfSome result (λ step. fits_sizes
+        (sizes_of days.now.case.now days.now.nurse) step.0 ≡ true) }
     ensures within { IfSome result (λ step. step.1 ≤ most_of_step) }
 {
     let NurseDays { case, nurse, rules } = *days;
@@ -183,8 +188,11 @@ pub fn after(
     requires day { day < day_count case.now }
     requires shift { IfSome shift (λ s. s.0 < shift_count case.now) }
     requires fits { fits_sizes (sizes_of case.now nurse) state ≡ true }
-    ensures state { result ≡ (if forbids case.now.successions state.last shift then None else Some (next_of case.now nurse day state shift)) }
-    ensures summary { IfSome result (λ next. (days : Days) → length days ≡ day → state ≡ summary_of case.now nurse days → next ≡ summary_of case.now nurse (days ++ shift ∷ [])) }
+    ensures state { result ≡ (if forbids case.now.successions state.last shift then None else Some
+        (next_of case.now nurse day state shift)) }
+    ensures summary { IfSome result (λ next. (days : Days) → length days ≡ day →
+        state ≡ summary_of case.now nurse days →
+        next ≡ summary_of case.now nurse (days ++ shift ∷ [])) }
     ensures next_fits { IfSome result (λ next. fits_sizes (sizes_of case.now nurse) next ≡ true) }
 {
     if case.forbids_next(state.last, shift) {
@@ -201,7 +209,8 @@ pub fn end_cost(case: &Case, nurse: usize, state: State) -> u32
     ensures cost { result ≡ end_cost_of case.now nurse state }
 
     // From the summary of all days it closes what is owed to the nurse's own cost.
-    ensures closes { (days : Days) → state ≡ summary_of case.now nurse days → own_cost case.now nurse days ≡ due case.now nurse days + result }
+    ensures closes { (days : Days) → state ≡ summary_of case.now nurse days →
+        own_cost case.now nurse days ≡ due case.now nurse days + result }
     ensures within { result ≤ most_at_end }
 {
     missing_cost(case, nurse, state)
@@ -315,7 +324,9 @@ pub(crate) fn cost_apart(
 /// S2, S3. The points for each missing or extra day of the runs of working days and of days off.
 #[inline(always)]
 pub(crate) fn runs_more(rules: ContractRules, state: State, shift: Option<Shift>) -> u32
-    ensures cost { result ≡ working_run_weight * day_violations rules.working (working_run state) (is_some shift) + free_run_weight * day_violations rules.free (free_run state) (not (is_some shift)) }
+    ensures cost { result ≡ working_run_weight * day_violations rules.working (working_run state)
+        (is_some shift) + free_run_weight * day_violations rules.free (free_run state)
+        (not (is_some shift)) }
     ensures within { result ≤ 65536 * (working_run_weight + free_run_weight) }
 {
     let works = shift.is_some();
@@ -327,7 +338,8 @@ pub(crate) fn runs_more(rules: ContractRules, state: State, shift: Option<Shift>
 /// S5. The points for a weekend that the day splits, where the contract wants whole weekends.
 #[inline(always)]
 pub(crate) fn split_more(rules: ContractRules, day: u16, state: State, shift: Option<Shift>) -> u32
-    ensures cost { result ≡ (if rules.whole_weekends then split_weight * splits_more day (is_some state.last) (is_some shift) else 0) }
+    ensures cost { result ≡ (if rules.whole_weekends then split_weight * splits_more day
+        (is_some state.last) (is_some shift) else 0) }
     ensures within { result ≤ split_weight }
 {
     if !rules.whole_weekends {
@@ -344,7 +356,8 @@ pub(crate) fn weekend_more(
     state: State,
     shift: Option<Shift>,
 ) -> u32
-    ensures cost { result ≡ (if nat_le rules.weekends state.weekends then weekend_weight * weekends_more day (is_some state.last) (is_some shift) else 0) }
+    ensures cost { result ≡ (if nat_le rules.weekends state.weekends then weekend_weight
+        * weekends_more day (is_some state.last) (is_some shift) else 0) }
     ensures within { result ≤ weekend_weight }
 {
     if state.weekends < rules.weekends {

@@ -33,7 +33,9 @@ impl Stretch {
         requires { 0 < self.now.rows }
         ensures some { 0 < result }
         ensures within { result ≤ self.now.rows }
-        ensures alike { 1 < result → self.now.block.weekends + result + weekends_more day (is_some self.now.block.last) true ≤ (contract_of case.now nurse).weekends + 1 }
+        ensures alike { 1 < result → self.now.block.weekends + result
+            + weekends_more day (is_some self.now.block.last)
+            true ≤ (contract_of case.now nurse).weekends + 1 }
     {
         let last = self.block.state.last;
         let begins = weekends_more(day, last, Some(Shift(0)));
@@ -49,8 +51,10 @@ impl Stretch {
         requires within { self.now.end ≤ (sizes_of case.now nurse).assignments }
         ensures some { self.now.from < result }
         ensures within { result ≤ self.now.end }
-        ensures places { self.now.from + 1 < result → result ≤ cap (contract_of case.now nurse).total }
-        ensures level { self.now.from < (contract_of case.now nurse).total.greatest → result ≤ (contract_of case.now nurse).total.greatest }
+        ensures places { self.now.from + 1 < result →
+            result ≤ cap (contract_of case.now nurse).total }
+        ensures level { self.now.from < (contract_of case.now nurse).total.greatest →
+            result ≤ (contract_of case.now nurse).total.greatest }
     {
         let total = case.contract_rules(nurse).total;
         let (greatest, cap) = (total.greatest as u32, total.cap() as u32);
@@ -82,10 +86,13 @@ pub fn extend_stretch(
     requires shift { IfSome shift (λ s. s.0 < shift_count case.now) }
     requires fits { fits_sizes (sizes_of case.now nurse) stretch.block ≡ true }
     requires places { stretch.from < (sizes_of case.now nurse).assignments }
-    requires alike { IsAlike case.now nurse day stretch.block stretch.rows stretch.from stretch.end }
+    requires alike { IsAlike case.now nurse day stretch.block stretch.rows stretch.from
+        stretch.end }
     requires room { meter.old + stretch.rows * (stretch.end - stretch.from) ≤ greatest_u64 }
     ensures counted { meter.new ≡ meter.old + stretch.rows * (stretch.end - stretch.from) }
-    ensures steps { (i b : ℕ) → i < stretch.rows → b < stretch.end - stretch.from → option_map (moved_on i b) result ≡ step_of case.now nurse day (stretch_state stretch.block stretch.from i b) shift }
+    ensures steps { (i b : ℕ) → i < stretch.rows → b < stretch.end - stretch.from →
+        option_map (moved_on i b) result ≡ step_of case.now nurse day
+        (stretch_state stretch.block stretch.from i b) shift }
     ensures next_fits { IfSome result (λ step. fits_sizes (sizes_of case.now nurse) step.0 ≡ true) }
     ensures within { IfSome result (λ step. step.1 ≤ most_of_step) }
 {

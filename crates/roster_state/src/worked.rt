@@ -91,11 +91,14 @@ pub fn extend_ahead(
     requires room { meter.old < greatest_u64 }
     ensures counted { meter.new ≡ meter.old + 1 }
     ensures step { result ≡ step_of days.now.case.now days.now.nurse day state shift }
-    ensures next_fits { IfSome result (λ step. fits_sizes (sizes_of days.now.case.now days.now.nurse) step.0 ≡ true) }
+    ensures next_fits { IfSome result (λ step. fits_sizes
+        (sizes_of days.now.case.now days.now.nurse) step.0 ≡ true) }
     ensures within { IfSome result (λ step. step.1 ≤ most_of_step) }
 
     // What a worked day brings is in the state after it.
-    ensures works { is_some shift ≡ true → IfSome result (λ step. (step.0.assignments ≡ worked.now.assignments) × (step.0.weekends ≡ worked.now.weekends)) }
+    ensures works { is_some shift ≡ true → IfSome result
+        (λ step. (step.0.assignments ≡ worked.now.assignments)
+        × (step.0.weekends ≡ worked.now.weekends)) }
 {
     meter.add(1);
     step_ahead(days, day, state, worked, shift)
@@ -106,7 +109,8 @@ pub fn extend_ahead(
 pub fn worked_stretch(days: &NurseDays<'_>, day: u16, stretch: &Stretch) -> WorkedDay
     requires rules { days.now.rules ≡ contract_of days.now.case.now days.now.nurse }
     requires places { stretch.now.from < (sizes_of days.now.case.now days.now.nurse).assignments }
-    ensures { IsWorkedDay days.now.case.now days.now.nurse day (with_assignments stretch.now.block stretch.now.from) result }
+    ensures { IsWorkedDay days.now.case.now days.now.nurse day
+        (with_assignments stretch.now.block stretch.now.from) result }
 {
     days.case.keeps_limits();
     worked_day(days, day, stretch.block.state(stretch.from as u16))
@@ -124,14 +128,22 @@ pub fn extend_stretch_ahead(
 ) -> Option<(State, u32)>
     requires rules { days.now.rules ≡ contract_of days.now.case.now days.now.nurse }
     requires shift { IfSome shift (λ s. s.0 < shift_count days.now.case.now) }
-    requires fits { fits_sizes (sizes_of days.now.case.now days.now.nurse) stretch.now.block ≡ true }
+    requires fits { fits_sizes (sizes_of days.now.case.now days.now.nurse)
+        stretch.now.block ≡ true }
     requires places { stretch.now.from < (sizes_of days.now.case.now days.now.nurse).assignments }
-    requires alike { IsAlike days.now.case.now days.now.nurse day stretch.now.block stretch.now.rows stretch.now.from stretch.now.end }
-    requires worked { IsWorkedDay days.now.case.now days.now.nurse day (with_assignments stretch.now.block stretch.now.from) worked.now }
-    requires room { meter.old + stretch.now.rows * (stretch.now.end - stretch.now.from) ≤ greatest_u64 }
-    ensures counted { meter.new ≡ meter.old + stretch.now.rows * (stretch.now.end - stretch.now.from) }
-    ensures steps { (i b : ℕ) → i < stretch.now.rows → b < stretch.now.end - stretch.now.from → option_map (moved_on i b) result ≡ step_of days.now.case.now days.now.nurse day (stretch_state stretch.now.block stretch.now.from i b) shift }
-    ensures next_fits { IfSome result (λ step. fits_sizes (sizes_of days.now.case.now days.now.nurse) step.0 ≡ true) }
+    requires alike { IsAlike days.now.case.now days.now.nurse day stretch.now.block stretch.now.rows
+        stretch.now.from stretch.now.end }
+    requires worked { IsWorkedDay days.now.case.now days.now.nurse day
+        (with_assignments stretch.now.block stretch.now.from) worked.now }
+    requires room { meter.old + stretch.now.rows
+        * (stretch.now.end - stretch.now.from) ≤ greatest_u64 }
+    ensures counted { meter.new ≡ meter.old + stretch.now.rows
+        * (stretch.now.end - stretch.now.from) }
+    ensures steps { (i b : ℕ) → i < stretch.now.rows → b < stretch.now.end - stretch.now.from →
+        option_map (moved_on i b) result ≡ step_of days.now.case.now days.now.nurse day
+        (stretch_state stretch.now.block stretch.now.from i b) shift }
+    ensures next_fits { IfSome result (λ step. fits_sizes
+        (sizes_of days.now.case.now days.now.nurse) step.0 ≡ true) }
     ensures within { IfSome result (λ step. step.1 ≤ most_of_step) }
 {
     days.case.keeps_limits();
@@ -155,9 +167,12 @@ fn step_ahead(
     requires fits { fits_sizes (sizes_of days.now.case.now days.now.nurse) state ≡ true }
     requires worked { IsWorkedDay days.now.case.now days.now.nurse day state worked.now }
     ensures step { result ≡ step_of days.now.case.now days.now.nurse day state shift }
-    ensures next_fits { IfSome result (λ step. fits_sizes (sizes_of days.now.case.now days.now.nurse) step.0 ≡ true) }
+    ensures next_fits { IfSome result (λ step. fits_sizes
+        (sizes_of days.now.case.now days.now.nurse) step.0 ≡ true) }
     ensures within { IfSome result (λ step. step.1 ≤ most_of_step) }
-    ensures works { is_some shift ≡ true → IfSome result (λ step. (step.0.assignments ≡ worked.now.assignments) × (step.0.weekends ≡ worked.now.weekends)) }
+    ensures works { is_some shift ≡ true → IfSome result
+        (λ step. (step.0.assignments ≡ worked.now.assignments)
+        × (step.0.weekends ≡ worked.now.weekends)) }
 {
     match shift {
         Some(shift) => step_worked(days, day, state, worked, shift),
@@ -178,9 +193,11 @@ fn step_worked(
     requires fits { fits_sizes (sizes_of days.now.case.now days.now.nurse) state ≡ true }
     requires worked { IsWorkedDay days.now.case.now days.now.nurse day state worked.now }
     ensures step { result ≡ step_of days.now.case.now days.now.nurse day state (Some shift) }
-    ensures next_fits { IfSome result (λ step. fits_sizes (sizes_of days.now.case.now days.now.nurse) step.0 ≡ true) }
+    ensures next_fits { IfSome result (λ step. fits_sizes
+        (sizes_of days.now.case.now days.now.nurse) step.0 ≡ true) }
     ensures within { IfSome result (λ step. step.1 ≤ most_of_step) }
-    ensures works { IfSome result (λ step. (step.0.assignments ≡ worked.now.assignments) × (step.0.weekends ≡ worked.now.weekends)) }
+    ensures works { IfSome result (λ step. (step.0.assignments ≡ worked.now.assignments)
+        × (step.0.weekends ≡ worked.now.weekends)) }
 {
     let case = days.case;
     case.keeps_limits();
@@ -206,7 +223,8 @@ fn step_worked(
 fn shift_cost(case: &Case, state: State, left: u32, shift: Shift) -> u32
     requires last { IfSome state.last (λ s. s.0 < shift_count case.now) }
     requires shift { shift.0 < shift_count case.now }
-    requires left { left ≡ shift_run_weight * ended (run_of_shift case.now) state.last state.shift_run None }
+    requires left { left ≡ shift_run_weight * ended (run_of_shift case.now) state.last
+        state.shift_run None }
     requires small { left ≤ 65536 * shift_run_weight }
     ensures cost { result ≡ shifts_more case.now state (Some shift) }
     ensures within { result ≤ 2 * 65536 * shift_run_weight }

@@ -41,7 +41,8 @@ fn fill_others(others: &mut [u32], from: usize)
 fn lower_each(labels: &mut [u32], pointers: &mut [u8], others: &[u32], more: u32, pointer: u8)
     requires pointers { length pointers.old ≡ length labels.old }
     requires others { length others.now ≡ length labels.old }
-    requires within { (i : ℕ) → i < length labels.old → slice_index_or others.now i 0 + more ≤ 4294967295 }
+    requires within { (i : ℕ) → i < length labels.old →
+        slice_index_or others.now i 0 + more ≤ 4294967295 }
 {
     for i in 0..labels.len() {
         let candidate = others[i] + more;

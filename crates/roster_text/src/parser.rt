@@ -96,7 +96,8 @@ impl<'a> Parser<'a> {
 
     /// The next token with its text, if one is left.
     fn next(&self) -> Option<(Token, &'a [u8])>
-        ensures { option_map (λ t. record { token = t.0; text = t.1.now }) result ≡ first_of self.now }
+        ensures { option_map (λ t. record { token = t.0; text = t.1.now }) result ≡ first_of
+            self.now }
     {
         let token = *self.tokens.first()?;
         Some((token, &self.source[token.start..token.end]))

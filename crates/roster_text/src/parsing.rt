@@ -49,13 +49,15 @@ pub fn numbers_are_small()
 
 /// A list of tokens has one first fault at most: one place, and one word for what is due there.
 pub fn one_first_fault()
-    ensures { (end : ℕ) (ts : List Seen) (f g : TextFault) → IsFirstFault end ts f → IsFirstFault end ts g → f ≡ g }
+    ensures { (end : ℕ) (ts : List Seen) (f g : TextFault) → IsFirstFault end ts f →
+        IsFirstFault end ts g → f ≡ g }
 {}
 
 /// Reads from left to right, and says where and why it stops.
 fn bundle_of(alloc: Global, source: &[u8], tokens: &[Token]) -> Result<Bundle, TextFault>
     requires { tokens.now ≡ tokens_of source.now }
-    ensures { GivesUnlessMemory result (whole_of (line_at_end source.now) (bundle_at (all_seen source.now tokens.now))) }
+    ensures { GivesUnlessMemory result (whole_of (line_at_end source.now)
+        (bundle_at (all_seen source.now tokens.now))) }
 {
     let mut parser = Parser::new(alloc, source, tokens);
     match Bundle::parse(&mut parser) {

@@ -76,7 +76,8 @@ fn send_piece<W: Write>(
 ) -> Result<usize, WriteFault>
     ensures ok { IfOk result
         (λ after. Sends W.contents out.old out.new before after (piece_text piece.entry)) }
-    ensures err { IfErr result (BreaksIn W.contents out.old out.new before (piece_text piece.entry)) }
+    ensures err { IfErr result (BreaksIn W.contents out.old out.new before
+        (piece_text piece.entry)) }
 {
     match piece {
         Piece::Bytes(bytes) => send_bytes(out, before, bytes),

@@ -77,7 +77,8 @@ impl<T> Watch<T> {
         read: F,
     ) -> io::Result<usize>
         requires { F.IsAlwaysCallable read }
-        ensures called { IsOneRead F.FnOnce read self.old.inner buf.old result self.new.inner buf.new }
+        ensures called { IsOneRead F.FnOnce read self.old.inner buf.old result self.new.inner
+            buf.new }
         ensures calls { self.new.calls ≡ one_more self.old.calls }
         ensures flushes { self.new.flushes ≡ self.old.flushes }
         ensures failures { self.new.failures ≡ counted self.old.failures (is_err result) }
@@ -97,7 +98,8 @@ impl<T> Watch<T> {
         ensures called { IsOneWrite F.FnOnce write self.old.inner buf.now result self.new.inner }
         ensures calls { self.new.calls ≡ one_more self.old.calls }
         ensures flushes { self.new.flushes ≡ self.old.flushes }
-        ensures failures { self.new.failures ≡ counted self.old.failures (is_refused result buf.now) }
+        ensures failures { self.new.failures ≡ counted self.old.failures
+            (is_refused result buf.now) }
     {
         let result = write(&mut self.inner, buf);
         self.calls = self.calls.saturating_add(1);

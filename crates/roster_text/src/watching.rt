@@ -34,7 +34,8 @@ impl<W: Write> Write for Watch<W> {
             result buf.now }
         ensures calls { self.new.calls ≡ one_more self.old.calls }
         ensures flushes { self.new.flushes ≡ self.old.flushes }
-        ensures failures { self.new.failures ≡ counted self.old.failures (is_refused result buf.now) }
+        ensures failures { self.new.failures ≡ counted self.old.failures
+            (is_refused result buf.now) }
     {
         self.write_once(buf, W::write)
     }

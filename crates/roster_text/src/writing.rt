@@ -34,7 +34,8 @@ fn send_heading<W: Write, S: SolutionView>(
 ) -> Result<usize, WriteFault>
     ensures ok { IfOk result
         (λ after. Sends W.contents out.old out.new sent after (heading (S.shown view.now))) }
-    ensures err { IfErr result (BreaksIn W.contents out.old out.new sent (heading (S.shown view.now))) }
+    ensures err { IfErr result (BreaksIn W.contents out.old out.new sent
+        (heading (S.shown view.now))) }
 {
     send_pieces(
         out,
