@@ -11,6 +11,7 @@ use Rattle.roster_bundle.specs.declared.bundle.Request.{Request}
 use Rattle.roster_bundle.specs.Weekdays.{weekday}
 use Rattle.roster_instance.specs.Bundles.{Names, names_shift, place_of_request, requests_at, requests_meant, says_any}
 use Rattle.roster_instance.specs.declared.rules.DayRequests.{DayRequests}
+use Rattle.roster_instance.specs.CaseParts.{requests_with, with_any, with_shift}
 use Rattle.roster_instance.specs.Meaning.{no_requests}
 use Rattle.roster_instance.specs.Names.{found, has_number, reads}
 use Rattle.roster_instance.specs.Tables.{is_at}
@@ -115,7 +116,7 @@ module _ (source : List ℕ) (nurses shifts : Names) (earlier : List Request) (r
       λ j. record { any = any j; shifts = each j }
 
   -- the requests of the place p become others
-  placed : (r : DayRequests → DayRequests) → r (before p) ≡ then_at p → requests_meant source nurses shifts (earlier ++ q ∷ []) ≡ set requests p (r (get_or requests p no_requests))
+  placed : (r : DayRequests → DayRequests) → r (before p) ≡ then_at p → requests_meant source nurses shifts (earlier ++ q ∷ []) ≡ requests_with p r requests
   unfolding requests_meant
   placed r here =
       element-written (7 * length nurses) before then_at p (r (before p)) here elsewhere
@@ -123,9 +124,9 @@ module _ (source : List ℕ) (nurses shifts : Names) (earlier : List Request) (r
       ∙ ap (λ rows. set rows p (r (get_or rows p no_requests))) (sym is)
 
   -- the request says `Any`
-  pub any-requested : reads source (codes "Any") q.shift ≡ true → requests_meant source nurses shifts (earlier ++ q ∷ []) ≡ set requests p (record { any = true; shifts = (get_or requests p no_requests).shifts })
+  pub any-requested : reads source (codes "Any") q.shift ≡ true → requests_meant source nurses shifts (earlier ++ q ∷ []) ≡ requests_with p with_any requests
   any-requested says =
-      placed (λ (r : DayRequests). record { any = true; shifts = r.shifts }) (
+      placed with_any (
       let any : any_flag (earlier ++ q ∷ []) p ≡ true = flag-set place earlier q p place-is (says_any source) says in
       let each : map (shift_flag (earlier ++ q ∷ []) p) (range_with_len 0 8) ≡ map (shift_flag earlier p) (range_with_len 0 8) =
       list_alike 8 (shift_flag (earlier ++ q ∷ []) p) (shift_flag earlier p) false (λ s. flag-kept place earlier q p place-is (names_shift source shifts s) (ap (λ b. not b && has_number source shifts s q.shift) says)) in
@@ -133,9 +134,9 @@ module _ (source : List ℕ) (nurses shifts : Names) (earlier : List Request) (r
 
   -- the request names a shift
   pub shift-requested : reads source (codes "Any") q.shift ≡ false → (s : ℕ) → found source shifts q.shift ≡ Some s
-      → requests_meant source nurses shifts (earlier ++ q ∷ []) ≡ set requests p (record { any = (get_or requests p no_requests).any; shifts = set (get_or requests p no_requests).shifts s true })
+      → requests_meant source nurses shifts (earlier ++ q ∷ []) ≡ requests_with p (with_shift s) requests
   shift-requested otherwise s shift =
-      placed (λ (r : DayRequests). record { any = r.any; shifts = set r.shifts s true }) (
+      placed (with_shift s) (
       let any : any_flag (earlier ++ q ∷ []) p ≡ any_flag earlier p = flag-kept place earlier q p place-is (says_any source) otherwise in
       let says : (k : ℕ) → names_shift source shifts k q ≡ (s == k) = λ k. ap (λ b. not b && has_number source shifts k q.shift) otherwise ∙ found-has_number source shifts q.shift s shift k in
       let each : map (shift_flag (earlier ++ q ∷ []) p) (range_with_len 0 8) ≡ set (map (shift_flag earlier p) (range_with_len 0 8)) s true =

@@ -14,12 +14,12 @@ use Rattle.roster_bundle.specs.declared.bundle.ShiftType.{ShiftType}
 use Rattle.roster_bundle.specs.declared.bundle.WeekData.{WeekData}
 use Rattle.roster_bundle.specs.declared.bundle.WeekPairs.{WeekPairs}
 use Rattle.roster_instance.specs.declared.rules.Border.TheVariants.{Free, Working}
-use Rattle.roster_instance.specs.declared.rules.Limits.{Limits}
+use Rattle.roster_instance.specs.declared.rules.Need.{Need}
 use Rattle.roster_instance.specs.declared.rules.Past.{Past}
-use Rattle.roster_instance.specs.Bundles.{Names, border_meant, contract_meant, limits_of, limits_of_week, line_meant, meaning_of, place_of_need, shift_named, week_meant}
-use Rattle.roster_instance.specs.Meaning.{WeekFacts, no_contract, no_limits, no_past, no_week}
+use Rattle.roster_instance.specs.Bundles.{Names, border_meant, contract_meant, limits_of, line_meant, meaning_of, need_of, needs_of_week, place_of_need, shift_named, week_meant}
+use Rattle.roster_instance.specs.Meaning.{WeekFacts, no_contract, no_limits, no_need, no_past, no_week}
 use Rattle.roster_instance.specs.Names.{found, nurse_names, reads, shift_names, skill_names}
-use Rattle.roster_instance.specs.Small.{AreSmall, HasSmallNumbers, HasSmallRules, IsSmallBorder, IsSmallPast}
+use Rattle.roster_instance.specs.Small.{AreSmall, HasSmallNumbers, HasSmallRules, IsSmallBorder, IsSmallNeed, IsSmallPast}
 use Rattle.roster_instance.specs.Tables.{item_at, table_of}
 use Rattle.roster_instance.proofs.FitLemmas.{get_or_of_map}
 
@@ -59,6 +59,12 @@ limits_small p small = record { least = small.least; greatest = small.greatest }
 none_small : AreSmall no_limits
 none_small = record { least = omega arith; greatest = omega arith }
 
+need_small : (p : Pair) → IsSmallPair p → IsSmallNeed (need_of p)
+need_small p small = record { minimum = small.least; optimum = small.greatest }
+
+no_need_small : IsSmallNeed no_need
+no_need_small = record { minimum = omega arith; optimum = omega arith }
+
 contract_small : (c : Contract) → IsSmallContract c → HasSmallRules (contract_meant c)
 contract_small c small = record {
   total = limits_small c.total small.total;
@@ -86,30 +92,30 @@ past_small None small = record { border = omega arith; assignments = omega arith
 past_small (Some past) small = small
 
 -- the seven days of a week, by number
-abbrev AreSmallDays : List Limits → Type 0
-AreSmallDays days = (w : ℕ) → AreSmall (get_or days w no_limits)
+abbrev AreSmallDays : List Need → Type 0
+AreSmallDays days = (w : ℕ) → IsSmallNeed (get_or days w no_need)
 
-week_small : (d : WeekPairs) → AreSmallPairs d → AreSmallDays (limits_of_week d)
-week_small d small zero = limits_small d.monday small.monday
-week_small d small (suc zero) = limits_small d.tuesday small.tuesday
-week_small d small (suc (suc zero)) = limits_small d.wednesday small.wednesday
-week_small d small (suc (suc (suc zero))) = limits_small d.thursday small.thursday
-week_small d small (suc (suc (suc (suc zero)))) = limits_small d.friday small.friday
-week_small d small (suc (suc (suc (suc (suc zero))))) = limits_small d.saturday small.saturday
-week_small d small (suc (suc (suc (suc (suc (suc zero)))))) = limits_small d.sunday small.sunday
-week_small d small (suc (suc (suc (suc (suc (suc (suc w))))))) = none_small
+week_small : (d : WeekPairs) → AreSmallPairs d → AreSmallDays (needs_of_week d)
+week_small d small zero = need_small d.monday small.monday
+week_small d small (suc zero) = need_small d.tuesday small.tuesday
+week_small d small (suc (suc zero)) = need_small d.wednesday small.wednesday
+week_small d small (suc (suc (suc zero))) = need_small d.thursday small.thursday
+week_small d small (suc (suc (suc (suc zero)))) = need_small d.friday small.friday
+week_small d small (suc (suc (suc (suc (suc zero))))) = need_small d.saturday small.saturday
+week_small d small (suc (suc (suc (suc (suc (suc zero)))))) = need_small d.sunday small.sunday
+week_small d small (suc (suc (suc (suc (suc (suc (suc w))))))) = no_need_small
 
 -- the requirements of a week, by place and weekday
 abbrev NeedsSmall : WeekFacts → Type 0
-NeedsSmall week = (place w : ℕ) → AreSmall (option_map_or (λ days. get_or days w no_limits) (get_or week.needs place None) no_limits)
+NeedsSmall week = (place w : ℕ) → IsSmallNeed (option_map_or (λ days. get_or days w no_need) (get_or week.needs place None) no_need)
 
-cell_small : (cell : Option (List Limits)) → IfSome cell AreSmallDays → (w : ℕ) → AreSmall (option_map_or (λ days. get_or days w no_limits) cell no_limits)
-cell_small None small w = none_small
+cell_small : (cell : Option (List Need)) → IfSome cell AreSmallDays → (w : ℕ) → IsSmallNeed (option_map_or (λ days. get_or days w no_need) cell no_need)
+cell_small None small w = no_need_small
 cell_small (Some days) small w = small w
 
 needs_small : (source : List ℕ) (shifts skills nurses : Names) (week : WeekData) → AreSmallNeeds week → NeedsSmall (week_meant source shifts skills nurses week)
 needs_small source shifts skills nurses week small place w =
-    cell_small _ (cell_of_items (λ (q : Requirement). AreSmallPairs q.days) AreSmallDays (place_of_need source shifts skills) (λ (q : Requirement). limits_of_week q.days) 64
+    cell_small _ (cell_of_items (λ (q : Requirement). AreSmallPairs q.days) AreSmallDays (place_of_need source shifts skills) (λ (q : Requirement). needs_of_week q.days) 64
     (λ (q : Requirement). week_small q.days) week.requirements small place) w
 
 -- ---- the case
@@ -120,6 +126,6 @@ meaning_small source b small = record {
   runs = get_or_of_items (λ (s : ShiftType). IsSmallPair s.run) AreSmall (λ (s : ShiftType). limits_of s.run) no_limits none_small (λ (s : ShiftType). limits_small s.run) b.scenario.shifts.items small.runs;
   contracts = λ n. get_or_of_items IsSmallContract HasSmallRules contract_meant no_contract no_contract_small contract_small b.scenario.contracts.items small.contracts _;
   past = λ n. past_small _ (cell_of_items IsSmallLine IsSmallPast (λ (h : NurseHistory). found source (nurse_names source b) h.nurse) (line_meant source (shift_names source b)) _ (line_small source (shift_names source b)) b.history.nurses small.history n);
-  needs = λ d s k. get_or_of_items AreSmallNeeds NeedsSmall (week_meant source (shift_names source b) (skill_names source b) (nurse_names source b)) no_week (λ place w. none_small)
+  needs = λ d s k. get_or_of_items AreSmallNeeds NeedsSmall (week_meant source (shift_names source b) (skill_names source b) (nurse_names source b)) no_week (λ place w. no_need_small)
       (needs_small source (shift_names source b) (skill_names source b) (nurse_names source b)) b.week_data small.needs _ _ _;
 }

@@ -29,6 +29,7 @@ use Rattle.roster_instance.specs.declared.rules.Border.TheVariants.{Free, Workin
 use Rattle.roster_instance.specs.declared.rules.ContractRules.{ContractRules}
 use Rattle.roster_instance.specs.declared.rules.DayRequests.{DayRequests}
 use Rattle.roster_instance.specs.declared.rules.Limits.{Limits}
+use Rattle.roster_instance.specs.declared.rules.Need.{Need}
 use Rattle.roster_instance.specs.declared.rules.Past.{Past}
 use Rattle.roster_instance.specs.Meaning.{Meaning, NurseFacts, WeekFacts, nurse_count, shift_at, skill_at}
 use Rattle.roster_instance.specs.Names.{reads, skill_names, shift_names, contract_names, nurse_names, found, name_number, has_number}
@@ -45,8 +46,11 @@ Names = List (List ℕ)
 abbrev pub limits_of : Pair → Limits
 limits_of p = record { least = p.least; greatest = p.greatest }
 
-abbrev pub limits_of_week : WeekPairs → List Limits
-limits_of_week w = map limits_of (w.monday ∷ w.tuesday ∷ w.wednesday ∷ w.thursday ∷ w.friday ∷ w.saturday ∷ w.sunday ∷ [])
+abbrev pub need_of : Pair → Need
+need_of p = record { minimum = p.least; optimum = p.greatest }
+
+abbrev pub needs_of_week : WeekPairs → List Need
+needs_of_week w = map need_of (w.monday ∷ w.tuesday ∷ w.wednesday ∷ w.thursday ∷ w.friday ∷ w.saturday ∷ w.sunday ∷ [])
 
 abbrev pub shift_named : List ℕ → Names → Token → Shift
 shift_named source shifts t = shift_at (name_number source shifts t)
@@ -102,8 +106,8 @@ abbrev pub place_of_need : List ℕ → Names → Names → Requirement → Opti
 place_of_need source shifts skills q = option_and_then (λ s. option_map (λ k. 8 * s + k) (found source skills q.skill)) (found source shifts q.shift)
 
 -- for each shift and skill the pairs of the first line that has them
-abbrev pub needs_meant : List ℕ → Names → Names → List Requirement → List (Option (List Limits))
-needs_meant source shifts skills qs = table_of (place_of_need source shifts skills) (λ (q : Requirement). limits_of_week q.days) 64 qs
+abbrev pub needs_meant : List ℕ → Names → Names → List Requirement → List (Option (List Need))
+needs_meant source shifts skills qs = table_of (place_of_need source shifts skills) (λ (q : Requirement). needs_of_week q.days) 64 qs
 
 -- the place of a nurse and weekday
 abbrev pub place_of_request : List ℕ → Names → Request → Option ℕ
@@ -126,13 +130,15 @@ requests_at source nurses shifts qs p = record {
 unfoldable pub requests_meant : List ℕ → Names → Names → List Request → List DayRequests
 requests_meant source nurses shifts qs = map (requests_at source nurses shifts qs) (range_with_len 0 (7 * length nurses))
 
--- for each nurse and weekday whether a line has them
+-- the place of a nurse and weekday
 abbrev pub place_of_absence : List ℕ → Names → Absence → Option ℕ
 place_of_absence source nurses a = option_map (λ n. 7 * n + weekday a.day) (found source nurses a.nurse)
 
+-- a line has this place
 abbrev pub has_line : List ℕ → Names → List Absence → ℕ → Bool
 has_line source nurses lines p = list_any (λ a. is_at p (place_of_absence source nurses a)) lines
 
+-- for each nurse and weekday whether a line has them
 unfoldable pub absences_meant : List ℕ → Names → List Absence → List Bool
 absences_meant source nurses lines = map (has_line source nurses lines) (range_with_len 0 (7 * length nurses))
 

@@ -1,14 +1,15 @@
 -- The parts of which a case is built.
-use Rattle.std.specs.Prelude.{◌≡◌, ℕ, ◌<◌, ◌≤◌, List, [], ◌++◌, flat_map, length, map, Option, IfSome}
+use Rattle.std.specs.Prelude.{◌≡◌, ℕ, ◌<◌, ◌≤◌, List, [], ◌++◌, flat_map, length, map, Option, IfSome, slice_index_or, slice_set, true}
 use Rattle.std.specs.List.{enumerate_from}
 use Rattle.roster_bundle.specs.declared.bundle.Bundle.{Bundle}
 use Rattle.roster_bundle.specs.declared.bundle.ShiftType.{ShiftType}
 use Rattle.roster_bundle.specs.Token.{text_of}
 use Rattle.roster_instance.specs.declared.fault.CaseFault.{CaseFault}
+use Rattle.roster_instance.specs.declared.rules.DayRequests.{DayRequests}
 use Rattle.roster_instance.specs.declared.rules.Past.{Past}
 use Rattle.roster_instance.specs.declared.scenario.Scenario.{Scenario}
 use Rattle.roster_instance.specs.Bundles.{contract_meant, limits_of, nurse_meant, successions_meant}
-use Rattle.roster_instance.specs.Meaning.{Meaning, WeekFacts, last_shift, nurse_count, past_of, shift_count}
+use Rattle.roster_instance.specs.Meaning.{Meaning, WeekFacts, last_shift, no_requests, nurse_count, past_of, shift_count}
 use Rattle.roster_instance.specs.Names.{contract_names, nurse_names, shift_names, skill_names}
 use Rattle.roster_instance.specs.Limits.{most_states}
 use Rattle.roster_instance.specs.Refusals.{Known, history_faults, state_fault, week_faults}
@@ -36,6 +37,18 @@ known_of source s = record {
   shifts = s.shifts;
   skills = s.skills;
 }
+
+-- what a day's requests name, and `Any` too
+abbrev pub with_any : DayRequests → DayRequests
+with_any r = record { any = true; shifts = r.shifts }
+
+-- and this shift too
+abbrev pub with_shift : ℕ → DayRequests → DayRequests
+with_shift shift r = record { any = r.any; shifts = slice_set r.shifts shift true }
+
+-- the requests of the place become others
+abbrev pub requests_with : ℕ → (DayRequests → DayRequests) → List DayRequests → List DayRequests
+requests_with place change requests = slice_set requests place (change (slice_index_or requests place no_requests))
 
 -- a case by its parts
 abbrev pub case_of : Scenario → List (Option Past) → List WeekFacts → Meaning

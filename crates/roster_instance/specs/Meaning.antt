@@ -9,6 +9,7 @@ use Rattle.roster_instance.specs.declared.rules.Border.TheVariants.{Free, Workin
 use Rattle.roster_instance.specs.declared.rules.ContractRules.{ContractRules}
 use Rattle.roster_instance.specs.declared.rules.DayRequests.{DayRequests}
 use Rattle.roster_instance.specs.declared.rules.Limits.{Limits}
+use Rattle.roster_instance.specs.declared.rules.Need.{Need}
 use Rattle.roster_instance.specs.declared.rules.Past.{Past}
 
 -- a nurse: number of the contract, and skills in the order of the line
@@ -19,7 +20,7 @@ pub record NurseFacts : Type 0 where
 -- a week: at place 8 s + k the requirements of shift s and skill k from Monday to Sunday, where a line has them; at place
 -- 7 n + w what the off requests of nurse n for weekday w name, what the wishes to work name, and whether the nurse is absent
 pub record WeekFacts : Type 0 where
-  pub needs : List (Option (List Limits))
+  pub needs : List (Option (List Need))
   pub off_requests : List DayRequests
   pub wishes : List DayRequests
   pub absences : List Bool
@@ -65,9 +66,12 @@ shift_at s = record { 0 = s }
 abbrev pub skill_at : ℕ → Skill
 skill_at k = record { 0 = k }
 
--- what stands for a thing that no line says: limits of (0,0), and below a contract of zeros, a nurse without skills, no past, an empty week
+-- what stands for a thing that no line says: limits and a need of (0,0), and below a contract of zeros, a nurse without skills, no past, an empty week
 abbrev pub no_limits : Limits
 no_limits = record { least = 0; greatest = 0 }
+
+abbrev pub no_need : Need
+no_need = record { minimum = 0; optimum = 0 }
 
 abbrev pub no_contract : ContractRules
 no_contract = record { total = no_limits; working = no_limits; free = no_limits; weekends = 0; whole_weekends = false }
@@ -109,16 +113,16 @@ abbrev pub week_of : Meaning → ℕ → WeekFacts
 week_of c d = slice_index_or c.weeks (d / 7) no_week
 
 -- minimum and optimum of a day, and of a shift and skill of the case; (0,0) where no line has them
-abbrev pub need : Meaning → ℕ → ℕ → ℕ → Limits
-need c d s k = option_map_or (λ week. slice_index_or week (d % 7) no_limits) (slice_index_or (week_of c d).needs (8 * s + k) None) no_limits
+abbrev pub need : Meaning → ℕ → ℕ → ℕ → Need
+need c d s k = option_map_or (λ week. slice_index_or week (d % 7) no_need) (slice_index_or (week_of c d).needs (8 * s + k) None) no_need
 
 -- how many nurses a day needs of a shift with a skill
 abbrev pub minimum : Meaning → ℕ → ℕ → ℕ → ℕ
-minimum c d s k = (need c d s k).least
+minimum c d s k = (need c d s k).minimum
 
 -- how many are best
 abbrev pub optimum : Meaning → ℕ → ℕ → ℕ → ℕ
-optimum c d s k = (need c d s k).greatest
+optimum c d s k = (need c d s k).optimum
 
 -- what the off requests of a nurse for a day name, and what the wishes name
 abbrev pub off_requests_of : Meaning → ℕ → ℕ → DayRequests

@@ -5,15 +5,20 @@ use Rattle.roster_instance.specs.declared.rules.Border.{Border}
 use Rattle.roster_instance.specs.declared.rules.Border.TheVariants.{Free, Working}
 use Rattle.roster_instance.specs.declared.rules.ContractRules.{ContractRules}
 use Rattle.roster_instance.specs.declared.rules.Limits.{Limits}
+use Rattle.roster_instance.specs.declared.rules.Need.{Need}
 use Rattle.roster_instance.specs.declared.rules.Past.{Past}
-use Rattle.roster_instance.specs.Limits.{most_small}
-use Rattle.roster_instance.specs.Limits.{most_small}
-use Rattle.roster_instance.specs.Meaning.{Meaning, contract_of, need, past_of, run_of_shift}
+use Rattle.roster_instance.specs.Limits.{most_shifts, most_skills, most_small, most_weeks}
+use Rattle.roster_instance.specs.Meaning.{Meaning, contract_of, need, past_of, run_of_shift, shift_count, skill_count, week_count}
 
 -- both numbers of a pair
 pub record AreSmall (l : Limits) : Type 0 where
   pub least : l.least ≤ most_small
   pub greatest : l.greatest ≤ most_small
+
+-- both numbers of a need
+pub record IsSmallNeed (need : Need) : Type 0 where
+  pub minimum : need.minimum ≤ most_small
+  pub optimum : need.optimum ≤ most_small
 
 -- the numbers of a contract
 pub record HasSmallRules (r : ContractRules) : Type 0 where
@@ -38,4 +43,11 @@ pub record HasSmallNumbers (c : Meaning) : Type 0 where
   pub runs : (s : ℕ) → AreSmall (run_of_shift c s)
   pub contracts : (n : ℕ) → HasSmallRules (contract_of c n)
   pub past : (n : ℕ) → IsSmallPast (past_of c n)
-  pub needs : (d s k : ℕ) → AreSmall (need c d s k)
+  pub needs : (d s k : ℕ) → IsSmallNeed (need c d s k)
+
+-- a case within the limits that keep penalties and labels low
+pub record IsSmall (c : Meaning) : Type 0 where
+  pub numbers : HasSmallNumbers c
+  pub shifts : shift_count c ≤ most_shifts
+  pub skills : skill_count c ≤ most_skills
+  pub weeks : week_count c ≤ most_weeks

@@ -14,12 +14,14 @@ ghost use Rattle.roster_instance.specs.Meaning.{contract_of, day_count, has_off_
 ghost use Rattle.roster_instance.specs.Names.{find_name};
 ghost use Rattle.roster_instance.specs.Refusals.{case_faults, state_fault};
 ghost use Rattle.roster_instance.specs.Sizes.{choice_count, greatest_of, state_count, cap};
-ghost use Rattle.roster_instance.specs.Small.{AreSmall, HasSmallNumbers, HasSmallRules, IsSmallPast};
+ghost use Rattle.roster_instance.specs.Small.{AreSmall, HasSmallNumbers, HasSmallRules, IsSmallNeed, IsSmallPast};
 
 use crate::choice::{Shift, Skill};
 use crate::fault::CaseFault;
 use crate::history::past_of;
-use crate::rules::{Border, ContractRules, DayRequests, Limits, Past, level_contracts, level_runs};
+use crate::rules::{
+    Border, ContractRules, DayRequests, Limits, Need, Past, level_contracts, level_runs,
+};
 use crate::scenario::Scenario;
 use crate::sizes::{contract_of, greatest_cap, state_count};
 use crate::table::Table;
@@ -225,14 +227,14 @@ impl Case {
 
     /// Minimum and optimum of a day, and of a shift and skill of the case, each at most 999; (0,0) where no line of the week
     /// has them.
-    pub fn need(&self, day: u16, shift: Shift, skill: Skill) -> Limits
+    pub fn need(&self, day: u16, shift: Shift, skill: Skill) -> Need
         ensures limits { result ≡ need self.now day shift.0 skill.0 }
-        ensures small { AreSmall result }
+        ensures small { IsSmallNeed result }
     {
         let place = 8 * shift.0 as usize + skill.0 as usize;
         match self.weeks.get(day as usize / 7) {
             Some(week) => week.need(place, day as usize % 7),
-            None => Limits::default(),
+            None => Need::default(),
         }
     }
 

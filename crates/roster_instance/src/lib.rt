@@ -18,5 +18,5 @@ pub use case::{Case, MAX_STATES};
 pub use choice::{Choice, Shift, Skill};
 pub use fault::CaseFault;
 pub use roster::{Roster, choice_on, row_fits};
-pub use rules::{Border, ContractRules, DayRequests, Limits, Past};
+pub use rules::{Border, ContractRules, DayRequests, Limits, Need, Past};
 pub use scenario::{MAX_CONTRACTS, MAX_NURSES};

@@ -9,7 +9,6 @@ use crate::choice::Shift;
 use std::cmp::max;
 
 /// A least and a greatest number, used as written: the least may be above the greatest.
-/// For the nurses of a shift and skill on a day, the minimum and the optimum.
 #[derive(Clone, Copy, Default)]
 pub struct Limits {
     pub least: u16,
@@ -38,6 +37,13 @@ impl Limits {
         }
         (self.least as u32).saturating_sub(run)
     }
+}
+
+/// How many nurses of a shift and skill a day needs at least, and at best, used as written: the minimum may be above the optimum.
+#[derive(Clone, Copy, Default)]
+pub struct Need {
+    pub minimum: u16,
+    pub optimum: u16,
 }
 
 /// What a contract asks for: assignments, working days in a row, days off in a row, the greatest number of worked

@@ -28,7 +28,8 @@ pub(crate) trait Section<T> {
             OnOk result (built self.new (earlier ++ item.now ∷ [])) }
         ensures none { (earlier : List T) → built self.old earlier →
             OnOk result (faults (about self.old) earlier item.now ≡ []) }
-        ensures first { (earlier : List T) → built self.old earlier → IfErr result (IsFirst (faults (about self.old) earlier item.now)) };
+        ensures first { (earlier : List T) → built self.old earlier →
+            IfErr result (IsFirst (faults (about self.old) earlier item.now)) };
 }
 
 /// Adds all items.

@@ -4,27 +4,27 @@ ghost use Rattle.std.specs.Prelude.{◌≡◌, ◌*◌, ◌<◌, ℕ, List, [], 
 ghost use Rattle.std.specs.Option.{option_map_or};
 ghost use Rattle.roster_bundle.specs.Weekdays.{weekday};
 ghost use Rattle.roster_bundle.specs.declared.bundle.WeekData.{WeekData};
-ghost use Rattle.roster_instance.specs.CaseParts.{known_of};
-ghost use Rattle.roster_instance.specs.Bundles.{absences_meant, limits_of_week, lines_of, needs_meant, requests_meant, week_meant};
+ghost use Rattle.roster_instance.specs.CaseParts.{known_of, requests_with, with_any, with_shift};
+ghost use Rattle.roster_instance.specs.Bundles.{absences_meant, lines_of, need_of, needs_meant, needs_of_week, requests_meant, week_meant};
 ghost use Rattle.roster_instance.specs.Checking.{IsFirst};
 ghost use Rattle.roster_instance.specs.Faults.{each};
-ghost use Rattle.roster_instance.specs.Meaning.{no_limits, no_requests};
+ghost use Rattle.roster_instance.specs.Meaning.{no_need, no_requests};
 ghost use Rattle.roster_instance.specs.Refusals.{Known, absence_faults, request_faults, requirement_faults, week_faults};
 
 use crate::fault::CaseFault;
 use crate::history::check_instance;
-use crate::rules::{DayRequests, Limits};
-use crate::scenario::{Scenario, limits_of};
+use crate::rules::{DayRequests, Need};
+use crate::scenario::Scenario;
 use crate::section::{Section, add_all};
 use crate::table::Table;
-use roster_bundle::{Absence, Day, Listed, Request, Requirement, WeekData, WeekPairs};
+use roster_bundle::{Absence, Day, Listed, Pair, Request, Requirement, WeekData, WeekPairs};
 use std::alloc::{AllocError, Global};
 use std::marker::Model;
 
 /// A week: what each shift and skill needs, and for each nurse and weekday what the off requests and the wishes name, and
 /// whether the nurse is absent.
 pub(crate) struct Week {
-    needs: Table<[Limits; 7]>,
+    needs: Table<[Need; 7]>,
     off_requests: Vec<DayRequests>,
     wishes: Vec<DayRequests>,
     absences: Vec<bool>,
@@ -52,16 +52,16 @@ impl Model for Week {
 
 impl Week {
     /// Minimum and optimum of a place on a weekday; (0,0) where no line has them.
-    pub(crate) fn need(&self, place: usize, weekday: usize) -> Limits
-        ensures { result ≡ option_map_or (λ week. slice_index_or week weekday no_limits)
-            (slice_index_or self.now.needs place None) no_limits }
+    pub(crate) fn need(&self, place: usize, weekday: usize) -> Need
+        ensures { result ≡ option_map_or (λ week. slice_index_or week weekday no_need)
+            (slice_index_or self.now.needs place None) no_need }
     {
         match self.needs.get(place) {
             Some(days) => match days.get(weekday) {
-                Some(limits) => *limits,
-                None => Limits::default(),
+                Some(need) => *need,
+                None => Need::default(),
             },
-            None => Limits::default(),
+            None => Need::default(),
         }
     }
 
@@ -118,7 +118,7 @@ pub(crate) fn weekday(day: Day) -> usize
 struct RequirementSection<'a> {
     source: &'a [u8],
     scenario: &'a Scenario,
-    lines: Table<[Limits; 7]>,
+    lines: Table<[Need; 7]>,
 }
 
 impl<'a> Section<Requirement> for RequirementSection<'a> {
@@ -139,22 +139,31 @@ impl<'a> Section<Requirement> for RequirementSection<'a> {
                 line: line.skill.line,
             });
         }
-        self.lines.set(place, limits_of_week(&line.days));
+        self.lines.set(place, needs_of_week(&line.days));
         Ok(())
     }
 }
 
-fn limits_of_week(days: &WeekPairs) -> [Limits; 7]
-    ensures { result ≡ limits_of_week days.now }
+fn need_of(pair: Pair) -> Need
+    ensures { result ≡ need_of pair }
+{
+    Need {
+        minimum: pair.least,
+        optimum: pair.greatest,
+    }
+}
+
+fn needs_of_week(days: &WeekPairs) -> [Need; 7]
+    ensures { result ≡ needs_of_week days.now }
 {
     [
-        limits_of(days.monday),
-        limits_of(days.tuesday),
-        limits_of(days.wednesday),
-        limits_of(days.thursday),
-        limits_of(days.friday),
-        limits_of(days.saturday),
-        limits_of(days.sunday),
+        need_of(days.monday),
+        need_of(days.tuesday),
+        need_of(days.wednesday),
+        need_of(days.thursday),
+        need_of(days.friday),
+        need_of(days.saturday),
+        need_of(days.sunday),
     ]
 }
 
@@ -163,7 +172,7 @@ fn needs_of(
     source: &[u8],
     scenario: &Scenario,
     lines: &[Requirement],
-) -> Result<Table<[Limits; 7]>, CaseFault>
+) -> Result<Table<[Need; 7]>, CaseFault>
     ensures meant { IfOk result (λ table. table ≡ needs_meant source.now scenario.now.shifts
         scenario.now.skills lines.now) }
     ensures none { OnOk result (each (requirement_faults source.now scenario.now.shifts
@@ -213,8 +222,7 @@ impl<'a> Section<Request> for RequestSection<'a> {
 
 /// Marks that a request of a place says `Any`.
 fn request_any(requests: &mut [DayRequests], place: usize)
-    ensures { requests.new ≡ slice_set requests.old place
-        (record { any = true; shifts = (slice_index_or requests.old place no_requests).shifts }) }
+    ensures { requests.new ≡ requests_with place with_any requests.old }
 {
     if place < requests.len() {
         requests[place].any = true;
@@ -223,12 +231,7 @@ fn request_any(requests: &mut [DayRequests], place: usize)
 
 /// Marks that a request of a place names a shift.
 fn request_shift(requests: &mut [DayRequests], place: usize, shift: usize)
-    ensures { requests.new ≡ slice_set requests.old place
-        (record {
-          any = (slice_index_or requests.old place no_requests).any;
-          shifts = slice_set
-              (slice_index_or requests.old place no_requests).shifts shift true;
-        }) }
+    ensures { requests.new ≡ requests_with place (with_shift shift) requests.old }
 {
     if place < requests.len() {
         name_shift(&mut requests[place].shifts, shift);

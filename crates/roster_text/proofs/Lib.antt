@@ -1,4 +1,3 @@
-pub use Rattle.roster_bundle.proofs.Ranges
 pub mod TokenFacts
 pub mod TokenLemmas
 pub mod TokenLines

@@ -1,8 +1,3 @@
-pub use Rattle.roster_bundle.specs.Limits
-pub use Rattle.roster_bundle.specs.Weekdays
-pub use Rattle.roster_bundle.specs.Token
-pub use Rattle.roster_bundle.specs.SmallNumbers
-pub use Rattle.roster_bundle.specs.Canonical
 pub mod Words
 pub mod Grammar
 pub mod FirstFault

@@ -1,8 +1,8 @@
-use Rattle.std.proofs.Common.{◌∙◌, ◌+◌, ◌*◌, List, ap, ap₂, get_or, length, sym, true}
-use Rattle.std.proofs.Math.ListN.{set}
+use Rattle.std.proofs.Common.{◌∙◌, ◌+◌, ◌*◌, List, ap, ap₂, get_or, length, sym}
 use Rattle.std.proofs.lemmas.List.{length-set, take_at}
 use Rattle.std.specs.Str.{bytes_eq}
 use Rattle.roster_instance.specs.declared.rules.DayRequests.{DayRequests}
+use Rattle.roster_instance.specs.CaseParts.{requests_with, with_any, with_shift}
 use Rattle.roster_instance.specs.Meaning.{no_requests}
 use Rattle.roster_instance.proofs.RequestLemmas.{any-requested, shift-requested}
 use Rattle.roster_instance.proofs.week.RequestSectionSectionRequest.add.Goals as goal
@@ -11,8 +11,7 @@ pub returns-then-eq-clause-built : goal.returns-then-eq-clause-built
 returns-then-eq-clause-built c = λ earlier is.
     let s = c.args.self.now in
     let place = 7 * c.in_ok-nurse.nurse + c.weekday.result in
-    let with_any : DayRequests → DayRequests = λ r. record { any = true; shifts = r.shifts } in
-    let written : List DayRequests → List DayRequests = λ rows. set rows place (with_any (get_or rows place no_requests)) in
+    let written : List DayRequests → List DayRequests = requests_with place with_any in
     take_at c.request_any.new.requests _ s.requests.len
     (ap length c.request_any.ensures ∙ length-set c.deref_mut.result.now place (with_any (get_or c.deref_mut.result.now place no_requests)) ∙ c.deref_mut.ensures.len)
     ∙ c.request_any.ensures
@@ -26,10 +25,9 @@ returns-in_ok-shift-clause-built c = λ earlier is.
     let s = c.args.self.now in
     let place = 7 * c.in_ok-nurse.nurse + c.weekday.result in
     let shift = c.in_ok-shift.shift in
-    let with_shift : DayRequests → DayRequests = λ r. record { any = r.any; shifts = set r.shifts shift true } in
-    let written : List DayRequests → List DayRequests = λ rows. set rows place (with_shift (get_or rows place no_requests)) in
+    let written : List DayRequests → List DayRequests = requests_with place (with_shift shift) in
     take_at c.request_shift.new.requests _ s.requests.len
-    (ap length c.request_shift.ensures ∙ length-set c.deref_mut-else-eq.result.now place (with_shift (get_or c.deref_mut-else-eq.result.now place no_requests)) ∙ c.deref_mut-else-eq.ensures.len)
+    (ap length c.request_shift.ensures ∙ length-set c.deref_mut-else-eq.result.now place (with_shift shift (get_or c.deref_mut-else-eq.result.now place no_requests)) ∙ c.deref_mut-else-eq.ensures.len)
     ∙ c.request_shift.ensures
     ∙ ap written c.deref_mut-else-eq.ensures.value
     ∙ sym (shift-requested s.source.now s.scenario.now.nurses s.scenario.now.shifts earlier s.requests.items is

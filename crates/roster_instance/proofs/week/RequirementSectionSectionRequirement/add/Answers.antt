@@ -16,7 +16,7 @@ returns-clause-built c = λ earlier is.
     let s = c.args.self.now in
     let counts = s.scenario.now.counts in
     c.set.ensures
-    ∙ ap (λ limits. set s.lines (8 * c.in_ok-shift.shift + c.in_ok-skill.skill) (Some limits)) c.limits_of_week.ensures
+    ∙ ap (λ needs. set s.lines (8 * c.in_ok-shift.shift + c.in_ok-skill.skill) (Some needs)) c.needs_of_week.ensures
     ∙ sym (need-filled s.source.now s.scenario.now.shifts s.scenario.now.skills counts.few_shifts counts.few_skills earlier s.lines is
     c.args.line.now c.in_ok-shift.shift c.in_ok-skill.skill c.in_ok-shift.ensures.number c.in_ok-skill.ensures.number
     (ap is_some (sym c.get.ensures) ∙ sym c.is_some.ensures ∙ c.if-is_some.false))
