@@ -4,7 +4,7 @@ use Rattle.std.proofs.lemmas.Bool.{and_parts, eq-eqb, ltb-true}
 use Rattle.std.proofs.lemmas.List.Sums.{sum_by-set}
 use Rattle.roster_instance.specs.declared.choice.Choice.{Choice}
 use Rattle.roster_instance.specs.declared.choice.Choice.TheVariants.{Off, Work}
-use Rattle.roster_instance.specs.declared.rules.Limits.{Limits}
+use Rattle.roster_instance.specs.declared.rules.Need.{Need}
 use Rattle.roster_instance.specs.declared.choice.Shift.{Shift}
 use Rattle.roster_instance.specs.declared.choice.Skill.{Skill}
 use Rattle.roster_instance.specs.Choices.{same_choice}
@@ -30,12 +30,12 @@ module _ (c : Meaning) (shifts : shift_count c ≤ 8) (skills : skill_count c �
   has_place (Work shift skill) known = let parts = work_of_case c shift skill known in (omega (arith, parts.0, shifts), omega (arith, parts.1, skills))
 
   -- one nurse more is one less lacking where the optimum isn't reached
-  pub work_lacks : (d : ℕ) (table : List ℕ) (choice : Choice) → is_choice_of c choice ≡ true → (shift : Shift) (skill : Skill) → choice ≡ Work shift skill → (place : ℕ) → place ≡ 8 * shift.0 + skill.0 → (limits : Limits) → limits ≡ need c d shift.0 skill.0 → (have : ℕ → ℕ → ℕ) → IsTable have table
-      → lacking c (optimum c d) (with_choice have choice) + one_if (nat_lt (slice_index_or table place 0) limits.greatest) ≡ lacking c (optimum c d) have
-  work_lacks d table choice known shift skill is place place_is limits limits_is have are =
+  pub work_lacks : (d : ℕ) (table : List ℕ) (choice : Choice) → is_choice_of c choice ≡ true → (shift : Shift) (skill : Skill) → choice ≡ Work shift skill → (place : ℕ) → place ≡ 8 * shift.0 + skill.0 → (wanted : Need) → wanted ≡ need c d shift.0 skill.0 → (have : ℕ → ℕ → ℕ) → IsTable have table
+      → lacking c (optimum c d) (with_choice have choice) + one_if (nat_lt (slice_index_or table place 0) wanted.optimum) ≡ lacking c (optimum c d) have
+  work_lacks d table choice known shift skill is place place_is wanted wanted_is have are =
       let parts = work_of_case c shift skill (ap (is_choice_of c) (sym is) ∙ known) in
       let at : slice_index_or table place 0 ≡ have shift.0 skill.0 = ap (λ i. slice_index_or table i 0) place_is ∙ are shift.0 skill.0 (omega (arith, parts.0, shifts)) (omega (arith, parts.1, skills)) in
-      (λ i. lacking c (optimum c d) (with_choice have (is i)) + one_if (nat_lt (at i) (limits_is i).greatest)) ∙ lacking-work c (optimum c d) have shift skill parts.0 parts.1
+      (λ i. lacking c (optimum c d) (with_choice have (is i)) + one_if (nat_lt (at i) (wanted_is i).optimum)) ∙ lacking-work c (optimum c d) have shift skill parts.0 parts.1
 
 -- ---- the nurse's own part of a cover
 

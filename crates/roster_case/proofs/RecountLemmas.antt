@@ -28,7 +28,7 @@ lacking_within c d have small shifts skills = omega (arith, sum_within (shift_co
     of_shift s = sum_below (skill_count c) (missing_at s)
 
     place : (s k : ℕ) → missing_at s k ≤ most_small
-    place s k = omega (arith, (small.needs d s k).greatest)
+    place s k = omega (arith, (small.needs d s k).optimum)
 
     shift : (s : ℕ) → of_shift s ≤ most_skills * most_small
     shift s = omega (arith, sum_within (skill_count c) most_small (missing_at s) (λ k h. place s k))

@@ -73,7 +73,7 @@ fn meets_at(held: &Held, nurse: usize, day: u16, choice: Choice, shift: Shift, s
     ensures { result ≡ not (nat_lt (with_choice (others held.now.roster nurse day) choice shift.0
         skill.0) (minimum held.now.case day shift.0 skill.0)) }
 {
-    let need = held.case().need(day, shift, skill).least;
+    let need = held.case().need(day, shift, skill).minimum;
     let own = choice == Choice::Work(shift, skill);
     let have = held.others(nurse, day, shift, skill) as u32 + own as u32;
     have >= need as u32

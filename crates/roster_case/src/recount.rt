@@ -8,7 +8,7 @@ ghost use Rattle.roster_instance.specs.Rosters.{fits_case, is_choice_of, is_row_
 ghost use Rattle.roster_rules.specs.Covers.{IsTable, number_at};
 ghost use Rattle.roster_rules.specs.Penalties.{staffing_cost};
 ghost use Rattle.roster_rules.specs.Weights.{staffing_weight};
-ghost use Rattle.roster_case.specs.DayTables.{HasPlace, IsCounted};
+ghost use Rattle.roster_case.specs.DayTables.{HasPlace, IsCounted, lacks_with};
 ghost use Rattle.roster_case.specs.Held.{IsDay, no_day};
 ghost use Rattle.roster_laws.specs.Staffing.{lacking, with_choice};
 
@@ -75,7 +75,8 @@ fn exchange_on_day(
     ensures table { (have : ℕ → ℕ → ℕ) → IsTable (with_choice have old) counts.old.covers →
         IsTable (with_choice have new) counts.new.covers }
     ensures lacking { (have : ℕ → ℕ → ℕ) → IsTable (with_choice have old) counts.old.covers →
-        lacking case.now (optimum case.now day) (with_choice have new) + result.fewer ≡ lacking case.now (optimum case.now day) (with_choice have old) + result.more }
+        lacks_with case.now day have new + result.fewer
+        ≡ lacks_with case.now day have old + result.more }
     ensures kept { counts.new.lacking ≡ counts.old.lacking + result.more - result.fewer }
     ensures more { result.more ≤ 1 }
     ensures fewer { result.fewer ≤ 1 }
@@ -95,7 +96,8 @@ fn exchange(case: &Case, day: u16, table: &mut [u16; 64], old: Choice, new: Choi
     ensures table { (have : ℕ → ℕ → ℕ) → IsTable (with_choice have old) table.old →
         IsTable (with_choice have new) table.new }
     ensures lacking { (have : ℕ → ℕ → ℕ) → IsTable (with_choice have old) table.old →
-        lacking case.now (optimum case.now day) (with_choice have new) + result.fewer ≡ lacking case.now (optimum case.now day) (with_choice have old) + result.more }
+        lacks_with case.now day have new + result.fewer
+        ≡ lacks_with case.now day have old + result.more }
     ensures more { result.more ≤ 1 }
     ensures fewer { result.fewer ≤ 1 }
 {
@@ -113,13 +115,14 @@ fn exchange(case: &Case, day: u16, table: &mut [u16; 64], old: Choice, new: Choi
 fn lacks(case: &Case, day: u16, table: &[u16; 64], choice: Choice) -> bool
     requires { is_choice_of case.now choice ≡ true }
     ensures { (have : ℕ → ℕ → ℕ) → IsTable have table.now →
-        lacking case.now (optimum case.now day) (with_choice have choice) + one_if result ≡ lacking case.now (optimum case.now day) have }
+        lacks_with case.now day have choice + one_if result
+        ≡ lacking case.now (optimum case.now day) have }
 {
     case.keeps_limits();
     match choice {
         Choice::Off => false,
         Choice::Work(shift, skill) => {
-            table[place(shift, skill)] < case.need(day, shift, skill).greatest
+            table[place(shift, skill)] < case.need(day, shift, skill).optimum
         }
     }
 }

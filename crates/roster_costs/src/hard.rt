@@ -70,7 +70,7 @@ fn understaffed(case: &Case, day: u16, shift: Shift, skill: Skill, have: u16) ->
     ensures { result ≡ first_fault (fault_if (nat_lt have (minimum case.now day shift.0 skill.0))
         (H2 day shift skill have (minimum case.now day shift.0 skill.0))) }
 {
-    let need = case.need(day, shift, skill).least;
+    let need = case.need(day, shift, skill).minimum;
     if have >= need {
         return None;
     }

@@ -37,7 +37,7 @@ pub fn staffing_cost_of_day(case: &Case, day: u16, covers: &[u16; 64]) -> u64
     let mut cost = 0;
     for shift in 0..shifts {
         for skill in 0..skills {
-            let optimum = case.need(day, Shift(shift), Skill(skill)).greatest;
+            let optimum = case.need(day, Shift(shift), Skill(skill)).optimum;
             let have = covers[place(Shift(shift), Skill(skill))];
             cost += STAFFING as u64 * optimum.saturating_sub(have) as u64;
         }

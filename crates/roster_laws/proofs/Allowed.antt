@@ -9,7 +9,7 @@ use Rattle.roster_rules.specs.HardRules.{keeps_hard}
 use Rattle.roster_instance.specs.Meaning.{Meaning, day_count, nurse_count}
 use Rattle.roster_instance.specs.Rosters.{Row, Rows, choice_on, fits_case, is_row_of, row_of, with_row}
 use Rattle.roster_rules.specs.AllowedRows.{allowed_rows, best_row, first_least, is_frozen, keeps_frozen_day, keeps_frozen_days, penalty_with, row_keeps}
-use Rattle.roster_rules.proofs.RosterFacts.{row_fits}
+use Rattle.roster_instance.proofs.RosterFacts.{row_fits}
 use Rattle.roster_laws.proofs.AllRows.{member_is_row, row_is_member}
 use Rattle.roster_laws.proofs.Below.{all_true}
 use Rattle.roster_laws.proofs.SameRows.{same_choice_self}

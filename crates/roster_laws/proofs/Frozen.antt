@@ -13,7 +13,7 @@ use Rattle.roster_rules.specs.Improver.{if_cheaper, run, step, step_with}
 use Rattle.roster_instance.specs.Meaning.{Meaning, day_count, nurse_count, week_count}
 use Rattle.roster_rules.specs.Penalties.{penalty}
 use Rattle.roster_instance.specs.Rosters.{Row, Rows, choice_on, fits_case, is_choice_of, is_row_of, row_of, with_row}
-use Rattle.roster_rules.proofs.RosterFacts.{row-length}
+use Rattle.roster_instance.proofs.RosterFacts.{row-length}
 use Rattle.roster_laws.specs.FrozenDays.{FrozenDaysStay}
 use Rattle.roster_laws.proofs.Allowed.{allowed_keeps}
 use Rattle.roster_laws.proofs.Below.{all_elim}

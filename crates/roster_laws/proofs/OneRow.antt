@@ -7,7 +7,7 @@ use Rattle.roster_instance.specs.declared.choice.Choice.TheVariants.{Off, Work}
 use Rattle.roster_instance.specs.Choices.{days_of, same_choice, shift_of}
 use Rattle.roster_instance.specs.Counting.{sum_below, one_if}
 use Rattle.roster_instance.specs.Meaning.{Meaning, day_count, nurse_count, shift_at, skill_at}
-use Rattle.roster_rules.specs.Penalties.{costs_of, free_run_cost, nurse_cost, off_request_cost, off_request_cost_on, over_nurses, own_cost, penalty, request_cost, shift_run_cost, split_cost, staffing_cost, staffing_cost_by, totals_cost, weekends_cost, wish_cost, wish_cost_on, working_run_cost}
+use Rattle.roster_rules.specs.Penalties.{costs_of, free_run_cost, nurse_cost, off_request_cost, off_request_cost_on, over_nurses, own_cost, penalty, request_cost, request_cost_on, shift_run_cost, split_cost, staffing_cost, staffing_cost_by, totals_cost, weekends_cost, wish_cost, wish_cost_on, working_run_cost}
 use Rattle.roster_instance.specs.Rosters.{Row, Rows, choice_on, cover, days_of_nurse, row_of, with_row}
 use Rattle.roster_laws.specs.OneRow.{others, prices, rest_of}
 use Rattle.roster_laws.specs.Staffing.{with_choice}
@@ -28,6 +28,16 @@ penalty-parts c r =
       regroup (nurse_count c) (λ n. working_run_cost c n (days_of_nurse r n)) (λ n. shift_run_cost c n (days_of_nurse r n)) (λ n. free_run_cost c n (days_of_nurse r n)) (λ n. off_request_cost c n (days_of_nurse r n))
           (λ n. split_cost c n (days_of_nurse r n)) (λ n. totals_cost c n (days_of_nurse r n)) (λ n. weekends_cost c n (days_of_nurse r n)) (λ n. wish_cost c n (days_of_nurse r n)),
     )
+
+-- ---- what a row costs in requests is what each of its days does
+
+pub requests_of_row : (c : Meaning) (n : ℕ) (row : Row) → request_cost c n (days_of row) ≡ sum_below (length row) (λ d. request_cost_on c n d (shift_of (choice_on row d)))
+requests_of_row c n row =
+    let off : ℕ → ℕ = λ d. off_request_cost_on c n d (shift_of (choice_on row d)) in
+    let wished : ℕ → ℕ = λ d. wish_cost_on c n d (shift_of (choice_on row d)) in
+    let both : request_cost c n (days_of row) ≡ sum_below (length row) off + sum_below (length row) wished =
+    λ i. sum_below (length-map row shift_of i) (λ d. off_request_cost_on c n d (get_or-map shift_of row d Off i)) + sum_below (length-map row shift_of i) (λ d. wish_cost_on c n d (get_or-map shift_of row d Off i)) in
+    both ∙ sym (sum_both (length row) off wished)
 
 -- ---- one row replaced
 
@@ -51,15 +61,10 @@ module _ (r : Rows) (n : ℕ) (within : n < length r) (row : Row) where
   pub prices-with_row : (c : Meaning) → length row ≡ day_count c → prices c r n row ≡ staffing_cost c (with_row r n row) + request_cost c n (days_of row)
   prices-with_row c days =
       let staff : ℕ → ℕ = λ d. staffing_cost_by c d (with_choice (others r n d) (choice_on row d)) in
-      let off : ℕ → ℕ = λ d. off_request_cost_on c n d (shift_of (choice_on row d)) in
-      let wished : ℕ → ℕ = λ d. wish_cost_on c n d (shift_of (choice_on row d)) in
+      let asked : ℕ → ℕ = λ d. request_cost_on c n d (shift_of (choice_on row d)) in
       let staffed : staffing_cost c (with_row r n row) ≡ sum_below (length row) staff =
       λ i. sum_below (sym days i) (λ d. staffing_cost_by c d (λ s k. cover-with_row d s k i)) in
-      let requested : off_request_cost c n (days_of row) ≡ sum_below (length row) off =
-      λ i. sum_below (length-map row shift_of i) (λ d. off_request_cost_on c n d (get_or-map shift_of row d Off i)) in
-      let unmet : wish_cost c n (days_of row) ≡ sum_below (length row) wished =
-      λ i. sum_below (length-map row shift_of i) (λ d. wish_cost_on c n d (get_or-map shift_of row d Off i)) in
-      omega (arith, sum_both (length row) staff (λ d. off d + wished d), sum_both (length row) off wished, staffed, requested, unmet)
+      omega (arith, sum_both (length row) staff asked, staffed, requests_of_row c n row)
 
   pub penalty-with_row : (c : Meaning) → n < nurse_count c → length row ≡ day_count c → penalty c (with_row r n row) ≡ rest_of c r n + own_cost c n (days_of row) + prices c r n row
   penalty-with_row c inside days = omega (arith, penalty-parts c (with_row r n row), nurses-with_row c inside, prices-with_row c days)

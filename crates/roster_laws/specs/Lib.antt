@@ -4,3 +4,4 @@ pub mod Logs
 pub mod FrozenDays
 pub mod Greatest
 pub mod RowOrder
+pub mod Settled

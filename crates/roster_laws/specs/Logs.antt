@@ -1,9 +1,10 @@
 -- What the log of a run tells.
-use Rattle.std.specs.Prelude.{◌≡◌, ℕ, ◌+◌, ◌≤◌, Bool, true, false, List, [], ◌∷◌, ◌++◌, count_by, if◌then◌else◌}
+use Rattle.std.specs.Prelude.{◌≡◌, ℕ, ◌+◌, ◌≤◌, Bool, true, false, List, [], ◌∷◌, ◌++◌, All, count_by, if◌then◌else◌}
 use Rattle.roster_rules.specs.Improver.{BestRows, Entry, Event, Run, changed, log_of, round_done, run, settled, stopped}
 use Rattle.roster_instance.specs.Meaning.{Meaning}
+use Rattle.roster_rules.specs.HardRules.{keeps_hard}
 use Rattle.roster_rules.specs.Penalties.{penalty}
-use Rattle.roster_instance.specs.Rosters.{Rows}
+use Rattle.roster_instance.specs.Rosters.{Rows, fits_case}
 
 -- ---- what is counted: the steps that replaced a row, and the rounds that were made
 
@@ -26,14 +27,14 @@ rounds_in entries = count_by (λ e. is_round e.event) entries
 -- ---- what is told of a run: whether it is settled, its rounds and changes, and the penalty at its end
 
 -- how a run ended, how many rounds and changes its log has, and the penalty of its last roster
-pub record Outcome : Type 0 where
+pub record RunEnd : Type 0 where
   pub is_settled : Bool
   pub rounds : ℕ
   pub changes : ℕ
   pub total : ℕ
 
-abbrev pub outcome_of : Meaning → BestRows → ℕ → Rows → Outcome
-outcome_of c best rounds r = record {
+abbrev pub end_of : Meaning → BestRows → ℕ → Rows → RunEnd
+end_of c best rounds r = record {
   is_settled = (run c best rounds r).is_settled;
   rounds = rounds_in (log_of c best rounds r);
   changes = changes_in (log_of c best rounds r);
@@ -50,6 +51,16 @@ ending r = if r.is_settled then settled else stopped
 pub record EndsWith (entries : List Entry) (last : Entry) : Type 0 where
   pub before : List Entry
   pub split : entries ≡ before ++ last ∷ []
+
+-- ---- the rosters on the way
+
+-- each entry's roster fits the case and keeps the hard rules
+abbrev pub EachKeeps : Meaning → List Entry → Type 0
+EachKeeps c entries = All (λ e. (fits_case c e.roster ≡ true) × (keeps_hard c e.roster ≡ true)) entries
+
+-- so does the roster that a run comes to
+abbrev pub EndKeeps : Meaning → Run → Type 0
+EndKeeps c r = (fits_case c r.roster ≡ true) × (keeps_hard c r.roster ≡ true)
 
 -- ---- from an entry to a later one the penalty doesn't rise, and to a change it falls
 

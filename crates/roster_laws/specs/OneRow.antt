@@ -1,13 +1,13 @@
 -- A roster with one nurse's row replaced: what the other rows give, and what each day of the row adds.
-use Rattle.std.specs.Prelude.{ℕ, ◌+◌, Bool, not, ◌&&◌, ◌==◌, [], length, if◌then◌else◌}
+use Rattle.std.specs.Prelude.{◌≡◌, ℕ, ◌+◌, Bool, not, true, ◌&&◌, ◌==◌, [], length, if◌then◌else◌}
 use Rattle.roster_instance.specs.declared.choice.Choice.{Choice}
 use Rattle.roster_instance.specs.Choices.{days_of, shift_of}
 use Rattle.roster_instance.specs.Counting.{all_below, sum_below}
 use Rattle.roster_instance.specs.Meaning.{Meaning, day_count, nurse_count}
 use Rattle.roster_instance.specs.Rosters.{Row, Rows, choice_on, cover, days_of_nurse, row_of, with_row}
-use Rattle.roster_rules.specs.AllowedRows.{keeps_frozen_day}
-use Rattle.roster_rules.specs.HardRules.{breaks_succession, keeps_absences, keeps_skills, keeps_successions, may_take}
-use Rattle.roster_rules.specs.Penalties.{nurse_cost, request_cost_on, staffing_cost_by}
+use Rattle.roster_rules.specs.AllowedRows.{keeps_frozen_day, keeps_frozen_days, row_keeps}
+use Rattle.roster_rules.specs.HardRules.{breaks_succession, keeps_absences, keeps_hard, keeps_skills, keeps_successions, may_take}
+use Rattle.roster_rules.specs.Penalties.{nurse_cost, own_cost, request_cost_on, staffing_cost_by}
 use Rattle.roster_laws.specs.Staffing.{meets, with_choice}
 
 -- ---- the penalty
@@ -27,6 +27,10 @@ price c r n d choice = staffing_cost_by c d (with_choice (others r n d) choice) 
 -- the prices of a row's choices on its days, together
 abbrev pub prices : Meaning → Rows → ℕ → Row → ℕ
 prices c r n row = sum_below (length row) (λ d. price c r n d (choice_on row d))
+
+-- the roster's penalty with a row in the place of a nurse's: the rest, the nurse's own cost, and the prices
+abbrev pub penalty_by_row : Meaning → Rows → ℕ → Row → ℕ
+penalty_by_row c r n row = rest_of c r n + own_cost c n (days_of row) + prices c r n row
 
 -- ---- the hard rules
 
@@ -48,6 +52,14 @@ is_open_row c r n row m = all_below m (λ d. is_open c r n d (choice_on row d) &
 
 -- ---- from a week on
 
+-- with the row the roster keeps the hard rules, and the row keeps the nurse's frozen days
+abbrev pub is_allowed_row : Meaning → ℕ → Rows → ℕ → Row → Bool
+is_allowed_row c from r n row = keeps_hard c (with_row r n row) && keeps_frozen_days c from r n row
+
+-- it is one of the case's rows too
+abbrev pub MayBePutIn : Meaning → ℕ → Rows → ℕ → Row → Type 0
+MayBePutIn c from r n row = (row_keeps c r n row ≡ true) × (keeps_frozen_days c from r n row ≡ true)
+
 -- a choice is offered where it is open, and on a frozen day it is the present one
 abbrev pub is_offered : Meaning → ℕ → Rows → ℕ → ℕ → Choice → Bool
 is_offered c from r n d choice = is_open c r n d choice && keeps_frozen_day from r n d choice
@@ -55,3 +67,7 @@ is_offered c from r n d choice = is_open c r n d choice && keeps_frozen_day from
 -- each choice of a row is offered on its day, and may follow the one before it
 abbrev pub is_offered_row : Meaning → ℕ → Rows → ℕ → Row → ℕ → Bool
 is_offered_row c from r n row m = all_below m (λ d. is_offered c from r n d (choice_on row d) && not (breaks_succession c n (days_of row) d))
+
+-- a row is allowed exactly where its choices are offered
+abbrev pub AllowedWhereOffered : Meaning → ℕ → Rows → ℕ → Row → Type 0
+AllowedWhereOffered c from r n row = is_allowed_row c from r n row ≡ is_offered_row c from r n row (day_count c)

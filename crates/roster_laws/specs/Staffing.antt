@@ -1,7 +1,9 @@
 -- The staffing of a day, by how many nurses work each shift with each skill.
-use Rattle.std.specs.Prelude.{ℕ, ◌+◌, ◌-◌, Bool, not, nat_lt}
+use Rattle.std.specs.Prelude.{◌≡◌, ℕ, ◌+◌, ◌-◌, Bool, not, nat_lt}
 use Rattle.roster_instance.specs.declared.choice.Choice.{Choice}
 use Rattle.roster_instance.specs.declared.choice.Choice.TheVariants.{Work}
+use Rattle.roster_instance.specs.declared.choice.Shift.{Shift}
+use Rattle.roster_instance.specs.declared.choice.Skill.{Skill}
 use Rattle.roster_instance.specs.Choices.{same_choice}
 use Rattle.roster_instance.specs.Counting.{all_below, one_if, sum_below}
 use Rattle.roster_instance.specs.Meaning.{Meaning, minimum, shift_at, shift_count, skill_at, skill_count}
@@ -17,3 +19,8 @@ meets c d have = all_below (shift_count c) (λ s. all_below (skill_count c) (λ 
 -- how many nurses are lacking to what is wanted
 abbrev pub lacking : Meaning → (want have : ℕ → ℕ → ℕ) → ℕ
 lacking c want have = sum_below (shift_count c) (λ s. sum_below (skill_count c) (λ k. want s k - have s k))
+
+-- a nurse more who works there takes one off what is lacking, unless as many work there as are wanted
+abbrev pub WorkTakesOneOff : Meaning → (want have : ℕ → ℕ → ℕ) → Shift → Skill → Type 0
+WorkTakesOneOff c want have shift skill =
+    lacking c want (with_choice have (Work shift skill)) + one_if (nat_lt (have shift.0 skill.0) (want shift.0 skill.0)) ≡ lacking c want have

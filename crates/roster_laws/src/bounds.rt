@@ -1,17 +1,16 @@
 //! How great penalties can be.
 
 ghost use Rattle.std.specs.Prelude.{◌≡◌, ◌<◌, ◌≤◌, true};
-ghost use Rattle.roster_instance.specs.Limits.{most_nurses, most_shifts, most_skills, most_weeks};
-ghost use Rattle.roster_instance.specs.Meaning.{Meaning, nurse_count, shift_count, skill_count, week_count};
+ghost use Rattle.roster_instance.specs.Limits.{most_nurses};
+ghost use Rattle.roster_instance.specs.Meaning.{Meaning, nurse_count};
 ghost use Rattle.roster_instance.specs.Rosters.{Rows, fits_case};
-ghost use Rattle.roster_instance.specs.Small.{HasSmallNumbers};
+ghost use Rattle.roster_instance.specs.Small.{IsSmall};
 ghost use Rattle.roster_rules.specs.Penalties.{penalty};
 ghost use Rattle.roster_rules.specs.Room.{most_penalty, penalty_room};
 
 /// In a case within the limits no roster costs more than 7,307,273,120 points, which is below 2^33.
 pub fn penalties_are_low()
-    ensures { (c : Meaning) → HasSmallNumbers c → shift_count c ≤ most_shifts
-        → skill_count c ≤ most_skills → week_count c ≤ most_weeks → nurse_count c ≤ most_nurses
+    ensures { (c : Meaning) → IsSmall c → nurse_count c ≤ most_nurses
         → (r : Rows) → fits_case c r ≡ true
         → (penalty c r ≤ most_penalty) × (penalty c r < penalty_room) }
 {}

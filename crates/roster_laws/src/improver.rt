@@ -8,7 +8,8 @@ ghost use Rattle.roster_rules.specs.Penalties.{penalty};
 ghost use Rattle.roster_instance.specs.Rosters.{Row, Rows, fits_case, with_row};
 ghost use Rattle.roster_rules.specs.AllowedRows.{IsBestRow, allowed_rows, best_row, penalty_with};
 ghost use Rattle.roster_laws.specs.FrozenDays.{FrozenDaysStay};
-ghost use Rattle.roster_laws.specs.Logs.{Descends, EndsWith, ending, outcome_of};
+ghost use Rattle.roster_laws.specs.Logs.{Descends, EachKeeps, EndKeeps, EndsWith, ending, end_of};
+ghost use Rattle.roster_laws.specs.Settled.{ChangesNothing, HasBestRow, RoundChanges, best_run};
 
 /// Two rosters pass the test for the same rows just where they are one.
 pub fn same_rows_are_equal()
@@ -36,32 +37,29 @@ pub fn log_ends_with_the_run()
         EndsWith (log_of c best rounds r)
         (entry (ending (run c best rounds r)) (run c best rounds r).roster) }
     ensures few { (c : Meaning) (best : BestRows) (rounds : ℕ) (r : Rows) →
-        (outcome_of c best rounds r).rounds ≤ rounds }
+        (end_of c best rounds r).rounds ≤ rounds }
     ensures all { (c : Meaning) (best : BestRows) (rounds : ℕ) (r : Rows) →
-        (run c best rounds r).is_settled ≡ false → (outcome_of c best rounds r).rounds ≡ rounds }
+        (run c best rounds r).is_settled ≡ false → (end_of c best rounds r).rounds ≡ rounds }
 {}
 
 /// Where a run is settled, no step and no round changes anything, and no allowed row of a nurse is cheaper.
 pub fn settled_stays()
     ensures steps { (c : Meaning) (best : BestRows) (rounds : ℕ) (r : Rows) →
         (run c best rounds r).is_settled ≡ true → (n : ℕ) → n < nurse_count c →
-        step c best (run c best rounds r).roster n ≡ (run c best rounds r).roster }
+        ChangesNothing c best (run c best rounds r).roster n }
     ensures round { (c : Meaning) (best : BestRows) (rounds : ℕ) (r : Rows) →
         (run c best rounds r).is_settled ≡ true →
         round c best (run c best rounds r).roster ≡ (run c best rounds r).roster }
     ensures rows { (c : Meaning) (from rounds : ℕ) (r : Rows) →
-        (run c (best_row c from) rounds r).is_settled ≡ true → (n : ℕ) → n < nurse_count c →
-        All (λ row. penalty c (run c (best_row c from) rounds r).roster ≤ penalty_with c
-        (run c (best_row c from) rounds r).roster n row)
-        (allowed_rows c from (run c (best_row c from) rounds r).roster n) }
+        (best_run c from rounds r).is_settled ≡ true → (n : ℕ) → n < nurse_count c →
+        HasBestRow c from (best_run c from rounds r).roster n }
 {}
 
 /// A run that is stopped changed something in its last round.
 pub fn last_round_tells()
-    ensures { (c : Meaning) (best : BestRows) (before : ℕ) (r : Rows) →
-        (run c best (suc before) r).is_settled ≡ false →
-        ((run c best (suc before) r).roster ≡ round c best (run c best before r).roster)
-        × (same_rows (run c best (suc before) r).roster (run c best before r).roster ≡ false) }
+    ensures { (c : Meaning) (best : BestRows) (k : ℕ) (r : Rows) →
+        (run c best (suc k) r).is_settled ≡ false →
+        RoundChanges c best (run c best k r).roster (run c best (suc k) r).roster }
 {}
 
 /// Each penalty is a multiple of 5, as the weights are. So a step that changes the roster makes it cheaper by 5 at least, and
@@ -73,8 +71,8 @@ pub fn changes_are_few()
     ensures by_five { (c : Meaning) (best : BestRows) (r : Rows) (n : ℕ) →
         same_rows (step c best r n) r ≡ false → penalty c (step c best r n) + 5 ≤ penalty c r }
     ensures fall { (c : Meaning) (best : BestRows) (rounds : ℕ) (r : Rows) →
-        (outcome_of c best rounds r).total
-        + 5 * (outcome_of c best rounds r).changes ≤ penalty c r }
+        (end_of c best rounds r).total
+        + 5 * (end_of c best rounds r).changes ≤ penalty c r }
     ensures settles { (c : Meaning) (best : BestRows) (rounds : ℕ) (r : Rows) →
         penalty c r < 5 * rounds → (run c best rounds r).is_settled ≡ true }
 {}
@@ -88,11 +86,9 @@ pub fn penalty_never_rises()
 /// From a roster that fits and keeps the hard rules, a run of best rows and each line of its log come to such rosters alone.
 pub fn runs_keep_the_hard_rules()
     ensures log { (c : Meaning) (from rounds : ℕ) (r : Rows) → fits_case c r ≡ true →
-        keeps_hard c r ≡ true → All (λ e. (fits_case c e.roster ≡ true)
-        × (keeps_hard c e.roster ≡ true)) (log_of c (best_row c from) rounds r) }
+        keeps_hard c r ≡ true → EachKeeps c (log_of c (best_row c from) rounds r) }
     ensures run { (c : Meaning) (from rounds : ℕ) (r : Rows) → fits_case c r ≡ true →
-        keeps_hard c r ≡ true → (fits_case c (run c (best_row c from) rounds r).roster ≡ true)
-        × (keeps_hard c (run c (best_row c from) rounds r).roster ≡ true) }
+        keeps_hard c r ≡ true → EndKeeps c (run c (best_row c from) rounds r) }
 {}
 
 /// A best row put in, a step, a run of best rows and each line of its log leave each frozen day of each nurse as it was before.

@@ -1,19 +1,18 @@
 //! A roster's penalty and the hard rules by parts, and with one nurse's row replaced.
 
-ghost use Rattle.std.specs.Prelude.{◌≡◌, ◌+◌, ◌*◌, ◌<◌, ◌==◌, ◌&&◌, ℕ, true, length, nat_lt};
-ghost use Rattle.roster_instance.specs.declared.choice.Choice.TheVariants.{Off, Work};
+ghost use Rattle.std.specs.Prelude.{◌≡◌, ◌+◌, ◌*◌, ◌<◌, ◌==◌, ℕ, true, length};
+ghost use Rattle.roster_instance.specs.declared.choice.Choice.TheVariants.{Off};
 ghost use Rattle.roster_instance.specs.declared.choice.Shift.{Shift};
 ghost use Rattle.roster_instance.specs.declared.choice.Skill.{Skill};
-ghost use Rattle.roster_instance.specs.Choices.{days_of};
-ghost use Rattle.roster_instance.specs.Counting.{one_if, sum_below};
+ghost use Rattle.roster_instance.specs.Counting.{sum_below};
 ghost use Rattle.roster_rules.specs.HardRules.{keeps_hard};
 ghost use Rattle.roster_instance.specs.Meaning.{Meaning, day_count, minimum, nurse_count, optimum, shift_count, skill_count};
 ghost use Rattle.roster_rules.specs.Penalties.{over_nurses, own_cost, penalty, request_cost, staffing_cost, staffing_cost_by};
 ghost use Rattle.roster_instance.specs.Rosters.{Row, Rows, choice_on, cover, with_row};
-ghost use Rattle.roster_rules.specs.AllowedRows.{keeps_frozen_days, penalty_with};
+ghost use Rattle.roster_rules.specs.AllowedRows.{penalty_with};
 ghost use Rattle.roster_rules.specs.Weights.{staffing_weight};
-ghost use Rattle.roster_laws.specs.OneRow.{is_offered_row, is_open_row, keeps_by_parts, others, prices, rest_of};
-ghost use Rattle.roster_laws.specs.Staffing.{lacking, meets, with_choice};
+ghost use Rattle.roster_laws.specs.OneRow.{AllowedWhereOffered, is_open_row, keeps_by_parts, others, penalty_by_row};
+ghost use Rattle.roster_laws.specs.Staffing.{WorkTakesOneOff, lacking, meets, with_choice};
 
 /// The penalty is that of the staffing, day by day, and each nurse's own cost and requests.
 pub fn penalty_by_parts()
@@ -36,14 +35,13 @@ pub fn one_row_replaced()
         cover (with_row r n row) d s k ≡ with_choice (others r n d) (choice_on row d) s k }
     ensures penalty { (c : Meaning) (r : Rows) (n : ℕ) → n < length r → n < nurse_count c →
         (row : Row) → length row ≡ day_count c →
-        penalty_with c r n row ≡ rest_of c r n + own_cost c n (days_of row) + prices c r n row }
+        penalty_with c r n row ≡ penalty_by_row c r n row }
     ensures keeps { (c : Meaning) (r : Rows) → keeps_hard c r ≡ true → (n : ℕ) → n < length r →
         n < nurse_count c → (row : Row) →
         keeps_hard c (with_row r n row) ≡ is_open_row c r n row (day_count c) }
     ensures allowed { (c : Meaning) (r : Rows) → keeps_hard c r ≡ true → (n : ℕ) → n < length r →
         n < nurse_count c → (row : Row) (from : ℕ) →
-        (keeps_hard c (with_row r n row) && keeps_frozen_days c from r n row) ≡ is_offered_row c
-        from r n row (day_count c) }
+        AllowedWhereOffered c from r n row }
 {}
 
 /// A day's staffing costs the same for each nurse that is lacking to the optimum, its minimums are met where none is lacking to them,
@@ -57,6 +55,5 @@ pub fn staffing_by_what_is_lacking()
         lacking c want (with_choice have Off) ≡ lacking c want have }
     ensures work { (c : Meaning) (want have : ℕ → ℕ → ℕ) (shift : Shift) (skill : Skill) →
         shift.0 < shift_count c → skill.0 < skill_count c →
-        lacking c want (with_choice have (Work shift skill))
-        + one_if (nat_lt (have shift.0 skill.0) (want shift.0 skill.0)) ≡ lacking c want have }
+        WorkTakesOneOff c want have shift skill }
 {}

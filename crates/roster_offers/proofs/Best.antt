@@ -8,7 +8,7 @@ use Rattle.roster_rules.specs.Prefix.{due}
 use Rattle.roster_instance.specs.Rosters.{Row, Rows, fits_case, with_row}
 use Rattle.roster_rules.specs.AllowedRows.{IsBestRow, allowed_rows, best_row, keeps_frozen_days, penalty_with}
 use Rattle.roster_rules.proofs.FirstLeast.{found}
-use Rattle.roster_rules.proofs.RosterFacts.{has_row}
+use Rattle.roster_instance.proofs.RosterFacts.{has_row}
 use Rattle.roster_laws.specs.OneRow.{is_offered, is_offered_row, price, rest_of}
 use Rattle.roster_laws.proofs.Keeps.{allowed-with_row}
 use Rattle.roster_laws.proofs.OneRow.{penalty-with_row}

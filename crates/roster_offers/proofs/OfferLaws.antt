@@ -1,5 +1,5 @@
 -- The offers of a day: each is of the case and at a small price, they are few, and where the roster keeps the hard rules there is one.
-use Rattle.std.proofs.Common.{◌≡◌, ◌∙◌, ◌+◌, ◌-◌, ◌*◌, ◌<◌, ◌≤◌, ◌&&◌, ◌||◌, ◌==◌, ℕ, Bool, true, false, not, nat_lt, if◌then◌else◌, ap, arith, IfSome, refl, sym, List, [], ◌∷◌, cond, filter, length, map, Contains}
+use Rattle.std.proofs.Common.{◌≡◌, ◌∙◌, ◌+◌, ◌-◌, ◌*◌, ◌<◌, ◌≤◌, ◌&&◌, ◌||◌, ◌==◌, ℕ, Bool, true, false, not, nat_lt, ap, arith, IfSome, refl, sym, List, [], ◌∷◌, cond, filter, length, map, Contains}
 use Rattle.std.specs.List.{All, count_by, flat_map, list_all, list_any, range_with_len}
 use Rattle.std.proofs.Math.Nat.{suc-mul}
 use Rattle.std.proofs.lemmas.Bool.{and_from, and_parts, ltb-true}
@@ -16,12 +16,13 @@ use Rattle.roster_instance.specs.Counting.{one_if, sum_below}
 use Rattle.roster_rules.specs.HardRules.{breaks_succession, is_able, is_here, keeps_hard, may_take}
 use Rattle.roster_instance.specs.Limits.{most_shifts, most_skills, most_small}
 use Rattle.roster_instance.specs.Meaning.{Meaning, day_count, nurse_at, nurse_count, optimum, shift_at, shift_count, skill_at, skill_count}
-use Rattle.roster_rules.specs.Penalties.{breaks_off_request, meets_wishes, staffing_cost_by}
+use Rattle.roster_rules.specs.Penalties.{staffing_cost_by}
 use Rattle.roster_instance.specs.Rosters.{Rows, choice_on, fits_case, is_choice_of, row_of}
 use Rattle.roster_instance.specs.Sizes.{choice_count}
 use Rattle.roster_instance.specs.Small.{HasSmallNumbers}
-use Rattle.roster_rules.specs.Weights.{off_request_weight, staffing_weight, wish_weight}
-use Rattle.roster_rules.proofs.RosterFacts.{has_row, row-length, row_fits}
+use Rattle.roster_rules.specs.Weights.{staffing_weight}
+use Rattle.roster_rules.proofs.Bounds.{request_on-within}
+use Rattle.roster_instance.proofs.RosterFacts.{has_row, row-length, row_fits}
 use Rattle.roster_rules.proofs.RunBounds.{sum_within}
 use Rattle.roster_laws.specs.OneRow.{is_offered, is_open, is_open_row, others, price}
 use Rattle.roster_laws.specs.Staffing.{meets, with_choice}
@@ -132,20 +133,12 @@ module _ (c : Meaning) (from : ℕ) (r : Rows) (n d : ℕ) where
     staffing_within : (have : ℕ → ℕ → ℕ) → staffing_cost_by c d have ≤ most_shifts * most_skills * staffing_weight * most_small
     staffing_within have =
         let place : ℕ → ℕ → ℕ = λ s k. staffing_weight * (optimum c d s k - have s k) in
-        let of_place : (s k : ℕ) → place s k ≤ staffing_weight * most_small = λ s k. omega (arith, (small.needs d s k).greatest) in
+        let of_place : (s k : ℕ) → place s k ≤ staffing_weight * most_small = λ s k. omega (arith, (small.needs d s k).optimum) in
         let of_shift : (s : ℕ) → sum_below (skill_count c) (place s) ≤ most_skills * (staffing_weight * most_small) = λ s. omega (arith, sum_within (skill_count c) (staffing_weight * most_small) (place s) (λ k h. of_place s k)) in
         omega (arith, sum_within (shift_count c) (most_skills * (staffing_weight * most_small)) (λ s. sum_below (skill_count c) (place s)) (λ s h. of_shift s))
 
-    request_within : (b : Bool) → (if b then off_request_weight else 0) ≤ off_request_weight
-    request_within true = omega arith
-    request_within false = omega arith
-
-    wish_within : (b : Bool) → (if b then 0 else wish_weight) ≤ wish_weight
-    wish_within true = omega arith
-    wish_within false = omega arith
-
     price_within : (x : Choice) → price c r n d x ≤ most_price
-    price_within x = omega (arith, staffing_within (with_choice (others r n d) x), request_within (breaks_off_request c n d (shift_of x)), wish_within (meets_wishes c n d (shift_of x)))
+    price_within x = omega (arith, staffing_within (with_choice (others r n d) x), request_on-within c n d (shift_of x))
 
     pub offers_of_case : All (IsOfferOf c) (offers_of c from r n d)
     offers_of_case =

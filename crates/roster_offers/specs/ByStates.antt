@@ -1,6 +1,6 @@
 -- Rows of items, one for each day, that lead from state to state: each step has a cost, and so has the last state (our own).
 use Rattle.std.specs.Prelude.{ℕ, zero, suc, List, [], ◌∷◌, flat_map, map, Option, Some, None}
-use Rattle.roster_offers.specs.Cheapest.{Priced, cheapest, plus, raised}
+use Rattle.roster_offers.specs.Cheapest.{Priced, cheapest, plus, raised, with_cost}
 
 -- the state after an item of a day, and what it costs; none where the item is forbidden
 abbrev pub Steps : Type 0 → Type 0 → Type 0
@@ -24,6 +24,10 @@ cost_from step finish d s (x ∷ xs) = cost_after (step d s x) (λ t. cost_from 
 unfoldable pub rows_from : {X : Type 0} → (ℕ → List X) → (m d : ℕ) → List (List X)
 rows_from items zero d = [] ∷ []
 rows_from items (suc m) d = flat_map (λ first. map (λ rest. first ∷ rest) (rows_from items m (suc d))) (items d)
+
+-- the cheapest of these rows from a state on, with its cost
+abbrev pub cheapest_of_rows : {S X : Type 0} → (ℕ → List X) → Steps S X → (S → ℕ) → (m d : ℕ) → S → Priced (List X)
+cheapest_of_rows items step finish m d s = cheapest (λ row. with_cost row (cost_from step finish d s row)) (rows_from items m d)
 
 -- ---- the best row, by states
 

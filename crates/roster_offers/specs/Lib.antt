@@ -3,3 +3,4 @@ pub mod ByStates
 pub mod Offers
 pub mod Lists
 pub mod Rises
+pub mod Finds

@@ -1,12 +1,12 @@
 -- The lists of offers that a search goes over, one for each day, and what it finds (our own).
-use Rattle.std.specs.Prelude.{◌≡◌, ℕ, ◌+◌, ◌*◌, ◌<◌, ◌≤◌, true, All, List, [], Some, length, slice_index_or}
+use Rattle.std.specs.Prelude.{◌≡◌, ℕ, ◌+◌, ◌*◌, ◌<◌, ◌≤◌, true, All, IfSome, List, [], Some, length, slice_index_or}
 use Rattle.arrayvec.specs.ArrayVec.{ArrayVec}
 use Rattle.roster_instance.specs.Limits.{most_shifts, most_skills, most_small}
 use Rattle.roster_instance.specs.Meaning.{Meaning, day_count}
 use Rattle.roster_instance.specs.Rosters.{Row, is_choice_of}
 use Rattle.roster_instance.specs.Sizes.{choice_count}
 use Rattle.roster_rules.specs.Prefix.{summary_of}
-use Rattle.roster_rules.specs.Weights.{off_request_weight, staffing_weight, wish_weight}
+use Rattle.roster_rules.specs.Weights.{most_request, staffing_weight}
 use Rattle.roster_offers.specs.declared.offer.Offer.{Offer}
 use Rattle.roster_offers.specs.Cheapest.{Priced}
 use Rattle.roster_offers.specs.Offers.{best_of_offers, choices_of}
@@ -15,7 +15,7 @@ use Rattle.roster_offers.specs.Offers.{best_of_offers, choices_of}
 
 -- what an offer costs at most: 1,918,100
 abbrev pub most_price : ℕ
-most_price = most_shifts * most_skills * staffing_weight * most_small + off_request_weight + wish_weight
+most_price = most_shifts * most_skills * staffing_weight * most_small + most_request
 
 -- its choice is one of the case's, and it costs no more than an offer can
 pub record IsOfferOf (c : Meaning) (offer : Offer) : Type 0 where
@@ -23,6 +23,10 @@ pub record IsOfferOf (c : Meaning) (offer : Offer) : Type 0 where
   pub price : offer.price ≤ most_price
 
 -- ---- a list for each day
+
+-- on each day all are offers of the case
+abbrev pub AllAreOffersOf : Meaning → (ℕ → List Offer) → Type 0
+AllAreOffersOf c offers = (d : ℕ) → All (IsOfferOf c) (offers d)
 
 -- a day's list in a table with a list for each day
 abbrev pub offers_on : List (ArrayVec Offer) → ℕ → List Offer
@@ -52,6 +56,10 @@ most_label = 714703850
 -- the best row over all days of these offers, with its cost
 abbrev pub best_over : Meaning → ℕ → (ℕ → List Offer) → Priced (List Offer)
 best_over c n offers = best_of_offers c n offers (day_count c) 0 (summary_of c n [])
+
+-- so many days' best row, if there is one, costs no more than a label can, and less than no row
+abbrev pub HasLowLabel : Priced (List Offer) → Type 0
+HasLowLabel best = IfSome best (λ label. (label.0 ≤ most_label) × (label.0 < no_row))
 
 -- the cost and the choices of a best row
 pub record IsFound (best : Priced (List Offer)) (cost : ℕ) (row : Row) : Type 0 where

@@ -1,30 +1,28 @@
 //! The best row is found from state to state. The functions here do nothing: each is a law, and its clauses say it.
 
-ghost use Rattle.std.specs.Prelude.{◌≡◌, ◌+◌, ◌<◌, ◌≤◌, ℕ, Bool, true, false, [], ◌∷◌, All, Contains, IfSome, List, IsSome, IsSomeAnd, Some, length};
+ghost use Rattle.std.specs.Prelude.{◌≡◌, ◌+◌, ◌<◌, ◌≤◌, ℕ, Bool, true, false, All, Contains, List, IsSome, length};
 ghost use Rattle.roster_instance.specs.declared.choice.Choice.{Choice};
-ghost use Rattle.roster_rules.specs.AllowedRows.{IsBestRow, IsFirstLeast, is_frozen, penalty_with};
+ghost use Rattle.roster_rules.specs.AllowedRows.{is_frozen};
 ghost use Rattle.roster_rules.specs.HardRules.{keeps_hard};
-ghost use Rattle.roster_instance.specs.Limits.{most_days, most_shifts, most_skills, most_weeks};
-ghost use Rattle.roster_instance.specs.Meaning.{Meaning, day_count, nurse_count, shift_count, skill_count, week_count};
-ghost use Rattle.roster_rules.specs.Prefix.{Summary, due};
-ghost use Rattle.roster_instance.specs.Rosters.{Row, Rows, choice_on, fits_case, row_of};
+ghost use Rattle.roster_instance.specs.Limits.{most_days, most_shifts, most_skills};
+ghost use Rattle.roster_instance.specs.Meaning.{Meaning, day_count, nurse_count, shift_count, skill_count};
+ghost use Rattle.roster_rules.specs.Prefix.{Summary};
+ghost use Rattle.roster_instance.specs.Rosters.{Row, Rows, fits_case};
 ghost use Rattle.roster_instance.specs.Sizes.{choice_count};
-ghost use Rattle.roster_instance.specs.Counting.{sum_below};
-ghost use Rattle.roster_instance.specs.Small.{HasSmallNumbers};
-ghost use Rattle.roster_laws.specs.OneRow.{rest_of};
-ghost use Rattle.roster_offers.specs.ByStates.{Steps, best_from, cost_from, rows_from};
-ghost use Rattle.roster_offers.specs.Cheapest.{cheapest, with_cost};
-ghost use Rattle.roster_offers.specs.Offers.{best_by_states, best_of_offers, cheapest_by_shift, choices_of, offer_of, offered_rows, offers_by, offers_of, open_offers, row_cost_at, shift_offers};
-ghost use Rattle.roster_offers.specs.Rises.{AllHaveRisen};
-ghost use Rattle.roster_offers.specs.Lists.{IsOfferOf, best_over, most_label, no_row};
+ghost use Rattle.roster_instance.specs.Small.{HasSmallNumbers, IsSmall};
+ghost use Rattle.roster_offers.specs.ByStates.{Steps, best_from, cheapest_of_rows};
+ghost use Rattle.roster_offers.specs.Finds.{FindsBestRow, FindsCheapest, FindsLowCost, OffersThePresent, TellsItsCost, TellsThePenalty, best_offered};
+ghost use Rattle.roster_offers.specs.Offers.{best_by_states, best_of_offers, cheapest_by_shift, offered_rows, offers_of, open_offers, shift_offers};
+ghost use Rattle.roster_offers.specs.Rises.{BestCostRises, DaysHaveRisen};
+ghost use Rattle.roster_offers.specs.Lists.{AllAreOffersOf, HasLowLabel, IsOfferOf};
 ghost use Rattle.roster_offers.specs.declared.offer.Offer.{Offer};
 
 /// The cheapest of all rows of the days' offers, the first of them, is what the search from state to state gives, with its
 /// cost, whatever the offers, the steps and the end are.
 pub fn cheapest_row_is_found_by_states()
     ensures { (offers : ℕ → List Offer) (step : Steps Summary Offer) (finish : Summary → ℕ)
-        (m d : ℕ) (s : Summary) → cheapest (λ row. with_cost row (cost_from step finish d s row))
-        (rows_from offers m d) ≡ best_from offers step finish m d s }
+        (m d : ℕ) (s : Summary) →
+        cheapest_of_rows offers step finish m d s ≡ best_from offers step finish m d s }
 {}
 
 /// Whatever a nurse is offered on each day, at whatever prices: where a row of the case has each choice offered on its day and keeps the
@@ -34,15 +32,11 @@ pub fn cheapest_row_is_found_by_states()
 pub fn cheapest_offered_row_is_found()
     ensures some { (c : Meaning) (n : ℕ) (offered : ℕ → Choice → Bool) (price : ℕ → Choice → ℕ)
         (row : Row) → Contains (offered_rows c n offered) row →
-        IsSome (best_over c n (λ d. cheapest_by_shift (offers_by c offered price d))) }
-    ensures least { (c : Meaning) (n : ℕ) (offered : ℕ → Choice → Bool) (price : ℕ → Choice → ℕ)
-        (cost : ℕ) (offers : List Offer) →
-        best_over c n (λ d. cheapest_by_shift (offers_by c offered price d)) ≡ Some (cost, offers) →
-        IsFirstLeast (row_cost_at c n price) (offered_rows c n offered) (choices_of offers) }
-    ensures cost { (c : Meaning) (n : ℕ) (offered : ℕ → Choice → Bool) (price : ℕ → Choice → ℕ)
-        (cost : ℕ) (offers : List Offer) →
-        best_over c n (λ d. cheapest_by_shift (offers_by c offered price d)) ≡ Some (cost, offers) →
-        row_cost_at c n price (choices_of offers) ≡ due c n [] + cost }
+        IsSome (best_offered c n offered price) }
+    ensures least { (c : Meaning) (n : ℕ) (offered : ℕ → Choice → Bool) (price : ℕ → Choice → ℕ) →
+        FindsCheapest c n offered price }
+    ensures cost { (c : Meaning) (n : ℕ) (offered : ℕ → Choice → Bool) (price : ℕ → Choice → ℕ) →
+        TellsItsCost c n offered price }
 {}
 
 /// For a roster that fits the case and keeps the hard rules, the search over a nurse's offers gives a row. It is the nurse's best
@@ -52,25 +46,19 @@ pub fn best_row_is_found_by_states()
     ensures some { (c : Meaning) (from : ℕ) (r : Rows) → fits_case c r ≡ true →
         keeps_hard c r ≡ true → (n : ℕ) → n < nurse_count c → IsSome (best_by_states c from r n) }
     ensures best { (c : Meaning) (from : ℕ) (r : Rows) → fits_case c r ≡ true →
-        keeps_hard c r ≡ true → (n : ℕ) → n < nurse_count c → (cost : ℕ) (offers : List Offer) →
-        best_by_states c from r n ≡ Some (cost, offers) → IsBestRow c from r n (choices_of offers) }
+        keeps_hard c r ≡ true → (n : ℕ) → n < nurse_count c → FindsBestRow c from r n }
     ensures below { (c : Meaning) (from : ℕ) (r : Rows) → fits_case c r ≡ true →
-        keeps_hard c r ≡ true → (n : ℕ) → n < nurse_count c → (cost : ℕ) (offers : List Offer) →
-        best_by_states c from r n ≡ Some (cost, offers) → HasSmallNumbers c →
-        shift_count c ≤ most_shifts → skill_count c ≤ most_skills → week_count c ≤ most_weeks →
-        cost < no_row }
+        keeps_hard c r ≡ true → (n : ℕ) → n < nurse_count c → IsSmall c → FindsLowCost c from r n }
     ensures penalty { (c : Meaning) (from : ℕ) (r : Rows) → fits_case c r ≡ true →
-        keeps_hard c r ≡ true → (n : ℕ) → n < nurse_count c → (cost : ℕ) (offers : List Offer) →
-        best_by_states c from r n ≡ Some (cost, offers) →
-        penalty_with c r n (choices_of offers) ≡ rest_of c r n + due c n [] + cost }
+        keeps_hard c r ≡ true → (n : ℕ) → n < nurse_count c → TellsThePenalty c from r n }
 {}
 
 /// In a case with small numbers a label, what the best row of some days costs from a state on, is at most 714,703,850, below that of no
 /// row, whatever the state and the offers are.
 pub fn labels_are_low()
     ensures { (c : Meaning) → HasSmallNumbers c → (n : ℕ) (offers : ℕ → List Offer)
-        → ((d : ℕ) → All (IsOfferOf c) (offers d)) → (m d : ℕ) → m ≤ most_days → (s : Summary)
-        → IfSome (best_of_offers c n offers m d s) (λ label. (label.0 ≤ most_label) × (label.0 < no_row)) }
+        → AllAreOffersOf c offers → (m d : ℕ) → m ≤ most_days → (s : Summary)
+        → HasLowLabel (best_of_offers c n offers m d s) }
 {}
 
 /// The offers of a day are choices of the case at small prices, and not more than the nurse has choices. For a roster that fits
@@ -86,9 +74,7 @@ pub fn offers_are_few()
         keeps_hard c r ≡ true → (n : ℕ) → n < nurse_count c → (d : ℕ) → d < day_count c →
         0 < length (offers_of c from r n d) }
     ensures frozen { (c : Meaning) (from : ℕ) (r : Rows) → fits_case c r ≡ true →
-        keeps_hard c r ≡ true → (n : ℕ) → n < nurse_count c → (d : ℕ) → d < day_count c →
-        is_frozen from d ≡ true → offers_of c from r n d ≡ offer_of c r n d
-        (choice_on (row_of r n) d) ∷ [] }
+        keeps_hard c r ≡ true → (n : ℕ) → n < nurse_count c → OffersThePresent c from r n }
     ensures free { (c : Meaning) (from : ℕ) (r : Rows) (n d : ℕ) → is_frozen from d ≡ false →
         offers_of c from r n d ≡ open_offers c r n d }
 {}
@@ -114,8 +100,5 @@ pub fn one_offer_for_each_shift_is_enough()
 /// have a best row, so have the old ones, and its cost with all that has risen is at most the new one's with all that has fallen.
 pub fn cost_rises_with_prices()
     ensures { (c : Meaning) (n : ℕ) (old new : ℕ → List Offer) (rise fall : ℕ → ℕ) →
-        ((d : ℕ) → d < day_count c → AllHaveRisen (rise d) (fall d) (old d) (new d)) →
-        (cost : ℕ) (offers : List Offer) → best_over c n new ≡ Some (cost, offers) →
-        IsSomeAnd (best_over c n old) (λ best. best.0 + sum_below (day_count c) rise ≤ cost
-        + sum_below (day_count c) fall) }
+        DaysHaveRisen c rise fall old new → BestCostRises c n rise fall old new }
 {}

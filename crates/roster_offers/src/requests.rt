@@ -4,7 +4,7 @@ ghost use Rattle.std.specs.Prelude.{◌≡◌, ◌+◌, ◌<◌, ◌≤◌, fals
 ghost use Rattle.roster_instance.specs.declared.choice.Shift.{Shift};
 ghost use Rattle.roster_instance.specs.Meaning.{nurse_count};
 ghost use Rattle.roster_rules.specs.Penalties.{meets_wishes, off_request_cost_on, request_cost_on, wish_cost_on};
-ghost use Rattle.roster_rules.specs.Weights.{off_request_weight, wish_weight};
+ghost use Rattle.roster_rules.specs.Weights.{most_request, off_request_weight, wish_weight};
 
 use roster_rules::weights::{OFF_REQUEST, WISH};
 use roster_rules::{Case, Shift, meets_wishes};
@@ -20,7 +20,7 @@ pub fn cost_of_requests(
     requires nurse { nurse < nurse_count case.now }
     requires wished { wished ≡ false → wish_cost_on case.now nurse day shift ≡ 0 }
     ensures cost { result ≡ request_cost_on case.now nurse day shift }
-    ensures within { result ≤ off_request_weight + wish_weight }
+    ensures within { result ≤ most_request }
 {
     if wished {
         return request_cost(case, nurse, day, shift);
@@ -47,7 +47,7 @@ pub fn has_some_wish(case: &Case, nurse: usize, day: u16) -> bool
 pub fn request_cost(case: &Case, nurse: usize, day: u16, shift: Option<Shift>) -> u32
     requires { nurse < nurse_count case.now }
     ensures cost { result ≡ request_cost_on case.now nurse day shift }
-    ensures within { result ≤ off_request_weight + wish_weight }
+    ensures within { result ≤ most_request }
 {
     off_request_cost(case, nurse, day, shift) + wish_cost(case, nurse, day, shift)
 }

@@ -1,13 +1,14 @@
 -- Bounds of the penalties of a roster, where the numbers of an instance are small: all sums stay below 2^33. The bounds are
 -- for the largest case, by its limits and the weights.
-use Rattle.std.proofs.Common.{◌≡◌, sym, arith, ℕ, Bool, ◌+◌, ◌-◌, ◌*◌, ◌<◌, ◌≤◌, true, false, ◌||◌, length, max, if◌then◌else◌}
+use Rattle.std.proofs.Common.{◌≡◌, sym, arith, ℕ, Bool, ◌+◌, ◌-◌, ◌*◌, ◌<◌, ◌≤◌, true, false, ◌||◌, length, max, if◌then◌else◌, Option}
+use Rattle.roster_instance.specs.declared.choice.Shift.{Shift}
 use Rattle.roster_instance.specs.Counting.{sum_below}
 use Rattle.roster_instance.specs.Days.{Days, shift_on, works, days_worked, saturday, worked_weekends, weekends_begun, weekends_ended, split_weekends, one_alone}
 use Rattle.roster_instance.specs.Limits.{most_days, most_nurses, most_shifts, most_skills, most_small, most_weeks}
 use Rattle.roster_instance.specs.Meaning.{Meaning, week_count, day_count, shift_count, skill_count, nurse_count, run_of_shift, past_of, contract_of, optimum}
-use Rattle.roster_rules.specs.Penalties.{staffing_cost, staffing_cost_of_day, working_run_cost, shift_run_cost, free_run_cost, breaks_off_request, meets_wishes, off_request_cost, request_cost, wish_cost, wish_cost_on, split_cost, totals_cost, weekends_cost, over_nurses, costs_of, total_cost}
+use Rattle.roster_rules.specs.Penalties.{staffing_cost, staffing_cost_of_day, working_run_cost, shift_run_cost, free_run_cost, breaks_off_request, meets_wishes, off_request_cost, request_cost, request_cost_on, wish_cost, wish_cost_on, split_cost, totals_cost, weekends_cost, over_nurses, costs_of, total_cost}
 use Rattle.roster_rules.specs.Room.{most_penalty, most_staffing, penalty_room}
-use Rattle.roster_rules.specs.Weights.{staffing_weight, working_run_weight, shift_run_weight, free_run_weight, off_request_weight, split_weight, assignment_weight, weekend_weight, wish_weight}
+use Rattle.roster_rules.specs.Weights.{staffing_weight, working_run_weight, shift_run_weight, free_run_weight, most_request, off_request_weight, split_weight, assignment_weight, weekend_weight, wish_weight}
 use Rattle.roster_instance.specs.Rosters.{Rows, days_of_nurse, cover, fits_case}
 use Rattle.roster_instance.specs.Small.{HasSmallNumbers}
 use Rattle.roster_instance.proofs.RosterFacts.{days_of_nurse-length}
@@ -34,7 +35,7 @@ staffing_cost_of_day-within c r d small shifts skills = omega (arith, sum_within
     of_shift s = sum_below (skill_count c) (missing_at s)
 
     skill : (s k : ℕ) → missing_at s k ≤ most_staffing_of_place
-    skill s k = omega (arith, (small.needs d s k).greatest)
+    skill s k = omega (arith, (small.needs d s k).optimum)
 
     shift : (s : ℕ) → of_shift s ≤ most_staffing_of_shift
     shift s = omega (arith, sum_within (skill_count c) most_staffing_of_place (missing_at s) (λ k h. skill s k))
@@ -75,6 +76,10 @@ most_weekends = weekend_weight * (most_small + most_weeks)
 unless_within : (met : Bool) → (if met then 0 else wish_weight) ≤ wish_weight
 unless_within true = omega arith
 unless_within false = omega arith
+
+pub request_on-within : (c : Meaning) (n d : ℕ) (shift : Option Shift) → request_cost_on c n d shift ≤ most_request
+request_on-within c n d shift =
+    omega (arith, where_within (breaks_off_request c n d shift) off_request_weight off_request_weight (omega arith), unless_within (meets_wishes c n d shift))
 
 module _ (c : Meaning) (n : ℕ) (days : Days) (small : HasSmallNumbers c) (few : length days ≤ most_days) where
   pub both_run_costs-within : working_run_cost c n days + free_run_cost c n days ≤ most_working_and_free

@@ -14,7 +14,8 @@ use Rattle.roster_instance.specs.declared.choice.Choice.TheVariants.{Off}
 use Rattle.roster_instance.specs.declared.choice.Shift.{Shift}
 use Rattle.roster_instance.proofs.Sections.{both_none, first-after, first-front}
 
-none_of-none : {F : Type 0} (faults : List F) → first_fault faults ≡ None → faults ≡ []
+-- a list without a first fault is empty
+pub none_of-none : {F : Type 0} (faults : List F) → first_fault faults ≡ None → faults ≡ []
 none_of-none [] none = refl
 none_of-none (f ∷ fs) none = absurd (cc)
 

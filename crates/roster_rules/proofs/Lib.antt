@@ -1,5 +1,3 @@
-pub use Rattle.roster_instance.proofs.RosterFacts
-pub use Rattle.roster_instance.proofs.Sections
 pub mod FirstLeast
 pub mod RunSums
 pub mod RunLaw

@@ -2,8 +2,9 @@
 use Rattle.std.proofs.Common.{◌≡◌, ap, sym, ◌∙◌, arith, ℕ, zero, suc, ◌+◌, ◌<◌, Bool, [], ◌∷◌, ◌++◌, length, if◌then◌else◌, Option}
 use Rattle.roster_instance.specs.declared.choice.Shift.{Shift}
 use Rattle.roster_instance.specs.declared.rules.Limits.{Limits}
-use Rattle.roster_instance.specs.Days.{Days, shift_on}
+use Rattle.roster_instance.specs.Days.{Days}
 use Rattle.roster_instance.specs.RunLaw.{day_violations}
+use Rattle.roster_rules.specs.DayLaw.{day_passes, open_run_in, violations_in}
 use Rattle.roster_rules.specs.Runs.{run_violations, open_run}
 use Rattle.roster_rules.proofs.DayMore.{length_more, shift_before_it, shift_of_it}
 use Rattle.roster_rules.proofs.RunLaw.{no_violations, border, violations, grown}
@@ -29,24 +30,20 @@ same_violations l b p q (suc d) h =
     ∙ (day_same l (p d) (q d) (run_violations l b p d) (run_violations l b q d) (open_run b p d) (open_run b q d) (h d (omega arith)) (same_violations l b p q d few) (same_open b p q d few)
     ∙ sym (violations l b q d))
 
--- a kind of days is a test of their shifts
-abbrev kind : (Option Shift → Bool) → Days → ℕ → Bool
-kind t days k = t (shift_on days k)
-
-pub row_violations : (l : Limits) (b : ℕ) (t : Option Shift → Bool) (days : Days) (c : Option Shift) → run_violations l b (λ k. t (shift_on (days ++ c ∷ []) k)) (length (days ++ c ∷ [])) ≡ run_violations l b (λ k. t (shift_on days k)) (length days) + day_violations l (open_run b (λ k. t (shift_on days k)) (length days)) (t c)
+pub row_violations : (l : Limits) (b : ℕ) (t : Option Shift → Bool) (days : Days) (c : Option Shift) → violations_in l b t (days ++ c ∷ []) ≡ violations_in l b t days + day_violations l (open_run_in b t days) (t c)
 row_violations l b t days c =
-    let p : ℕ → Bool = kind t (days ++ c ∷ []) in
-    let q : ℕ → Bool = kind t days in
+    let p : ℕ → Bool = day_passes t (days ++ c ∷ []) in
+    let q : ℕ → Bool = day_passes t days in
     let n : ℕ = length days in
     let same : (k : ℕ) → k < n → p k ≡ q k = λ k h. ap t (shift_before_it days c k h) in
     ap (λ d. run_violations l b p d) (length_more days c)
     ∙ (violations l b p n
     ∙ day_same l (p n) (t c) (run_violations l b p n) (run_violations l b q n) (open_run b p n) (open_run b q n) (ap t (shift_of_it days c)) (same_violations l b p q n same) (same_open b p q n same))
 
-pub row_grown : (b : ℕ) (t : Option Shift → Bool) (days : Days) (c : Option Shift) → open_run b (λ k. t (shift_on (days ++ c ∷ []) k)) (length (days ++ c ∷ [])) ≡ (if t c then open_run b (λ k. t (shift_on days k)) (length days) + 1 else 0)
+pub row_grown : (b : ℕ) (t : Option Shift → Bool) (days : Days) (c : Option Shift) → open_run_in b t (days ++ c ∷ []) ≡ (if t c then open_run_in b t days + 1 else 0)
 row_grown b t days c =
-    let p : ℕ → Bool = kind t (days ++ c ∷ []) in
-    let q : ℕ → Bool = kind t days in
+    let p : ℕ → Bool = day_passes t (days ++ c ∷ []) in
+    let q : ℕ → Bool = day_passes t days in
     let n : ℕ = length days in
     let same : (k : ℕ) → k < n → p k ≡ q k = λ k h. ap t (shift_before_it days c k h) in
     ap (λ d. open_run b p d) (length_more days c)

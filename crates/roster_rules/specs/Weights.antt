@@ -1,5 +1,5 @@
 -- The weights of the soft rules (INRC-II): the penalty points for each that is missing or too many.
-use Rattle.std.specs.Prelude.{ℕ}
+use Rattle.std.specs.Prelude.{ℕ, ◌+◌}
 
 -- a nurse missing to the optimum of a day, shift and skill
 abbrev pub staffing_weight : ℕ
@@ -36,3 +36,7 @@ weekend_weight = 30
 -- a day of a nurse with a wish to work that isn't met (our own rule)
 abbrev pub wish_weight : ℕ
 wish_weight = 10
+
+-- what the requests of a nurse cost on a day at most
+abbrev pub most_request : ℕ
+most_request = off_request_weight + wish_weight

@@ -2,8 +2,8 @@
 
 ghost use Rattle.std.specs.Prelude.{◌≡◌, ℕ, suc, ◌+◌, ◌-◌, Bool, [], ◌∷◌, ◌++◌, length, Option, is_some, if◌then◌else◌};
 ghost use Rattle.roster_instance.specs.Counting.{one_if};
-ghost use Rattle.roster_rules.specs.DayLaw.{splits_more, weekends_more};
-ghost use Rattle.roster_instance.specs.Days.{Days, days_worked, shift_on, split_weekends, worked_weekends, works};
+ghost use Rattle.roster_rules.specs.DayLaw.{added_by, open_run_in, splits_more, violations_in, weekends_more};
+ghost use Rattle.roster_instance.specs.Days.{Days, days_worked, split_weekends, worked_weekends, works};
 ghost use Rattle.roster_instance.specs.RunLaw.{day_violations};
 ghost use Rattle.roster_rules.specs.Runs.{open_run, run_violations};
 ghost use Rattle.roster_instance.specs.declared.choice.Shift.{Shift};
@@ -24,13 +24,10 @@ pub fn runs_grow_by_a_day()
 /// The same of a row with one day more, where the kind is a test of the day's shift.
 pub fn runs_of_a_row_grow_by_a_day()
     ensures violations { (l : Limits) (b : ℕ) (t : Option Shift → Bool) (days : Days)
-        (c : Option Shift) → run_violations l b (λ k. t (shift_on (days ++ c ∷ []) k))
-        (length (days ++ c ∷ [])) ≡ run_violations l b (λ k. t (shift_on days k)) (length days)
-        + day_violations l (open_run b (λ k. t (shift_on days k)) (length days)) (t c) }
+        (c : Option Shift) → violations_in l b t (days ++ c ∷ []) ≡ violations_in l b t days
+        + added_by l b t days c }
     ensures open { (b : ℕ) (t : Option Shift → Bool) (days : Days) (c : Option Shift) →
-        open_run b (λ k. t (shift_on (days ++ c ∷ []) k))
-        (length (days ++ c ∷ [])) ≡ (if t c then open_run b (λ k. t (shift_on days k)) (length days)
-        + 1 else 0) }
+        open_run_in b t (days ++ c ∷ []) ≡ (if t c then open_run_in b t days + 1 else 0) }
 {}
 
 /// The worked days, the worked weekends and the split ones of a row with one day more.

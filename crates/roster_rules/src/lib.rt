@@ -21,7 +21,7 @@ pub use laws::{runs_grow_by_a_day, runs_of_a_row_grow_by_a_day, weekends_grow_by
 pub use penalties::Costs;
 pub use roster_instance::{
     Border, Case, CaseFault, Choice, ContractRules, DayRequests, Limits, MAX_CONTRACTS, MAX_NURSES,
-    MAX_STATES, Past, Roster, Shift, Skill, choice_on, row_fits,
+    MAX_STATES, Need, Past, Roster, Shift, Skill, choice_on, row_fits,
 };
 pub use rows::one_first_least_row;
 pub use wishes::meets_wishes;

@@ -4,5 +4,5 @@ use Rattle.roster_laws.proofs.bounds.penalties_are_low.Goals as goal
 
 pub returns : goal.returns
 unfolding penalty
-returns c m small shifts skills weeks nurses r fits =
-    (penalty-at_most m r small shifts skills weeks nurses fits, penalty-within m r small shifts skills weeks nurses fits)
+returns c m small nurses r fits =
+    (penalty-at_most m r small.numbers small.shifts small.skills small.weeks nurses fits, penalty-within m r small.numbers small.shifts small.skills small.weeks nurses fits)

@@ -14,5 +14,5 @@ pub returns-clause-penalty : goal.returns-clause-penalty
 returns-clause-penalty c = penalty_is
 
 pub returns-clause-below : goal.returns-clause-below
-returns-clause-below c m from r fits keeps n inside cost offers is small shifts skills weeks =
-    cost_over m n (offers_of m from r n) (λ d within. offers_of_case m from r n d small shifts skills) small weeks cost offers is
+returns-clause-below c m from r fits keeps n inside small cost offers is =
+    cost_over m n (offers_of m from r n) (λ d within. offers_of_case m from r n d small.numbers small.shifts small.skills) small.numbers small.weeks cost offers is
