@@ -1,14 +1,14 @@
 //! Which states may stand between two days: for each last shift an area, a span of each other number.
 
-ghost use Rattle.std.specs.Prelude.{◌≡◌, ◌≢◌, ℕ, ◌+◌, ◌<◌, ◌≤◌, false, true, IfSome, List, length, min, if◌then◌else◌};
+ghost use Rattle.std.specs.Prelude.{◌≡◌, ◌≢◌, ℕ, ◌+◌, ◌<◌, ◌≤◌, false, true, IfSome, min, if◌then◌else◌};
 ghost use Rattle.roster_instance.specs.Meaning.{day_count, forbids, nurse_count, shift_count};
 ghost use Rattle.roster_rules.specs.Prefix.{Summary};
-ghost use Rattle.roster_state.specs.Areas.{InArea, InSpan, area_at, nowhere, one_number, one_state};
+ghost use Rattle.roster_state.specs.Areas.{InArea, InSpan, LeadsInto, area_at, nowhere, one_number, one_state};
 ghost use Rattle.roster_state.specs.Codes.{shift_digit};
 ghost use Rattle.roster_state.specs.Step.{next_of, run_with, shift_run_with};
 
 use crate::state::{State, shift_digit, shift_numbered};
-use crate::step::weekends_more;
+use crate::totals::weekends_more;
 use roster_rules::{Case, Shift};
 use std::cmp::{max, min};
 
@@ -161,10 +161,8 @@ pub fn widen(
     requires nurse { nurse < nurse_count case.now }
     requires day { day < day_count case.now }
     requires shift { IfSome shift (λ s. s.0 < shift_count case.now) }
-    ensures leads { (s : Summary) → shift_digit s.last < shift_count case.now + 1 →
-        InArea (area_at areas.now (shift_digit s.last)) s →
-        forbids case.now.successions s.last shift ≡ false →
-        InArea (area_at after.new (shift_digit shift)) (next_of case.now nurse day s shift) }
+    ensures leads { LeadsInto case.now nurse day areas.now shift
+        (area_at after.new (shift_digit shift)) }
     ensures keeps { (digit : ℕ) (s : Summary) → InArea (area_at after.old digit) s →
         InArea (area_at after.new digit) s }
 {

@@ -1,20 +1,19 @@
 //! The states that differ in their assignments alone, and one day more from all of them at once.
 
-ghost use Rattle.std.specs.Prelude.{◌≡◌, ◌↔◌, ◌+◌, ◌*◌, ◌<◌, ◌≤◌, ◌&&◌, ◌||◌, ℕ, true, nat_le, IfSome, IsNone, Some, if◌then◌else◌, is_some, option_map};
-ghost use Rattle.roster_bundle.specs.Limits.{greatest_u64};
-ghost use Rattle.roster_instance.specs.Meaning.{contract_of, day_count, forbids, nurse_count, shift_count};
+ghost use Rattle.std.specs.Prelude.{◌≡◌, ◌↔◌, ◌+◌, ◌*◌, ◌<◌, ◌≤◌, ◌&&◌, ◌||◌, ℕ, true, nat_le, IfSome, IsNone, Some, is_some};
+ghost use Rattle.roster_instance.specs.Meaning.{contract_of, forbids, nurse_count, shift_count};
 ghost use Rattle.roster_instance.specs.Sizes.{cap};
 ghost use Rattle.roster_rules.specs.Weights.{assignment_weight};
-ghost use Rattle.roster_state.specs.Blocks.{place_step};
+ghost use Rattle.roster_state.specs.Blocks.{AreBlockSteps};
 ghost use Rattle.roster_state.specs.Codes.{blocks, code_of, fits_sizes, product, shift_digit, shift_numbered, sizes_of, state_at};
 ghost use Rattle.roster_state.specs.Room.{most_of_step};
 ghost use Rattle.roster_state.specs.Standing.{can_be, excess};
-ghost use Rattle.roster_state.specs.Step.{step_of, with_assignments, with_weekends};
+ghost use Rattle.roster_state.specs.Step.{with_assignments, with_weekends};
 
-use crate::meter::Meter;
 use crate::ranges::Ranges;
 use crate::state::{State, shift_digit, shift_numbered};
 use crate::step::{cost_apart, next_of};
+use crate::totals::dearer_from;
 use roster_rules::weights::ASSIGNMENT;
 use roster_rules::{Border, Case, ContractRules, Limits, Past, Shift};
 use std::cmp::min;
@@ -259,41 +258,7 @@ impl BlockStep {
     }
 }
 
-/// One day more from all states of a block, on which the nurse works this shift or is off. None exactly where the last shift forbids
-/// the next. Either way the meter counts one for each place.
-#[inline(always)]
-pub fn extend_block(
-    case: &Case,
-    nurse: usize,
-    day: u16,
-    block: Block,
-    shift: Option<Shift>,
-    meter: &mut Meter,
-) -> Option<BlockStep>
-    requires nurse { nurse < nurse_count case.now }
-    requires day { day < day_count case.now }
-    requires shift { IfSome shift (λ s. s.0 < shift_count case.now) }
-    requires fits { fits_sizes (sizes_of case.now nurse) block ≡ true }
-    requires room { meter.old + (sizes_of case.now nurse).assignments ≤ greatest_u64 }
-    ensures counted { meter.new ≡ meter.old + (sizes_of case.now nurse).assignments }
-    ensures forbidden { IsNone result ↔ forbids case.now.successions block.last shift ≡ true }
-
-    // Each place goes where its state goes, at the same cost.
-    ensures steps { (a : ℕ) → a < (sizes_of case.now nurse).assignments →
-        option_map (place_step (sizes_of case.now nurse).assignments a) result ≡ step_of case.now
-        nurse day (with_assignments block a) shift }
-    ensures next_fits { IfSome result (λ step. fits_sizes (sizes_of case.now nurse)
-        step.next ≡ true) }
-    ensures dearer { IfSome result (λ step. step.dearer_from
-        ≤ (sizes_of case.now nurse).assignments) }
-    ensures within { IfSome result (λ step. step.cost + assignment_weight ≤ most_of_step) }
-{
-    let rules = case.contract_rules(nurse);
-    meter.add(rules.total.cap() as u64 + 1);
-    block_step(case, nurse, rules, day, block, shift)
-}
-
-/// What `extend_block` answers. It counts nothing.
+/// One day more from all states of a block, by the nurse's rules. It counts nothing.
 #[inline(always)]
 pub(crate) fn block_step(
     case: &Case,
@@ -307,9 +272,7 @@ pub(crate) fn block_step(
     requires shift { IfSome shift (λ s. s.0 < shift_count case.now) }
     requires fits { fits_sizes (sizes_of case.now nurse) block ≡ true }
     ensures forbidden { IsNone result ↔ forbids case.now.successions block.last shift ≡ true }
-    ensures steps { (a : ℕ) → a < (sizes_of case.now nurse).assignments →
-        option_map (place_step (sizes_of case.now nurse).assignments a) result ≡ step_of case.now
-        nurse day (with_assignments block a) shift }
+    ensures steps { AreBlockSteps case.now nurse day block shift result }
     ensures next_fits { IfSome result (λ step. fits_sizes (sizes_of case.now nurse)
         step.next ≡ true) }
     ensures dearer { IfSome result (λ step. step.dearer_from
@@ -325,15 +288,4 @@ pub(crate) fn block_step(
         cost: cost_apart(case, nurse, rules, day, block.state, shift),
         dearer_from: dearer_from(rules.total, shift),
     })
-}
-
-/// From which place on an assignment of the day is above the greatest total. The number of places where the nurse is off.
-#[inline(always)]
-fn dearer_from(total: Limits, shift: Option<Shift>) -> u32
-    ensures { result ≡ (if is_some shift then total.greatest else cap total + 1) }
-{
-    match shift {
-        Some(_) => total.greatest as u32,
-        None => total.cap() as u32 + 1,
-    }
 }

@@ -3,22 +3,25 @@
 
 mod area;
 mod block;
+mod days;
 mod look;
 mod meter;
 mod ranges;
-mod row;
+mod reference;
 mod state;
 mod step;
 mod stretch;
+mod totals;
 mod worked;
 
 pub use area::{AREAS, Area, NOWHERE, Span, areas_of, widen};
-pub use block::{Block, BlockStep, extend_block};
+pub use block::{Block, BlockStep};
+pub use days::NurseDays;
 pub use look::is_forbidden;
 pub use meter::Meter;
 pub use ranges::Ranges;
-pub use row::row_cost;
+pub use reference::{extend, extend_block, row_cost};
 pub use state::State;
-pub use step::{NurseDays, after, end_cost, extend, extend_by, start};
-pub use stretch::{Stretch, extend_stretch};
-pub use worked::{WorkedDay, extend_ahead, extend_stretch_ahead, worked_day, worked_stretch};
+pub use step::{after, end_cost, start};
+pub use stretch::Stretch;
+pub use worked::WorkedDay;

@@ -1,25 +1,23 @@
-//! One day more: what it costs, and the state after it.
+//! One day more from a state: what it costs, and the state after it.
 
-ghost use Rattle.std.specs.Prelude.{◌≡◌, ◌↔◌, ◌+◌, ◌*◌, ◌<◌, ◌≤◌, ◌++◌, ◌∷◌, [], true, false, length, IfSome, IsNone, None, Some, if◌then◌else◌, is_some, min, nat_le, not};
-ghost use Rattle.roster_bundle.specs.Limits.{greatest_u64};
+ghost use Rattle.std.specs.Prelude.{◌≡◌, ◌+◌, ◌*◌, ◌<◌, ◌≤◌, ◌++◌, ◌∷◌, [], true, false, length, IfSome, None, Some, if◌then◌else◌, is_some, min, not};
 ghost use Rattle.roster_instance.specs.Days.{Days};
 ghost use Rattle.roster_instance.specs.Meaning.{contract_of, day_count, nurse_count, past_of, run_of_shift, shift_count, forbids};
 ghost use Rattle.roster_rules.specs.Penalties.{own_cost};
-ghost use Rattle.roster_rules.specs.DayLaw.{splits_more, weekends_more};
-ghost use Rattle.roster_instance.specs.Small.{IsSmallPast};
+ghost use Rattle.roster_rules.specs.DayLaw.{splits_more};
 ghost use Rattle.roster_rules.specs.Prefix.{due, summary_of};
 ghost use Rattle.roster_instance.specs.Sizes.{cap};
 ghost use Rattle.roster_state.specs.Codes.{fits_sizes, sizes_of};
-ghost use Rattle.roster_rules.specs.Weights.{assignment_weight, free_run_weight, shift_run_weight, split_weight, weekend_weight, working_run_weight};
+ghost use Rattle.roster_rules.specs.Weights.{assignment_weight, free_run_weight, shift_run_weight, split_weight, working_run_weight};
 ghost use Rattle.roster_state.specs.Room.{most_at_end, most_at_start, most_of_step};
 ghost use Rattle.roster_state.specs.Standing.{can_be};
-ghost use Rattle.roster_state.specs.Step.{cost_apart, end_cost_of, ended, free_more, free_run, next_of, open_shift_run, shifts_more, split_more, step_of, weekend_more, worked, working_more, working_run};
+ghost use Rattle.roster_state.specs.Step.{cost_apart, end_cost_of, ended, free_run, next_of, open_shift_run, shifts_more, split_more, step_of, weekend_more, worked, working_run};
 ghost use Rattle.roster_instance.specs.RunLaw.{day_violations};
 
 use crate::block::{Block, block_step};
-use crate::meter::Meter;
 use crate::state::State;
-use roster_rules::weights::{ASSIGNMENT, FREE_RUN, SHIFT_RUN, SPLIT, WEEKEND, WORKING_RUN};
+use crate::totals::{missing_cost, start_cost, totals_after, weekend_more};
+use roster_rules::weights::{FREE_RUN, SHIFT_RUN, SPLIT, WORKING_RUN};
 use roster_rules::{Border, Case, ContractRules, Limits, Past, Shift};
 use std::cmp::min;
 
@@ -40,121 +38,9 @@ pub fn start(case: &Case, nurse: usize) -> (State, u32)
     )
 }
 
-/// The state with one day more, on which the nurse works this shift or is off, and what the day costs. None exactly where the
-/// last shift forbids the next. Either way the meter counts one.
-#[inline(always)]
-pub fn extend(
-    case: &Case,
-    nurse: usize,
-    day: u16,
-    state: State,
-    shift: Option<Shift>,
-    meter: &mut Meter,
-) -> Option<(State, u32)>
-    requires nurse { nurse < nurse_count case.now }
-    requires day { day < day_count case.now }
-    requires shift { IfSome shift (λ s. s.0 < shift_count case.now) }
-    requires fits { fits_sizes (sizes_of case.now nurse) state ≡ true }
-    requires room { meter.old < greatest_u64 }
-    ensures counted { meter.new ≡ meter.old + 1 }
-    ensures step { result ≡ step_of case.now nurse day state shift }
-    ensures forbidden { IsNone result ↔ forbids case.now.successions state.last shift ≡ true }
-
-    // From the summary of some days it leads to that of those days and this one, at the cost by which what is owed rises.
-    ensures summary { IfSome result (λ step. (days : Days) → length days ≡ day →
-        state ≡ summary_of case.now nurse days →
-        step.0 ≡ summary_of case.now nurse (days ++ shift ∷ [])) }
-    ensures owed { IfSome result (λ step. (days : Days) → length days ≡ day →
-        state ≡ summary_of case.now nurse days →
-        due case.now nurse (days ++ shift ∷ []) ≡ due case.now nurse days + step.1) }
-
-    // From any state that fits the next one fits, and the step costs little.
-    ensures next_fits { IfSome result (λ step. fits_sizes (sizes_of case.now nurse) step.0 ≡ true) }
-    ensures within { IfSome result (λ step. step.1 ≤ most_of_step) }
-{
-    meter.add_one();
-    step(case, nurse, day, state, shift)
-}
-
-/// What days of a nurse are taken by: the case, the nurse, and the nurse's rules, looked up once for many days.
-#[derive(Clone, Copy)]
-pub struct NurseDays<'a> {
-    pub case: &'a Case,
-    pub nurse: usize,
-    pub rules: ContractRules,
-}
-
-/// What `extend` does, by rules that were looked up before.
-#[inline(always)]
-pub fn extend_by(
-    days: &NurseDays<'_>,
-    day: u16,
-    state: State,
-    shift: Option<Shift>,
-    meter: &mut Meter,
-) -> Option<(State, u32)>
-    requires rules { days.now.rules ≡ contract_of days.now.case.now days.now.nurse }
-    requires shift { IfSome shift (λ s. s.0 < shift_count days.now.case.now) }
-    requires fits { fits_sizes (sizes_of days.now.case.now days.now.nurse) state ≡ true }
-    requires room { meter.old < greatest_u64 }
-    ensures counted { meter.new ≡ meter.old + 1 }
-    ensures step { result ≡ step_of days.now.case.now days.now.nurse day state shift }
-    ensures next_fits { IfSome result (λ step. fits_sizes
-        (sizes_of days.now.case.now days.now.nurse) step.0 ≡ true) }
-    ensures within { IfSome result (λ step. step.1 ≤ most_of_step) }
-{
-    let NurseDays { case, nurse, rules } = *days;
-    meter.add(1);
-    step_of_both(case, nurse, rules, day, state, shift)
-}
-
-/// What `extend` answers. It counts nothing.
+/// One day more from a state, by the nurse's rules: the state after it and what it costs. It counts nothing.
 #[inline(always)]
 pub(crate) fn step(
-    case: &Case,
-    nurse: usize,
-    day: u16,
-    state: State,
-    shift: Option<Shift>,
-) -> Option<(State, u32)>
-    requires shift { IfSome shift (λ s. s.0 < shift_count case.now) }
-    requires fits { fits_sizes (sizes_of case.now nurse) state ≡ true }
-    ensures step { result ≡ step_of case.now nurse day state shift }
-    ensures next_fits { IfSome result (λ step. fits_sizes (sizes_of case.now nurse) step.0 ≡ true) }
-    ensures within { IfSome result (λ step. step.1 ≤ most_of_step) }
-{
-    let rules = case.contract_rules(nurse);
-    step_of_both(case, nurse, rules, day, state, shift)
-}
-
-/// The same by the nurse's rules.
-#[inline(always)]
-pub(crate) fn step_of_both(
-    case: &Case,
-    nurse: usize,
-    rules: ContractRules,
-    day: u16,
-    state: State,
-    shift: Option<Shift>,
-) -> Option<(State, u32)>
-    requires rules { rules ≡ contract_of case.now nurse }
-    requires shift { IfSome shift (λ s. s.0 < shift_count case.now) }
-    requires fits { fits_sizes (sizes_of case.now nurse) state ≡ true }
-    ensures step { result ≡ step_of case.now nurse day state shift }
-    ensures next_fits { IfSome result (λ step. fits_sizes (sizes_of case.now nurse) step.0 ≡ true) }
-    ensures within { IfSome result (λ step. step.1 ≤ most_of_step) }
-{
-    match (state.last, shift) {
-        (Some(_), Some(shift)) => step_by(case, nurse, rules, day, state, Some(shift)),
-        (Some(_), None) => step_by(case, nurse, rules, day, state, None),
-        (None, Some(shift)) => step_by(case, nurse, rules, day, state, Some(shift)),
-        (None, None) => step_by(case, nurse, rules, day, state, None),
-    }
-}
-
-/// The same. It is compiled for each case of two shifts or days off apart.
-#[inline(always)]
-fn step_by(
     case: &Case,
     nurse: usize,
     rules: ContractRules,
@@ -202,7 +88,7 @@ pub fn after(
     Some(next_of(case, nurse, rules, day, state, shift))
 }
 
-/// S6. What the days cost in the end, beside the steps: points for each assignment missing to the least total.
+/// What the days cost in the end, beside the steps: points for each assignment missing to the least total.
 pub fn end_cost(case: &Case, nurse: usize, state: State) -> u32
     requires nurse { nurse < nurse_count case.now }
     requires fits { fits_sizes (sizes_of case.now nurse) state ≡ true }
@@ -244,27 +130,6 @@ fn start_state(case: &Case, nurse: usize, past: Past) -> State
     }
 }
 
-fn start_cost(case: &Case, nurse: usize, past: Past) -> u32
-    requires past { past ≡ past_of case.now nurse }
-    requires small { IsSmallPast past }
-    ensures cost { result ≡ due case.now nurse [] }
-    ensures within { result ≤ most_at_start }
-{
-    let rules = case.contract_rules(nurse);
-    let assignments = past.assignments.saturating_sub(rules.total.greatest) as u32;
-    let weekends = past.weekends.saturating_sub(rules.weekends) as u32;
-    ASSIGNMENT * assignments + WEEKEND * weekends
-}
-
-/// S6. The points for each assignment missing to the least total.
-fn missing_cost(case: &Case, nurse: usize, state: State) -> u32
-    ensures cost { result ≡ end_cost_of case.now nurse state }
-    ensures within { result ≤ most_at_end }
-{
-    let total = case.contract_rules(nurse).total;
-    ASSIGNMENT * total.least.saturating_sub(state.assignments) as u32
-}
-
 // ---- a step
 
 #[tactic(auto, unfolding(crate::specs::Step::next_of))]
@@ -287,14 +152,13 @@ pub(crate) fn next_of(
         ),
         None => (longer(free_run(state), rules.free), 0),
     };
-    let assignments = state.assignments as u32 + shift.is_some() as u32;
-    let weekends = state.weekends as u32 + weekends_more(day, state.last, shift);
+    let (assignments, weekends) = totals_after(rules, day, state, shift);
     State {
         last: shift,
         run,
         shift_run,
-        assignments: min(assignments, rules.total.cap() as u32) as u16,
-        weekends: min(weekends, rules.weekends as u32) as u16,
+        assignments,
+        weekends,
     }
 }
 
@@ -346,24 +210,6 @@ pub(crate) fn split_more(rules: ContractRules, day: u16, state: State, shift: Op
         return 0;
     }
     SPLIT * splits_more(day, state.last, shift)
-}
-
-/// S7. The points for a worked weekend above the greatest number.
-#[inline(always)]
-pub(crate) fn weekend_more(
-    rules: ContractRules,
-    day: u16,
-    state: State,
-    shift: Option<Shift>,
-) -> u32
-    ensures cost { result ≡ (if nat_le rules.weekends state.weekends then weekend_weight
-        * weekends_more day (is_some state.last) (is_some shift) else 0) }
-    ensures within { result ≤ weekend_weight }
-{
-    if state.weekends < rules.weekends {
-        return 0;
-    }
-    WEEKEND * weekends_more(day, state.last, shift)
 }
 
 /// The points for each missing or extra day of the runs of the shifts: that of the last shift may end, that of this one goes
@@ -449,18 +295,6 @@ pub(crate) fn longer(run: u32, limits: Limits) -> u16
 }
 
 // ---- weekends
-
-/// A worked Saturday is a worked weekend more, and a worked Sunday where the Saturday is free.
-pub(crate) fn weekends_more(day: u16, before: Option<Shift>, now: Option<Shift>) -> u32
-    ensures more { result ≡ weekends_more day (is_some before) (is_some now) }
-    ensures within { result ≤ 1 }
-{
-    match day % 7 {
-        5 => now.is_some() as u32,
-        6 => (before.is_none() && now.is_some()) as u32,
-        _ => 0,
-    }
-}
 
 /// A Sunday ends a weekend, of which one day may be worked alone.
 fn splits_more(day: u16, before: Option<Shift>, now: Option<Shift>) -> u32

@@ -1,28 +1,26 @@
 //! A worked day, whatever the shift: what is the same for all shifts is reckoned once.
 
-ghost use Rattle.std.specs.Prelude.{◌≡◌, ◌+◌, ◌*◌, ◌<◌, ◌≤◌, ℕ, ◌-◌, true, IfSome, None, Some, if◌then◌else◌, is_some, nat_le, option_map};
+ghost use Rattle.std.specs.Prelude.{◌≡◌, ◌+◌, ◌*◌, ◌<◌, ◌≤◌, ◌-◌, true, IfSome, None, Some, is_some};
 ghost use Rattle.roster_bundle.specs.Limits.{greatest_u64};
-ghost use Rattle.roster_instance.specs.Meaning.{contract_of, run_of_shift, shift_count};
-ghost use Rattle.roster_rules.specs.Weights.{assignment_weight, shift_run_weight};
+ghost use Rattle.roster_instance.specs.Meaning.{run_of_shift, shift_count};
+ghost use Rattle.roster_rules.specs.Weights.{shift_run_weight};
 ghost use Rattle.roster_state.specs.Codes.{fits_sizes, sizes_of};
 ghost use Rattle.roster_state.specs.Room.{most_of_step};
 ghost use Rattle.roster_state.specs.Step.{ended, shifts_more, step_of, with_assignments};
-ghost use Rattle.roster_state.specs.Stretches.{IsAlike, moved_on, stretch_state};
+ghost use Rattle.roster_state.specs.Stretches.{AreStretchSteps, IsAlike};
 ghost use Rattle.roster_state.specs.Worked.{IsWorkedDay};
 
+use crate::days::NurseDays;
 use crate::meter::Meter;
 use crate::state::State;
-use crate::step::{
-    NurseDays, ended, longer, open_shift_run, runs_more, split_more, step_of_both, weekend_more,
-    weekends_more, working_run,
-};
+use crate::step::{ended, longer, open_shift_run, runs_more, split_more, step, working_run};
 use crate::stretch::Stretch;
-use roster_rules::weights::{ASSIGNMENT, SHIFT_RUN};
-use roster_rules::{Case, Limits, Shift};
-use std::cmp::min;
+use crate::totals::{total_more, totals_after, weekend_more};
+use roster_rules::weights::SHIFT_RUN;
+use roster_rules::{Case, Shift};
 
 /// What a worked day brings to a state, whatever the shift. What it costs is read in this crate alone: others learn the cost of a step
-/// where the step is counted, by `extend_ahead` or `extend_stretch_ahead`.
+/// where the step is counted, by `extend` or `extend_stretch`.
 #[derive(Clone, Copy)]
 pub struct WorkedDay {
     /// The working days in a row after it.
@@ -40,182 +38,187 @@ pub struct WorkedDay {
 /// Any shift, where it is asked only whether one is worked.
 const ANY: Option<Shift> = Some(Shift(0));
 
-/// What a worked day brings to a state.
-#[inline(always)]
-pub fn worked_day(days: &NurseDays<'_>, day: u16, state: State) -> WorkedDay
-    requires rules { days.now.rules ≡ contract_of days.now.case.now days.now.nurse }
-    ensures worked { IsWorkedDay days.now.case.now days.now.nurse day state result }
-{
-    let NurseDays { case, rules, .. } = *days;
-    case.keeps_limits();
-    let assignments = state.assignments as u32;
-    let weekends = state.weekends as u32 + weekends_more(day, state.last, ANY);
-    WorkedDay {
-        run: longer(working_run(state), rules.working),
-        assignments: min(assignments + 1, rules.total.cap() as u32) as u16,
-        weekends: min(weekends, rules.weekends as u32) as u16,
-        cost: runs_more(rules, state, ANY)
-            + split_more(rules, day, state, ANY)
-            + weekend_more(rules, day, state, ANY)
-            + total_more(rules.total, assignments),
-        left: SHIFT_RUN * ended(case, state, None),
+impl NurseDays<'_> {
+    /// What a worked day brings to a state.
+    #[inline(always)]
+    pub fn worked(&self, day: u16, state: State) -> WorkedDay
+        ensures worked { IsWorkedDay self.now.case.now self.now.nurse day state result }
+    {
+        let NurseDays { case, rules, .. } = *self;
+        case.keeps_limits();
+        let (assignments, weekends) = totals_after(rules, day, state, ANY);
+        WorkedDay {
+            run: longer(working_run(state), rules.working),
+            assignments,
+            weekends,
+            cost: runs_more(rules, state, ANY)
+                + split_more(rules, day, state, ANY)
+                + weekend_more(rules, day, state, ANY)
+                + total_more(rules.total, state.assignments as u32),
+            left: SHIFT_RUN * ended(case, state, None),
+        }
     }
-}
 
-/// The points for an assignment above the greatest total.
-#[inline(always)]
-fn total_more(total: Limits, assignments: u32) -> u32
-    ensures cost { result ≡ (if nat_le total.greatest assignments then assignment_weight else 0) }
-    ensures within { result ≤ assignment_weight }
-{
-    if assignments < total.greatest as u32 {
-        return 0;
+    /// What a worked day brings to the first state of a stretch.
+    #[inline(always)]
+    pub fn worked_stretch(&self, day: u16, stretch: &Stretch) -> WorkedDay
+        requires places { stretch.now.from
+            < (sizes_of self.now.case.now self.now.nurse).assignments }
+        ensures { IsWorkedDay self.now.case.now self.now.nurse day
+            (with_assignments stretch.now.block stretch.now.from) result }
+    {
+        self.case.keeps_limits();
+        self.worked(day, stretch.block.state(stretch.from as u16))
     }
-    ASSIGNMENT
-}
 
-/// What `extend_by` does, where it is known what a worked day brings.
-#[inline(always)]
-pub fn extend_ahead(
-    days: &NurseDays<'_>,
-    day: u16,
-    state: State,
-    worked: &WorkedDay,
-    shift: Option<Shift>,
-    meter: &mut Meter,
-) -> Option<(State, u32)>
-    requires rules { days.now.rules ≡ contract_of days.now.case.now days.now.nurse }
-    requires shift { IfSome shift (λ s. s.0 < shift_count days.now.case.now) }
-    requires fits { fits_sizes (sizes_of days.now.case.now days.now.nurse) state ≡ true }
-    requires worked { IsWorkedDay days.now.case.now days.now.nurse day state worked.now }
-    requires room { meter.old < greatest_u64 }
-    ensures counted { meter.new ≡ meter.old + 1 }
-    ensures step { result ≡ step_of days.now.case.now days.now.nurse day state shift }
-    ensures next_fits { IfSome result (λ step. fits_sizes
-        (sizes_of days.now.case.now days.now.nurse) step.0 ≡ true) }
-    ensures within { IfSome result (λ step. step.1 ≤ most_of_step) }
+    /// The state with one day more, on which the nurse works this shift or is off, and what the day costs, where it is known what a worked
+    /// day brings. None exactly where the last shift forbids the next. Either way the meter counts one.
+    #[inline(always)]
+    pub fn extend(
+        &self,
+        day: u16,
+        state: State,
+        worked: &WorkedDay,
+        shift: Option<Shift>,
+        meter: &mut Meter,
+    ) -> Option<(State, u32)>
+        requires shift { IfSome shift (λ s. s.0 < shift_count self.now.case.now) }
+        requires fits { fits_sizes (sizes_of self.now.case.now self.now.nurse) state ≡ true }
+        requires worked { IsWorkedDay self.now.case.now self.now.nurse day state worked.now }
+        requires room { meter.old < greatest_u64 }
+        ensures counted { meter.new ≡ meter.old + 1 }
+        ensures step { result ≡ step_of self.now.case.now self.now.nurse day state shift }
+        ensures next_fits { IfSome result
+            (λ step. fits_sizes (sizes_of self.now.case.now self.now.nurse) step.0 ≡ true) }
+        ensures within { IfSome result (λ step. step.1 ≤ most_of_step) }
 
-    // What a worked day brings is in the state after it.
-    ensures works { is_some shift ≡ true → IfSome result
-        (λ step. (step.0.assignments ≡ worked.now.assignments)
-        × (step.0.weekends ≡ worked.now.weekends)) }
-{
-    meter.add(1);
-    step_ahead(days, day, state, worked, shift)
-}
-
-/// What a worked day brings to the first state of a stretch.
-#[inline(always)]
-pub fn worked_stretch(days: &NurseDays<'_>, day: u16, stretch: &Stretch) -> WorkedDay
-    requires rules { days.now.rules ≡ contract_of days.now.case.now days.now.nurse }
-    requires places { stretch.now.from < (sizes_of days.now.case.now days.now.nurse).assignments }
-    ensures { IsWorkedDay days.now.case.now days.now.nurse day
-        (with_assignments stretch.now.block stretch.now.from) result }
-{
-    days.case.keeps_limits();
-    worked_day(days, day, stretch.block.state(stretch.from as u16))
-}
-
-/// What `extend_stretch` does, where it is known what a worked day brings to the first state.
-#[inline(always)]
-pub fn extend_stretch_ahead(
-    days: &NurseDays<'_>,
-    day: u16,
-    stretch: &Stretch,
-    worked: &WorkedDay,
-    shift: Option<Shift>,
-    meter: &mut Meter,
-) -> Option<(State, u32)>
-    requires rules { days.now.rules ≡ contract_of days.now.case.now days.now.nurse }
-    requires shift { IfSome shift (λ s. s.0 < shift_count days.now.case.now) }
-    requires fits { fits_sizes (sizes_of days.now.case.now days.now.nurse)
-        stretch.now.block ≡ true }
-    requires places { stretch.now.from < (sizes_of days.now.case.now days.now.nurse).assignments }
-    requires alike { IsAlike days.now.case.now days.now.nurse day stretch.now.block stretch.now.rows
-        stretch.now.from stretch.now.end }
-    requires worked { IsWorkedDay days.now.case.now days.now.nurse day
-        (with_assignments stretch.now.block stretch.now.from) worked.now }
-    requires room { meter.old + stretch.now.rows
-        * (stretch.now.end - stretch.now.from) ≤ greatest_u64 }
-    ensures counted { meter.new ≡ meter.old + stretch.now.rows
-        * (stretch.now.end - stretch.now.from) }
-    ensures steps { (i b : ℕ) → i < stretch.now.rows → b < stretch.now.end - stretch.now.from →
-        option_map (moved_on i b) result ≡ step_of days.now.case.now days.now.nurse day
-        (stretch_state stretch.now.block stretch.now.from i b) shift }
-    ensures next_fits { IfSome result (λ step. fits_sizes
-        (sizes_of days.now.case.now days.now.nurse) step.0 ≡ true) }
-    ensures within { IfSome result (λ step. step.1 ≤ most_of_step) }
-{
-    days.case.keeps_limits();
-    let places = stretch.end.saturating_sub(stretch.from);
-    meter.add(stretch.rows as u64 * places as u64);
-    let first = stretch.block.state(stretch.from as u16);
-    step_ahead(days, day, first, worked, shift)
-}
-
-/// The step from a state by a shift or a day off. It counts nothing.
-#[inline(always)]
-fn step_ahead(
-    days: &NurseDays<'_>,
-    day: u16,
-    state: State,
-    worked: &WorkedDay,
-    shift: Option<Shift>,
-) -> Option<(State, u32)>
-    requires rules { days.now.rules ≡ contract_of days.now.case.now days.now.nurse }
-    requires shift { IfSome shift (λ s. s.0 < shift_count days.now.case.now) }
-    requires fits { fits_sizes (sizes_of days.now.case.now days.now.nurse) state ≡ true }
-    requires worked { IsWorkedDay days.now.case.now days.now.nurse day state worked.now }
-    ensures step { result ≡ step_of days.now.case.now days.now.nurse day state shift }
-    ensures next_fits { IfSome result (λ step. fits_sizes
-        (sizes_of days.now.case.now days.now.nurse) step.0 ≡ true) }
-    ensures within { IfSome result (λ step. step.1 ≤ most_of_step) }
-    ensures works { is_some shift ≡ true → IfSome result
-        (λ step. (step.0.assignments ≡ worked.now.assignments)
-        × (step.0.weekends ≡ worked.now.weekends)) }
-{
-    match shift {
-        Some(shift) => step_worked(days, day, state, worked, shift),
-        None => step_of_both(days.case, days.nurse, days.rules, day, state, None),
+        // What a worked day brings is in the state after it.
+        ensures works { is_some shift ≡ true → IfSome result
+            (λ step. (step.0.assignments ≡ worked.now.assignments)
+            × (step.0.weekends ≡ worked.now.weekends)) }
+    {
+        meter.add(1);
+        self.step(day, state, worked, shift)
     }
-}
 
-/// The same for a worked shift. It counts nothing.
-#[inline(always)]
-fn step_worked(
-    days: &NurseDays<'_>,
-    day: u16,
-    state: State,
-    worked: &WorkedDay,
-    shift: Shift,
-) -> Option<(State, u32)>
-    requires shift { shift.0 < shift_count days.now.case.now }
-    requires fits { fits_sizes (sizes_of days.now.case.now days.now.nurse) state ≡ true }
-    requires worked { IsWorkedDay days.now.case.now days.now.nurse day state worked.now }
-    ensures step { result ≡ step_of days.now.case.now days.now.nurse day state (Some shift) }
-    ensures next_fits { IfSome result (λ step. fits_sizes
-        (sizes_of days.now.case.now days.now.nurse) step.0 ≡ true) }
-    ensures within { IfSome result (λ step. step.1 ≤ most_of_step) }
-    ensures works { IfSome result (λ step. (step.0.assignments ≡ worked.now.assignments)
-        × (step.0.weekends ≡ worked.now.weekends)) }
-{
-    let case = days.case;
-    case.keeps_limits();
-    if case.forbids_next(state.last, Some(shift)) {
-        return None;
+    /// One day more from all states of a stretch from which it is alike, on which the nurse works this shift or is off, where it is known
+    /// what a worked day brings to the first state: the state to which it leads from the first place of the first row, and what it
+    /// costs. From each other state it costs the same, and leads to the state that is as many worked weekends and assignments further.
+    /// None exactly where the last shift forbids the next. Either way the meter counts one for each state.
+    #[inline(always)]
+    pub fn extend_stretch(
+        &self,
+        day: u16,
+        stretch: &Stretch,
+        worked: &WorkedDay,
+        shift: Option<Shift>,
+        meter: &mut Meter,
+    ) -> Option<(State, u32)>
+        requires shift { IfSome shift (λ s. s.0 < shift_count self.now.case.now) }
+        requires fits { fits_sizes (sizes_of self.now.case.now self.now.nurse)
+            stretch.now.block ≡ true }
+        requires places { stretch.now.from
+            < (sizes_of self.now.case.now self.now.nurse).assignments }
+        requires alike { IsAlike self.now.case.now self.now.nurse day stretch.now.block
+            stretch.now.rows stretch.now.from stretch.now.end }
+        requires worked { IsWorkedDay self.now.case.now self.now.nurse day
+            (with_assignments stretch.now.block stretch.now.from) worked.now }
+        requires room { meter.old + stretch.now.rows
+            * (stretch.now.end - stretch.now.from) ≤ greatest_u64 }
+        ensures counted { meter.new ≡ meter.old + stretch.now.rows
+            * (stretch.now.end - stretch.now.from) }
+        ensures steps { AreStretchSteps self.now.case.now self.now.nurse day stretch.now shift
+            result }
+        ensures next_fits { IfSome result
+            (λ step. fits_sizes (sizes_of self.now.case.now self.now.nurse) step.0 ≡ true) }
+        ensures within { IfSome result (λ step. step.1 ≤ most_of_step) }
+    {
+        self.case.keeps_limits();
+        let places = stretch.end.saturating_sub(stretch.from);
+        meter.add(stretch.rows as u64 * places as u64);
+        let first = stretch.block.state(stretch.from as u16);
+        self.step(day, first, worked, shift)
     }
-    let run = open_shift_run(state, shift);
-    let next = State {
-        last: Some(shift),
-        run: worked.run,
-        shift_run: longer(run, case.run_of_shift(shift)),
-        assignments: worked.assignments,
-        weekends: worked.weekends,
-    };
-    Some((
-        next,
-        worked.cost + shift_cost(case, state, worked.left, shift),
-    ))
+
+    /// The step from a state by a shift or a day off. It counts nothing.
+    #[inline(always)]
+    fn step(
+        &self,
+        day: u16,
+        state: State,
+        worked: &WorkedDay,
+        shift: Option<Shift>,
+    ) -> Option<(State, u32)>
+        requires shift { IfSome shift (λ s. s.0 < shift_count self.now.case.now) }
+        requires fits { fits_sizes (sizes_of self.now.case.now self.now.nurse) state ≡ true }
+        requires worked { IsWorkedDay self.now.case.now self.now.nurse day state worked.now }
+        ensures step { result ≡ step_of self.now.case.now self.now.nurse day state shift }
+        ensures next_fits { IfSome result
+            (λ step. fits_sizes (sizes_of self.now.case.now self.now.nurse) step.0 ≡ true) }
+        ensures within { IfSome result (λ step. step.1 ≤ most_of_step) }
+        ensures works { is_some shift ≡ true → IfSome result
+            (λ step. (step.0.assignments ≡ worked.now.assignments)
+            × (step.0.weekends ≡ worked.now.weekends)) }
+    {
+        match shift {
+            Some(shift) => self.step_worked(day, state, worked, shift),
+            None => self.step_off(day, state),
+        }
+    }
+
+    /// The same for a worked shift.
+    #[inline(always)]
+    fn step_worked(
+        &self,
+        day: u16,
+        state: State,
+        worked: &WorkedDay,
+        shift: Shift,
+    ) -> Option<(State, u32)>
+        requires shift { shift.0 < shift_count self.now.case.now }
+        requires fits { fits_sizes (sizes_of self.now.case.now self.now.nurse) state ≡ true }
+        requires worked { IsWorkedDay self.now.case.now self.now.nurse day state worked.now }
+        ensures step { result ≡ step_of self.now.case.now self.now.nurse day state (Some shift) }
+        ensures next_fits { IfSome result
+            (λ step. fits_sizes (sizes_of self.now.case.now self.now.nurse) step.0 ≡ true) }
+        ensures within { IfSome result (λ step. step.1 ≤ most_of_step) }
+        ensures works { IfSome result (λ step. (step.0.assignments ≡ worked.now.assignments)
+            × (step.0.weekends ≡ worked.now.weekends)) }
+    {
+        let case = self.case;
+        case.keeps_limits();
+        if case.forbids_next(state.last, Some(shift)) {
+            return None;
+        }
+        let run = open_shift_run(state, shift);
+        let next = State {
+            last: Some(shift),
+            run: worked.run,
+            shift_run: longer(run, case.run_of_shift(shift)),
+            assignments: worked.assignments,
+            weekends: worked.weekends,
+        };
+        Some((
+            next,
+            worked.cost + shift_cost(case, state, worked.left, shift),
+        ))
+    }
+
+    /// The same for a day off. It is compiled for a day off after a worked one and after another day off apart.
+    #[inline(always)]
+    fn step_off(&self, day: u16, state: State) -> Option<(State, u32)>
+        requires fits { fits_sizes (sizes_of self.now.case.now self.now.nurse) state ≡ true }
+        ensures step { result ≡ step_of self.now.case.now self.now.nurse day state None }
+        ensures next_fits { IfSome result
+            (λ step. fits_sizes (sizes_of self.now.case.now self.now.nurse) step.0 ≡ true) }
+        ensures within { IfSome result (λ step. step.1 ≤ most_of_step) }
+    {
+        let NurseDays { case, nurse, rules } = *self;
+        match state.last {
+            Some(_) => step(case, nurse, rules, day, state, None),
+            None => step(case, nurse, rules, day, state, None),
+        }
+    }
 }
 
 /// The points for the runs of shifts, where a shift is worked: that of the last one goes on, or it ends and one of another begins.

@@ -10,7 +10,7 @@ use Rattle.roster_rules.specs.Prefix.{due, summary_of}
 use Rattle.roster_instance.specs.Rosters.{Row, is_choice_of, is_row_of}
 use Rattle.roster_state.proofs.RowLemmas.{forbidden_by, front, front_more, kept_more, length_front, not_both}
 use Rattle.roster_state.proofs.TriedDays.{tried-all, tried-up_to}
-use Rattle.roster_state.proofs.row.row_cost.Goals as goal
+use Rattle.roster_state.proofs.reference.row_cost.Goals as goal
 
 row_days : (k : Meaning) (row : Row) → is_row_of k row ≡ true → length row ≡ day_count k
 row_days k row fitting = eqb-true (length row) (day_count k) (and_parts (length row == day_count k) (list_all (is_choice_of k) row) fitting).0

@@ -1,7 +1,7 @@
 use Rattle.std.proofs.Common.{◌∙◌, ◌+◌, ◌*◌, ◌-◌, sym}
 use Rattle.roster_rules.specs.Weights.{assignment_weight, weekend_weight}
 use Rattle.roster_state.proofs.StartLaw.{due_at_first}
-use Rattle.roster_state.proofs.step.start_cost.Goals as goal
+use Rattle.roster_state.proofs.totals.start_cost.Goals as goal
 
 pub returns-clause-cost : goal.returns-clause-cost
 returns-clause-cost c =

@@ -5,7 +5,7 @@ use Rattle.roster_rules.specs.Prefix.{Summary, due, summary_of}
 use Rattle.roster_state.specs.Step.{next_of, step_cost, step_of}
 use Rattle.roster_state.proofs.BlockLaw.{where_some}
 use Rattle.roster_state.proofs.SumLaw.{step_leads, step_owes}
-use Rattle.roster_state.proofs.step.extend.Goals as goal
+use Rattle.roster_state.proofs.reference.extend.Goals as goal
 
 abbrev step : (c : goal.After-step) → Option (Summary × ℕ)
 step c = c.step.result

@@ -7,8 +7,8 @@ use Rattle.roster_state.specs.Blocks.{place_after}
 use Rattle.roster_state.specs.Codes.{fits_sizes, sizes_of}
 use Rattle.roster_state.specs.Step.{step_of, with_assignments}
 use Rattle.roster_state.proofs.CodeLemmas.{fits-all, place-fits}
-use Rattle.roster_state.proofs.step.step_by.Goals as goal
-use Rattle.roster_state.proofs.step.step_by.Goals.{After-cap, After-of}
+use Rattle.roster_state.proofs.step.step.Goals as goal
+use Rattle.roster_state.proofs.step.step.Goals.{After-cap, After-of}
 
 -- the state is a place of its block
 inside : (c : After-of) → c.args.state.assignments < (sizes_of c.args.case.now c.args.nurse).assignments

@@ -7,28 +7,28 @@ use Rattle.roster_state.specs.Room.{most_of_step}
 use Rattle.roster_state.specs.Step.{next_of, open_shift_run, step_cost}
 use Rattle.roster_state.proofs.RangeLemmas.{next_fits}
 use Rattle.roster_state.proofs.WorkedLaw.{cost_within, cost_worked, left_small, state_worked}
-use Rattle.roster_state.proofs.worked.step_worked.Goals as goal
-use Rattle.roster_state.proofs.worked.step_worked.Goals.{After-shift_cost}
+use Rattle.roster_state.proofs.days.NurseDays.step_worked.Goals as goal
+use Rattle.roster_state.proofs.days.NurseDays.step_worked.Goals.{After-shift_cost}
 
-cost : (c : After-shift_cost) → c.args.worked.now.cost + c.shift_cost.result ≡ step_cost c.args.days.now.case.now c.args.days.now.nurse c.args.day c.args.state (Some c.args.shift)
-cost c = cost_worked c.args.days.now.case.now c.args.days.now.nurse c.args.day c.args.state c.args.worked.now c.requires.worked c.args.shift c.shift_cost.result c.shift_cost.ensures.cost
+cost : (c : After-shift_cost) → c.args.worked.now.cost + c.shift_cost.result ≡ step_cost c.args.self.now.case.now c.args.self.now.nurse c.args.day c.args.state (Some c.args.shift)
+cost c = cost_worked c.args.self.now.case.now c.args.self.now.nurse c.args.day c.args.state c.args.worked.now c.requires.worked c.args.shift c.shift_cost.result c.shift_cost.ensures.cost
 
 within : (c : After-shift_cost) → c.args.worked.now.cost + c.shift_cost.result ≤ most_of_step
-within c = omega (arith, cost c, cost_within c.args.days.now.case.now c.args.days.now.nurse c.args.day c.args.state c.args.worked.now c.requires.worked c.args.shift c.keeps_limits.ensures.small)
+within c = omega (arith, cost c, cost_within c.args.self.now.case.now c.args.self.now.nurse c.args.day c.args.state c.args.worked.now c.requires.worked c.args.shift c.keeps_limits.ensures.small)
 
-run : (c : After-shift_cost) → c.longer.result ≡ min (open_shift_run c.args.state c.args.shift.0 + 1) (cap (run_of_shift c.args.days.now.case.now c.args.shift.0))
+run : (c : After-shift_cost) → c.longer.result ≡ min (open_shift_run c.args.state c.args.shift.0 + 1) (cap (run_of_shift c.args.self.now.case.now c.args.shift.0))
 run c = c.longer.ensures ∙ (λ i. min (c.open_shift_run-run.ensures.run i + 1) (cap (c.run_of_shift.ensures.limits i)))
 
 pub shift_cost-requires-clause-small : goal.shift_cost-requires-clause-small
-shift_cost-requires-clause-small c = left_small c.args.days.now.case.now c.args.days.now.nurse c.args.day c.args.state c.args.worked.now c.requires.worked c.args.shift c.keeps_limits.ensures.small
+shift_cost-requires-clause-small c = left_small c.args.self.now.case.now c.args.self.now.nurse c.args.day c.args.state c.args.worked.now c.requires.worked c.args.shift c.keeps_limits.ensures.small
 
 pub overflow_add-result : goal.overflow_add-result
 overflow_add-result c = omega (arith, within (goal.at.overflow_add-result c).After-shift_cost)
 
 pub returns-clause-step : goal.returns-clause-step
 returns-clause-step c =
-    let k = c.args.days.now.case.now in
-    let n = c.args.days.now.nurse in
+    let k = c.args.self.now.case.now in
+    let n = c.args.self.now.nurse in
     let s = c.args.state in
     let u = Some c.args.shift in
     let of = (goal.at.returns-clause-step c).After-shift_cost in
@@ -38,8 +38,8 @@ returns-clause-step c =
 
 pub returns-clause-next_fits : goal.returns-clause-next_fits
 returns-clause-next_fits c =
-    let k = c.args.days.now.case.now in
-    let n = c.args.days.now.nurse in
+    let k = c.args.self.now.case.now in
+    let n = c.args.self.now.nurse in
     let of = (goal.at.returns-clause-next_fits c).After-shift_cost in
     let next = state_worked k n c.args.day c.args.state c.args.worked.now c.requires.worked c.args.shift c.longer.result (run of) in
     subst (λ (s : Summary). fits_sizes (sizes_of k n) s ≡ true) (sym next) (next_fits k n c.args.day c.args.state (Some c.args.shift) c.requires.shift)
