@@ -1,6 +1,5 @@
--- A place by one offer more, and blocks that stand one after another.
-use Rattle.std.proofs.Common.{◌≡◌, ◌∙◌, ◌+◌, ◌*◌, ◌<◌, ◌≤◌, ◌⊎◌, ℕ, Bool, suc, inl, inr, ap, arith, mul-pos, subst, sym, List, length, min, nat_lt, if◌then◌else◌, slice_index_or, take}
-use Rattle.std.proofs.Math.Nat.{suc-mul}
+-- A place by one offer more.
+use Rattle.std.proofs.Common.{◌≡◌, ◌∙◌, ◌+◌, ◌<◌, ◌≤◌, ◌⊎◌, ℕ, Bool, inl, inr, ap, arith, subst, sym, List, length, min, nat_lt, if◌then◌else◌, slice_index_or, take}
 use Rattle.std.proofs.lemmas.Bool.{cases_lt, le-ltb, lt-ltb}
 use Rattle.roster_offers.specs.Cheapest.{Priced, cheapest}
 use Rattle.roster_offers.specs.Lists.{no_row}
@@ -40,13 +39,3 @@ module _ {O X : Type 0} (by : O → Priced X) (offers : List O) (place : ℕ) (i
             least = omega (arith, h, none) ∙ kept.least;
             points = λ row e below. absurd (omega (arith, none, kept.least, ap label_of e, below));
           }
-
--- ---- blocks beside one another
-
-pub next_block : (number size : ℕ) → number * size + size ≡ (number + 1) * size
-next_block number size =
-    let next : number + 1 ≡ suc number = omega arith in
-    omega (arith, ap (λ k. k * size) next, suc-mul number size)
-
-pub product_some : (a b : ℕ) → 0 < a → 0 < b → 0 < a * b
-product_some a b p q = mul-pos p q

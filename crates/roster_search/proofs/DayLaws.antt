@@ -1,21 +1,24 @@
 -- The groups of a day, one after another: by last shift, run and run of the shift.
-use Rattle.std.proofs.Common.{◌≡◌, ◌∙◌, ◌+◌, ◌*◌, ◌<◌, ◌≤◌, ◌⊎◌, ℕ, true, inl, inr, ap, arith, subst, sym, List, length, slice_index_or}
+use Rattle.std.proofs.Common.{◌≡◌, ◌∙◌, ◌+◌, ◌*◌, ◌<◌, ◌≤◌, ◌⊎◌, ℕ, true, inl, inr, ap, arith, refl, subst, sym, List, length, slice_index_or}
 use Rattle.std.proofs.lemmas.Bool.{cases_lt}
 use Rattle.std.proofs.lemmas.List.{get_or_default}
 use Rattle.std.proofs.lemmas.Nat.{mul-le}
+use Rattle.roster_instance.specs.Counting.{sum_below}
 use Rattle.roster_instance.specs.Meaning.{Meaning}
 use Rattle.roster_rules.specs.Prefix.{Summary}
 use Rattle.roster_state.specs.declared.area.Area.{Area}
-use Rattle.roster_state.specs.declared.area.Span.{Span}
 use Rattle.roster_state.specs.Areas.{InArea, InSpan, area_at, nowhere}
 use Rattle.roster_state.specs.Codes.{Sizes, code_of, fits_sizes, product, shift_digit, sizes_of}
 use Rattle.roster_state.proofs.AreaLaw.{last_of_digit}
 use Rattle.roster_state.proofs.CodeLemmas.{Fits, all-fit, fits-all, shift_digit-shift_numbered}
-use Rattle.roster_lanes.specs.Lanes.{SameOutside}
-use Rattle.roster_offers.specs.declared.offer.Offer.{Offer}
-use Rattle.roster_search.specs.declared.day.SearchDay.{SearchDay}
-use Rattle.roster_search.specs.Counts.{group_of}
-use Rattle.roster_search.specs.Tables.{Around, CellsOf, LabelsOf, PointersOf, Stands, StandsLike, best_on}
+use Rattle.roster_search.specs.declared.day.OpenDay.{OpenDay}
+use Rattle.roster_search.specs.declared.days.SearchDays.{SearchDays}
+use Rattle.roster_search.specs.Counts.{group_of, states_of_last, states_of_run, states_on, states_with}
+use Rattle.roster_search.specs.Days.{EndLabels}
+use Rattle.roster_search.specs.OpenDays.{AreTables, IsGroupOf, KeepTables, KeepsRest, StandsBy, StandsOn, best_from, best_with, group_places}
+use Rattle.roster_search.proofs.CellLaws.{tables_then, tables_wider}
+use Rattle.roster_search.proofs.CountLaws.{Goes, exactly_more, exactly_on, goes_over, goes_only, goes_within, over_part, sum_more, sum_part, sum_to}
+use Rattle.roster_search.specs.Tables.{CellsOf, PointsWhereBest, Stands, StandsLike, best_at_end, label_of}
 use Rattle.roster_search.proofs.GroupLaws.{weekends_before}
 
 -- ---- the order of the groups
@@ -36,9 +39,6 @@ groups z = z.last * z.run * z.shift_run
 pub group_digit : (last run shift_run : ℕ) → shift_digit (group_of last run shift_run).last ≡ last
 group_digit last run shift_run = shift_digit-shift_numbered last
 
-pub span_same : {span : Span} {x y : ℕ} → InSpan span x → x ≡ y → InSpan span y
-span_same {span} h is = subst (InSpan span) is h
-
 -- sizes of at most 1000 runs each
 pub record FewRuns (z : Sizes) : Type 0 where
   pub run : z.run ≤ 1000
@@ -58,44 +58,45 @@ module _ (c : Meaning) (n : ℕ) (areas : List Area) (few : FewRuns (sizes_of c 
   abbrev pub fit : Fits z s
   fit = fits-all z s stands.fits
 
-  module _ (last : ℕ) (area : Area) (is : area ≡ area_at areas last) where
-    inside : shift_digit s.last ≡ last → InArea area s
-    inside here = subst (λ (x : Area). InArea x s) (ap (area_at areas) here ∙ sym is) stands.inside
+  module _ (last : ℕ) where
+    inside : shift_digit s.last ≡ last → InArea (area_at areas last) s
+    inside here = subst (λ (x : Area). InArea x s) (ap (area_at areas) here) stands.inside
 
-    pub before_first_run : (from : ℕ) → from ≤ 1000 → ((x : ℕ) → InSpan area.run x → x < z.run → from ≤ x) → key_of s < group_key last from 0 → key_of s < group_key last 0 0
-    before_first_run from most each below = go (cases_lt (shift_digit s.last) last) (cases_lt last (shift_digit s.last))
+    pub before_first_run : {from end : ℕ} → Goes (area_at areas last).run z.run from end → key_of s < group_key last from 0 → key_of s < group_key last 0 0
+    before_first_run {from} goes below = go (cases_lt (shift_digit s.last) last) (cases_lt last (shift_digit s.last))
       where
         go : (shift_digit s.last < last) ⊎ (last ≤ shift_digit s.last) → (last < shift_digit s.last) ⊎ (shift_digit s.last ≤ last) → key_of s < group_key last 0 0
         go (inl low) q = omega (arith, low, fit.run, fit.shift_run, few.run, few.shift_run)
-        go (inr from_last) (inl high) = absurd (omega (arith, high, below, most))
-        go (inr from_last) (inr to_last) = let here : shift_digit s.last ≡ last = omega (arith, from_last, to_last) in absurd (omega (arith, here, below, each s.run (inside here).run fit.run))
+        go (inr from_last) (inl high) = absurd (omega (arith, high, below, (goes_within goes).0, (goes_within goes).1, few.run))
+        go (inr from_last) (inr to_last) = let here : shift_digit s.last ≡ last = omega (arith, from_last, to_last) in absurd (omega (arith, here, below, (goes_over goes (inside here).run fit.run).0))
 
-    pub after_last_run : (to : ℕ) → ((x : ℕ) → InSpan area.run x → x < z.run → x < to) → key_of s < group_key (last + 1) 0 0 → key_of s < group_key last to 0
-    after_last_run to each below = go (cases_lt (shift_digit s.last) last)
+    pub after_last_run : {from end : ℕ} → Goes (area_at areas last).run z.run from end → (to : ℕ) → to ≡ end → key_of s < group_key (last + 1) 0 0 → key_of s < group_key last to 0
+    after_last_run goes to is below = go (cases_lt (shift_digit s.last) last)
       where
         go : (shift_digit s.last < last) ⊎ (last ≤ shift_digit s.last) → key_of s < group_key last to 0
         go (inl low) = omega (arith, low, fit.run, fit.shift_run, few.run, few.shift_run)
-        go (inr high) = let here : shift_digit s.last ≡ last = omega (arith, high, below) in omega (arith, here, each s.run (inside here).run fit.run, fit.shift_run, few.shift_run)
+        go (inr high) = let here : shift_digit s.last ≡ last = omega (arith, high, below) in omega (arith, here, is, (goes_over goes (inside here).run fit.run).1, fit.shift_run, few.shift_run)
 
-    pub before_first_shift_run : (run from : ℕ) → run < 1000 → from ≤ 1000 → ((x : ℕ) → InSpan area.shift_run x → x < z.shift_run → from ≤ x) → key_of s < group_key last run from → key_of s < group_key last run 0
-    before_first_shift_run run from few_runs most each below = go (cases_lt (key_of s) (group_key last run 0))
+    pub before_first_shift_run : (run : ℕ) → run < z.run → {from end : ℕ} → Goes (area_at areas last).shift_run z.shift_run from end → key_of s < group_key last run from → key_of s < group_key last run 0
+    before_first_shift_run run few_runs {from} goes below = go (cases_lt (key_of s) (group_key last run 0))
       where
         go : (key_of s < group_key last run 0) ⊎ (group_key last run 0 ≤ key_of s) → key_of s < group_key last run 0
         go (inl low) = low
         go (inr high) =
+            let most : from ≤ 1000 = omega (arith, (goes_within goes).0, (goes_within goes).1, few.shift_run) in
             let here : shift_digit s.last ≡ last = omega (arith, high, below, few_runs, most, fit.run, fit.shift_run, few.run, few.shift_run) in
             let run_is : s.run ≡ run = omega (arith, here, high, below, most, fit.shift_run, few.shift_run) in
-            absurd (omega (arith, here, run_is, below, each s.shift_run (inside here).shift_run fit.shift_run))
+            absurd (omega (arith, here, run_is, below, (goes_over goes (inside here).shift_run fit.shift_run).0))
 
-    pub after_last_shift_run : (run to : ℕ) → run < 1000 → ((x : ℕ) → InSpan area.shift_run x → x < z.shift_run → x < to) → key_of s < group_key last (run + 1) 0 → key_of s < group_key last run to
-    after_last_shift_run run to few_runs each below = go (cases_lt (key_of s) (group_key last run 0))
+    pub after_last_shift_run : (run : ℕ) → run < z.run → {from end : ℕ} → Goes (area_at areas last).shift_run z.shift_run from end → (to : ℕ) → to ≡ end → key_of s < group_key last (run + 1) 0 → key_of s < group_key last run to
+    after_last_shift_run run few_runs goes to is below = go (cases_lt (key_of s) (group_key last run 0))
       where
         go : (key_of s < group_key last run 0) ⊎ (group_key last run 0 ≤ key_of s) → key_of s < group_key last run to
         go (inl low) = omega (arith, low)
         go (inr high) =
             let here : shift_digit s.last ≡ last = omega (arith, high, below, few_runs, fit.run, fit.shift_run, few.run, few.shift_run) in
             let run_is : s.run ≡ run = omega (arith, here, high, below, fit.shift_run, few.shift_run) in
-            omega (arith, here, run_is, each s.shift_run (inside here).shift_run fit.shift_run)
+            omega (arith, here, run_is, is, (goes_over goes (inside here).shift_run fit.shift_run).1)
 
   -- after the last group
   pub before_all : (last : ℕ) → z.last ≤ last → key_of s < group_key last 0 0
@@ -161,10 +162,6 @@ module _ (z : Sizes) (last run shift_run : ℕ) where
 -- ---- the cells of the groups so far
 
 module _ (c : Meaning) (n : ℕ) (areas : List Area) where
-  pub cells_skipped : (y : Sizes) (right : Summary → ℕ → Type 0) (place : ℕ → ℕ) (cells : List ℕ) (key next : ℕ) → ((s : Summary) → Stands c n areas s → key_of s < next → key_of s < key)
-      → CellsOf (λ s. Stands c n areas s × (key_of s < key)) y right place cells → CellsOf (λ s. Stands c n areas s × (key_of s < next)) y right place cells
-  cells_skipped y right place cells key next none old s which = old s (which.0, none s which.0 which.1)
-
   -- a group more
   module _ (few : FewRuns (sizes_of c n)) (last run shift_run : ℕ) (few_runs : run < 1000) (few_shift_runs : shift_run < 1000) where
     pub cells_grouped : (right : Summary → ℕ → Type 0) (place : ℕ → ℕ) (old new : List ℕ) → ((code : ℕ) → code < code_of (sizes_of c n) (group_of last run shift_run) → slice_index_or new (place code) 0 ≡ slice_index_or old (place code) 0)
@@ -181,19 +178,111 @@ module _ (c : Meaning) (n : ℕ) (areas : List Area) where
 
 -- ---- what is done of a day
 
-pub record DayDone (c : Meaning) (at : SearchDay) (rest : Around) (offers : List Offer) (first key : ℕ) (table starts places : List ℕ) (before counted : ℕ) : Type 0 where
-  pub labels : LabelsOf (λ s. Stands c at.nurse rest.here s × (key_of s < key)) c at.nurse (best_on c at offers rest.best) table
-  pub pointers : PointersOf (λ s. Stands c at.nurse rest.here s × (key_of s < key)) c at offers rest.best first places
-  pub others : SameOutside first (first + product at.ranges) starts places
-  pub some : 0 < length offers → (s : Summary) → Stands c at.nurse rest.here s → key_of s < key → before < counted
-  pub grown : before ≤ counted
+-- how many states stand, of those before a last shift, before a run with it, and before a run of the shift with both
+abbrev pub lasts_below : OpenDay → ℕ → ℕ
+lasts_below day last = sum_below last (states_of_last day.days.case.now day.days.nurse day.areas.now)
 
-pub done_skipped : (c : Meaning) (at : SearchDay) (rest : Around) (offers : List Offer) (first key next : ℕ) (labels pointers_old pointers : List ℕ) (meter_old meter : ℕ) → ((s : Summary) → Stands c at.nurse rest.here s → key_of s < next → key_of s < key)
-    → DayDone c at rest offers first key labels pointers_old pointers meter_old meter → DayDone c at rest offers first next labels pointers_old pointers meter_old meter
-done_skipped c at rest offers first key next labels pointers_old pointers meter_old meter none old = record {
-  labels = λ s which. old.labels s (which.0, none s which.0 which.1);
-  pointers = λ s which. old.pointers s (which.0, none s which.0 which.1);
-  others = old.others;
-  some = λ offered s stands below. old.some offered s stands (none s stands below);
-  grown = old.grown;
+abbrev pub runs_below : OpenDay → (last run : ℕ) → ℕ
+runs_below day last run = lasts_below day last + sum_to (area_at day.areas.now last).run run (states_of_run day.days.case.now day.days.nurse day.areas.now last)
+
+abbrev pub groups_below : OpenDay → (last run shift_run : ℕ) → ℕ
+groups_below day last run shift_run = runs_below day last run + sum_to (area_at day.areas.now last).shift_run shift_run (λ q. states_with day.days.case.now day.days.nurse day.areas.now (group_of last run q))
+
+-- the tables of the states before a key, the rest of them, and the meter after so many states
+pub record DayDone (day : OpenDay) (key states : ℕ) (labels_old labels pointers_old pointers : List ℕ) (initial counted : ℕ) : Type 0 where
+  pub tables : AreTables day (λ s. StandsOn day s × (key_of s < key)) labels pointers
+  pub beside : KeepTables day 0 (product day.days.ranges) labels_old labels pointers_old pointers
+  pub exactly : counted ≡ initial + states * length day.offers.now
+
+-- to a key before which no other state stands
+pub done_on : {day : OpenDay} {key states : ℕ} {labels_old labels pointers_old pointers : List ℕ} {initial counted : ℕ} → DayDone day key states labels_old labels pointers_old pointers initial counted
+    → (next more : ℕ) → ((s : Summary) → StandsOn day s → key_of s < next → key_of s < key) → states ≡ more → DayDone day next more labels_old labels pointers_old pointers initial counted
+done_on {day} {initial = initial} {counted = counted} old next more none same = record {
+  tables = record { labels_are = λ s which. old.tables.labels_are s (which.0, none s which.0 which.1); pointers_are = λ s which. old.tables.pointers_are s (which.0, none s which.0 which.1) };
+  beside = old.beside;
+  exactly = exactly_on (length day.offers.now) initial counted old.exactly same;
 }
+
+-- what labelling a group does
+pub record GroupDone (day : OpenDay) (group : Summary) (labels_old labels pointers_old pointers : List ℕ) (counted new : ℕ) : Type 0 where
+  pub tables : AreTables day (StandsBy day group) labels pointers
+  pub beside : KeepTables day (code_of day.days.ranges group) (group_places day.days) labels_old labels pointers_old pointers
+  pub exactly : new ≡ counted + states_with day.days.case.now day.days.nurse day.areas.now group * length day.offers.now
+
+module _ (day : OpenDay) (last run shift_run : ℕ) (last_fits : last < day.days.ranges.last) {first_run end_run : ℕ} (runs : Goes (area_at day.areas.now last).run (sizes_of day.days.case.now day.days.nurse).run first_run end_run) (run_low : first_run ≤ run) (run_high : run < end_run)
+    {first_shift_run end_shift_run : ℕ} (shift_runs : Goes (area_at day.areas.now last).shift_run (sizes_of day.days.case.now day.days.nurse).shift_run first_shift_run end_shift_run) (shift_run_low : first_shift_run ≤ shift_run) (shift_run_high : shift_run < end_shift_run) where
+  abbrev y : Sizes
+  y = sizes_of day.days.case.now day.days.nurse
+
+  abbrev group_here : Summary
+  group_here = group_of last run shift_run
+
+  run_fits : run < y.run
+  run_fits = omega (arith, run_high, (goes_within runs).1)
+
+  shift_run_fits : shift_run < y.shift_run
+  shift_run_fits = omega (arith, shift_run_high, (goes_within shift_runs).1)
+
+  last_in : last < y.last
+  last_in = subst (λ (x : Sizes). last < x.last) day.days.search.ranges last_fits
+
+  pub group_is : IsGroupOf day group_here
+  group_is =
+      let digit = sym (group_digit last run shift_run) in
+      record {
+        fits = subst (λ x. fits_sizes x group_here ≡ true) (sym day.days.search.ranges) (group_fits y last run shift_run last_in run_fits shift_run_fits (omega arith) (omega arith));
+        no_weekends = refl;
+        no_assignments = refl;
+        run = subst (λ d. InSpan (area_at day.areas.now d).run run) digit (goes_only runs run_low run_high);
+        shift_run = subst (λ d. InSpan (area_at day.areas.now d).shift_run shift_run) digit (goes_only shift_runs shift_run_low shift_run_high);
+      }
+
+  -- it is one of the states of the day
+  pub group_part : groups_below day last run shift_run + states_with day.days.case.now day.days.nurse day.areas.now group_here ≤ states_on day.days.case.now day.days.nurse day.areas.now
+  group_part =
+      let of_run = over_part shift_runs shift_run (λ q. states_with day.days.case.now day.days.nurse day.areas.now (group_of last run q)) shift_run_low shift_run_high in
+      let of_last = over_part runs run (states_of_run day.days.case.now day.days.nurse day.areas.now last) run_low run_high in
+      omega (arith, of_run, of_last, sum_part last y.last (states_of_last day.days.case.now day.days.nurse day.areas.now) last_in)
+
+  module _ (few : FewRuns y) {labels_old labels pointers_old pointers : List ℕ} {initial counted : ℕ} (old : DayDone day (group_key last run shift_run) (groups_below day last run shift_run) labels_old labels pointers_old pointers initial counted)
+      {labels_new pointers_new : List ℕ} {new : ℕ} (done : GroupDone day group_here labels labels_new pointers pointers_new counted new) where
+    few_runs : run < 1000
+    few_runs = omega (arith, run_fits, few.run)
+
+    few_shift_runs : shift_run < 1000
+    few_shift_runs = omega (arith, shift_run_fits, few.shift_run)
+
+    pub group_done : DayDone day (group_key last run (shift_run + 1)) (groups_below day last run (shift_run + 1)) labels_old labels_new pointers_old pointers_new initial new
+    group_done =
+        let same_code = ap (λ x. code_of x group_here) (sym day.days.search.ranges) in
+        let end = subst (λ (x : Sizes). code_of x group_here + x.weekends * x.assignments ≤ product x) (sym day.days.search.ranges) (group_end y last run shift_run last_in run_fits shift_run_fits) in
+        let grouped = cells_grouped day.days.case.now day.days.nurse day.areas.now few last run shift_run few_runs few_shift_runs in
+        record {
+          tables = record {
+            labels_are = grouped (λ s label. label ≡ label_of (best_from day s)) (λ j. j) labels labels_new (λ j low. done.beside.of_labels.others.before j (omega (arith, low, same_code))) done.tables.labels_are old.tables.labels_are;
+            pointers_are = grouped (λ s. PointsWhereBest (best_with day s) day.offers.now (best_from day s)) (λ j. day.first + j) pointers pointers_new
+                (λ j low. done.beside.of_pointers.others.before (day.first + j) (omega (arith, low, same_code))) done.tables.pointers_are old.tables.pointers_are;
+          };
+          beside = tables_then old.beside (tables_wider done.beside 0 (product day.days.ranges) (omega arith) (omega (arith, end)));
+          exactly =
+              let more = sum_more shift_runs shift_run (λ q. states_with day.days.case.now day.days.nurse day.areas.now (group_of last run q)) shift_run_low shift_run_high in
+              exactly_more (groups_below day last run shift_run) (states_with day.days.case.now day.days.nurse day.areas.now group_here) (groups_below day last run (shift_run + 1)) (length day.offers.now) initial counted new old.exactly done.exactly (omega (arith, more));
+        }
+
+-- ---- what is done after the last day
+
+pub record EndDone (days : SearchDays) (areas : List Area) (key : ℕ) (old labels : List ℕ) : Type 0 where
+  pub labels_are : EndLabels (λ s. Stands days.case.now days.nurse areas s × (key_of s < key)) days labels
+  pub length_stays : length labels ≡ length old
+
+pub end_on : {days : SearchDays} {areas : List Area} {key : ℕ} {old labels : List ℕ} → EndDone days areas key old labels → (next : ℕ) → ((s : Summary) → Stands days.case.now days.nurse areas s → key_of s < next → key_of s < key) → EndDone days areas next old labels
+end_on done next none = record { labels_are = λ s which. done.labels_are s (which.0, none s which.0 which.1); length_stays = done.length_stays }
+
+module _ (days : SearchDays) (areas : List Area) (few : FewRuns (sizes_of days.case.now days.nurse)) (last run shift_run : ℕ) (in_run : run < (sizes_of days.case.now days.nurse).run) (in_shift_run : shift_run < (sizes_of days.case.now days.nurse).shift_run) where
+  pub end_more : {old labels new : List ℕ} → EndDone days areas (group_key last run shift_run) old labels → EndLabels (StandsLike days.case.now days.nurse areas (group_of last run shift_run)) days new → KeepsRest (code_of days.ranges (group_of last run shift_run)) (group_places days) labels new
+      → EndDone days areas (group_key last run (shift_run + 1)) old new
+  end_more {old} {labels} {new} done here beside = record {
+    labels_are = cells_grouped days.case.now days.nurse areas few last run shift_run (omega (arith, in_run, few.run)) (omega (arith, in_shift_run, few.shift_run)) (λ s label. label ≡ label_of (best_at_end days.case.now days.nurse s)) (λ j. j) labels new
+        (λ j low. beside.others.before j (omega (arith, low, ap (λ x. code_of x (group_of last run shift_run)) (sym days.search.ranges)))) here done.labels_are;
+    length_stays = beside.length_stays ∙ done.length_stays;
+  }

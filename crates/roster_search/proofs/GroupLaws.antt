@@ -12,7 +12,10 @@ use Rattle.roster_state.specs.Codes.{Sizes, code_of, fits_sizes, shift_digit, si
 use Rattle.roster_state.specs.Standing.{can_be, can_be_with, excess}
 use Rattle.roster_state.specs.Step.{with_assignments, with_weekends}
 use Rattle.roster_state.proofs.CodeLemmas.{Fits, all-fit, fits-all}
-use Rattle.roster_search.specs.Tables.{CellsOf, Stands, StandsLike}
+use Rattle.roster_search.specs.declared.day.OpenDay.{OpenDay}
+use Rattle.roster_search.specs.OpenDays.{IsGroupOf, StandsOn}
+use Rattle.roster_search.specs.Tables.{CellsOf, StandsLike}
+use Rattle.roster_search.proofs.CountLaws.{Goes, goes_over}
 
 -- ---- numbers
 
@@ -48,7 +51,7 @@ module _ (z : Sizes) (group : Summary) (no_weekends : group.weekends ≡ 0) (no_
 
 -- ---- a state that stands like the group's
 
-module _ (c : Meaning) (n : ℕ) (areas : List Area) (group s : Summary) (like : StandsLike c n areas group s) where
+module _ {c : Meaning} {n : ℕ} {areas : List Area} {group s : Summary} (like : StandsLike c n areas group s) where
   pub as_place : (w : ℕ) → s.weekends ≡ w → with_assignments (with_weekends group w) s.assignments ≡ s
   as_place w is = λ i. record {
     last = sym like.last i;
@@ -58,23 +61,27 @@ module _ (c : Meaning) (n : ℕ) (areas : List Area) (group s : Summary) (like :
     weekends = sym is i;
   }
 
-  pub like_area : (area : Area) → area ≡ area_at areas (shift_digit group.last) → InArea area s
-  like_area area is = subst (λ (x : Area). InArea x s) (ap (λ (l : Option Shift). area_at areas (shift_digit l)) like.last ∙ sym is) like.stands.inside
+  like_area : InArea (area_at areas (shift_digit group.last)) s
+  like_area = subst (λ (x : Area). InArea x s) (ap (λ (l : Option Shift). area_at areas (shift_digit l)) like.last) like.stands.inside
 
   pub like_fits : Fits (sizes_of c n) s
   like_fits = fits-all (sizes_of c n) s like.stands.fits
 
   -- it is in the spans of the area
-  module _ (area : Area) (is : area ≡ area_at areas (shift_digit group.last)) (from end : ℕ) where
-    pub like_place : ((x : ℕ) → InSpan area.assignments x → x < (sizes_of c n).assignments → (from ≤ x) × (x < end)) → (from ≤ s.assignments) × (s.assignments < end)
-    like_place each = each s.assignments (like_area area is).assignments like_fits.assignments
+  pub like_place : {from end : ℕ} → Goes (area_at areas (shift_digit group.last)).assignments (sizes_of c n).assignments from end → (from ≤ s.assignments) × (s.assignments < end)
+  like_place goes = goes_over goes like_area.assignments like_fits.assignments
 
-    pub like_weekends : ((x : ℕ) → InSpan area.weekends x → x < (sizes_of c n).weekends → (from ≤ x) × (x < end)) → (from ≤ s.weekends) × (s.weekends < end)
-    like_weekends each = each s.weekends (like_area area is).weekends like_fits.weekends
+  pub like_weekends : {from end : ℕ} → Goes (area_at areas (shift_digit group.last)).weekends (sizes_of c n).weekends from end → (from ≤ s.weekends) × (s.weekends < end)
+  like_weekends goes = goes_over goes like_area.weekends like_fits.weekends
 
   -- what tells whether a row may lead to it is the group's
   pub like_can_be : can_be c n group ≡ true
   like_can_be = (λ i. can_be_with c n (excess (past_of c n).border) (sym like.run i) (sym like.shift_run i) (sym like.last i)) ∙ like.stands.can_be
+
+  -- where it stands in a table
+  pub like_code : (z : Sizes) → z ≡ sizes_of c n → group.weekends ≡ 0 → group.assignments ≡ 0 → code_of (sizes_of c n) s ≡ code_of z group + s.weekends * z.assignments + s.assignments
+  like_code z sizes no_weekends no_assignments =
+      ap (λ y. code_of y s) (sym sizes) ∙ ap (code_of z) (sym (as_place s.weekends (λ i. s.weekends))) ∙ code_place z group no_weekends no_assignments s.weekends s.assignments
 
 pub weekends_fit : (z : Sizes) (group : Summary) (w : ℕ) → fits_sizes z group ≡ true → w < z.weekends → fits_sizes z (with_weekends group w) ≡ true
 weekends_fit z group w fits inside =
@@ -82,17 +89,16 @@ weekends_fit z group w fits inside =
     all-fit z (with_weekends group w) (record { last = f.last; run = f.run; shift_run = f.shift_run; assignments = f.assignments; weekends = inside })
 
 -- each state of the group in the area stands, if a row may lead to it
-module _ (c : Meaning) (n : ℕ) (areas : List Area) (group : Summary) (area : Area) (is : area ≡ area_at areas (shift_digit group.last)) (fits : fits_sizes (sizes_of c n) group ≡ true) (may_be : can_be c n group ≡ true)
-    (run : InSpan area.run group.run) (shift_run : InSpan area.shift_run group.shift_run) where
-  pub place_stands : (w a : ℕ) → w < (sizes_of c n).weekends → a < (sizes_of c n).assignments → InSpan area.weekends w → InSpan area.assignments a → Stands c n areas (with_assignments (with_weekends group w) a)
-  place_stands w a w_fits a_fits w_in a_in =
-      let f = fits-all (sizes_of c n) group fits in
-      let inside : InArea area (with_assignments (with_weekends group w) a) = record { run = run; shift_run = shift_run; weekends = w_in; assignments = a_in } in
-      record {
-        fits = all-fit (sizes_of c n) (with_assignments (with_weekends group w) a) (record { last = f.last; run = f.run; shift_run = f.shift_run; assignments = a_fits; weekends = w_fits });
-        can_be = may_be;
-        inside = subst (λ (x : Area). InArea x (with_assignments (with_weekends group w) a)) is inside;
-      }
+pub place_stands : (day : OpenDay) (group : Summary) → IsGroupOf day group → can_be day.days.case.now day.days.nurse group ≡ true → (w a : ℕ) → w < day.days.ranges.weekends → a < day.days.ranges.assignments
+    → InSpan (area_at day.areas.now (shift_digit group.last)).weekends w → InSpan (area_at day.areas.now (shift_digit group.last)).assignments a → StandsOn day (with_assignments (with_weekends group w) a)
+place_stands day group good may_be w a w_fits a_fits w_in a_in =
+    let f = fits-all day.days.ranges group good.fits in
+    record {
+      fits = subst (λ z. fits_sizes z (with_assignments (with_weekends group w) a) ≡ true) day.days.search.ranges
+          (all-fit day.days.ranges (with_assignments (with_weekends group w) a) (record { last = f.last; run = f.run; shift_run = f.shift_run; assignments = a_fits; weekends = w_fits }));
+      can_be = may_be;
+      inside = record { run = good.run; shift_run = good.shift_run; weekends = w_in; assignments = a_in };
+    }
 
 -- ---- the cells of a group by one number of weekends more
 
@@ -107,17 +113,17 @@ module _ (c : Meaning) (n : ℕ) (areas : List Area) (group : Summary) (z : Size
       like = which.0
 
       number : code_of (sizes_of c n) s ≡ code_of z group + s.weekends * z.assignments + s.assignments
-      number = ap (λ y. code_of y s) (sym sizes) ∙ ap (code_of z) (sym (as_place c n areas group s like s.weekends (λ i. s.weekends))) ∙ code_place z group no_weekends no_assignments s.weekends s.assignments
+      number = like_code like z sizes no_weekends no_assignments
 
       go : (s.weekends < w) ⊎ (w ≤ s.weekends) → right s (slice_index_or new (place (code_of (sizes_of c n) s)) 0)
       go (inl low) =
-          let below = weekends_before s.weekends w z.assignments s.assignments low (omega (arith, (like_fits c n areas group s like).assignments, ap (λ (y : Sizes). y.assignments) sizes)) in
+          let below = weekends_before s.weekends w z.assignments s.assignments low (omega (arith, (like_fits like).assignments, ap (λ (y : Sizes). y.assignments) sizes)) in
           subst (right s) (sym (same (code_of (sizes_of c n) s) (omega (arith, number, below)))) (before s (like, low))
       go (inr high) =
           let is : s.weekends ≡ w = omega (arith, high, which.1) in
           let at_w : code_of (sizes_of c n) s ≡ code_of z group + w * z.assignments + s.assignments = number ∙ ap (λ v. code_of z group + v * z.assignments + s.assignments) is in
           subst (λ k. right s (slice_index_or new (place k) 0)) (sym at_w)
-          (subst (λ t. right t (slice_index_or new (place (code_of z group + w * z.assignments + s.assignments)) 0)) (as_place c n areas group s like w is) (here s.assignments (within s like).0 (within s like).1))
+          (subst (λ t. right t (slice_index_or new (place (code_of z group + w * z.assignments + s.assignments)) 0)) (as_place like w is) (here s.assignments (within s like).0 (within s like).1))
 
 -- one number of weekends more is within the group
 pub weekends_within : (w weekends size : ℕ) → w < weekends → w * size + size ≤ weekends * size

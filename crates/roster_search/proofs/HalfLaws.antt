@@ -1,7 +1,7 @@
 -- Pointers in the halves of bytes, where those of a stretch are set.
-use Rattle.std.proofs.Common.{◌≡◌, ◌∙◌, ◌+◌, ◌-◌, ◌<◌, ◌≤◌, ◌⊎◌, ℕ, min, inl, inr, ap, arith, refl, subst, sym, List, [], ◌∷◌, ◌++◌, length, map, drop, get_or, slice_index_or, slice_set, take}
-use Rattle.std.proofs.lemmas.Bool.{cases_eq, cases_lt}
-use Rattle.std.proofs.lemmas.List.{ext_get_or, get_or-append_right, get_or-drop, get_or-map, get_or-set_other, get_or-set_same, get_or-take, get_or_append_left, get_or_past, length-append, length-drop, length-map, length-set, length-take, map-append, take-append-drop}
+use Rattle.std.proofs.Common.{◌≡◌, ◌∙◌, ◌+◌, ◌-◌, ◌<◌, ◌≤◌, ◌⊎◌, ℕ, min, inl, inr, ap, arith, refl, subst, sym, List, ◌++◌, length, map, drop, get_or, slice_index_or, take}
+use Rattle.std.proofs.lemmas.Bool.{cases_lt}
+use Rattle.std.proofs.lemmas.List.{ext_get_or, get_or-append_right, get_or-drop, get_or-map, get_or-take, get_or_append_left, get_or_past, length-append, length-drop, length-map, length-take, map-append, take-append-drop}
 use borrow.Rule.Slice.PartMut.{mid_of, post_of, put_mid}
 use Rattle.roster_offers.proofs.PartLaws.{part_before, part_after, part_inside, part_length}
 use Rattle.roster_search.specs.Halves.{IsWritten, halves, high, low}
@@ -69,21 +69,6 @@ written_both first run m short front back front_is back_is old middle new low_is
         let place : first + i ≡ first + m + (i - m) = omega (arith, past) in
         let index : m + (i - m) ≡ i = omega (arith, past) in
         ap (λ j. slice_index_or new j 0) place ∙ high_is.inside (i - m) (omega (arith, past, below, back_long)) ∙ ap (λ xs. slice_index_or xs (i - m) 0) back_is ∙ get_or-drop m run (i - m) 0 ∙ ap (λ j. slice_index_or run j 0) index
-
--- one number
-pub written_one : (place value : ℕ) (old new : List ℕ) → place < length old → IsWritten place (value ∷ []) old new → new ≡ slice_set old place value
-written_one place value old new inside is =
-    ext_get_or 0 new (slice_set old place value) (is.length_stays ∙ sym (length-set old place value)) (λ i below. go i (cases_eq i place))
-  where
-    go : (i : ℕ) → (i ≡ place) ⊎ (i ≡ place → ⊥) → get_or new i 0 ≡ get_or (slice_set old place value) i 0
-    go i (inl same) =
-        let here : i ≡ place + 0 = omega (arith, same) in
-        ap (λ j. get_or new j 0) here ∙ is.inside 0 (omega arith) ∙ sym (get_or-set_same old place value 0 inside) ∙ ap (λ j. get_or (slice_set old place value) j 0) (sym same)
-    go i (inr other) = elsewhere i other (cases_lt i place) ∙ sym (get_or-set_other old place i value 0 other)
-      where
-        elsewhere : (j : ℕ) → (j ≡ place → ⊥) → (j < place) ⊎ (place ≤ j) → get_or new j 0 ≡ get_or old j 0
-        elsewhere j apart (inl before) = is.others.before j before
-        elsewhere j apart (inr after) = is.others.after j (omega (arith, after, apart))
 
 -- ---- among the halves of bytes
 

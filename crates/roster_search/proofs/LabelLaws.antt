@@ -7,7 +7,7 @@ use Rattle.roster_instance.specs.Choices.{shift_of}
 use Rattle.roster_instance.specs.Meaning.{Meaning}
 use Rattle.roster_rules.specs.Prefix.{Summary}
 use Rattle.roster_state.specs.declared.area.Area.{Area}
-use Rattle.roster_state.specs.Codes.{code_of}
+use Rattle.roster_state.specs.Codes.{Sizes, code_of, sizes_of}
 use Rattle.roster_state.specs.Step.{step_of}
 use Rattle.roster_offers.specs.declared.offer.Offer.{Offer}
 use Rattle.roster_offers.specs.ByStates.{best_after}
@@ -15,8 +15,7 @@ use Rattle.roster_offers.specs.Cheapest.{Priced, cheaper, cheapest, raised}
 use Rattle.roster_offers.specs.Offers.{dearer}
 use Rattle.roster_offers.specs.Lists.{no_row}
 use Rattle.roster_offers.proofs.Cheapest.{cheapest_more, keeps_first, takes_second}
-use Rattle.roster_search.specs.declared.day.SearchDay.{SearchDay}
-use Rattle.roster_search.specs.Tables.{AreLabels, AreOfLeast, BestOnward, IsDayOf, PointsToBest, Stands, best_by, label_of}
+use Rattle.roster_search.specs.Tables.{AreLabels, AreOfLeast, BestOnward, PointsToBest, SearchDay, Stands, best_by, label_of}
 
 pub label_within : {X : Type 0} (p : Priced X) → label_of p ≤ no_row
 label_within None = omega arith
@@ -118,13 +117,13 @@ module _ {O X : Type 0} (by : O → Priced X) where
 
 -- ---- the label of the next state
 
-module _ (c : Meaning) (at : SearchDay) (day : IsDayOf c at) (areas : List Area) (later : BestOnward) (labels : List ℕ) (right : AreLabels c at.nurse areas later labels) where
-  label_of_next : (t : Summary) → Stands c at.nurse areas t → slice_index_or labels (code_of at.ranges t) 0 ≡ label_of (later t)
-  label_of_next t stands = subst (λ z. slice_index_or labels (code_of z t) 0 ≡ label_of (later t)) (sym day.ranges) (right t stands)
+module _ (c : Meaning) (at : SearchDay) (ranges : Sizes) (sizes : ranges ≡ sizes_of c at.nurse) (areas : List Area) (later : BestOnward) (labels : List ℕ) (right : AreLabels c at.nurse areas later labels) where
+  label_of_next : (t : Summary) → Stands c at.nurse areas t → slice_index_or labels (code_of ranges t) 0 ≡ label_of (later t)
+  label_of_next t stands = subst (λ z. slice_index_or labels (code_of z t) 0 ≡ label_of (later t)) (sym sizes) (right t stands)
 
-  pub step_low : (t : Summary) → Stands c at.nurse areas t → slice_index_or labels (code_of at.ranges t) 0 ≤ no_row
+  pub step_low : (t : Summary) → Stands c at.nurse areas t → slice_index_or labels (code_of ranges t) 0 ≤ no_row
   step_low t stands = omega (arith, label_of_next t stands, label_within (later t))
 
   pub label_at-is : (s : Summary) (offer : Offer) (t : Summary × ℕ) → step_of c at.nurse at.day s (shift_of offer.choice) ≡ Some t → Stands c at.nurse areas t.0
-      → min (offer.price + t.1 + slice_index_or labels (code_of at.ranges t.0) 0) no_row ≡ label_of (best_by c at later s offer)
-  label_at-is s offer t e stands = label_by_offer c at later s offer t.0 t.1 (slice_index_or labels (code_of at.ranges t.0) 0) e (label_of_next t.0 stands)
+      → min (offer.price + t.1 + slice_index_or labels (code_of ranges t.0) 0) no_row ≡ label_of (best_by c at later s offer)
+  label_at-is s offer t e stands = label_by_offer c at later s offer t.0 t.1 (slice_index_or labels (code_of ranges t.0) 0) e (label_of_next t.0 stands)

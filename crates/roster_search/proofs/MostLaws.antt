@@ -1,6 +1,6 @@
 -- How many states stand at most: on a day no more than the nurse has, nor than have their numbers in the areas, and where one state
 -- alone is in the areas, one.
-use Rattle.std.proofs.Common.{◌≡◌, ◌+◌, ◌*◌, ◌<◌, ◌≤◌, ◌≢◌, ◌⊎◌, ℕ, zero, suc, inl, inr, ap, arith, subst, sym, List, length}
+use Rattle.std.proofs.Common.{◌≡◌, ◌+◌, ◌*◌, ◌<◌, ◌≤◌, ◌≢◌, ◌⊎◌, ℕ, zero, suc, inl, inr, ap, arith, mul-pos, subst, sym, List, length}
 use Rattle.std.proofs.lemmas.Bool.{cases_lt}
 use Rattle.std.proofs.lemmas.Nat.{mul-le}
 use Rattle.roster_instance.specs.Counting.{sum_below}
@@ -17,7 +17,8 @@ use Rattle.roster_state.specs.Codes.{Sizes, product, shift_digit, sizes_of}
 use Rattle.roster_state.specs.Standing.{can_be}
 use Rattle.roster_offers.specs.declared.offer.Offer.{Offer}
 use Rattle.roster_search.specs.Counts.{group_of, numbers_in, states_in, states_in_areas, states_of_last, states_of_run, states_on, states_with, sum_over}
-use Rattle.roster_search.specs.Search.{areas_on, standing_steps, steps_on}
+use Rattle.roster_search.specs.Search.{SomeStands, areas_on, standing_steps, steps_on}
+use Rattle.roster_search.proofs.CountLaws.{one_stands_on}
 use Rattle.roster_search.proofs.DayLaws.{group_digit}
 use Rattle.roster_search.proofs.SearchLaws.{extension_is}
 
@@ -121,3 +122,13 @@ pub standing_within : (c : Meaning) (n : ℕ) (offers : ℕ → List Offer) (are
 standing_within c n offers areas few =
     let all = sum_within (day_count c) (product (sizes_of c n) * choice_count c n) (steps_on c n offers areas) (λ day within. mul-le (states_on c n (areas_on areas day)) (length (offers day)) (product (sizes_of c n)) (choice_count c n) (states_few c n (areas_on areas day)) (few day within)) in
     omega (arith, all, extension_is c n)
+
+-- one at least for each day
+
+sum_some : (m : ℕ) (f : ℕ → ℕ) → ((i : ℕ) → i < m → 0 < f i) → m ≤ sum_below m f
+sum_some zero f each = omega arith
+sum_some (suc m) f each = let before = sum_some m f (λ i below. each i (omega (arith, below))) in omega (arith, before, each m (omega arith))
+
+pub standing_some : (c : Meaning) (n : ℕ) (offers : ℕ → List Offer) (areas : List (List Area)) → ((day : ℕ) → day < day_count c → SomeStands c n (areas_on areas day) × (0 < length (offers day))) → day_count c ≤ standing_steps c n offers areas
+standing_some c n offers areas each =
+    sum_some (day_count c) (steps_on c n offers areas) (λ day within. let here = each day within in mul-pos (one_stands_on c n (areas_on areas day) here.0.state here.0.stands) here.1)

@@ -1,5 +1,5 @@
 -- A part of a list is written anew.
-use Rattle.std.proofs.Common.{◌≡◌, ◌+◌, ◌<◌, ◌≤◌, ℕ, arith, List, ◌++◌, drop, length, get_or}
+use Rattle.std.proofs.Common.{◌≡◌, ◌+◌, ◌-◌, ◌<◌, ◌≤◌, ℕ, arith, subst, List, ◌++◌, drop, length, get_or}
 use Rattle.std.proofs.lemmas.List.{length-append, length-drop, places}
 use borrow.Rule.Slice.PartMut.{put_mid}
 use Rattle.roster_lanes.specs.Lanes.{SameOutside}
@@ -12,6 +12,12 @@ module _ (a : ℕ) (old part : List ℕ) (room : a + length part ≤ length old)
 
   pub part_written : IsWritten a part old (put_mid a (length part) old part)
   part_written = record { inside = part_inside a old part room; others = part_outside; length_stays = part_length a old part room }
+
+-- the same, by how long it is
+pub part_put : (a long : ℕ) (old part : List ℕ) → length part ≡ long → a + long ≤ length old → IsWritten a part old (put_mid a (a + long - a) old part)
+part_put a long old part is room =
+    let width : length part ≡ a + long - a = omega (arith, is) in
+    subst (λ w. IsWritten a part old (put_mid a w old part)) width (part_written a old part (omega (arith, is, room)))
 
 -- the first part of a list is written anew
 pub front_inside : (part rest : List ℕ) (j : ℕ) → j < length part → get_or (part ++ rest) j 0 ≡ get_or part j 0

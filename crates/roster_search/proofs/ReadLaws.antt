@@ -1,23 +1,25 @@
 -- The best row begins with the offer that its pointer gives, and goes on from the state after it.
-use Rattle.std.proofs.Common.{◌≡◌, ◌∙◌, ◌+◌, ◌<◌, ℕ, Bool, true, false, ap, arith, refl, sym, List, [], ◌∷◌, length, length-append, slice_index_or, subst, Option, Some, None, IfSome, IsSome, if◌then◌else◌}
+use Rattle.std.proofs.Common.{◌≡◌, ◌∙◌, ◌+◌, ◌*◌, ◌<◌, ℕ, Bool, true, false, ap, arith, refl, sym, List, [], ◌∷◌, length, length-append, slice_index_or, subst, Option, Some, None, IfSome, IsSome, if◌then◌else◌}
 use Rattle.std.proofs.lemmas.Bool.{true≢false}
 use Rattle.std.proofs.Math.Seq.{get_or-append_seam}
 use Rattle.roster_instance.specs.declared.choice.Shift.{Shift}
 use Rattle.roster_instance.specs.Choices.{shift_of}
-use Rattle.roster_instance.specs.Meaning.{Meaning, forbids}
+use Rattle.roster_instance.specs.Meaning.{Meaning, day_count, forbids}
 use Rattle.roster_rules.specs.Prefix.{Summary}
 use Rattle.roster_state.specs.declared.area.Area.{Area}
-use Rattle.roster_state.specs.Codes.{code_of}
+use Rattle.roster_state.specs.Codes.{code_of, product, sizes_of}
 use Rattle.roster_state.specs.Step.{next_of, step_cost, step_of}
 use Rattle.roster_offers.specs.declared.offer.Offer.{Offer}
 use Rattle.roster_offers.specs.ByStates.{best_after}
 use Rattle.roster_offers.specs.Cheapest.{Priced, raised}
 use Rattle.roster_offers.specs.Offers.{dearer}
-use Rattle.roster_offers.specs.Lists.{no_row}
 use Rattle.roster_offers.proofs.Cheapest.{cost_or, thing_or}
 use Rattle.roster_offers.proofs.LowRows.{LowRow}
-use Rattle.roster_search.specs.declared.day.SearchDay.{SearchDay}
-use Rattle.roster_search.specs.Tables.{ArePointers, BeginsWith, BestOnward, IsDayOf, LeadsOn, PointsToBest, Stands, best_by, best_on}
+use Rattle.roster_offers.specs.Lists.{no_row, offers_on}
+use Rattle.roster_search.specs.declared.days.SearchDays.{SearchDays}
+use Rattle.roster_search.specs.Days.{PointersOn, StandsIn, best_here, best_next, day_of}
+use Rattle.roster_search.specs.Search.{areas_on}
+use Rattle.roster_search.specs.Tables.{ArePointers, BeginsWith, BestOnward, LeadsOn, PointsToBest, SearchDay, Stands, best_by, best_on}
 
 -- the state after a step, if it is allowed
 abbrev following : {S : Type 0} → Bool → S → Option S
@@ -63,11 +65,11 @@ pub pointer_within : {O X : Type 0} (by : O → Priced X) (offers : List O) (row
 pointer_within by offers row pointer points =
     omega (arith, points.place, ap length points.split, length-append points.front (points.offer ∷ points.back))
 
-pub points_at : (c : Meaning) (at : SearchDay) → IsDayOf c at → (areas : List Area) (offers : List Offer) (later : BestOnward) (first : ℕ) (pointers : List ℕ) → ArePointers c at areas offers later first pointers
-    → (s : Summary) (code : ℕ) → code ≡ code_of at.ranges s → Stands c at.nurse areas s
+pub points_at : (c : Meaning) (at : SearchDay) (areas : List Area) (offers : List Offer) (later : BestOnward) (first : ℕ) (pointers : List ℕ) → ArePointers c at areas offers later first pointers
+    → (s : Summary) (code : ℕ) → code ≡ code_of (sizes_of c at.nurse) s → Stands c at.nurse areas s
     → (row : ℕ × List Offer) → best_on c at offers later s ≡ Some row → row.0 < no_row → PointsToBest (best_by c at later s) offers row (slice_index_or pointers (first + code) 0)
-points_at c at day areas offers later first pointers right s code is stands row best low =
-    subst (λ k. PointsToBest (best_by c at later s) offers row (slice_index_or pointers (first + k) 0)) (ap (λ z. code_of z s) (sym day.ranges) ∙ sym is) (right s stands row best low)
+points_at c at areas offers later first pointers right s code is stands row best low =
+    subst (λ k. PointsToBest (best_by c at later s) offers row (slice_index_or pointers (first + k) 0)) (sym is) (right s stands row best low)
 
 -- the state after an allowed choice stands after the day
 module _ (c : Meaning) (at : SearchDay) (s next : Summary) (shift : Option Shift) where
@@ -113,3 +115,13 @@ module _ (c : Meaning) (at : SearchDay) (later : BestOnward) (s : Summary) (offe
 
     pub read_goes_on : o ≡ None → ⊥
     read_goes_on found = goes_on later read row (next_of c at.nurse at.day s (shift_of read.choice)) (step_cost c at.nurse at.day s (shift_of read.choice)) (forbids c.successions s.last (shift_of read.choice)) best (reached ∙ found)
+
+-- ---- what is read on a day of a search
+
+pub points_here : (days : SearchDays) (d : ℕ) → d < day_count days.case.now → (s : Summary) → StandsIn days d s → (pointers : List ℕ) → PointersOn days 0 pointers → (first code : ℕ) → first ≡ d * product days.ranges → code ≡ code_of days.ranges s
+    → (row : ℕ × List Offer) → best_here days d s ≡ Some row → row.0 < no_row → PointsToBest (best_by days.case.now (day_of days d) (best_next days d) s) (offers_on days.offers.now d) row (slice_index_or pointers (first + code) 0)
+points_here days d within s stands pointers right first code first_is code_is row is low =
+    let place : d * product (sizes_of days.case.now days.nurse) ≡ first = sym (first_is ∙ ap (λ z. d * product z) days.search.ranges) in
+    subst (λ k. PointsToBest (best_by days.case.now (day_of days d) (best_next days d) s) (offers_on days.offers.now d) row (slice_index_or pointers (k + code) 0)) place
+    (points_at days.case.now (day_of days d) (areas_on days.areas.now d) (offers_on days.offers.now d) (best_next days d) (d * product (sizes_of days.case.now days.nurse)) pointers (right d (omega arith) within) s code
+    (code_is ∙ ap (λ z. code_of z s) days.search.ranges) stands row is low)

@@ -21,10 +21,16 @@ use Rattle.roster_offers.specs.ByStates.{best_after}
 use Rattle.roster_offers.specs.Cheapest.{Priced, cheaper, cheapest, raised}
 use Rattle.roster_offers.proofs.Cheapest.{thing_or}
 use Rattle.roster_offers.specs.Offers.{best_of_offers, choices_of, dearer, offer_step}
-use Rattle.roster_offers.specs.Lists.{best_over, no_row}
+use Rattle.roster_offers.specs.Lists.{best_over, no_row, offers_on}
 use Rattle.roster_lanes.specs.Lanes.{SameOutside}
+use Rattle.roster_search.specs.declared.day.OpenDay.{OpenDay}
+use Rattle.roster_search.specs.declared.days.SearchDays.{SearchDays}
+use Rattle.roster_search.specs.Counts.{states_on}
+use Rattle.roster_search.specs.Days.{LabelsOn, PointersOn, all_pointers}
+use Rattle.roster_search.specs.OpenDays.{AreTables, HaveRoom, IsDayOf, KeepTables, StandsOn, day_steps}
 use Rattle.roster_search.specs.Tables.{AreLabels, ArePointers, BeginsWith, BestOnward, LeadsOn, PointsWhereBest, Stands, best_at_end, best_by, best_on, label_of}
-use Rattle.roster_search.specs.Search.{AreasLead, PointersFrom, areas_on, onward, search_day}
+use Rattle.roster_search.specs.Search.{AreasLead, PointersFrom, areas_on, onward, search_day, steps_on}
+use Rattle.roster_search.proofs.CellLaws.{outside_wider}
 
 module _ (c : Meaning) (n : ℕ) (offers : ℕ → List Offer) where
   -- ---- the best row from a day on
@@ -207,3 +213,30 @@ areas_read areas day d inside = get_or_default areas day d [] inside
 pub first_label : (c : Meaning) (n : ℕ) (offers : ℕ → List Offer) (s : Summary) (label cost : ℕ) (best : List Offer) → s ≡ summary_of c n [] → label ≡ label_of (onward c n offers 0 s) → best_over c n offers ≡ Some (cost, best) → cost < no_row → label ≡ cost
 first_label c n offers s label cost best start is found low =
     is ∙ ap label_of (ap (onward c n offers 0) start ∙ onward-first c n offers ∙ found) ∙ omega (arith, low)
+
+-- ---- a day that is still to be labelled is one of the search's
+
+module _ {days : SearchDays} {d : ℕ} {later : List ℕ} {day : OpenDay} (is : IsDayOf days d later day) (within : d < day_count days.case.now) where
+  pub opened_labels : (labels pointers : List ℕ) → AreTables day (StandsOn day) labels pointers → LabelsOn days d labels
+  opened_labels labels pointers tables =
+      labels_before days.case.now days.nurse (offers_on days.offers.now) d within (areas_on days.areas.now d) labels
+      (transport (λ i. AreLabels (is.case_is i) (is.nurse_is i) (is.areas i) (best_on (is.case_is i) (search_day (is.case_is i) (is.nurse_is i) (is.day i)) (is.offers i) (onward (is.case_is i) (is.nurse_is i) (offers_on (is.table_is i)) (is.day i + 1))) labels) tables.labels_are)
+
+  pub opened_size : product day.days.ranges ≡ product days.ranges
+  opened_size = λ i. product (is.ranges_are i)
+
+  pub opened_pointers : (labels_old labels pointers_old pointers : List ℕ) → AreTables day (StandsOn day) labels pointers → KeepTables day 0 (product day.days.ranges) labels_old labels pointers_old pointers → PointersOn days (d + 1) pointers_old → PointersOn days d pointers
+  opened_pointers labels_old labels pointers_old pointers tables beside before =
+      let size : product day.days.ranges ≡ product (sizes_of days.case.now days.nurse) = opened_size ∙ ap product days.search.ranges in
+      pointers_before days.case.now days.nurse (offers_on days.offers.now) days.areas.now d day.first pointers_old pointers (is.first ∙ ap (λ z. d * product z) days.search.ranges)
+      (transport (λ i. ArePointers (is.case_is i) (search_day (is.case_is i) (is.nurse_is i) (is.day i)) (is.areas i) (is.offers i) (onward (is.case_is i) (is.nurse_is i) (offers_on (is.table_is i)) (is.day i + 1)) day.first pointers) tables.pointers_are)
+      (outside_wider _ _ _ _ pointers_old pointers (omega arith) (omega (arith, size)) beside.of_pointers.others) before
+
+  pub opened_steps : day_steps day ≡ steps_on days.case.now days.nurse (offers_on days.offers.now) days.areas.now d
+  opened_steps = λ i. states_on (is.case_is i) (is.nurse_is i) (is.areas i) * length (is.offers i)
+
+  pub opened_room : (labels pointers : List ℕ) → product days.ranges ≤ length labels → all_pointers days ≤ length pointers → HaveRoom day labels pointers
+  opened_room labels pointers labels_room pointers_room = record {
+    labels_room = omega (arith, opened_size, labels_room);
+    pointers_room = omega (arith, opened_size, is.first, pointers_room, mul-le (d + 1) (product days.ranges) (day_count days.case.now) (product days.ranges) (omega (arith, within)) (omega arith));
+  }

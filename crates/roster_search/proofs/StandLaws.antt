@@ -13,8 +13,7 @@ use Rattle.roster_state.proofs.CodeLemmas.{fits-all}
 use Rattle.roster_state.proofs.RangeLemmas.{next_fits}
 use Rattle.roster_state.proofs.Standing.{next_can_be}
 use Rattle.roster_offers.specs.declared.offer.Offer.{Offer}
-use Rattle.roster_search.specs.declared.day.SearchDay.{SearchDay}
-use Rattle.roster_search.specs.Tables.{LeadsOn, Stands}
+use Rattle.roster_search.specs.Tables.{LeadsOn, SearchDay, Stands}
 
 next_last : (c : Meaning) (n day : ℕ) (s : Summary) (shift : Option Shift) → (next_of c n day s shift).last ≡ shift
 unfolding next_of

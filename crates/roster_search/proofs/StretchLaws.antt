@@ -1,24 +1,31 @@
 -- A stretch: the places of blocks that stand one after another, by one offer more.
-use Rattle.std.proofs.Common.{◌≡◌, ◌∙◌, ◌+◌, ◌-◌, ◌*◌, ◌%◌, ◌^◌, ◌<◌, ◌≤◌, ◌⊎◌, ℕ, Bool, inl, inr, true, false, ap, arith, subst, sym, List, length, min, nat_lt, if◌then◌else◌, slice_index_or, take, Option, Some, None}
+use Rattle.std.proofs.Common.{◌≡◌, ◌∙◌, ◌+◌, ◌-◌, ◌*◌, ◌%◌, ◌^◌, ◌<◌, ◌≤◌, ◌⊎◌, ℕ, Bool, inl, inr, true, false, ap, arith, refl, subst, sym, List, length, min, nat_lt, if◌then◌else◌, slice_index_or, take, Option, Some, None}
 use Rattle.std.proofs.Math.Nat.{mod-eq_of_lt}
+use Rattle.std.proofs.Math.Path.{transport}
 use Rattle.std.proofs.lemmas.Bool.{cases_lt}
+use Rattle.std.proofs.lemmas.List.{get_or_default}
+use Rattle.std.proofs.lemmas.List.Elements.{All-get_or}
 use Rattle.std.proofs.lemmas.Nat.{mul-le}
 use Rattle.roster_instance.specs.declared.choice.Shift.{Shift}
 use Rattle.roster_instance.specs.Choices.{shift_of}
-use Rattle.roster_instance.specs.Meaning.{Meaning}
 use Rattle.roster_rules.specs.Prefix.{Summary}
-use Rattle.roster_state.specs.declared.area.Area.{Area}
 use Rattle.roster_state.specs.declared.stretch.Stretch.{Stretch}
-use Rattle.roster_state.specs.Codes.{Sizes, code_of, fits_sizes, product, shift_digit}
+use Rattle.roster_state.specs.Areas.{area_at}
+use Rattle.roster_state.specs.Codes.{Sizes, code_of, fits_sizes, product, shift_digit, sizes_of}
 use Rattle.roster_state.specs.Room.{most_of_step}
 use Rattle.roster_state.specs.Step.{step_of, with_assignments, with_weekends}
 use Rattle.roster_state.specs.Stretches.{moved_on, stretch_state}
 use Rattle.roster_state.proofs.CodeLemmas.{all-fit, fits-all, numbered-within}
 use Rattle.roster_lanes.specs.Lanes.{SameOutside, pointer_by, raised}
 use Rattle.roster_offers.specs.declared.offer.Offer.{Offer}
-use Rattle.roster_offers.specs.Lists.{most_price, no_row}
-use Rattle.roster_search.specs.declared.day.SearchDay.{SearchDay}
-use Rattle.roster_search.specs.Tables.{AreLabels, AreOfLeast, Around, BestOnward, IsReady, IsStretchOf, LeadsOn, LeastFrom, PlacesKept, RunCells, Stands, StretchCells, best_by, label_of, most_places}
+use Rattle.roster_offers.specs.Lists.{no_row}
+use Rattle.roster_offers.proofs.ListLaws.{no_offer}
+use Rattle.roster_search.specs.declared.day.OpenDay.{OpenDay}
+use Rattle.roster_search.specs.Days.{areas_next}
+use Rattle.roster_search.specs.OpenDays.{AreLabelsBy, AreRefusedBy, AreTables, IsStretchOf, KeepBeside, KeepsRest, LeastFrom, PlacesKept, RunCells, StandsBy, StandsOn, StretchCells, best_with, most_places, onward_of, places_of, the_day}
+use Rattle.roster_search.specs.Tables.{AreOfLeast, IsOfferOf, LeadsOn, Stands, label_of}
+use Rattle.roster_search.proofs.CountLaws.{Goes}
+use Rattle.roster_search.proofs.GroupLaws.{as_place, like_code, like_place, like_weekends}
 use Rattle.roster_search.proofs.BlockLaws.{place_kept, place_lowered, place_set}
 use Rattle.roster_search.proofs.LabelLaws.{label_at-is, label_refused, step_low}
 
@@ -42,99 +49,117 @@ code_rows z s first more a =
 pub in_stretch : (rows width side i b : ℕ) → i < rows → b < width → i * side + b < (rows - 1) * side + width
 in_stretch rows width side i b in_rows in_width = omega (arith, mul-le i side (rows - 1) side (omega (arith, in_rows)) (omega arith), in_width)
 
--- ---- by one offer more
+-- ---- where an offer leads
 
-module _ (c : Meaning) (at : SearchDay) (later : BestOnward) (stretch : Stretch) (offers : List Offer) (place : ℕ) (inside : place < length offers) (d : Offer) (shift : Option Shift) (chosen : shift ≡ shift_of (slice_index_or offers place d).choice)
-    (labels numbers : List ℕ) (old : RunCells c at later stretch (take place offers) labels numbers) where
+module _ (day : OpenDay) (stretch : Stretch) (place : ℕ) (inside : place < length day.offers.now) (shift : Option Shift) (chosen : shift ≡ shift_of (slice_index_or day.offers.now place no_offer).choice) where
+  abbrev offer : Offer
+  offer = slice_index_or day.offers.now place no_offer
+
   abbrev width : ℕ
   width = stretch.end - stretch.from
 
   abbrev side : ℕ
-  side = at.ranges.assignments
+  side = day.days.ranges.assignments
 
   abbrev state : ℕ → ℕ → Summary
   state i b = stretch_state stretch.block stretch.from i b
 
-  by_choice : (i b : ℕ) (o : Option (Summary × ℕ)) → o ≡ step_of c at.nurse at.day (state i b) shift → step_of c at.nurse at.day (state i b) (shift_of (slice_index_or offers place d).choice) ≡ o
-  by_choice i b o is = sym (is ∙ ap (λ (x : Option Shift). step_of c at.nurse at.day (state i b) x) chosen)
+  abbrev step_on : Summary → Option Shift → Option (Summary × ℕ)
+  step_on s x = step_of day.days.case.now day.days.nurse day.day s x
 
-  pub stretch_same : ((i b : ℕ) → i < stretch.rows → b < width → None ≡ step_of c at.nurse at.day (state i b) shift) → RunCells c at later stretch (take (place + 1) offers) labels numbers
-  stretch_same none i b in_rows in_width =
-      place_kept (best_by c at later (state i b)) offers place inside d (slice_index_or labels (i * side + b) 0) (slice_index_or numbers (i * side + b) 0) (old i b in_rows in_width)
-      (label_refused c at later (state i b) (slice_index_or offers place d) (by_choice i b None (none i b in_rows in_width)))
+  -- it is an offer of the case, at a price within range
+  pub of_case : IsOfferOf day.days.case.now offer
+  of_case = All-get_or (IsOfferOf day.days.case.now) day.offers.now place no_offer inside day.ready.of_case
 
-  module _ (rest : Around) (good : IsStretchOf c at rest.here stretch) (is_later : later ≡ rest.best) (following : List ℕ) (ready : IsReady c at rest offers following) (leads : LeadsOn c at rest.here rest.next (slice_index_or offers place d))
-      (step : Summary × ℕ) (steps : (i b : ℕ) → i < stretch.rows → b < width → Some (moved_on i b step) ≡ step_of c at.nurse at.day (state i b) shift) (first : ℕ) (code : first ≡ code_of at.ranges step.0) where
-    abbrev offer : Offer
-    offer = slice_index_or offers place d
+  by_choice : (i b : ℕ) (o : Option (Summary × ℕ)) → o ≡ step_on (state i b) shift → step_on (state i b) (shift_of offer.choice) ≡ o
+  by_choice i b o is = sym (is ∙ ap (step_on (state i b)) chosen)
 
+  pub refused_by : ((i b : ℕ) → i < stretch.rows → b < width → None ≡ step_on (state i b) shift) → AreRefusedBy day stretch place
+  refused_by none i b d in_rows in_width =
+      label_refused day.days.case.now (the_day day) (onward_of day) (state i b) offer (by_choice i b None (none i b in_rows in_width)) ∙ ap (λ x. label_of (best_with day (state i b) x)) (get_or_default day.offers.now place no_offer d inside)
+
+  module _ (good : IsStretchOf day stretch) (step : Summary × ℕ) (cost : step.1 ≤ most_of_step) (steps : (i b : ℕ) → i < stretch.rows → b < width → Some (moved_on i b step) ≡ step_on (state i b) shift) (first : ℕ) (code : first ≡ code_of day.days.ranges step.0) where
     abbrev reached : ℕ → ℕ → Summary × ℕ
     reached i b = moved_on i b step
 
-    right : AreLabels c at.nurse rest.next later following
-    right = subst (λ (best : BestOnward). AreLabels c at.nurse rest.next best following) (sym is_later) ready.later
+    reached_stands : (i b : ℕ) → i < stretch.rows → b < width → Stands day.days.case.now day.days.nurse (areas_next day.days day.day) (reached i b).0
+    reached_stands i b in_rows in_width =
+        All-get_or (LeadsOn day.days.case.now (the_day day) day.areas.now (areas_next day.days day.day)) day.offers.now place no_offer inside day.ready.leads
+        (state i b) (reached i b) (good.stands i b in_rows in_width) (by_choice i b (Some (reached i b)) (steps i b in_rows in_width))
 
-    reached_stands : (i b : ℕ) → i < stretch.rows → b < width → Stands c at.nurse rest.next (reached i b).0
-    reached_stands i b in_rows in_width = leads (state i b) (reached i b) (good.stands i b in_rows in_width) (by_choice i b (Some (reached i b)) (steps i b in_rows in_width))
-
-    code_is : (i b : ℕ) → code_of at.ranges (reached i b).0 ≡ first + (i * side + b)
-    code_is i b = code_further at.ranges step.0 i b ∙ ap (λ k. k + (i * side + b)) (sym code)
-
-    -- what the place becomes, at most
-    abbrev candidate : ℕ → ℕ → ℕ
-    candidate i b = offer.price + step.1 + slice_index_or following (first + (i * side + b)) 0
-
-    label_after : (i b : ℕ) → i < stretch.rows → b < width → min (candidate i b) no_row ≡ label_of (best_by c at later (state i b) offer)
-    label_after i b in_rows in_width =
-        ap (λ k. min (offer.price + step.1 + slice_index_or following k 0) no_row) (sym (code_is i b))
-        ∙ label_at-is c at ready.day rest.next later following right (state i b) offer (reached i b) (by_choice i b (Some (reached i b)) (steps i b in_rows in_width)) (reached_stands i b in_rows in_width)
-
-    after_low : (i b : ℕ) → i < stretch.rows → b < width → slice_index_or following (first + (i * side + b)) 0 ≤ no_row
-    after_low i b in_rows in_width =
-        subst (λ k. slice_index_or following k 0 ≤ no_row) (code_is i b) (step_low c at ready.day rest.next later following right (reached i b).0 (reached_stands i b in_rows in_width))
+    code_is : (i b : ℕ) → code_of day.days.ranges (reached i b).0 ≡ first + (i * side + b)
+    code_is i b = code_further day.days.ranges step.0 i b ∙ ap (λ k. k + (i * side + b)) (sym code)
 
     -- the stretch of the day after is within the table
-    pub stretch_within : first + ((stretch.rows - 1) * side + width) ≤ product at.ranges
+    stretch_within : first + places_of day stretch ≤ length day.later.now
     stretch_within =
         let last_row : stretch.rows - 1 < stretch.rows = omega (arith, good.some_rows) in
         let some : 0 < width = omega (arith, good.some_places) in
         let last_place : width - 1 < width = omega (arith, some) in
-        let fits = subst (λ z. code_of z (reached (stretch.rows - 1) (width - 1)).0 < product z) (sym ready.day.ranges) (numbered-within _ _ (reached_stands (stretch.rows - 1) (width - 1) last_row last_place).fits) in
-        omega (arith, fits, code_is (stretch.rows - 1) (width - 1), some)
+        let fits = subst (λ z. code_of z (reached (stretch.rows - 1) (width - 1)).0 < product z) (sym day.days.search.ranges) (numbered-within _ _ (reached_stands (stretch.rows - 1) (width - 1) last_row last_place).fits) in
+        omega (arith, fits, code_is (stretch.rows - 1) (width - 1), some, day.ready.room)
 
-    pub stretch_lowered : (others labels_new numbers_new : List ℕ) → length labels ≡ (stretch.rows - 1) * side + width → offer.price ≤ most_price → step.1 ≤ most_of_step
-        → ((j : ℕ) → j < length labels → slice_index_or others j 0 ≡ slice_index_or following (first + j) 0)
-        → ((j : ℕ) → j < length labels → slice_index_or labels_new j 0 ≡ min (slice_index_or labels j 0) (raised others (offer.price + step.1) j))
-        → ((j : ℕ) → j < length labels → slice_index_or numbers_new j 0 ≡ pointer_by (slice_index_or labels j 0) (raised others (offer.price + step.1) j) (slice_index_or numbers j 0) place)
-        → RunCells c at later stretch (take (place + 1) offers) labels_new numbers_new
-    stretch_lowered others labels_new numbers_new long price cost shown lowered pointed i b in_rows in_width =
-        let by = best_by c at later (state i b) in
-        let j = i * side + b in
-        let there : j < length labels = omega (arith, in_stretch stretch.rows width side i b in_rows in_width, long) in
-        let sum : slice_index_or others j 0 + (offer.price + step.1) ≡ candidate i b = omega (arith, shown j there) in
-        let other : raised others (offer.price + step.1) j ≡ candidate i b = ap (λ k. k % 2 ^ 32) sum ∙ mod-eq_of_lt (omega (arith, after_low i b in_rows in_width, price, cost)) in
-        let new = place_lowered by offers place inside d (slice_index_or labels j 0) (slice_index_or numbers j 0) (old i b in_rows in_width) (candidate i b) (label_after i b in_rows in_width) in
-        let label : slice_index_or labels_new j 0 ≡ min (slice_index_or labels j 0) (candidate i b) = lowered j there ∙ ap (λ k. min (slice_index_or labels j 0) k) other in
-        let number : slice_index_or numbers_new j 0 ≡ (if nat_lt (candidate i b) (slice_index_or labels j 0) then place else slice_index_or numbers j 0) = pointed j there ∙ ap (λ k. if nat_lt k (slice_index_or labels j 0) then place else slice_index_or numbers j 0) other in
-        subst (λ l. AreOfLeast by (take (place + 1) offers) l (slice_index_or numbers_new j 0)) (sym label)
-        (subst (λ p. AreOfLeast by (take (place + 1) offers) (min (slice_index_or labels j 0) (candidate i b)) p) (sym number) new)
+    pub labels_by : AreLabelsBy day stretch place first (offer.price + step.1)
+    labels_by = record {
+      offer = offer;
+      read = get_or_default day.offers.now place offer no_offer inside;
+      room = stretch_within;
+      few = omega (arith, of_case.price, cost);
+      low = λ i b in_rows in_width.
+          subst (λ k. slice_index_or day.later.now k 0 ≤ no_row) (code_is i b)
+          (step_low day.days.case.now (the_day day) day.days.ranges day.days.search.ranges (areas_next day.days day.day) (onward_of day) day.later.now day.ready.later (reached i b).0 (reached_stands i b in_rows in_width));
+      labels = λ i b in_rows in_width.
+          ap (λ k. min (offer.price + step.1 + slice_index_or day.later.now k 0) no_row) (sym (code_is i b))
+          ∙ label_at-is day.days.case.now (the_day day) day.days.ranges day.days.search.ranges (areas_next day.days day.day) (onward_of day) day.later.now day.ready.later
+          (state i b) offer (reached i b) (by_choice i b (Some (reached i b)) (steps i b in_rows in_width)) (reached_stands i b in_rows in_width);
+    }
 
-    pub stretch_set : (others labels_new numbers_new : List ℕ) (count : ℕ) → count ≡ (stretch.rows - 1) * side + width → offer.price ≤ most_price → step.1 ≤ most_of_step
-        → ((j : ℕ) → j < count → slice_index_or others j 0 ≡ slice_index_or following (first + j) 0)
-        → ((j : ℕ) → j < count → slice_index_or labels j 0 ≡ no_row)
-        → ((j : ℕ) → j < count → slice_index_or labels_new j 0 ≡ min (raised others (offer.price + step.1) j) no_row)
-        → ((j : ℕ) → j < count → slice_index_or numbers_new j 0 ≡ place)
-        → RunCells c at later stretch (take (place + 1) offers) labels_new numbers_new
-    stretch_set others labels_new numbers_new count long price cost shown none set numbered i b in_rows in_width =
-        let by = best_by c at later (state i b) in
-        let j = i * side + b in
-        let there : j < count = omega (arith, in_stretch stretch.rows width side i b in_rows in_width, long) in
-        let sum : slice_index_or others j 0 + (offer.price + step.1) ≡ candidate i b = omega (arith, shown j there) in
-        let other : raised others (offer.price + step.1) j ≡ candidate i b = ap (λ k. k % 2 ^ 32) sum ∙ mod-eq_of_lt (omega (arith, after_low i b in_rows in_width, price, cost)) in
-        let new = place_set by offers place inside d (slice_index_or labels j 0) (slice_index_or numbers j 0) (old i b in_rows in_width) (none j there) (candidate i b) (label_after i b in_rows in_width) in
-        let label : slice_index_or labels_new j 0 ≡ min (candidate i b) no_row = set j there ∙ ap (λ k. min k no_row) other in
-        subst (λ l. AreOfLeast by (take (place + 1) offers) l (slice_index_or numbers_new j 0)) (sym label)
-        (subst (λ p. AreOfLeast by (take (place + 1) offers) (min (candidate i b) no_row) p) (sym (numbered j there)) new)
+-- ---- by one offer more
+
+pub run_refused : (day : OpenDay) (stretch : Stretch) (place : ℕ) → place < length day.offers.now → AreRefusedBy day stretch place → (labels numbers : List ℕ) → RunCells day stretch (take place day.offers.now) labels numbers → RunCells day stretch (take (place + 1) day.offers.now) labels numbers
+run_refused day stretch place inside none labels numbers old i b in_rows in_width = place_kept (best_with day (stretch_state stretch.block stretch.from i b)) day.offers.now place inside no_offer _ _ (old i b in_rows in_width) (none i b no_offer in_rows in_width)
+
+module _ {day : OpenDay} {stretch : Stretch} {place first dearer : ℕ} (by : AreLabelsBy day stretch place first dearer) (inside : place < length day.offers.now) (labels numbers others labels_new numbers_new : List ℕ) (old : RunCells day stretch (take place day.offers.now) labels numbers)
+    (count : ℕ) (long : count ≡ places_of day stretch) (shown : (j : ℕ) → j < count → slice_index_or others j 0 ≡ slice_index_or day.later.now (first + j) 0) where
+  module _ (i b : ℕ) (in_rows : i < stretch.rows) (in_width : b < stretch.end - stretch.from) where
+    abbrev j_at : ℕ
+    j_at = i * day.days.ranges.assignments + b
+
+    -- what the place becomes, at most
+    abbrev candidate : ℕ
+    candidate = dearer + slice_index_or day.later.now (first + j_at) 0
+
+    there : j_at < count
+    there = omega (arith, in_stretch stretch.rows (stretch.end - stretch.from) day.days.ranges.assignments i b in_rows in_width, long)
+
+    other_is : raised others dearer j_at ≡ candidate
+    other_is =
+        let sum : slice_index_or others j_at 0 + dearer ≡ candidate = omega (arith, shown j_at there) in
+        ap (λ k. k % 2 ^ 32) sum ∙ mod-eq_of_lt (omega (arith, by.low i b in_rows in_width, by.few))
+
+    label_is : min candidate no_row ≡ label_of (best_with day (stretch_state stretch.block stretch.from i b) (slice_index_or day.offers.now place by.offer))
+    label_is = by.labels i b in_rows in_width ∙ ap (λ x. label_of (best_with day (stretch_state stretch.block stretch.from i b) x)) (sym by.read)
+
+  pub stretch_lowered : ((j : ℕ) → j < count → slice_index_or labels_new j 0 ≡ min (slice_index_or labels j 0) (raised others dearer j))
+      → ((j : ℕ) → j < count → slice_index_or numbers_new j 0 ≡ pointer_by (slice_index_or labels j 0) (raised others dearer j) (slice_index_or numbers j 0) place)
+      → RunCells day stretch (take (place + 1) day.offers.now) labels_new numbers_new
+  stretch_lowered lowered pointed i b in_rows in_width =
+      let j = j_at i b in_rows in_width in
+      let in_count = there i b in_rows in_width in
+      let other = other_is i b in_rows in_width in
+      let label = lowered j in_count ∙ ap (λ k. min (slice_index_or labels j 0) k) other in
+      let number = pointed j in_count ∙ ap (λ k. if nat_lt k (slice_index_or labels j 0) then place else slice_index_or numbers j 0) other in
+      transport (λ q. AreOfLeast (best_with day (stretch_state stretch.block stretch.from i b)) (take (place + 1) day.offers.now) (sym label q) (sym number q))
+      (place_lowered (best_with day (stretch_state stretch.block stretch.from i b)) day.offers.now place inside by.offer (slice_index_or labels j 0) (slice_index_or numbers j 0) (old i b in_rows in_width) (candidate i b in_rows in_width) (label_is i b in_rows in_width))
+
+  pub stretch_set : ((j : ℕ) → j < count → slice_index_or labels j 0 ≡ no_row) → ((j : ℕ) → j < count → slice_index_or labels_new j 0 ≡ min (raised others dearer j) no_row) → ((j : ℕ) → j < count → slice_index_or numbers_new j 0 ≡ place)
+      → RunCells day stretch (take (place + 1) day.offers.now) labels_new numbers_new
+  stretch_set none set numbered i b in_rows in_width =
+      let j = j_at i b in_rows in_width in
+      let in_count = there i b in_rows in_width in
+      let label = set j in_count ∙ ap (λ k. min k no_row) (other_is i b in_rows in_width) in
+      transport (λ q. AreOfLeast (best_with day (stretch_state stretch.block stretch.from i b)) (take (place + 1) day.offers.now) (sym label q) (sym (numbered j in_count) q))
+      (place_set (best_with day (stretch_state stretch.block stretch.from i b)) day.offers.now place inside by.offer (slice_index_or labels j 0) (slice_index_or numbers j 0) (old i b in_rows in_width) (none j in_count) (candidate i b in_rows in_width) (label_is i b in_rows in_width))
 
 -- ---- the numbers stay small
 
@@ -165,45 +190,50 @@ rows_within z s first rows fits some few =
 pub in_rows-end : (rows side i a : ℕ) → i < rows → a < side → i * side + a < rows * side
 in_rows-end rows side i a in_rows inside = omega (arith, mul-le (i + 1) side rows side (omega (arith, in_rows)) (omega arith), inside)
 
--- its cells, where they stand in two tables
-module _ (c : Meaning) (at : SearchDay) (later : BestOnward) (stretch : Stretch) (offers : List Offer) (code first : ℕ) (block numbers labels pointers : List ℕ) where
-  abbrev wide : ℕ
-  wide = stretch.end - stretch.from
+-- its cells, where they stand in two tables: all at once, with what stands between them
+module _ (day : OpenDay) (stretch : Stretch) (block numbers labels pointers : List ℕ) where
+  abbrev code_at : ℕ
+  code_at = code_of day.days.ranges stretch.block
 
-  -- all at once, with what stands between them
-  pub stretch_moved : ((j : ℕ) → j < (stretch.rows - 1) * at.ranges.assignments + wide → slice_index_or labels (code + stretch.from + j) 0 ≡ slice_index_or block j 0) → ((j : ℕ) → j < (stretch.rows - 1) * at.ranges.assignments + wide → slice_index_or pointers (first + stretch.from + j) 0 ≡ slice_index_or numbers j 0)
-      → RunCells c at later stretch offers block numbers → StretchCells c at later stretch.block offers stretch.rows stretch.from stretch.end code first labels pointers
+  pub stretch_moved : ((j : ℕ) → j < places_of day stretch → slice_index_or labels (code_at + stretch.from + j) 0 ≡ slice_index_or block j 0) → ((j : ℕ) → j < places_of day stretch → slice_index_or pointers (day.first + code_at + stretch.from + j) 0 ≡ slice_index_or numbers j 0)
+      → RunCells day stretch day.offers.now block numbers → StretchCells day stretch labels pointers
   stretch_moved same_label same_number old i a in_rows low high =
+      let side = day.days.ranges.assignments in
       let b = a - stretch.from in
-      let j = i * at.ranges.assignments + b in
-      let in_width : b < wide = omega (arith, low, high) in
-      let below = in_stretch stretch.rows wide at.ranges.assignments i b in_rows in_width in
+      let j = i * side + b in
+      let in_width : b < stretch.end - stretch.from = omega (arith, low, high) in
+      let below = in_stretch stretch.rows (stretch.end - stretch.from) side i b in_rows in_width in
       let place : stretch.from + b ≡ a = omega (arith, low) in
-      let right = LeastFrom c at later (with_weekends stretch.block (stretch.block.weekends + i)) offers a in
-      let here : right (slice_index_or block j 0) (slice_index_or numbers j 0) = subst (λ k. LeastFrom c at later (with_weekends stretch.block (stretch.block.weekends + i)) offers k (slice_index_or block j 0) (slice_index_or numbers j 0)) place (old i b in_rows in_width) in
-      let label : slice_index_or labels (code + (i * at.ranges.assignments + a)) 0 ≡ slice_index_or block j 0 =
-      (let at_code : code + (i * at.ranges.assignments + a) ≡ code + stretch.from + j = omega (arith, low) in ap (λ k. slice_index_or labels k 0) at_code ∙ same_label j below) in
-      let number : slice_index_or pointers (first + (i * at.ranges.assignments + a)) 0 ≡ slice_index_or numbers j 0 =
-      (let at_first : first + (i * at.ranges.assignments + a) ≡ first + stretch.from + j = omega (arith, low) in ap (λ k. slice_index_or pointers k 0) at_first ∙ same_number j below) in
-      subst (λ l. right l (slice_index_or pointers (first + (i * at.ranges.assignments + a)) 0)) (sym label) (subst (λ p. right (slice_index_or block j 0) p) (sym number) here)
+      let at_code : code_at + stretch.from + j ≡ code_at + (i * side + a) = omega (arith, low) in
+      let at_first : day.first + code_at + stretch.from + j ≡ day.first + code_at + (i * side + a) = omega (arith, low) in
+      let label = sym (same_label j below) ∙ ap (λ k. slice_index_or labels k 0) at_code in
+      let number = sym (same_number j below) ∙ ap (λ k. slice_index_or pointers k 0) at_first in
+      transport (λ q. LeastFrom day (with_weekends stretch.block (stretch.block.weekends + i)) day.offers.now (place q) (label q) (number q)) (old i b in_rows in_width)
 
 -- ---- a stretch is within the tables, and within the room for it
 
-module _ (c : Meaning) (at : SearchDay) (here : List Area) (stretch : Stretch) (good : IsStretchOf c at here stretch) where
-  abbrev pub count : ℕ
-  count = (stretch.rows - 1) * at.ranges.assignments + (stretch.end - stretch.from)
+module _ {day : OpenDay} {stretch : Stretch} (good : IsStretchOf day stretch) where
+  pub count_within : stretch.from + places_of day stretch ≤ stretch.rows * day.days.ranges.assignments
+  count_within = omega (arith, one_row_less stretch.rows day.days.ranges.assignments good.some_rows, good.assignments, good.some_places)
 
-  pub count_within : stretch.from + count ≤ stretch.rows * at.ranges.assignments
-  count_within = omega (arith, one_row_less stretch.rows at.ranges.assignments good.some_rows, good.assignments, good.some_places)
-
-  pub count_short : count ≤ most_places
+  pub count_short : places_of day stretch ≤ most_places
   count_short = omega (arith, count_within, good.short)
 
-  pub rows_in_table : code_of at.ranges stretch.block + stretch.rows * at.ranges.assignments ≤ product at.ranges
-  rows_in_table = rows_within at.ranges stretch.block good.without stretch.rows good.fits good.some_rows good.weekends
+  pub rows_in_table : code_of day.days.ranges stretch.block + stretch.rows * day.days.ranges.assignments ≤ product day.days.ranges
+  rows_in_table = rows_within day.days.ranges stretch.block good.without stretch.rows good.fits good.some_rows good.weekends
+
+  -- as the code reckons it
+  pub count_is : {side : ℕ} → side ≡ day.days.ranges.assignments → (stretch.rows - 1) * side + (stretch.end - stretch.from) ≡ places_of day stretch
+  count_is is = ap (λ k. (stretch.rows - 1) * k + (stretch.end - stretch.from)) is
+
+  pub in_room : {side long : ℕ} → side ≡ day.days.ranges.assignments → most_places ≤ long → (stretch.rows - 1) * side + (stretch.end - stretch.from) ≤ long
+  in_room is room = omega (arith, count_is is, count_short, room)
+
+  pub in_table : {first side long : ℕ} → first ≡ code_of day.days.ranges stretch.block → side ≡ day.days.ranges.assignments → product day.days.ranges ≤ long → first + stretch.from + ((stretch.rows - 1) * side + (stretch.end - stretch.from)) ≤ long
+  in_table first is room = omega (arith, first, count_is is, count_within, rows_in_table, room)
 
   -- a part of its places
-  pub part_of : (from end : ℕ) → stretch.from ≤ from → from < end → end ≤ stretch.end → IsStretchOf c at here (record stretch { from = from; end = end })
+  pub part_of : (from end : ℕ) → stretch.from ≤ from → from < end → end ≤ stretch.end → IsStretchOf day (record stretch { from = from; end = end })
   part_of from end low some high = record {
     fits = good.fits;
     without = good.without;
@@ -214,7 +244,7 @@ module _ (c : Meaning) (at : SearchDay) (here : List Area) (stretch : Stretch) (
     short = good.short;
     stands = λ i b in_rows in_width.
         let place : stretch.from + (from - stretch.from + b) ≡ from + b = omega (arith, low) in
-        subst (λ a. Stands c at.nurse here (with_assignments (with_weekends stretch.block (stretch.block.weekends + i)) a)) place (good.stands i (from - stretch.from + b) in_rows (omega (arith, in_width, low, high)));
+        subst (λ a. StandsOn day (with_assignments (with_weekends stretch.block (stretch.block.weekends + i)) a)) place (good.stands i (from - stretch.from + b) in_rows (omega (arith, in_width, low, high)));
   }
 
 -- ---- rows that are put in their places one after another
@@ -224,6 +254,20 @@ row_in_count rows width side row in_rows = omega (arith, mul-le row side (rows -
 
 pub row_end : (rows side from end row : ℕ) → row < rows → from < end → end ≤ side → from + row * side + (end - from) ≤ rows * side
 row_end rows side from end row in_rows some whole = omega (arith, in_rows-end rows side row (end - 1) in_rows (omega (arith, some, whole)), some)
+
+-- a row of a stretch is within its places, and within the table
+module _ {day : OpenDay} {stretch : Stretch} (good : IsStretchOf day stretch) {row side : ℕ} (in_rows : row < stretch.rows) (is : side ≡ day.days.ranges.assignments) where
+  pub row_is : row * side ≡ row * day.days.ranges.assignments
+  row_is = ap (λ k. row * k) is
+
+  pub row_in_places : row * side + (stretch.end - stretch.from) ≤ places_of day stretch
+  row_in_places = omega (arith, row_is, row_in_count stretch.rows (stretch.end - stretch.from) day.days.ranges.assignments row in_rows)
+
+  pub row_short : {long : ℕ} → most_places ≤ long → row * side + (stretch.end - stretch.from) ≤ long
+  row_short room = omega (arith, row_in_places, count_short good, room)
+
+  pub row_in_table : {first long : ℕ} → first ≡ code_of day.days.ranges stretch.block → product day.days.ranges ≤ long → first + stretch.from + row * side + (stretch.end - stretch.from) ≤ long
+  row_in_table first room = omega (arith, first, row_is, row_end stretch.rows day.days.ranges.assignments stretch.from stretch.end row in_rows good.some_places good.assignments, rows_in_table good, room)
 
 module _ (side from end code row : ℕ) (old new : List ℕ) (whole : end ≤ side) (others : SameOutside (code + from + row * side) (code + from + row * side + (end - from)) old new) where
   pub row_before : (i a : ℕ) → i < row → a < end → slice_index_or new (code + (i * side + a)) 0 ≡ slice_index_or old (code + (i * side + a)) 0
@@ -236,33 +280,44 @@ module _ (side from end code row : ℕ) (old new : List ℕ) (whole : end ≤ si
       go (inl after) = others.after (code + (i * side + a)) (omega (arith, mul-le (row + 1) side i side (omega (arith, after)) (omega arith), whole, some))
       go (inr before) = others.before (code + (i * side + a)) (omega (arith, mul-le i side row side before (omega arith), inside))
 
-  pub row_outside : (rows : ℕ) → row < rows → from < end → SameOutside code (code + rows * side) old new
-  row_outside rows in_rows some = record {
-    before = λ j low. others.before j (omega (arith, low));
-    after = λ j high. others.after j (omega (arith, high, mul-le (row + 1) side rows side (omega (arith, in_rows)) (omega arith), whole, some));
+  pub row_outside : (rows : ℕ) → row < rows → from < end → length new ≡ length old → KeepsRest code (rows * side) old new
+  row_outside rows in_rows some same = record {
+    others = record {
+      before = λ j low. others.before j (omega (arith, low));
+      after = λ j high. others.after j (omega (arith, high, mul-le (row + 1) side rows side (omega (arith, in_rows)) (omega arith), whole, some));
+    };
+    length_stays = same;
   }
 
-module _ (c : Meaning) (at : SearchDay) (later : BestOnward) (stretch : Stretch) (offers : List Offer) (code first row : ℕ) (block numbers labels_old pointers_old labels pointers : List ℕ) (whole : stretch.end ≤ at.ranges.assignments) (in_rows : row < stretch.rows) where
+-- a row more of a stretch, whose rows so far are put in their places
+module _ (day : OpenDay) (stretch : Stretch) (row : ℕ) (block numbers labels_old pointers_old labels pointers : List ℕ) (whole : stretch.end ≤ day.days.ranges.assignments) (in_rows : row < stretch.rows) where
   abbrev size : ℕ
-  size = at.ranges.assignments
+  size = day.days.ranges.assignments
 
   abbrev wide_row : ℕ
   wide_row = stretch.end - stretch.from
 
-  module _ (run : RunCells c at later stretch offers block numbers)
+  abbrev code : ℕ
+  code = code_of day.days.ranges stretch.block
+
+  abbrev first : ℕ
+  first = day.first + code_of day.days.ranges stretch.block
+
+  module _ (run : RunCells day stretch day.offers.now block numbers)
       (other_labels : SameOutside (code + stretch.from + row * size) (code + stretch.from + row * size + wide_row) labels_old labels)
       (other_pointers : SameOutside (first + stretch.from + row * size) (first + stretch.from + row * size + wide_row) pointers_old pointers)
       (same_label : (b : ℕ) → b < wide_row → slice_index_or labels (code + stretch.from + row * size + b) 0 ≡ slice_index_or block (row * size + b) 0)
       (same_number : (b : ℕ) → b < wide_row → slice_index_or pointers (first + stretch.from + row * size + b) 0 ≡ slice_index_or numbers (row * size + b) 0)
-      (old : StretchCells c at later stretch.block offers row stretch.from stretch.end code first labels_old pointers_old) where
+      (old : StretchCells day (record stretch { rows = row }) labels_old pointers_old) where
     module _ (i a : ℕ) (low : stretch.from ≤ a) (high : a < stretch.end) where
       abbrev least_at : ℕ → ℕ → Type 0
-      least_at l p = LeastFrom c at later (with_weekends stretch.block (stretch.block.weekends + i)) offers a l p
+      least_at l p = LeastFrom day (with_weekends stretch.block (stretch.block.weekends + i)) day.offers.now a l p
 
       cell_before : i < row → least_at (slice_index_or labels (code + (i * size + a)) 0) (slice_index_or pointers (first + (i * size + a)) 0)
       cell_before before =
-          subst (λ l. least_at l (slice_index_or pointers (first + (i * size + a)) 0)) (sym (row_before size stretch.from stretch.end code row labels_old labels whole other_labels i a before high))
-          (subst (λ p. least_at (slice_index_or labels_old (code + (i * size + a)) 0) p) (sym (row_before size stretch.from stretch.end first row pointers_old pointers whole other_pointers i a before high)) (old i a before low high))
+          let label = sym (row_before size stretch.from stretch.end code row labels_old labels whole other_labels i a before high) in
+          let number = sym (row_before size stretch.from stretch.end first row pointers_old pointers whole other_pointers i a before high) in
+          transport (λ q. least_at (label q) (number q)) (old i a before low high)
 
       cell_here : i ≡ row → least_at (slice_index_or labels (code + (i * size + a)) 0) (slice_index_or pointers (first + (i * size + a)) 0)
       cell_here is =
@@ -270,40 +325,40 @@ module _ (c : Meaning) (at : SearchDay) (later : BestOnward) (stretch : Stretch)
           let in_width : b < wide_row = omega (arith, low, high) in
           let place : stretch.from + b ≡ a = omega (arith, low) in
           let row_is : i * size ≡ row * size = ap (λ k. k * size) is in
-          let back : row * size + b ≡ i * size + b = omega (arith, row_is) in
-          let at_label : code + (i * size + a) ≡ code + stretch.from + row * size + b = omega (arith, row_is, low) in
-          let at_pointer : first + (i * size + a) ≡ first + stretch.from + row * size + b = omega (arith, row_is, low) in
-          let label : slice_index_or labels (code + (i * size + a)) 0 ≡ slice_index_or block (i * size + b) 0 = ap (λ k. slice_index_or labels k 0) at_label ∙ same_label b in_width ∙ ap (λ k. slice_index_or block k 0) back in
-          let number : slice_index_or pointers (first + (i * size + a)) 0 ≡ slice_index_or numbers (i * size + b) 0 = ap (λ k. slice_index_or pointers k 0) at_pointer ∙ same_number b in_width ∙ ap (λ k. slice_index_or numbers k 0) back in
-          let cell = run i b (omega (arith, is, in_rows)) in_width in
-          subst (λ l. least_at l (slice_index_or pointers (first + (i * size + a)) 0)) (sym label)
-          (subst (λ p. least_at (slice_index_or block (i * size + b) 0) p) (sym number)
-          (subst (λ k. LeastFrom c at later (with_weekends stretch.block (stretch.block.weekends + i)) offers k (slice_index_or block (i * size + b) 0) (slice_index_or numbers (i * size + b) 0)) place cell))
+          let back : i * size + b ≡ row * size + b = omega (arith, row_is) in
+          let at_label : code + stretch.from + row * size + b ≡ code + (i * size + a) = omega (arith, row_is, low) in
+          let at_pointer : first + stretch.from + row * size + b ≡ first + (i * size + a) = omega (arith, row_is, low) in
+          let label = ap (λ k. slice_index_or block k 0) back ∙ sym (same_label b in_width) ∙ ap (λ k. slice_index_or labels k 0) at_label in
+          let number = ap (λ k. slice_index_or numbers k 0) back ∙ sym (same_number b in_width) ∙ ap (λ k. slice_index_or pointers k 0) at_pointer in
+          transport (λ q. LeastFrom day (with_weekends stretch.block (stretch.block.weekends + i)) day.offers.now (place q) (label q) (number q)) (run i b (omega (arith, is, in_rows)) in_width)
 
       cell_now : i < row + 1 → (i < row) ⊎ (row ≤ i) → least_at (slice_index_or labels (code + (i * size + a)) 0) (slice_index_or pointers (first + (i * size + a)) 0)
       cell_now below (inl before) = cell_before before
       cell_now below (inr from_row) = cell_here (omega (arith, below, from_row))
 
-    pub row_more : StretchCells c at later stretch.block offers (row + 1) stretch.from stretch.end code first labels pointers
+    pub row_more : StretchCells day (record stretch { rows = row + 1 }) labels pointers
     row_more i a below low high = cell_now i a low high below (cases_lt i row)
 
 -- ---- places beside those that are labelled
 
-module _ (c : Meaning) (at : SearchDay) (later : BestOnward) (block : Summary) (offers : List Offer) (rows from middle end code first : ℕ) (labels_old pointers_old labels pointers : List ℕ) where
-  module _ (old : StretchCells c at later block offers rows from middle code first labels_old pointers_old) (same_label : PlacesKept rows middle at.ranges.assignments code labels_old labels) (same_number : PlacesKept rows middle at.ranges.assignments first pointers_old pointers)
-      (new : StretchCells c at later block offers rows middle end code first labels pointers) where
-    module _ (i a : ℕ) (in_rows : i < rows) (low : from ≤ a) (high : a < end) where
-      abbrev right_at : ℕ → ℕ → Type 0
-      right_at l p = LeastFrom c at later (with_weekends block (block.weekends + i)) offers a l p
+module _ (day : OpenDay) (stretch : Stretch) (middle end : ℕ) (labels_old pointers_old labels pointers : List ℕ) (old : StretchCells day (record stretch { end = middle }) labels_old pointers_old) where
+  abbrev part : Stretch
+  part = record stretch { from = middle; end = end }
 
-      place_now : (a < middle) ⊎ (middle ≤ a) → right_at (slice_index_or labels (code + (i * at.ranges.assignments + a)) 0) (slice_index_or pointers (first + (i * at.ranges.assignments + a)) 0)
-      place_now (inr there) = new i a in_rows there high
-      place_now (inl before) =
-          subst (λ l. right_at l (slice_index_or pointers (first + (i * at.ranges.assignments + a)) 0)) (sym (same_label i a in_rows before))
-          (subst (λ p. right_at (slice_index_or labels_old (code + (i * at.ranges.assignments + a)) 0) p) (sym (same_number i a in_rows before)) (old i a in_rows low before))
+  abbrev part_code : ℕ
+  part_code = code_of day.days.ranges stretch.block
 
-    pub places_more : StretchCells c at later block offers rows from end code first labels pointers
-    places_more i a in_rows low high = place_now i a in_rows low high (cases_lt a middle)
+  module _ (same_label : PlacesKept day part part_code labels_old labels) (same_number : PlacesKept day part (day.first + part_code) pointers_old pointers) (new : StretchCells day part labels pointers) where
+    pub places_more : StretchCells day (record stretch { end = end }) labels pointers
+    places_more i a in_rows low high = go (cases_lt a middle)
+      where
+        go : (a < middle) ⊎ (middle ≤ a)
+            → LeastFrom day (with_weekends stretch.block (stretch.block.weekends + i)) day.offers.now a (slice_index_or labels (part_code + (i * day.days.ranges.assignments + a)) 0) (slice_index_or pointers (day.first + part_code + (i * day.days.ranges.assignments + a)) 0)
+        go (inr there) = new i a in_rows there high
+        go (inl before) =
+            let label = sym (same_label i a in_rows before) in
+            let number = sym (same_number i a in_rows before) in
+            transport (λ q. LeastFrom day (with_weekends stretch.block (stretch.block.weekends + i)) day.offers.now a (label q) (number q)) (old i a in_rows low before)
 
 -- so many for each place and each offer, up to a place and from it on
 pub places_counted : (long rows from middle end : ℕ) → from < middle → middle < end → long * (rows * (middle - from)) + long * (rows * (end - middle)) ≡ long * (rows * (end - from))
@@ -322,39 +377,63 @@ rows_counted long first w more width low =
     omega arith ∙ ap (λ k. long * (k * width)) sum
 
 -- the cells of a group for the worked weekends from one number up to another
-abbrev pub GroupCells : Meaning → SearchDay → BestOnward → Summary → List Offer → (from end first to code place : ℕ) → List ℕ → List ℕ → Type 0
-GroupCells c at later group offers from end first to code place labels pointers =
-    (w a : ℕ) → first ≤ w → w < to → from ≤ a → a < end → LeastFrom c at later (with_weekends group w) offers a (slice_index_or labels (code + (w * at.ranges.assignments + a)) 0) (slice_index_or pointers (place + (w * at.ranges.assignments + a)) 0)
+abbrev pub GroupCells : OpenDay → Summary → (from end first to : ℕ) → List ℕ → List ℕ → Type 0
+GroupCells day group from end first to labels pointers =
+    (w a : ℕ) → first ≤ w → w < to → from ≤ a → a < end → LeastFrom day (with_weekends group w) day.offers.now a
+    (slice_index_or labels (code_of day.days.ranges group + (w * day.days.ranges.assignments + a)) 0)
+    (slice_index_or pointers (day.first + code_of day.days.ranges group + (w * day.days.ranges.assignments + a)) 0)
 
 -- by so many rows more
-module _ (c : Meaning) (at : SearchDay) (later : BestOnward) (group : Summary) (offers : List Offer) (from end : ℕ) (whole : end ≤ at.ranges.assignments) where
-  module _ (first to more code place : ℕ) (labels_old pointers_old labels pointers : List ℕ) (old : GroupCells c at later group offers from end first to code place labels_old pointers_old)
-      (other_labels : (j : ℕ) → j < code + to * at.ranges.assignments → slice_index_or labels j 0 ≡ slice_index_or labels_old j 0) (other_pointers : (j : ℕ) → j < place + to * at.ranges.assignments → slice_index_or pointers j 0 ≡ slice_index_or pointers_old j 0)
-      (new : (i a : ℕ) → i < more → from ≤ a → a < end → LeastFrom c at later (with_weekends group (to + i)) offers a (slice_index_or labels (code + to * at.ranges.assignments + (i * at.ranges.assignments + a)) 0) (slice_index_or pointers (place + to * at.ranges.assignments + (i * at.ranges.assignments + a)) 0)) where
+module _ (day : OpenDay) (group : Summary) (from end first to more : ℕ) (whole : end ≤ day.days.ranges.assignments) (labels_old pointers_old labels pointers : List ℕ) (old : GroupCells day group from end first to labels_old pointers_old) where
+  abbrev row_size : ℕ
+  row_size = day.days.ranges.assignments
+
+  abbrev group_at : ℕ
+  group_at = code_of day.days.ranges group
+
+  module _ (block : Summary) (is_block : with_weekends group to ≡ block) (code_is_more : code_of day.days.ranges block ≡ group_at + to * row_size) (beside : KeepBeside day (record { block = block; rows = more; from = from; end = end }) labels_old labels pointers_old pointers)
+      (new : StretchCells day (record { block = block; rows = more; from = from; end = end }) labels pointers) where
     module _ (w a : ℕ) (low : first ≤ w) (from_a : from ≤ a) (to_a : a < end) where
-      abbrev least_of : Summary → ℕ → ℕ → Type 0
-      least_of s l p = LeastFrom c at later s offers a l p
-
-      group_before : w < to → least_of (with_weekends group w) (slice_index_or labels (code + (w * at.ranges.assignments + a)) 0) (slice_index_or pointers (place + (w * at.ranges.assignments + a)) 0)
+      group_before : w < to → LeastFrom day (with_weekends group w) day.offers.now a (slice_index_or labels (group_at + (w * row_size + a)) 0) (slice_index_or pointers (day.first + group_at + (w * row_size + a)) 0)
       group_before before =
-          let below = in_rows-end to at.ranges.assignments w a before (omega (arith, to_a, whole)) in
-          subst (λ l. least_of (with_weekends group w) l (slice_index_or pointers (place + (w * at.ranges.assignments + a)) 0)) (sym (other_labels (code + (w * at.ranges.assignments + a)) (omega (arith, below))))
-          (subst (λ p. least_of (with_weekends group w) (slice_index_or labels_old (code + (w * at.ranges.assignments + a)) 0) p) (sym (other_pointers (place + (w * at.ranges.assignments + a)) (omega (arith, below)))) (old w a low before from_a to_a))
+          let below = in_rows-end to row_size w a before (omega (arith, to_a, whole)) in
+          let label = sym (beside.of_labels.others.before (group_at + (w * row_size + a)) (omega (arith, below, code_is_more))) in
+          let number = sym (beside.of_pointers.others.before (day.first + group_at + (w * row_size + a)) (omega (arith, below, code_is_more))) in
+          transport (λ q. LeastFrom day (with_weekends group w) day.offers.now a (label q) (number q)) (old w a low before from_a to_a)
 
-      group_here : to ≤ w → w < to + more → least_of (with_weekends group w) (slice_index_or labels (code + (w * at.ranges.assignments + a)) 0) (slice_index_or pointers (place + (w * at.ranges.assignments + a)) 0)
+      group_here : to ≤ w → w < to + more → LeastFrom day (with_weekends group w) day.offers.now a (slice_index_or labels (group_at + (w * row_size + a)) 0) (slice_index_or pointers (day.first + group_at + (w * row_size + a)) 0)
       group_here from_w to_w =
           let i = w - to in
           let is : to + i ≡ w = omega (arith, from_w) in
-          let row : to * at.ranges.assignments + i * at.ranges.assignments ≡ w * at.ranges.assignments = omega arith ∙ ap (λ k. k * at.ranges.assignments) is in
-          let at_code : code + to * at.ranges.assignments + (i * at.ranges.assignments + a) ≡ code + (w * at.ranges.assignments + a) = omega (arith, row) in
-          let at_place : place + to * at.ranges.assignments + (i * at.ranges.assignments + a) ≡ place + (w * at.ranges.assignments + a) = omega (arith, row) in
-          subst (λ k. least_of (with_weekends group w) (slice_index_or labels k 0) (slice_index_or pointers (place + (w * at.ranges.assignments + a)) 0)) at_code
-          (subst (λ k. least_of (with_weekends group w) (slice_index_or labels (code + to * at.ranges.assignments + (i * at.ranges.assignments + a)) 0) (slice_index_or pointers k 0)) at_place
-          (subst (λ k. least_of (with_weekends group k) (slice_index_or labels (code + to * at.ranges.assignments + (i * at.ranges.assignments + a)) 0) (slice_index_or pointers (place + to * at.ranges.assignments + (i * at.ranges.assignments + a)) 0)) is (new i a (omega (arith, from_w, to_w)) from_a to_a)))
+          let weekends : block.weekends ≡ to = ap (λ (b : Summary). b.weekends) (sym is_block) in
+          let sum : block.weekends + i ≡ w = omega (arith, weekends, is) in
+          let state : with_weekends block (block.weekends + i) ≡ with_weekends group w = λ q. with_weekends (sym is_block q) (sum q) in
+          let row : to * row_size + i * row_size ≡ w * row_size = omega arith ∙ ap (λ k. k * row_size) is in
+          let at_code : code_of day.days.ranges block + (i * row_size + a) ≡ group_at + (w * row_size + a) = omega (arith, row, code_is_more) in
+          let at_place : day.first + code_of day.days.ranges block + (i * row_size + a) ≡ day.first + group_at + (w * row_size + a) = omega (arith, row, code_is_more) in
+          transport (λ q. LeastFrom day (state q) day.offers.now a (slice_index_or labels (at_code q) 0) (slice_index_or pointers (at_place q) 0)) (new i a (omega (arith, from_w, to_w)) from_a to_a)
 
-      group_now : w < to + more → (w < to) ⊎ (to ≤ w) → least_of (with_weekends group w) (slice_index_or labels (code + (w * at.ranges.assignments + a)) 0) (slice_index_or pointers (place + (w * at.ranges.assignments + a)) 0)
+      group_now : w < to + more → (w < to) ⊎ (to ≤ w) → LeastFrom day (with_weekends group w) day.offers.now a (slice_index_or labels (group_at + (w * row_size + a)) 0) (slice_index_or pointers (day.first + group_at + (w * row_size + a)) 0)
       group_now to_w (inl before) = group_before before
       group_now to_w (inr from_w) = group_here from_w to_w
 
-    pub group_more : GroupCells c at later group offers from end first (to + more) code place labels pointers
+    pub group_more : GroupCells day group from end first (to + more) labels pointers
     group_more w a low to_w from_a to_a = group_now w a low from_a to_a to_w (cases_lt w to)
+
+-- all of them
+pub group_tables : (day : OpenDay) (group : Summary) → group.weekends ≡ 0 → group.assignments ≡ 0
+    → {first last : ℕ} → Goes (area_at day.areas.now (shift_digit group.last)).weekends (sizes_of day.days.case.now day.days.nurse).weekends first last
+    → {from end : ℕ} → Goes (area_at day.areas.now (shift_digit group.last)).assignments (sizes_of day.days.case.now day.days.nurse).assignments from end
+    → (to : ℕ) → last ≤ to → (labels pointers : List ℕ) → GroupCells day group from end first to labels pointers → AreTables day (StandsBy day group) labels pointers
+group_tables day group no_weekends no_assignments weekends places to at_end labels pointers cells =
+    record { labels_are = λ s like. (cell s like).least; pointers_are = λ s like. (cell s like).points }
+  where
+    cell : (s : Summary) → StandsBy day group s → AreOfLeast (best_with day s) day.offers.now (slice_index_or labels (code_of (sizes_of day.days.case.now day.days.nurse) s) 0) (slice_index_or pointers (day.first + code_of (sizes_of day.days.case.now day.days.nurse) s) 0)
+    cell s like =
+        let w = like_weekends like weekends in
+        let a = like_place like places in
+        let code = like_code like day.days.ranges day.days.search.ranges no_weekends no_assignments in
+        let at_code : code_of day.days.ranges group + (s.weekends * day.days.ranges.assignments + s.assignments) ≡ code_of (sizes_of day.days.case.now day.days.nurse) s = omega (arith, code) in
+        let at_first : day.first + code_of day.days.ranges group + (s.weekends * day.days.ranges.assignments + s.assignments) ≡ day.first + code_of (sizes_of day.days.case.now day.days.nurse) s = omega (arith, code) in
+        let state = as_place like s.weekends refl in
+        transport (λ q. AreOfLeast (best_with day (state q)) day.offers.now (slice_index_or labels (at_code q) 0) (slice_index_or pointers (at_first q) 0)) (cells s.weekends s.assignments w.0 (omega (arith, w.1, at_end)) a.0 a.1)

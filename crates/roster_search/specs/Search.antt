@@ -1,16 +1,17 @@
 -- A search over a table of offers: the room that it takes, its days, and how many states it goes over (our own).
-use Rattle.std.specs.Prelude.{ℕ, ◌+◌, ◌-◌, ◌*◌, ◌<◌, ◌≤◌, All, List, [], length, slice_index_or}
-use Rattle.roster_instance.specs.Meaning.{Meaning, day_count}
+use Rattle.std.specs.Prelude.{◌≡◌, ℕ, ◌+◌, ◌-◌, ◌*◌, ◌<◌, ◌≤◌, All, List, [], length, slice_index_or}
+use Rattle.arrayvec.specs.ArrayVec.{ArrayVec}
+use Rattle.roster_instance.specs.Meaning.{Meaning, contract_of, day_count, nurse_count}
+use Rattle.roster_instance.specs.declared.rules.ContractRules.{ContractRules}
 use Rattle.roster_instance.specs.Sizes.{state_count}
 use Rattle.roster_instance.specs.Counting.{sum_below}
 use Rattle.roster_rules.specs.Prefix.{Summary, summary_of}
 use Rattle.roster_state.specs.declared.area.Area.{Area}
-use Rattle.roster_state.specs.Codes.{product, sizes_of}
+use Rattle.roster_state.specs.Codes.{Sizes, product, sizes_of}
 use Rattle.roster_offers.specs.declared.offer.Offer.{Offer}
 use Rattle.roster_offers.specs.Offers.{best_of_offers}
-use Rattle.roster_search.specs.declared.day.SearchDay.{SearchDay}
 use Rattle.roster_search.specs.Counts.{states_on}
-use Rattle.roster_search.specs.Tables.{ArePointers, BestOnward, LeadsOn, Stands}
+use Rattle.roster_search.specs.Tables.{ArePointers, BestOnward, LeadsOn, SearchDay, Stands}
 pub use Rattle.roster_offers.specs.Lists.{AreDayOffers, AreOffers, IsFound, best_over, offers_on}
 
 -- ---- the room
@@ -30,9 +31,9 @@ pub record HasTables (c : Meaning) (n : ℕ) (t : TableRoom) : Type 0 where
 
 -- ---- the days of a search
 
--- a day of the search for a nurse, with the nurse's ranges
+-- a day of the search for a nurse
 abbrev pub search_day : Meaning → ℕ → ℕ → SearchDay
-search_day c n day = record { nurse = n; day = day; ranges = sizes_of c n }
+search_day c n day = record { nurse = n; day = day }
 
 -- the best row of the days from one on, from a state on
 abbrev pub onward : Meaning → ℕ → (ℕ → List Offer) → ℕ → BestOnward
@@ -60,6 +61,15 @@ pub record AreStanding (c : Meaning) (n : ℕ) (offers : ℕ → List Offer) (ar
   pub first : states_on c n (areas_on areas 0) ≤ 1
   pub lead : AreasLead c n offers areas
   pub long : day_count c < length areas
+
+-- what is known of a search's days: the nurse is one of the case's, with these rules and ranges, the offers are right, and the nurse's rows
+-- stay in the areas
+pub record AreSearchDays (c : Meaning) (n : ℕ) (own : ContractRules) (z : Sizes) (table : List (ArrayVec Offer)) (areas : List (List Area)) : Type 0 where
+  pub nurse : n < nurse_count c
+  pub rules : own ≡ contract_of c n
+  pub ranges : z ≡ sizes_of c n
+  pub offers : AreOffers c n table
+  pub standing : AreStanding c n (offers_on table) areas
 
 -- a state that stands in these areas
 pub record SomeStands (c : Meaning) (n : ℕ) (areas : List Area) : Type 0 where

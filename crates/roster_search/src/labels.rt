@@ -1,144 +1,97 @@
 //! The labels and pointers of a day: for each state what the best row from there on costs, and with which offer it begins.
 
-ghost use Rattle.std.specs.Prelude.{◌≡◌, ◌+◌, ◌-◌, ◌*◌, ◌<◌, ◌≤◌, true, false, ℕ, List, is_some, length, replicate, slice_index_or, take};
+ghost use Rattle.std.specs.Prelude.{◌≡◌, ◌+◌, ◌*◌, ◌<◌, ◌≤◌, IfSome, None, true, false, length};
 ghost use Rattle.roster_bundle.specs.Limits.{greatest_u64};
 ghost use Rattle.roster_instance.specs.Limits.{most_shifts};
-ghost use Rattle.roster_rules.specs.DayLaw.{weekends_more};
-ghost use Rattle.roster_instance.specs.Meaning.{contract_of, nurse_count};
-ghost use Rattle.roster_rules.specs.Prefix.{Summary};
-ghost use Rattle.roster_state.specs.declared.area.Area.{Area};
-ghost use Rattle.roster_state.specs.Areas.{InSpan, area_at};
-ghost use Rattle.roster_state.specs.Codes.{code_of, fits_sizes, product, shift_digit, sizes_of};
-ghost use Rattle.roster_state.specs.Step.{with_assignments};
-ghost use Rattle.roster_state.specs.Stretches.{IsAlike};
-ghost use Rattle.roster_lanes.specs.Lanes.{SameOutside};
-ghost use Rattle.roster_offers.specs.Lists.{no_row};
+ghost use Rattle.roster_state.specs.Areas.{area_at};
+ghost use Rattle.roster_state.specs.Codes.{code_of, fits_sizes, product};
 ghost use Rattle.roster_search.specs.Halves.{IsWritten};
-ghost use Rattle.roster_search.specs.Counts.{states_on, states_with};
-ghost use Rattle.roster_search.specs.Tables.{AreLabels, ArePointers, Around, IsReady, IsStretchDay, IsStretchOf, LabelsOf, PointersOf, PlacesKept, RunCells, Stands, StandsLike, StretchCells, best_at_end, best_on, label_of, most_places};
+ghost use Rattle.roster_search.specs.Days.{BlockLabels, EndLabels};
+ghost use Rattle.roster_search.specs.OpenDays.{AllAlike, AreLabelsBy, AreRefusedBy, AreSmall, AreTables, HaveLength, HaveRoom, IsGroupOf, IsLowered, IsPut, IsStretchDay, IsStretchOf, KeepBeside, KeepLengths, KeepTables, KeepsRest, NoneYet, RowsAlike, RunCells, StandsBy, StandsOn, StretchCells, day_steps, group_places, group_steps, most_places, places_of, states_of, stretch_steps};
+ghost use Rattle.roster_search.specs.Tables.{Stands, StandsLike};
 
 use crate::day::OpenDay;
+use crate::days::SearchDays;
 use crate::pointers::Pointers;
 use roster_lanes::{lower_all, set_all};
-use roster_rules::{Case, ContractRules};
-use roster_state::{
-    AREAS, Area, Block, Meter, NurseDays, Ranges, Stretch, WorkedDay, end_cost,
-    extend_stretch_ahead, worked_stretch,
-};
+use roster_state::{AREAS, Area, Block, Meter, NurseDays, Stretch, WorkedDay, end_cost};
 
 /// The label of a state from which no row goes on. Each row costs less.
 pub const NO_ROW: u32 = 1_073_741_824;
 
 /// The labels after the last day, of the states that stand there: what is missing in the end.
-pub fn label_end(
-    case: &Case,
-    nurse: usize,
-    ranges: &Ranges,
-    areas: &[Area; AREAS],
-    labels: &mut [u32],
-)
-    ghost here: { List Area }
-    requires nurse { nurse < nurse_count case.now }
-    requires ranges { ranges.now ≡ sizes_of case.now nurse }
-    requires here { here ≡ areas.now }
-    requires places { product ranges.now ≤ length labels.old }
-    ensures labels { AreLabels case.now nurse here (best_at_end case.now nurse) labels.new }
+pub fn label_end(days: &SearchDays<'_>, areas: &[Area; AREAS], labels: &mut [u32])
+    requires room { product days.now.ranges ≤ length labels.old }
+    ensures labels { EndLabels (Stands days.now.case.now days.now.nurse areas.now) days.now
+        labels.new }
     ensures length { length labels.new ≡ length labels.old }
 {
+    let ranges = &days.ranges;
     let (runs, shift_runs) = (ranges.run(), ranges.shift_run());
     for last in 0..ranges.last() {
-        let area = areas[last as usize];
+        let area = area_of(areas, last);
         let (first_run, end_run) = area.run.below(runs);
         for run in first_run..end_run {
             let (first_shift_run, end_shift_run) = area.shift_run.below(shift_runs);
             for shift_run in first_shift_run..end_shift_run {
                 let group = Block::of_runs(last, run as u16, shift_run as u16);
-                label_group_end(case, nurse, ranges, group, &area, labels);
+                label_group_end(days, areas, group, labels);
             }
         }
     }
 }
 
 /// The labels after the last day of the states that stand there, of those that differ in their weekends and assignments alone.
-fn label_group_end(
-    case: &Case,
-    nurse: usize,
-    ranges: &Ranges,
-    group: Block,
-    area: &Area,
-    labels: &mut [u32],
-)
-    ghost here: { List Area }
-    requires nurse { nurse < nurse_count case.now }
-    requires ranges { ranges.now ≡ sizes_of case.now nurse }
-    requires fits { fits_sizes ranges.now group ≡ true }
-    requires first { (group.weekends ≡ 0) × (group.assignments ≡ 0) }
-    requires area { area.now ≡ area_at here (shift_digit group.last) }
-    requires places { product ranges.now ≤ length labels.old }
-    ensures labels { LabelsOf (StandsLike case.now nurse here group) case.now nurse
-        (best_at_end case.now nurse) labels.new }
-    ensures others { SameOutside (code_of ranges.now group)
-        (code_of ranges.now group + ranges.now.weekends * ranges.now.assignments) labels.old
+fn label_group_end(days: &SearchDays<'_>, areas: &[Area; AREAS], group: Block, labels: &mut [u32])
+    requires fits { fits_sizes days.now.ranges group ≡ true }
+    requires no_weekends { group.weekends ≡ 0 }
+    requires no_assignments { group.assignments ≡ 0 }
+    requires room { product days.now.ranges ≤ length labels.old }
+    ensures labels { EndLabels (StandsLike days.now.case.now days.now.nurse areas.now group)
+        days.now labels.new }
+    ensures beside { KeepsRest (code_of days.now.ranges group) (group_places days.now) labels.old
         labels.new }
-    ensures length { length labels.new ≡ length labels.old }
 {
-    let (first, end) = area.weekends.below(ranges.weekends());
+    days.case.keeps_limits();
+    let area = area_of(areas, group.last_number());
+    let (first, end) = area.weekends.below(days.ranges.weekends());
     for weekends in first..end {
         let block = group.with_weekends(weekends as u16);
-        label_block_end(case, nurse, ranges, block, labels);
+        label_block_end(days, block, labels);
     }
 }
 
 /// The labels of a block after the last day.
-fn label_block_end(case: &Case, nurse: usize, ranges: &Ranges, block: Block, labels: &mut [u32])
-    requires nurse { nurse < nurse_count case.now }
-    requires ranges { ranges.now ≡ sizes_of case.now nurse }
-    requires fits { fits_sizes ranges.now block ≡ true }
-    requires places { product ranges.now ≤ length labels.old }
-    ensures labels { (a : ℕ) → a < ranges.now.assignments →
-        slice_index_or labels.new (code_of ranges.now block + a) 0 ≡ label_of
-        (best_at_end case.now nurse (with_assignments block a)) }
-    ensures others { SameOutside (code_of ranges.now block)
-        (code_of ranges.now block + ranges.now.assignments) labels.old labels.new }
-    ensures length { length labels.new ≡ length labels.old }
+fn label_block_end(days: &SearchDays<'_>, block: Block, labels: &mut [u32])
+    requires fits { fits_sizes days.now.ranges block ≡ true }
+    requires room { product days.now.ranges ≤ length labels.old }
+    ensures labels { BlockLabels days.now block days.now.ranges.assignments labels.new }
+    ensures beside { KeepsRest (code_of days.now.ranges block) days.now.ranges.assignments
+        labels.old labels.new }
 {
+    let ranges = &days.ranges;
     let code = block.first(ranges) as usize;
     for place in 0..block.places(ranges) as u16 {
-        labels[code + place as usize] = end_cost(case, nurse, block.state(place));
+        labels[code + place as usize] = end_cost(days.case, days.nurse, block.state(place));
     }
 }
 
 /// The labels and the pointers of the states that stand on a day. For each of these states and each offer the meter counts one.
 pub fn label_day(
-    day: &OpenDay<'_>,
+    day: &OpenDay<'_, '_>,
     labels: &mut [u32],
     pointers: &mut Pointers,
     room: &mut StretchRoom,
     meter: &mut Meter,
 )
-    ghost rest: { Around }
-    requires ready { IsReady day.now.case.now day.now.at rest day.now.offers.now day.now.later.now }
-    requires here { rest.here ≡ day.now.areas.now }
-    requires labels_room { product day.now.at.ranges ≤ length labels.old }
-    requires pointers_room { day.now.first + product day.now.at.ranges ≤ length pointers.old }
-    requires room { meter.old + states_on day.now.case.now day.now.at.nurse rest.here
-        * length day.now.offers.now ≤ greatest_u64 }
-    ensures labels { AreLabels day.now.case.now day.now.at.nurse rest.here
-        (best_on day.now.case.now day.now.at day.now.offers.now rest.best) labels.new }
-    ensures pointers { ArePointers day.now.case.now day.now.at rest.here day.now.offers.now
-        rest.best day.now.first pointers.new }
-    ensures others { SameOutside day.now.first (day.now.first + product day.now.at.ranges)
+    requires tables { HaveRoom day.now labels.old pointers.old }
+    requires room { meter.old + day_steps day.now ≤ greatest_u64 }
+    ensures tables { AreTables day.now (StandsOn day.now) labels.new pointers.new }
+    ensures beside { KeepTables day.now 0 (product day.now.days.ranges) labels.old labels.new
         pointers.old pointers.new }
-    ensures lengths { (length labels.new ≡ length labels.old)
-        × (length pointers.new ≡ length pointers.old) }
-    ensures some { 0 < length day.now.offers.now → (s : Summary) →
-        Stands day.now.case.now day.now.at.nurse rest.here s → meter.old < meter.new }
-    ensures counted { meter.new ≤ meter.old + product day.now.at.ranges * length
-        day.now.offers.now }
-    ensures exactly { meter.new ≡ meter.old + states_on day.now.case.now day.now.at.nurse rest.here
-        * length day.now.offers.now }
+    ensures exactly { meter.new ≡ meter.old + day_steps day.now }
 {
-    let ranges = day.at.ranges;
+    let ranges = &day.days.ranges;
     let (runs, shift_runs) = (ranges.run(), ranges.shift_run());
     for last in 0..ranges.last() {
         let area = area_of(day.areas, last);
@@ -184,51 +137,30 @@ fn area_of(areas: &[Area; AREAS], last: u32) -> Area
 
 /// The labels and the pointers of the states that stand on a day, of those that differ in their weekends and assignments alone.
 fn label_group(
-    day: &OpenDay<'_>,
+    day: &OpenDay<'_, '_>,
     group: Block,
     labels: &mut [u32],
     pointers: &mut Pointers,
     room: &mut StretchRoom,
     meter: &mut Meter,
 )
-    ghost rest: { Around }
-    requires ready { IsReady day.now.case.now day.now.at rest day.now.offers.now day.now.later.now }
-    requires here { rest.here ≡ day.now.areas.now }
-    requires fits { fits_sizes day.now.at.ranges group ≡ true }
-    requires first { (group.weekends ≡ 0) × (group.assignments ≡ 0) }
-    requires runs { (InSpan (area_at rest.here (shift_digit group.last)).run group.run)
-        × (InSpan (area_at rest.here (shift_digit group.last)).shift_run group.shift_run) }
-    requires labels_room { product day.now.at.ranges ≤ length labels.old }
-    requires pointers_room { day.now.first + product day.now.at.ranges ≤ length pointers.old }
-    requires room { meter.old + states_with day.now.case.now day.now.at.nurse rest.here group
-        * length day.now.offers.now ≤ greatest_u64 }
-    ensures labels { LabelsOf (StandsLike day.now.case.now day.now.at.nurse rest.here group)
-        day.now.case.now day.now.at.nurse
-        (best_on day.now.case.now day.now.at day.now.offers.now rest.best) labels.new }
-    ensures pointers { PointersOf (StandsLike day.now.case.now day.now.at.nurse rest.here group)
-        day.now.case.now day.now.at day.now.offers.now rest.best day.now.first pointers.new }
-    ensures labels_others { SameOutside (code_of day.now.at.ranges group)
-        (code_of day.now.at.ranges group
-        + day.now.at.ranges.weekends * day.now.at.ranges.assignments) labels.old labels.new }
-    ensures pointers_others { SameOutside (day.now.first + code_of day.now.at.ranges group)
-        (day.now.first + code_of day.now.at.ranges group
-        + day.now.at.ranges.weekends * day.now.at.ranges.assignments) pointers.old pointers.new }
-    ensures lengths { (length labels.new ≡ length labels.old)
-        × (length pointers.new ≡ length pointers.old) }
-    ensures some { 0 < length day.now.offers.now → (s : Summary) →
-        StandsLike day.now.case.now day.now.at.nurse rest.here group s → meter.old < meter.new }
-    ensures exactly { meter.new ≡ meter.old + states_with day.now.case.now day.now.at.nurse
-        rest.here group * length day.now.offers.now }
+    requires group { IsGroupOf day.now group }
+    requires tables { HaveRoom day.now labels.old pointers.old }
+    requires room { meter.old + group_steps day.now group ≤ greatest_u64 }
+    ensures tables { AreTables day.now (StandsBy day.now group) labels.new pointers.new }
+    ensures beside { KeepTables day.now (code_of day.now.days.ranges group)
+        (group_places day.now.days) labels.old labels.new pointers.old pointers.new }
+    ensures exactly { meter.new ≡ meter.old + group_steps day.now group }
 {
-    let at = day.at;
-    day.case.keeps_limits();
-    if !group.can_be(day.case, at.nurse) {
+    let days = &day.days;
+    days.case.keeps_limits();
+    if !group.can_be(days.case, days.nurse) {
         return;
     }
-    let side = at.ranges.assignments();
+    let side = days.ranges.assignments();
     let area = area_of(day.areas, group.last_number());
     let (from, end) = area.assignments.below(side);
-    let (first, last) = area.weekends.below(at.ranges.weekends());
+    let (first, last) = area.weekends.below(days.ranges.weekends());
     if end <= from {
         return;
     }
@@ -241,7 +173,7 @@ fn label_group(
             from,
             end,
         };
-        let alike = left.alike_rows(day.case, at.nurse, at.day);
+        let alike = left.alike_rows(days.case, days.nurse, day.day);
         let rows = rows_with_room(alike, side);
         let alike = Stretch { rows, ..left };
         label_rows(day, &alike, labels, pointers, room, meter);
@@ -265,39 +197,22 @@ fn rows_with_room(rows: u32, side: u32) -> u32
 
 /// The labels and the pointers of rows of places, where a day takes the rows alike.
 fn label_rows(
-    day: &OpenDay<'_>,
+    day: &OpenDay<'_, '_>,
     rows: &Stretch,
     labels: &mut [u32],
     pointers: &mut Pointers,
     room: &mut StretchRoom,
     meter: &mut Meter,
 )
-    ghost rest: { Around }
-    requires ready { IsReady day.now.case.now day.now.at rest day.now.offers.now day.now.later.now }
-    requires stretch { IsStretchOf day.now.case.now day.now.at rest.here rows.now }
-    requires alike { 1 < rows.now.rows → rows.now.block.weekends + rows.now.rows
-        + weekends_more day.now.at.day (is_some rows.now.block.last)
-        true ≤ (contract_of day.now.case.now day.now.at.nurse).weekends + 1 }
-    requires labels_room { product day.now.at.ranges ≤ length labels.old }
-    requires pointers_room { day.now.first + product day.now.at.ranges ≤ length pointers.old }
-    requires room { meter.old + length day.now.offers.now
-        * (rows.now.rows * (rows.now.end - rows.now.from)) ≤ greatest_u64 }
-    ensures least { StretchCells day.now.case.now day.now.at rest.best rows.now.block
-        day.now.offers.now rows.now.rows rows.now.from rows.now.end
-        (code_of day.now.at.ranges rows.now.block)
-        (day.now.first + code_of day.now.at.ranges rows.now.block) labels.new pointers.new }
-    ensures labels_others { SameOutside (code_of day.now.at.ranges rows.now.block)
-        (code_of day.now.at.ranges rows.now.block + rows.now.rows * day.now.at.ranges.assignments)
-        labels.old labels.new }
-    ensures pointers_others { SameOutside (day.now.first + code_of day.now.at.ranges rows.now.block)
-        (day.now.first + code_of day.now.at.ranges rows.now.block
-        + rows.now.rows * day.now.at.ranges.assignments) pointers.old pointers.new }
-    ensures lengths { (length labels.new ≡ length labels.old)
-        × (length pointers.new ≡ length pointers.old) }
-    ensures counted { meter.new ≡ meter.old + length day.now.offers.now
-        * (rows.now.rows * (rows.now.end - rows.now.from)) }
+    requires stretch { IsStretchOf day.now rows.now }
+    requires alike { RowsAlike day.now rows.now }
+    requires tables { HaveRoom day.now labels.old pointers.old }
+    requires room { meter.old + stretch_steps day.now rows.now ≤ greatest_u64 }
+    ensures least { StretchCells day.now rows.now labels.new pointers.new }
+    ensures beside { KeepBeside day.now rows.now labels.old labels.new pointers.old pointers.new }
+    ensures counted { meter.new ≡ meter.old + stretch_steps day.now rows.now }
 {
-    let (case, nurse) = (day.case, day.at.nurse);
+    let (case, nurse) = (day.days.case, day.days.nurse);
     let end = rows.alike_end(case, nurse);
     let first = Stretch { end, ..*rows };
     label_stretch(day, &first, labels, pointers, &mut room.numbers, meter);
@@ -314,42 +229,26 @@ fn label_rows(
 /// The labels and the pointers of a stretch from which a day is alike: they are lowered all at once in their places, with what stands
 /// between its rows.
 fn label_stretch(
-    day: &OpenDay<'_>,
+    day: &OpenDay<'_, '_>,
     stretch: &Stretch,
     labels: &mut [u32],
     pointers: &mut Pointers,
     numbers: &mut [u8],
     meter: &mut Meter,
 )
-    ghost rest: { Around }
-    requires ready { IsReady day.now.case.now day.now.at rest day.now.offers.now day.now.later.now }
-    requires stretch { IsStretchOf day.now.case.now day.now.at rest.here stretch.now }
-    requires alike { IsAlike day.now.case.now day.now.at.nurse day.now.at.day stretch.now.block
-        stretch.now.rows stretch.now.from stretch.now.end }
-    requires labels_room { product day.now.at.ranges ≤ length labels.old }
-    requires pointers_room { day.now.first + product day.now.at.ranges ≤ length pointers.old }
+    requires stretch { IsStretchOf day.now stretch.now }
+    requires alike { AllAlike day.now stretch.now }
+    requires tables { HaveRoom day.now labels.old pointers.old }
     requires numbers_room { most_places ≤ length numbers.old }
-    requires room { meter.old + length day.now.offers.now
-        * (stretch.now.rows * (stretch.now.end - stretch.now.from)) ≤ greatest_u64 }
-    ensures least { StretchCells day.now.case.now day.now.at rest.best stretch.now.block
-        day.now.offers.now stretch.now.rows stretch.now.from stretch.now.end
-        (code_of day.now.at.ranges stretch.now.block)
-        (day.now.first + code_of day.now.at.ranges stretch.now.block) labels.new pointers.new }
-    ensures labels_others { SameOutside (code_of day.now.at.ranges stretch.now.block)
-        (code_of day.now.at.ranges stretch.now.block
-        + stretch.now.rows * day.now.at.ranges.assignments) labels.old labels.new }
-    ensures pointers_others { SameOutside (day.now.first
-        + code_of day.now.at.ranges stretch.now.block)
-        (day.now.first + code_of day.now.at.ranges stretch.now.block
-        + stretch.now.rows * day.now.at.ranges.assignments) pointers.old pointers.new }
-    ensures lengths { (length labels.new ≡ length labels.old)
-        × (length pointers.new ≡ length pointers.old) }
+    requires room { meter.old + stretch_steps day.now stretch.now ≤ greatest_u64 }
+    ensures least { StretchCells day.now stretch.now labels.new pointers.new }
+    ensures beside { KeepBeside day.now stretch.now labels.old labels.new pointers.old
+        pointers.new }
     ensures numbers { length numbers.new ≡ length numbers.old }
-    ensures counted { meter.new ≡ meter.old + length day.now.offers.now
-        * (stretch.now.rows * (stretch.now.end - stretch.now.from)) }
+    ensures counted { meter.new ≡ meter.old + stretch_steps day.now stretch.now }
 {
-    let ranges = day.at.ranges;
-    let code = stretch.block.first(&ranges) as usize + stretch.from as usize;
+    let ranges = &day.days.ranges;
+    let code = stretch.block.first(ranges) as usize + stretch.from as usize;
     let between = (stretch.rows - 1) * ranges.assignments();
     let count = (between + (stretch.end - stretch.from)) as usize;
     let numbers = &mut numbers[..count];
@@ -365,42 +264,19 @@ fn label_stretch(
 
 /// The same, but what stands between the rows stays as it is: they are lowered apart, and each row is then put in its place.
 fn label_apart(
-    day: &OpenDay<'_>,
+    day: &OpenDay<'_, '_>,
     stretch: &Stretch,
     labels: &mut [u32],
     pointers: &mut Pointers,
     room: &mut StretchRoom,
     meter: &mut Meter,
 )
-    ghost rest: { Around }
-    requires ready { IsReady day.now.case.now day.now.at rest day.now.offers.now day.now.later.now }
-    requires stretch { IsStretchOf day.now.case.now day.now.at rest.here stretch.now }
-    requires alike { IsAlike day.now.case.now day.now.at.nurse day.now.at.day stretch.now.block
-        stretch.now.rows stretch.now.from stretch.now.end }
-    requires labels_room { product day.now.at.ranges ≤ length labels.old }
-    requires pointers_room { day.now.first + product day.now.at.ranges ≤ length pointers.old }
-    requires room { meter.old + length day.now.offers.now
-        * (stretch.now.rows * (stretch.now.end - stretch.now.from)) ≤ greatest_u64 }
-    ensures least { StretchCells day.now.case.now day.now.at rest.best stretch.now.block
-        day.now.offers.now stretch.now.rows stretch.now.from stretch.now.end
-        (code_of day.now.at.ranges stretch.now.block)
-        (day.now.first + code_of day.now.at.ranges stretch.now.block) labels.new pointers.new }
-    ensures labels_kept { PlacesKept stretch.now.rows stretch.now.from day.now.at.ranges.assignments
-        (code_of day.now.at.ranges stretch.now.block) labels.old labels.new }
-    ensures pointers_kept { PlacesKept stretch.now.rows stretch.now.from
-        day.now.at.ranges.assignments (day.now.first + code_of day.now.at.ranges stretch.now.block)
-        pointers.old pointers.new }
-    ensures labels_others { SameOutside (code_of day.now.at.ranges stretch.now.block)
-        (code_of day.now.at.ranges stretch.now.block
-        + stretch.now.rows * day.now.at.ranges.assignments) labels.old labels.new }
-    ensures pointers_others { SameOutside (day.now.first
-        + code_of day.now.at.ranges stretch.now.block)
-        (day.now.first + code_of day.now.at.ranges stretch.now.block
-        + stretch.now.rows * day.now.at.ranges.assignments) pointers.old pointers.new }
-    ensures lengths { (length labels.new ≡ length labels.old)
-        × (length pointers.new ≡ length pointers.old) }
-    ensures counted { meter.new ≡ meter.old + length day.now.offers.now
-        * (stretch.now.rows * (stretch.now.end - stretch.now.from)) }
+    requires stretch { IsStretchOf day.now stretch.now }
+    requires alike { AllAlike day.now stretch.now }
+    requires tables { HaveRoom day.now labels.old pointers.old }
+    requires room { meter.old + stretch_steps day.now stretch.now ≤ greatest_u64 }
+    ensures put { IsPut day.now stretch.now labels.old labels.new pointers.old pointers.new }
+    ensures counted { meter.new ≡ meter.old + stretch_steps day.now stretch.now }
 {
     let StretchRoom {
         labels: apart,
@@ -412,31 +288,23 @@ fn label_apart(
 
 /// The labels and the numbers of a stretch, in lists that are long enough for any.
 fn label_room(
-    day: &OpenDay<'_>,
+    day: &OpenDay<'_, '_>,
     stretch: &Stretch,
     apart: &mut [u32],
     numbers: &mut [u8],
     meter: &mut Meter,
 )
-    ghost rest: { Around }
-    requires ready { IsReady day.now.case.now day.now.at rest day.now.offers.now day.now.later.now }
-    requires stretch { IsStretchOf day.now.case.now day.now.at rest.here stretch.now }
-    requires alike { IsAlike day.now.case.now day.now.at.nurse day.now.at.day stretch.now.block
-        stretch.now.rows stretch.now.from stretch.now.end }
+    requires stretch { IsStretchOf day.now stretch.now }
+    requires alike { AllAlike day.now stretch.now }
     requires apart_room { most_places ≤ length apart.old }
     requires numbers_room { most_places ≤ length numbers.old }
-    requires room { meter.old + length day.now.offers.now
-        * (stretch.now.rows * (stretch.now.end - stretch.now.from)) ≤ greatest_u64 }
-    ensures least { RunCells day.now.case.now day.now.at rest.best stretch.now day.now.offers.now
-        apart.new numbers.new }
-    ensures small { (a : ℕ) → a < (stretch.now.rows - 1) * day.now.at.ranges.assignments
-        + (stretch.now.end - stretch.now.from) → slice_index_or numbers.new a 0 < 16 }
-    ensures lengths { (length apart.new ≡ length apart.old)
-        × (length numbers.new ≡ length numbers.old) }
-    ensures counted { meter.new ≡ meter.old + length day.now.offers.now
-        * (stretch.now.rows * (stretch.now.end - stretch.now.from)) }
+    requires room { meter.old + stretch_steps day.now stretch.now ≤ greatest_u64 }
+    ensures least { RunCells day.now stretch.now day.now.offers.now apart.new numbers.new }
+    ensures small { AreSmall (places_of day.now stretch.now) numbers.new }
+    ensures lengths { KeepLengths apart.old apart.new numbers.old numbers.new }
+    ensures counted { meter.new ≡ meter.old + stretch_steps day.now stretch.now }
 {
-    let between = (stretch.rows - 1) * day.at.ranges.assignments();
+    let between = (stretch.rows - 1) * day.days.ranges.assignments();
     let count = (between + (stretch.end - stretch.from)) as usize;
     label_run(
         day,
@@ -449,46 +317,25 @@ fn label_room(
 
 /// Puts the labels and the numbers of a stretch in their places, row by row; what stands between the rows stays.
 fn put_rows(
-    day: &OpenDay<'_>,
+    day: &OpenDay<'_, '_>,
     stretch: &Stretch,
     apart: &[u32],
     numbers: &[u8],
     labels: &mut [u32],
     pointers: &mut Pointers,
 )
-    ghost rest: { Around }
-    requires stretch { IsStretchOf day.now.case.now day.now.at rest.here stretch.now }
-    requires least { RunCells day.now.case.now day.now.at rest.best stretch.now day.now.offers.now
-        apart.now numbers.now }
-    requires small { (a : ℕ) → a < (stretch.now.rows - 1) * day.now.at.ranges.assignments
-        + (stretch.now.end - stretch.now.from) → slice_index_or numbers.now a 0 < 16 }
+    requires stretch { IsStretchOf day.now stretch.now }
+    requires least { RunCells day.now stretch.now day.now.offers.now apart.now numbers.now }
+    requires small { AreSmall (places_of day.now stretch.now) numbers.now }
     requires apart_room { most_places ≤ length apart.now }
     requires numbers_room { most_places ≤ length numbers.now }
-    requires labels_room { product day.now.at.ranges ≤ length labels.old }
-    requires pointers_room { day.now.first + product day.now.at.ranges ≤ length pointers.old }
-    ensures least { StretchCells day.now.case.now day.now.at rest.best stretch.now.block
-        day.now.offers.now stretch.now.rows stretch.now.from stretch.now.end
-        (code_of day.now.at.ranges stretch.now.block)
-        (day.now.first + code_of day.now.at.ranges stretch.now.block) labels.new pointers.new }
-    ensures labels_kept { PlacesKept stretch.now.rows stretch.now.from day.now.at.ranges.assignments
-        (code_of day.now.at.ranges stretch.now.block) labels.old labels.new }
-    ensures pointers_kept { PlacesKept stretch.now.rows stretch.now.from
-        day.now.at.ranges.assignments (day.now.first + code_of day.now.at.ranges stretch.now.block)
-        pointers.old pointers.new }
-    ensures labels_others { SameOutside (code_of day.now.at.ranges stretch.now.block)
-        (code_of day.now.at.ranges stretch.now.block
-        + stretch.now.rows * day.now.at.ranges.assignments) labels.old labels.new }
-    ensures pointers_others { SameOutside (day.now.first
-        + code_of day.now.at.ranges stretch.now.block)
-        (day.now.first + code_of day.now.at.ranges stretch.now.block
-        + stretch.now.rows * day.now.at.ranges.assignments) pointers.old pointers.new }
-    ensures lengths { (length labels.new ≡ length labels.old)
-        × (length pointers.new ≡ length pointers.old) }
+    requires tables { HaveRoom day.now labels.old pointers.old }
+    ensures put { IsPut day.now stretch.now labels.old labels.new pointers.old pointers.new }
 {
-    let ranges = day.at.ranges;
+    let ranges = &day.days.ranges;
     let side = ranges.assignments() as usize;
     let width = (stretch.end - stretch.from) as usize;
-    let code = stretch.block.first(&ranges) as usize + stretch.from as usize;
+    let code = stretch.block.first(ranges) as usize + stretch.from as usize;
     for row in 0..stretch.rows as usize {
         let at = row * side;
         put_run(labels, code + at, &apart[at..at + width]);
@@ -504,49 +351,40 @@ fn put_run(labels: &mut [u32], first: usize, run: &[u32])
     labels[first..first + run.len()].copy_from_slice(run);
 }
 
-/// A stretch from which a day is taken by one offer after another: the nurse's rules, and what a worked day brings to the first state,
-/// whatever the shift.
+/// A stretch from which a day is taken by one offer after another, and what a worked day brings to its first state, whatever the shift.
 #[derive(Clone, Copy)]
 struct StretchDay {
     stretch: Stretch,
-    rules: ContractRules,
     worked: WorkedDay,
 }
 
 /// The labels of a stretch, and for each place the number of the offer with which the best row begins, by all offers of the day.
 fn label_run(
-    day: &OpenDay<'_>,
+    day: &OpenDay<'_, '_>,
     stretch: &Stretch,
     labels: &mut [u32],
     numbers: &mut [u8],
     meter: &mut Meter,
 )
-    ghost rest: { Around }
-    requires ready { IsReady day.now.case.now day.now.at rest day.now.offers.now day.now.later.now }
-    requires stretch { IsStretchOf day.now.case.now day.now.at rest.here stretch.now }
-    requires alike { IsAlike day.now.case.now day.now.at.nurse day.now.at.day stretch.now.block
-        stretch.now.rows stretch.now.from stretch.now.end }
-    requires labels_length { length labels.old ≡ (stretch.now.rows - 1)
-        * day.now.at.ranges.assignments + (stretch.now.end - stretch.now.from) }
-    requires numbers_length { length numbers.old ≡ (stretch.now.rows - 1)
-        * day.now.at.ranges.assignments + (stretch.now.end - stretch.now.from) }
-    requires room { meter.old + length day.now.offers.now
-        * (stretch.now.rows * (stretch.now.end - stretch.now.from)) ≤ greatest_u64 }
-    ensures least { RunCells day.now.case.now day.now.at rest.best stretch.now day.now.offers.now
-        labels.new numbers.new }
-    ensures small { (a : ℕ) → a < length numbers.new → slice_index_or numbers.new a 0 < 16 }
-    ensures lengths { (length labels.new ≡ length labels.old)
-        × (length numbers.new ≡ length numbers.old) }
-    ensures counted { meter.new ≡ meter.old + length day.now.offers.now
-        * (stretch.now.rows * (stretch.now.end - stretch.now.from)) }
+    requires stretch { IsStretchOf day.now stretch.now }
+    requires alike { AllAlike day.now stretch.now }
+    requires lengths { HaveLength day.now stretch.now labels.old numbers.old }
+    requires room { meter.old + stretch_steps day.now stretch.now ≤ greatest_u64 }
+    ensures least { RunCells day.now stretch.now day.now.offers.now labels.new numbers.new }
+    ensures small { AreSmall (length numbers.new) numbers.new }
+    ensures lengths { KeepLengths labels.old labels.new numbers.old numbers.new }
+    ensures counted { meter.new ≡ meter.old + stretch_steps day.now stretch.now }
 {
-    let (case, nurse) = (day.case, day.at.nurse);
-    let rules = case.contract_rules(nurse);
+    let SearchDays {
+        case,
+        nurse,
+        rules,
+        ..
+    } = day.days;
     let days = NurseDays { case, nurse, rules };
     let from = StretchDay {
         stretch: *stretch,
-        rules,
-        worked: worked_stretch(&days, day.at.day, stretch),
+        worked: days.worked_stretch(day.day, stretch),
     };
     let mut is_set = false;
     for place in 0..day.offers.len() {
@@ -562,59 +400,66 @@ fn label_run(
     }
 }
 
+/// Where an offer leads from a stretch: the place of the label after its first state, and by how much the labels there are raised. None
+/// where the offer isn't allowed. The meter counts one for each state.
+#[inline(always)]
+fn labels_by(
+    day: &OpenDay<'_, '_>,
+    from: &StretchDay,
+    place: usize,
+    meter: &mut Meter,
+) -> Option<(usize, u32)>
+    requires from { IsStretchDay day.now from.now }
+    requires place { place < length day.now.offers.now }
+    requires room { meter.old + states_of from.now.stretch ≤ greatest_u64 }
+    ensures by { IfSome result (λ r. AreLabelsBy day.now from.now.stretch place r.0 r.1) }
+    ensures none { result ≡ None → AreRefusedBy day.now from.now.stretch place }
+    ensures counted { meter.new ≡ meter.old + states_of from.now.stretch }
+{
+    let offer = day.offers[place];
+    let shift = offer.choice.shift();
+    let SearchDays {
+        case,
+        nurse,
+        rules,
+        ..
+    } = day.days;
+    let days = NurseDays { case, nurse, rules };
+    let (stretch, worked) = (&from.stretch, &from.worked);
+    let Some(step) = days.extend_stretch(day.day, stretch, worked, shift, meter) else {
+        return None;
+    };
+    let first = step.0.code(&day.days.ranges) as usize;
+    Some((first, offer.price + step.1))
+}
+
 /// Sets the labels of a stretch to those by an offer, and the numbers to its place, where it is the first that is allowed there. The
 /// answer is whether it is allowed.
 fn set_run(
-    day: &OpenDay<'_>,
+    day: &OpenDay<'_, '_>,
     from: &StretchDay,
     place: usize,
     labels: &mut [u32],
     numbers: &mut [u8],
     meter: &mut Meter,
 ) -> bool
-    ghost rest: { Around }
-    requires ready { IsReady day.now.case.now day.now.at rest day.now.offers.now day.now.later.now }
-    requires stretch { IsStretchOf day.now.case.now day.now.at rest.here from.now.stretch }
-    requires alike { IsAlike day.now.case.now day.now.at.nurse day.now.at.day from.now.stretch.block
-        from.now.stretch.rows from.now.stretch.from from.now.stretch.end }
+    requires from { IsStretchDay day.now from.now }
     requires place { place < length day.now.offers.now }
-    requires labels_length { length labels.old ≡ (from.now.stretch.rows - 1)
-        * day.now.at.ranges.assignments + (from.now.stretch.end - from.now.stretch.from) }
-    requires numbers_length { length numbers.old ≡ (from.now.stretch.rows - 1)
-        * day.now.at.ranges.assignments + (from.now.stretch.end - from.now.stretch.from) }
-    requires none { RunCells day.now.case.now day.now.at rest.best from.now.stretch
-        (take place day.now.offers.now) (replicate (length labels.old) no_row)
-        (replicate (length labels.old) 0) }
-    requires room { meter.old + from.now.stretch.rows
-        * (from.now.stretch.end - from.now.stretch.from) ≤ greatest_u64 }
-    requires from { IsStretchDay day.now.case.now day.now.at from.now }
-    ensures least { result ≡ true → RunCells day.now.case.now day.now.at rest.best from.now.stretch
-        (take (place + 1) day.now.offers.now) labels.new numbers.new }
-    ensures small { result ≡ true → (a : ℕ) → a < length numbers.new →
-        slice_index_or numbers.new a 0 < 16 }
-    ensures none { result ≡ false → RunCells day.now.case.now day.now.at rest.best from.now.stretch
-        (take (place + 1) day.now.offers.now) (replicate (length labels.new) no_row)
-        (replicate (length labels.new) 0) }
-    ensures lengths { (length labels.new ≡ length labels.old)
-        × (length numbers.new ≡ length numbers.old) }
-    ensures counted { meter.new ≡ meter.old + from.now.stretch.rows
-        * (from.now.stretch.end - from.now.stretch.from) }
+    requires lengths { HaveLength day.now from.now.stretch labels.old numbers.old }
+    requires none { NoneYet day.now from.now.stretch place (length labels.old) }
+    requires room { meter.old + states_of from.now.stretch ≤ greatest_u64 }
+    ensures least { result ≡ true →
+        IsLowered day.now from.now.stretch (place + 1) labels.new numbers.new }
+    ensures none { result ≡ false →
+        NoneYet day.now from.now.stretch (place + 1) (length labels.new) }
+    ensures lengths { KeepLengths labels.old labels.new numbers.old numbers.new }
+    ensures counted { meter.new ≡ meter.old + states_of from.now.stretch }
 {
-    let at = day.at;
-    let offer = day.offers[place];
-    let shift = offer.choice.shift();
-    let days = NurseDays {
-        case: day.case,
-        nurse: at.nurse,
-        rules: from.rules,
-    };
-    let (stretch, worked) = (&from.stretch, &from.worked);
-    let Some(step) = extend_stretch_ahead(&days, at.day, stretch, worked, shift, meter) else {
+    let Some(by) = labels_by(day, from, place, meter) else {
         return false;
     };
-    let after = step.0.code(&at.ranges) as usize;
-    let end = after + labels.len();
-    set_all(labels, &day.later[after..end], offer.price + step.1, NO_ROW);
+    let others = &day.later[by.0..by.0 + labels.len()];
+    set_all(labels, others, by.1, NO_ROW);
     numbers.fill(place as u8);
     true
 }
@@ -622,50 +467,24 @@ fn set_run(
 /// Lowers the labels of a stretch to those by one offer more, and sets the numbers of those that are lower: of equally good offers the
 /// first stays.
 fn lower_run(
-    day: &OpenDay<'_>,
+    day: &OpenDay<'_, '_>,
     from: &StretchDay,
     place: usize,
     labels: &mut [u32],
     numbers: &mut [u8],
     meter: &mut Meter,
 )
-    ghost rest: { Around }
-    requires ready { IsReady day.now.case.now day.now.at rest day.now.offers.now day.now.later.now }
-    requires stretch { IsStretchOf day.now.case.now day.now.at rest.here from.now.stretch }
-    requires alike { IsAlike day.now.case.now day.now.at.nurse day.now.at.day from.now.stretch.block
-        from.now.stretch.rows from.now.stretch.from from.now.stretch.end }
+    requires from { IsStretchDay day.now from.now }
     requires place { place < length day.now.offers.now }
-    requires labels_length { length labels.old ≡ (from.now.stretch.rows - 1)
-        * day.now.at.ranges.assignments + (from.now.stretch.end - from.now.stretch.from) }
-    requires numbers_length { length numbers.old ≡ (from.now.stretch.rows - 1)
-        * day.now.at.ranges.assignments + (from.now.stretch.end - from.now.stretch.from) }
-    requires least { RunCells day.now.case.now day.now.at rest.best from.now.stretch
-        (take place day.now.offers.now) labels.old numbers.old }
-    requires small { (a : ℕ) → a < length numbers.old → slice_index_or numbers.old a 0 < 16 }
-    requires room { meter.old + from.now.stretch.rows
-        * (from.now.stretch.end - from.now.stretch.from) ≤ greatest_u64 }
-    requires from { IsStretchDay day.now.case.now day.now.at from.now }
-    ensures least { RunCells day.now.case.now day.now.at rest.best from.now.stretch
-        (take (place + 1) day.now.offers.now) labels.new numbers.new }
-    ensures small { (a : ℕ) → a < length numbers.new → slice_index_or numbers.new a 0 < 16 }
-    ensures lengths { (length labels.new ≡ length labels.old)
-        × (length numbers.new ≡ length numbers.old) }
-    ensures counted { meter.new ≡ meter.old + from.now.stretch.rows
-        * (from.now.stretch.end - from.now.stretch.from) }
+    requires lengths { HaveLength day.now from.now.stretch labels.old numbers.old }
+    requires least { IsLowered day.now from.now.stretch place labels.old numbers.old }
+    requires room { meter.old + states_of from.now.stretch ≤ greatest_u64 }
+    ensures least { IsLowered day.now from.now.stretch (place + 1) labels.new numbers.new }
+    ensures lengths { KeepLengths labels.old labels.new numbers.old numbers.new }
+    ensures counted { meter.new ≡ meter.old + states_of from.now.stretch }
 {
-    let at = day.at;
-    let offer = day.offers[place];
-    let shift = offer.choice.shift();
-    let days = NurseDays {
-        case: day.case,
-        nurse: at.nurse,
-        rules: from.rules,
-    };
-    let (stretch, worked) = (&from.stretch, &from.worked);
-    if let Some(step) = extend_stretch_ahead(&days, at.day, stretch, worked, shift, meter) {
-        let after = step.0.code(&at.ranges) as usize;
-        let others = &day.later[after..after + labels.len()];
-        let points = offer.price + step.1;
-        lower_all(labels, numbers, others, points, place as u8);
+    if let Some(by) = labels_by(day, from, place, meter) {
+        let others = &day.later[by.0..by.0 + labels.len()];
+        lower_all(labels, numbers, others, by.1, place as u8);
     }
 }

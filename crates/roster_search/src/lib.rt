@@ -2,10 +2,13 @@
 //!
 //! Right labels and pointers of a day are defined in `specs/Tables.antt`. `label_end` and `label_day` promise them, `read_day` the
 //! choices of the best row by these pointers, and `search_row` that row with its cost over a table of offers for all days
-//! (`specs/Search.antt`). What is offered, and the laws that make such a search right, stand in `roster_offers`, and are handed on.
+//! (`specs/Search.antt`). A search's days and a day that is still to be labelled keep what is known of them, so that no function asks for
+//! it (`specs/Days.antt`, `specs/OpenDays.antt`). What is offered, and the laws that make such a search right, stand in `roster_offers`,
+//! and are handed on.
 #![tactic(auto)]
 
 mod day;
+mod days;
 mod labels;
 mod pointers;
 mod read;
@@ -14,16 +17,13 @@ mod stand;
 mod steps;
 mod tables;
 
-pub use day::{OpenDay, SearchDay};
-pub use labels::{NO_ROW, StretchRoom, label_day, label_end};
-pub use pointers::Pointers;
-pub use read::read_day;
+pub use labels::NO_ROW;
 pub use roster_offers::{
     DayOffers, MOST_CHOICES, MOST_DAYS, MOST_OFFERS, Offer, RowSearch, best_row_is_found_by_states,
     cheapest_by_shift, cheapest_offered_row_is_found, cheapest_row_is_found_by_states,
     cost_rises_with_prices, offers_are_few, one_offer_for_each_shift_is_enough,
 };
 pub use search::search_row;
-pub use stand::{DayAreas, areas_after, stand_days};
+pub use stand::{DayAreas, stand_days};
 pub use steps::steps_at_most;
 pub use tables::Tables;

@@ -1,29 +1,27 @@
 //! The search over a table of offers.
 
-ghost use Rattle.std.specs.Prelude.{◌≡◌, ◌+◌, ◌-◌, ◌*◌, ◌<◌, ◌≤◌, ℕ, [], All, IfSome, IsSome, List, Some, length, take};
+ghost use Rattle.std.specs.Prelude.{◌≡◌, ◌+◌, ◌*◌, ◌<◌, ◌≤◌, ℕ, IfSome, IsSome, List, Some, length, take};
 ghost use Rattle.roster_bundle.specs.Limits.{greatest_u64};
 ghost use Rattle.roster_instance.specs.Meaning.{day_count, nurse_count};
 ghost use Rattle.roster_laws.specs.Greatest.{extension_count};
-ghost use Rattle.roster_rules.specs.Prefix.{summary_of};
-ghost use Rattle.roster_state.specs.Codes.{product, sizes_of};
-ghost use Rattle.roster_lanes.specs.Lanes.{SameOutside};
+ghost use Rattle.roster_state.specs.Codes.{product};
 ghost use Rattle.roster_offers.specs.Offers.{choices_of};
 ghost use Rattle.roster_offers.specs.Lists.{AreOffers, IsFound, best_over, no_row, offers_on};
 ghost use Rattle.roster_offers.specs.declared.offer.Offer.{Offer};
-ghost use Rattle.roster_search.specs.Counts.{states_on};
-ghost use Rattle.roster_search.specs.Search.{AreStanding, AreasLead, HasTables, PointersFrom, SomeStands, areas_on, onward, standing_steps};
-ghost use Rattle.roster_search.specs.Tables.{AreLabels, ArePointers, Around, BeginsWith, IsDayOf, LeadsOn, Stands, best_on};
+ghost use Rattle.roster_search.specs.Days.{LabelsOn, PointersOn, all_pointers, best_row, steps_below};
+ghost use Rattle.roster_search.specs.OpenDays.{IsDayOf, KeepLengths};
+ghost use Rattle.roster_search.specs.Search.{AreStanding, HasTables, standing_steps};
 
-use crate::day::{OpenDay, SearchDay};
+use crate::day::OpenDay;
+use crate::days::SearchDays;
 use crate::labels::{StretchRoom, label_day, label_end};
 use crate::pointers::Pointers;
 use crate::read::read_day;
 use crate::stand::DayAreas;
 use crate::tables::Tables;
-use arrayvec::ArrayVec;
-use roster_offers::{MOST_OFFERS, Offer, RowSearch};
-use roster_rules::{Case, Choice};
-use roster_state::{AREAS, Area, Meter, Ranges, State, start};
+use roster_offers::{Offer, RowSearch};
+use roster_rules::Choice;
+use roster_state::{Meter, Ranges, start};
 
 /// Searches the best row over a table of offers, wherever these come from. `row` then begins with its choices, one for each day, and the
 /// answer is its cost: its prices, and what the nurse's own rules cost along it beside what the start owes. It takes no memory. On each
@@ -74,9 +72,10 @@ pub fn search_row(
         pointers,
         room,
     } = tables;
-    let days = Days {
+    let days = SearchDays {
         case,
         nurse,
+        rules: case.contract_rules(nurse),
         ranges,
         offers,
         areas: &areas.days,
@@ -87,204 +86,105 @@ pub fn search_row(
     labels[first.code(&ranges) as usize]
 }
 
-/// What the search knows before it labels: each day's offers, and the areas of each day and of the one after the last.
-#[derive(Clone, Copy)]
-struct Days<'a> {
-    case: &'a Case,
-    nurse: usize,
-    ranges: Ranges,
-    offers: &'a [ArrayVec<Offer, MOST_OFFERS>],
-    areas: &'a [[Area; AREAS]],
-}
-
 /// Sets the labels and the pointers of all days, from the last day to the first, in two tables by turns: the labels of days with even
 /// numbers stand in one, those of the first day at last, and the labels of the others in the other one.
 fn label_days(
-    days: &Days<'_>,
+    days: &SearchDays<'_>,
     even: &mut [u32],
     odd: &mut [u32],
     pointers: &mut Pointers,
     room: &mut StretchRoom,
     meter: &mut Meter,
 )
-    requires nurse { days.now.nurse < nurse_count days.now.case.now }
-    requires ranges { days.now.ranges ≡ sizes_of days.now.case.now days.now.nurse }
-    requires offers { AreOffers days.now.case.now days.now.nurse days.now.offers.now }
-    requires areas_room { day_count days.now.case.now < length days.now.areas.now }
-    requires lead { AreasLead days.now.case.now days.now.nurse (offers_on days.now.offers.now)
-        days.now.areas.now }
-    requires stand { (day : ℕ) → day < day_count days.now.case.now →
-        SomeStands days.now.case.now days.now.nurse (areas_on days.now.areas.now day) }
     requires labels_room { product days.now.ranges ≤ length even.old }
     requires same_room { length odd.old ≡ length even.old }
-    requires pointers_room { day_count days.now.case.now * product days.now.ranges ≤ length
-        pointers.old }
-    requires room { meter.old + standing_steps days.now.case.now days.now.nurse
-        (offers_on days.now.offers.now) days.now.areas.now ≤ greatest_u64 }
-    ensures labels { AreLabels days.now.case.now days.now.nurse (areas_on days.now.areas.now 0)
-        (onward days.now.case.now days.now.nurse (offers_on days.now.offers.now) 0) even.new }
-    ensures pointers { PointersFrom days.now.case.now days.now.nurse (offers_on days.now.offers.now)
-        days.now.areas.now 0 pointers.new }
-    ensures lengths { (length even.new ≡ length even.old) × (length odd.new ≡ length odd.old)
-        × (length pointers.new ≡ length pointers.old) }
-    ensures each_day { meter.old + day_count days.now.case.now ≤ meter.new }
-    ensures exactly { meter.new ≡ meter.old + standing_steps days.now.case.now days.now.nurse
-        (offers_on days.now.offers.now) days.now.areas.now }
+    requires pointers_room { all_pointers days.now ≤ length pointers.old }
+    requires room { meter.old + steps_below days.now (day_count days.now.case.now) ≤ greatest_u64 }
+    ensures labels { LabelsOn days.now 0 even.new }
+    ensures pointers { PointersOn days.now 0 pointers.new }
+    ensures lengths { KeepLengths even.old even.new odd.old odd.new }
+    ensures pointers_length { length pointers.new ≡ length pointers.old }
+    ensures exactly { meter.new ≡ meter.old + steps_below days.now (day_count days.now.case.now) }
 {
-    let case = days.case;
-    let count = case.days();
+    let count = days.case.days();
     let last = &days.areas[count as usize];
     if count % 2 == 0 {
-        label_end(case, days.nurse, &days.ranges, last, even);
+        label_end(days, last, even);
     } else {
-        label_end(case, days.nurse, &days.ranges, last, odd);
+        label_end(days, last, odd);
     }
     for day in (0..count).rev() {
-        let at = SearchDay {
-            nurse: days.nurse,
-            day,
-            ranges: days.ranges,
-        };
+        let offers = days.offers[day as usize].as_slice();
         if day % 2 == 0 {
-            let ahead = Ahead { at, later: odd };
-            label_before(days, &ahead, even, pointers, room, meter);
+            let open = open_day(days, day, offers, odd);
+            label_day(&open, even, pointers, room, meter);
         } else {
-            let ahead = Ahead { at, later: even };
-            label_before(days, &ahead, odd, pointers, room, meter);
+            let open = open_day(days, day, offers, even);
+            label_day(&open, odd, pointers, room, meter);
         }
     }
 }
 
 /// A day that is still to be labelled, with the labels of the day after it.
-#[derive(Clone, Copy)]
-struct Ahead<'a> {
-    at: SearchDay,
-    later: &'a [u32],
-}
-
-/// Sets the labels and the pointers of a day, by its offers and by the labels of the day after it.
-fn label_before(
-    days: &Days<'_>,
-    ahead: &Ahead<'_>,
-    labels: &mut [u32],
-    pointers: &mut Pointers,
-    room: &mut StretchRoom,
-    meter: &mut Meter,
-)
-    ghost rest: { Around }
-    requires day { IsDayOf days.now.case.now ahead.now.at }
-    requires offers { AreOffers days.now.case.now ahead.now.at.nurse days.now.offers.now }
-    requires here { rest.here ≡ areas_on days.now.areas.now ahead.now.at.day }
-    requires areas_room { day_count days.now.case.now < length days.now.areas.now }
-    requires leads { All (LeadsOn days.now.case.now ahead.now.at rest.here rest.next)
-        (offers_on days.now.offers.now ahead.now.at.day) }
-    requires stand { SomeStands days.now.case.now ahead.now.at.nurse rest.here }
-    requires later { AreLabels days.now.case.now ahead.now.at.nurse rest.next rest.best
-        ahead.now.later.now }
-    requires all { product ahead.now.at.ranges ≤ length ahead.now.later.now }
-    requires labels_room { product ahead.now.at.ranges ≤ length labels.old }
-    requires pointers_room { day_count days.now.case.now * product ahead.now.at.ranges ≤ length
-        pointers.old }
-    requires room { meter.old + states_on days.now.case.now ahead.now.at.nurse rest.here
-        * length (offers_on days.now.offers.now ahead.now.at.day) ≤ greatest_u64 }
-    ensures labels { AreLabels days.now.case.now ahead.now.at.nurse rest.here
-        (best_on days.now.case.now ahead.now.at (offers_on days.now.offers.now ahead.now.at.day)
-        rest.best) labels.new }
-    ensures pointers { ArePointers days.now.case.now ahead.now.at rest.here
-        (offers_on days.now.offers.now ahead.now.at.day) rest.best
-        (ahead.now.at.day * product ahead.now.at.ranges) pointers.new }
-    ensures others { SameOutside (ahead.now.at.day * product ahead.now.at.ranges)
-        (ahead.now.at.day * product ahead.now.at.ranges + product ahead.now.at.ranges) pointers.old
-        pointers.new }
-    ensures lengths { (length labels.new ≡ length labels.old)
-        × (length pointers.new ≡ length pointers.old) }
-    ensures some { meter.old < meter.new }
-    ensures exactly { meter.new ≡ meter.old + states_on days.now.case.now ahead.now.at.nurse
-        rest.here * length (offers_on days.now.offers.now ahead.now.at.day) }
+fn open_day<'a, 'b>(
+    days: &SearchDays<'a>,
+    day: u16,
+    offers: &'a [Offer],
+    later: &'b [u32],
+) -> OpenDay<'a, 'b>
+    requires day { day < day_count days.now.case.now }
+    requires offers { offers.now ≡ offers_on days.now.offers.now day }
+    requires few { length offers.now ≤ 16 }
+    requires later { LabelsOn days.now (day + 1) later.now }
+    requires room { product days.now.ranges ≤ length later.now }
+    ensures { IsDayOf days.now day later.now result }
 {
-    let Ahead { at, later } = *ahead;
-    let case = days.case;
-    case.keeps_limits();
-    let offers = days.offers[at.day as usize].as_slice();
-    let first = at.day as u32 * at.ranges.product();
-    let open = OpenDay {
+    let SearchDays {
         case,
-        at,
-        areas: &days.areas[at.day as usize],
+        nurse,
+        rules,
+        ranges,
+        offers: table,
+        areas: all,
+    } = *days;
+    case.keeps_limits();
+    let areas = &all[day as usize];
+    let first = day as u32 * ranges.product();
+    // Field by field, since the borrow checker's part of a proof doesn't cover a copy of the whole out from behind the reference.
+    let days = SearchDays {
+        case,
+        nurse,
+        rules,
+        ranges,
+        offers: table,
+        areas: all,
+    };
+    OpenDay {
+        days,
+        day,
+        areas,
         offers,
         later,
         first,
-    };
-    label_day(&open, labels, pointers, room, meter);
+    }
 }
 
 /// Reads the best row by the pointers of all days, from the first day to the last.
-fn read_row(days: &Days<'_>, pointers: &Pointers, row: &mut [Choice])
-    requires nurse { days.now.nurse < nurse_count days.now.case.now }
-    requires ranges { days.now.ranges ≡ sizes_of days.now.case.now days.now.nurse }
-    requires offers { AreOffers days.now.case.now days.now.nurse days.now.offers.now }
-    requires start { Stands days.now.case.now days.now.nurse (areas_on days.now.areas.now 0)
-        (summary_of days.now.case.now days.now.nurse []) }
-    requires lead { AreasLead days.now.case.now days.now.nurse (offers_on days.now.offers.now)
-        days.now.areas.now }
-    requires pointers { PointersFrom days.now.case.now days.now.nurse
-        (offers_on days.now.offers.now) days.now.areas.now 0 pointers.now }
-    requires pointers_room { day_count days.now.case.now * product days.now.ranges ≤ length
-        pointers.now }
+fn read_row(days: &SearchDays<'_>, pointers: &Pointers, row: &mut [Choice])
+    requires pointers { PointersOn days.now 0 pointers.now }
+    requires pointers_room { all_pointers days.now ≤ length pointers.now }
     requires row_room { day_count days.now.case.now ≤ length row.old }
-    requires some { IsSome (best_over days.now.case.now days.now.nurse
-        (offers_on days.now.offers.now)) }
-    requires low { IfSome (best_over days.now.case.now days.now.nurse
-        (offers_on days.now.offers.now)) (λ row. row.0 < no_row) }
-    ensures row { (cost : ℕ) (offers : List Offer) →
-        best_over days.now.case.now days.now.nurse (offers_on days.now.offers.now) ≡ Some
-        (cost, offers) → take (day_count days.now.case.now) row.new ≡ choices_of offers }
+    requires some { IsSome (best_row days.now) }
+    requires low { IfSome (best_row days.now) (λ row. row.0 < no_row) }
+    ensures row { (cost : ℕ) (offers : List Offer) → best_row days.now ≡ Some (cost, offers) →
+        take (day_count days.now.case.now) row.new ≡ choices_of offers }
     ensures length { length row.new ≡ length row.old }
 {
     let case = days.case;
     let (mut state, _) = start(case, days.nurse);
     for day in 0..case.days() {
-        let at = SearchDay {
-            nurse: days.nurse,
-            day,
-            ranges: days.ranges,
-        };
-        let (choice, next) = read_choice(days, &at, &state, pointers);
+        let (choice, next) = read_day(days, day, &state, pointers);
         row[day as usize] = choice;
         state = next;
     }
-}
-
-/// The choice with which the best row from a state on begins, and the state after it.
-fn read_choice(
-    days: &Days<'_>,
-    at: &SearchDay,
-    state: &State,
-    pointers: &Pointers,
-) -> (Choice, State)
-    ghost rest: { Around }
-    requires day { IsDayOf days.now.case.now at.now }
-    requires stands { Stands days.now.case.now at.now.nurse rest.here state.now }
-    requires leads { All (LeadsOn days.now.case.now at.now rest.here rest.next)
-        (offers_on days.now.offers.now at.now.day) }
-    requires pointers { ArePointers days.now.case.now at.now rest.here
-        (offers_on days.now.offers.now at.now.day) rest.best (at.now.day * product at.now.ranges)
-        pointers.now }
-    requires pointers_room { day_count days.now.case.now * product at.now.ranges ≤ length
-        pointers.now }
-    requires some { IsSome (best_on days.now.case.now at.now
-        (offers_on days.now.offers.now at.now.day) rest.best state.now) }
-    requires low { IfSome (best_on days.now.case.now at.now
-        (offers_on days.now.offers.now at.now.day) rest.best state.now) (λ row. row.0 < no_row) }
-    requires offers { AreOffers days.now.case.now at.now.nurse days.now.offers.now }
-    ensures begins { (row : ℕ × List Offer) → best_on days.now.case.now at.now
-        (offers_on days.now.offers.now at.now.day) rest.best state.now ≡ Some row →
-        BeginsWith rest.best row result.0 result.1 }
-    ensures stands { Stands days.now.case.now at.now.nurse rest.next result.1 }
-{
-    let case = days.case;
-    case.keeps_limits();
-    let offers = days.offers[at.day as usize].as_slice();
-    let first = at.day as u32 * at.ranges.product();
-    read_day(case, at, state, offers, pointers, first)
 }

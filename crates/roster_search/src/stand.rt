@@ -1,15 +1,14 @@
 //! Which states stand on each day.
 
 ghost use Rattle.std.specs.Prelude.{◌<◌, All};
-ghost use Rattle.roster_instance.specs.Meaning.{nurse_count};
+ghost use Rattle.roster_instance.specs.Meaning.{day_count, nurse_count};
 ghost use Rattle.roster_offers.specs.Lists.{AreOffers, IsOfferOf, offers_on};
-ghost use Rattle.roster_search.specs.Search.{AreStanding};
-ghost use Rattle.roster_search.specs.Tables.{IsDayOf, LeadsOn};
+ghost use Rattle.roster_search.specs.Search.{AreStanding, search_day};
+ghost use Rattle.roster_search.specs.Tables.{LeadsOn};
 
-use crate::day::SearchDay;
 use roster_offers::{MOST_DAYS, Offer, RowSearch};
 use roster_rules::Case;
-use roster_state::{AREAS, Area, NOWHERE, Ranges, areas_of, start, widen};
+use roster_state::{AREAS, Area, NOWHERE, areas_of, start, widen};
 
 /// The areas of each day and of the one after the last: where the states of that day may stand. It takes 52,560 bytes, and serves one
 /// search after another.
@@ -37,31 +36,32 @@ pub fn stand_days(search: &RowSearch<'_>, areas: &mut DayAreas)
 {
     let (case, nurse) = (search.case, search.nurse);
     case.keeps_limits();
-    let ranges = Ranges::of(case, nurse);
     let (state, _) = start(case, nurse);
     areas.days[0] = areas_of(&state);
     for day in 0..case.days() {
-        let at = SearchDay { nurse, day, ranges };
         let offers = search.offers[day as usize].as_slice();
-        areas.days[day as usize + 1] = areas_after(case, &at, &areas.days[day as usize], offers);
+        let here = &areas.days[day as usize];
+        areas.days[day as usize + 1] = areas_after(case, nurse, day, here, offers);
     }
 }
 
 /// The areas after a day: where its offers lead from those before it.
-pub fn areas_after(
+fn areas_after(
     case: &Case,
-    at: &SearchDay,
+    nurse: usize,
+    day: u16,
     areas: &[Area; AREAS],
     offers: &[Offer],
 ) -> [Area; AREAS]
-    requires day { IsDayOf case.now at.now }
+    requires nurse { nurse < nurse_count case.now }
+    requires day { day < day_count case.now }
     requires offers { All (IsOfferOf case.now) offers.now }
-    ensures { All (LeadsOn case.now at.now areas.now result) offers.now }
+    ensures { All (LeadsOn case.now (search_day case.now nurse day) areas.now result) offers.now }
 {
     let mut after = [NOWHERE; AREAS];
     for place in 0..offers.len() {
         let shift = offers[place].choice.shift();
-        widen(case, at.nurse, at.day, areas, shift, &mut after);
+        widen(case, nurse, day, areas, shift, &mut after);
     }
     after
 }

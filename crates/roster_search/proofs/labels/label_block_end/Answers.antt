@@ -1,4 +1,4 @@
-use Rattle.std.proofs.Common.{◌≡◌, ◌∙◌, ◌+◌, ◌<◌, ◌≤◌, ◌⊎◌, ℕ, List, ap, arith, get_or, inl, inr, length, refl, slice_set, subst, sym, true}
+use Rattle.std.proofs.Common.{◌≡◌, ◌∙◌, ◌+◌, ◌<◌, ◌≤◌, ◌⊎◌, ℕ, List, ap, arith, get_or, inl, inr, length, slice_set, subst, sym, true}
 use Rattle.std.proofs.lemmas.Bool.{cases_lt}
 use Rattle.std.proofs.lemmas.List.{get_or-set_other, get_or-set_same, length-set}
 use Rattle.roster_rules.specs.Prefix.{Summary}
@@ -28,47 +28,38 @@ module _ (code place at value : ℕ) (cells : List ℕ) (at_is : at ≡ code + p
     after = λ j h. get_or-set_other cells at j value 0 (λ e. omega (arith, e, at_is, h, in_block)) ∙ same.after j h;
   }
 
-pub loop-place-init : goal.loop-place-init
-loop-place-init c = record { labels = λ a none. absurd (omega (arith, none)); others = record { before = λ i below. refl; after = λ i from. refl }; length = refl }
-
 pub end_cost-requires-clause-fits : goal.end_cost-requires-clause-fits
 end_cost-requires-clause-fits c =
-    let inside : c.loop-place.place < c.args.ranges.now.assignments = omega (arith, c.loop-place-test.true, c.places-place-end.ensures.places) in
-    subst (λ (s : Summary). fits_sizes (sizes_of c.args.case.now c.args.nurse) s ≡ true) (sym c.state.ensures)
-    (subst (λ z. fits_sizes z (with_assignments c.args.block c.loop-place.place) ≡ true) c.requires.ranges (place-fits c.args.ranges.now c.args.block c.loop-place.place inside c.requires.fits))
+    let days = c.args.days.now in
+    let inside : c.loop-place.place < days.ranges.assignments = omega (arith, c.loop-place-test.true, c.places-place-end.ensures.places) in
+    subst (λ (s : Summary). fits_sizes (sizes_of days.case.now days.nurse) s ≡ true) (sym c.state.ensures)
+    (subst (λ z. fits_sizes z (with_assignments c.args.block c.loop-place.place) ≡ true) days.search.ranges (place-fits days.ranges c.args.block c.loop-place.place inside c.requires.fits))
 
 pub bounds-labels-code : goal.bounds-labels-code
 bounds-labels-code c =
-    omega (arith, c.first-code.ensures.within, c.loop-place-test.true, c.places-place-end.ensures.places, c.requires.places, c.loop-place.invariant.length)
+    omega (arith, c.first-code.ensures.within, c.loop-place-test.true, c.places-place-end.ensures.places, c.requires.room, c.loop-place.invariant.beside.length_stays)
 
 pub loop-place-preserved : goal.loop-place-preserved
 loop-place-preserved c =
-    let k = c.args.case.now in
-    let n = c.args.nurse in
+    let days = c.args.days.now in
+    let k = days.case.now in
+    let n = days.nurse in
     let block = c.args.block in
     let place = c.loop-place.place in
     let labels = c.loop-place.labels in
-    let code = code_of c.args.ranges.now block in
-    let size = c.args.ranges.now.assignments in
+    let code = code_of days.ranges block in
     let at = c.first-code.result + place in
     let value = c.end_cost.result in
     let old = c.loop-place.invariant in
     let at_is : at ≡ code + place = omega (arith, c.first-code.ensures.first) in
-    let in_block : place < size = omega (arith, c.loop-place-test.true, c.places-place-end.ensures.places) in
-    let inside : at < length labels = omega (arith, c.first-code.ensures.within, in_block, c.requires.places, old.length) in
+    let in_block : place < days.ranges.assignments = omega (arith, c.loop-place-test.true, c.places-place-end.ensures.places) in
+    let inside : at < length labels = omega (arith, c.first-code.ensures.within, in_block, c.requires.room, old.beside.length_stays) in
     let cost : value ≡ end_cost_of k n (with_assignments block place) = c.end_cost.ensures.cost ∙ ap (end_cost_of k n) c.state.ensures in
     let here : value ≡ label_of (best_at_end k n (with_assignments block place)) = omega (arith, cost, c.end_cost.ensures.within) in
     record {
       labels = place_more code place at value labels at_is inside (λ a. label_of (best_at_end k n (with_assignments block a))) here old.labels;
-      others = place_outside code place at value labels at_is inside size c.args.labels.now in_block old.others;
-      length = length-set labels at value ∙ old.length;
+      beside = record { others = place_outside code place at value labels at_is inside days.ranges.assignments c.args.labels.now in_block old.beside.others; length_stays = length-set labels at value ∙ old.beside.length_stays };
     }
 
 pub returns-clause-labels : goal.returns-clause-labels
 returns-clause-labels c a inside = c.loop-place.invariant.labels a (omega (arith, inside, c.loop-place-test.false, c.places-place-end.ensures.places))
-
-pub returns-clause-others : goal.returns-clause-others
-returns-clause-others c = c.loop-place.invariant.others
-
-pub returns-clause-length : goal.returns-clause-length
-returns-clause-length c = c.loop-place.invariant.length

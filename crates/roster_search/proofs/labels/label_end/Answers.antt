@@ -1,139 +1,87 @@
-use Rattle.std.proofs.Common.{◌≡◌, ◌∙◌, ◌+◌, ◌<◌, ◌≤◌, ap, arith, length, subst, sym, true}
+use Rattle.std.proofs.Common.{◌≡◌, ◌∙◌, ◌+◌, ◌<◌, ap, arith, min, subst, sym, true}
 use Rattle.roster_rules.specs.Prefix.{Summary}
+use Rattle.roster_state.specs.declared.area.Area.{Area}
 use Rattle.roster_state.specs.Areas.{area_at}
-use Rattle.roster_state.specs.Codes.{Sizes, code_of, fits_sizes, product, shift_digit, sizes_of}
-use Rattle.roster_search.specs.Counts.{group_of}
-use Rattle.roster_search.specs.Tables.{LabelsOf, StandsLike, best_at_end, label_of}
-use Rattle.roster_search.proofs.DayLaws.{FewRuns, area_is, before_all, before_first_run, before_first_shift_run, after_last_run, after_last_shift_run, cells_grouped, cells_skipped, few_of, group_digit, group_fits, group_key}
+use Rattle.roster_state.specs.Codes.{Sizes, code_of, fits_sizes, sizes_of}
+use Rattle.roster_search.specs.Days.{EndLabels}
+use Rattle.roster_search.specs.OpenDays.{KeepsRest, group_places}
+use Rattle.roster_search.specs.Tables.{StandsLike}
+use Rattle.roster_search.proofs.CountLaws.{Goes, goes_within}
+use Rattle.roster_search.proofs.DayLaws.{FewRuns, before_all, before_first_run, before_first_shift_run, after_last_run, after_last_shift_run, end_more, end_on, few_of, group_fits, group_key}
 use Rattle.roster_search.proofs.labels.label_end.Goals as goal
+use Rattle.roster_search.proofs.labels.label_end.Goals.{After-below-first_run, After-below-first_shift_run, After-shift_run-shift_runs}
+
+-- the runs are few
+few_here : (c : After-shift_run-shift_runs) → FewRuns (sizes_of c.args.days.now.case.now c.args.days.now.nurse)
+few_here c = few_of c.args.days.now.ranges _ c.run-runs.result c.shift_run-shift_runs.result c.args.days.now.search.ranges c.run-runs.ensures.run c.run-runs.ensures.within c.shift_run-shift_runs.ensures.shift_run c.shift_run-shift_runs.ensures.within
+
+-- the runs that are gone through, and the runs of the shift
+runs_here : (c : After-below-first_run) → Goes (area_at c.args.areas.now c.loop-last.last).run (sizes_of c.args.days.now.case.now c.args.days.now.nurse).run c.below-first_run.result.0 c.below-first_run.result.1
+runs_here c =
+    let is = c.area_of-area.ensures in
+    let size = c.run-runs.ensures.run ∙ ap (λ (y : Sizes). y.run) c.args.days.now.search.ranges in
+    record { end_is = c.below-first_run.ensures.end ∙ (λ i. min ((is i).run.greatest + 1) (size i)); from_is = c.below-first_run.ensures.first ∙ ap (λ (x : Area). min x.run.least c.below-first_run.result.1) is }
+
+shift_runs_here : (c : After-below-first_shift_run) → Goes (area_at c.args.areas.now c.loop-last.last).shift_run (sizes_of c.args.days.now.case.now c.args.days.now.nurse).shift_run c.below-first_shift_run.result.0 c.below-first_shift_run.result.1
+shift_runs_here c =
+    let is = c.area_of-area.ensures in
+    let size = c.shift_run-shift_runs.ensures.shift_run ∙ ap (λ (y : Sizes). y.shift_run) c.args.days.now.search.ranges in
+    record { end_is = c.below-first_shift_run.ensures.end ∙ (λ i. min ((is i).shift_run.greatest + 1) (size i)); from_is = c.below-first_shift_run.ensures.first ∙ ap (λ (x : Area). min x.shift_run.least c.below-first_shift_run.result.1) is }
+
+-- the run that is gone through
+run_in : (c : After-below-first_run) (run : _) → run < c.below-first_run.result.1 → run < (sizes_of c.args.days.now.case.now c.args.days.now.nurse).run
+run_in c run below = omega (arith, below, (goes_within (runs_here c)).1)
 
 pub loop-run-init : goal.loop-run-init
-loop-run-init g c =
-    let k = c.args.case.now in
-    let n = c.args.nurse in
-    let z = c.args.ranges.now in
-    let r = c.requires in
-    let last = c.loop-last.last in
-    let few : FewRuns (sizes_of k n) = few_of z (sizes_of k n) c.run-runs.result c.shift_run-shift_runs.result r.1.0 c.run-runs.ensures.run c.run-runs.ensures.within c.shift_run-shift_runs.ensures.shift_run c.shift_run-shift_runs.ensures.within in
-    let long : length c.args.areas.now ≡ 9 = omega (arith, c.told-areas) in
-    let area = area_is g.here c.args.areas.now last _ r.1.1.0 (omega (arith, long, c.loop-last-test.true, c.last-last-end.ensures.within)) in
-    let runs_size : c.run-runs.result ≡ (sizes_of k n).run = c.run-runs.ensures.run ∙ ap (λ (y : Sizes). y.run) r.1.0 in
-    let order = c.below-first_run.ensures.order in
-    let from = c.below-first_run.result.0 in
-    record {
-      labels = cells_skipped k n g.here (sizes_of k n) (λ s label. label ≡ label_of (best_at_end k n s)) (λ j. j) c.loop-last.labels (group_key last 0 0) (group_key last from 0)
-          (λ s stands. before_first_run k n g.here few s stands last _ area from (omega (arith, order, c.run-runs.ensures.within)) (λ x in_span fits. (c.below-first_run.ensures.each x in_span (omega (arith, fits, runs_size))).0)) c.loop-last.invariant.labels;
-      length = c.loop-last.invariant.length;
-    }
+loop-run-init c =
+    let at = goal.at.loop-run-init c in
+    end_on c.loop-last.invariant (group_key c.loop-last.last c.below-first_run.result.0 0) (λ s stands. before_first_run _ _ _ (few_here at.After-shift_run-shift_runs) s stands c.loop-last.last (runs_here at.After-below-first_run))
 
 pub loop-shift_run-init : goal.loop-shift_run-init
-loop-shift_run-init g c =
-    let k = c.args.case.now in
-    let n = c.args.nurse in
-    let z = c.args.ranges.now in
-    let r = c.requires in
-    let last = c.loop-last.last in
-    let few : FewRuns (sizes_of k n) = few_of z (sizes_of k n) c.run-runs.result c.shift_run-shift_runs.result r.1.0 c.run-runs.ensures.run c.run-runs.ensures.within c.shift_run-shift_runs.ensures.shift_run c.shift_run-shift_runs.ensures.within in
-    let long : length c.args.areas.now ≡ 9 = omega (arith, c.told-areas) in
-    let area = area_is g.here c.args.areas.now last _ r.1.1.0 (omega (arith, long, c.loop-last-test.true, c.last-last-end.ensures.within)) in
-    let shift_runs_size : c.shift_run-shift_runs.result ≡ (sizes_of k n).shift_run = c.shift_run-shift_runs.ensures.shift_run ∙ ap (λ (y : Sizes). y.shift_run) r.1.0 in
-    let run = c.loop-run.run in
-    let few_runs : run < 1000 = omega (arith, c.loop-run-test.true, c.below-first_run.ensures.order, c.run-runs.ensures.within) in
-    let order = c.below-first_shift_run.ensures.order in
-    let from = c.below-first_shift_run.result.0 in
-    record {
-      labels = cells_skipped k n g.here (sizes_of k n) (λ s label. label ≡ label_of (best_at_end k n s)) (λ j. j) c.loop-run.labels (group_key last run 0) (group_key last run from)
-          (λ s stands. before_first_shift_run k n g.here few s stands last _ area run from few_runs (omega (arith, order, c.shift_run-shift_runs.ensures.within)) (λ x in_span fits. (c.below-first_shift_run.ensures.each x in_span (omega (arith, fits, shift_runs_size))).0)) c.loop-run.invariant.labels;
-      length = c.loop-run.invariant.length;
-    }
+loop-shift_run-init c =
+    let at = goal.at.loop-shift_run-init c in
+    end_on c.loop-run.invariant (group_key c.loop-last.last c.loop-run.run c.below-first_shift_run.result.0)
+    (λ s stands. before_first_shift_run _ _ _ (few_here at.After-shift_run-shift_runs) s stands c.loop-last.last c.loop-run.run (run_in at.After-below-first_run c.loop-run.run c.loop-run-test.true) (shift_runs_here at.After-below-first_shift_run))
 
-pub label_group_end-requires : goal.label_group_end-requires
-label_group_end-requires g c =
-    let k = c.args.case.now in
-    let n = c.args.nurse in
-    let z = c.args.ranges.now in
-    let r = c.requires in
-    let last = c.loop-last.last in
-    let few : FewRuns (sizes_of k n) = few_of z (sizes_of k n) c.run-runs.result c.shift_run-shift_runs.result r.1.0 c.run-runs.ensures.run c.run-runs.ensures.within c.shift_run-shift_runs.ensures.shift_run c.shift_run-shift_runs.ensures.within in
-    let long : length c.args.areas.now ≡ 9 = omega (arith, c.told-areas) in
-    let area = area_is g.here c.args.areas.now last _ r.1.1.0 (omega (arith, long, c.loop-last-test.true, c.last-last-end.ensures.within)) in
-    let run = c.loop-run.run in
-    let shift_run = c.loop-shift_run.shift_run in
-    let is : group_of last run shift_run ≡ c.of_runs-group.result = sym c.of_runs-group.ensures in
-    let digit : shift_digit c.of_runs-group.result.last ≡ last = ap (λ (s : Summary). shift_digit s.last) c.of_runs-group.ensures ∙ group_digit last run shift_run in
-    let fits : fits_sizes z c.of_runs-group.result ≡ true = subst (λ (s : Summary). fits_sizes z s ≡ true) is
-    (group_fits z last run shift_run (omega (arith, c.loop-last-test.true, c.last-last-end.ensures.last)) (omega (arith, c.loop-run-test.true, c.below-first_run.ensures.order, c.run-runs.ensures.run))
-    (omega (arith, c.loop-shift_run-test.true, c.below-first_shift_run.ensures.order, c.shift_run-shift_runs.ensures.shift_run)) (omega (arith, ap (λ (y : Sizes). y.weekends) r.1.0)) (omega (arith, ap (λ (y : Sizes). y.assignments) r.1.0))) in
-    let room : product z ≤ length c.loop-shift_run.labels = omega (arith, c.loop-shift_run.invariant.length, r.1.1.1) in
-    (r.0, (r.1.0, (fits, ((ap (λ (s : Summary). s.weekends) c.of_runs-group.ensures, ap (λ (s : Summary). s.assignments) c.of_runs-group.ensures), (area ∙ ap (area_at g.here) (sym digit), room)))))
+pub label_group_end-requires-clause-fits : goal.label_group_end-requires-clause-fits
+label_group_end-requires-clause-fits c =
+    let days = c.args.days.now in
+    let shift_run_in : c.loop-shift_run.shift_run < days.ranges.shift_run = omega (arith, c.loop-shift_run-test.true, c.below-first_shift_run.ensures.order, c.shift_run-shift_runs.ensures.shift_run) in
+    subst (λ (s : Summary). fits_sizes days.ranges s ≡ true) (sym c.of_runs-group.ensures)
+    (group_fits days.ranges c.loop-last.last c.loop-run.run c.loop-shift_run.shift_run (omega (arith, c.loop-last-test.true, c.last-last-end.ensures.last)) (omega (arith, c.loop-run-test.true, c.below-first_run.ensures.order, c.run-runs.ensures.run)) shift_run_in
+    (omega (arith, ap (λ (y : Sizes). y.weekends) days.search.ranges)) (omega (arith, ap (λ (y : Sizes). y.assignments) days.search.ranges)))
+
+pub label_group_end-requires-clause-no_weekends : goal.label_group_end-requires-clause-no_weekends
+label_group_end-requires-clause-no_weekends c = ap (λ (s : Summary). s.weekends) c.of_runs-group.ensures
+
+pub label_group_end-requires-clause-no_assignments : goal.label_group_end-requires-clause-no_assignments
+label_group_end-requires-clause-no_assignments c = ap (λ (s : Summary). s.assignments) c.of_runs-group.ensures
 
 pub loop-shift_run-preserved : goal.loop-shift_run-preserved
-loop-shift_run-preserved g c =
-    let k = c.args.case.now in
-    let n = c.args.nurse in
-    let z = c.args.ranges.now in
-    let r = c.requires in
-    let last = c.loop-last.last in
-    let few : FewRuns (sizes_of k n) = few_of z (sizes_of k n) c.run-runs.result c.shift_run-shift_runs.result r.1.0 c.run-runs.ensures.run c.run-runs.ensures.within c.shift_run-shift_runs.ensures.shift_run c.shift_run-shift_runs.ensures.within in
-    let run = c.loop-run.run in
-    let few_runs : run < 1000 = omega (arith, c.loop-run-test.true, c.below-first_run.ensures.order, c.run-runs.ensures.within) in
-    let shift_run = c.loop-shift_run.shift_run in
-    let few_shift_runs : shift_run < 1000 = omega (arith, c.loop-shift_run-test.true, c.below-first_shift_run.ensures.order, c.shift_run-shift_runs.ensures.within) in
-    let is : group_of last run shift_run ≡ c.of_runs-group.result = sym c.of_runs-group.ensures in
+loop-shift_run-preserved c =
+    let days = c.args.days.now in
+    let at = goal.at.loop-shift_run-preserved c in
     let e = c.label_group_end.ensures in
-    let code_is : code_of (sizes_of k n) (group_of last run shift_run) ≡ code_of z c.of_runs-group.result = (λ i. code_of (sym r.1.0 i) (is i)) in
-    let new : LabelsOf (StandsLike k n g.here (group_of last run shift_run)) k n (best_at_end k n) c.label_group_end.new.labels =
-    subst (λ (s : Summary). LabelsOf (StandsLike k n g.here s) k n (best_at_end k n) c.label_group_end.new.labels) c.of_runs-group.ensures e.labels in
-    record {
-      labels = cells_grouped k n g.here few last run shift_run few_runs few_shift_runs (λ s label. label ≡ label_of (best_at_end k n s)) (λ j. j) c.loop-shift_run.labels c.label_group_end.new.labels
-          (λ j low. e.others.before j (omega (arith, low, code_is))) new c.loop-shift_run.invariant.labels;
-      length = e.length ∙ c.loop-shift_run.invariant.length;
-    }
+    let new = c.label_group_end.new.labels in
+    let shift_run_in : c.loop-shift_run.shift_run < (sizes_of days.case.now days.nurse).shift_run = omega (arith, c.loop-shift_run-test.true, (goes_within (shift_runs_here at.After-below-first_shift_run)).1) in
+    end_more days c.args.areas.now (few_here at.After-shift_run-shift_runs) c.loop-last.last c.loop-run.run c.loop-shift_run.shift_run (run_in at.After-below-first_run c.loop-run.run c.loop-run-test.true) shift_run_in c.loop-shift_run.invariant
+    (subst (λ (s : Summary). EndLabels (StandsLike days.case.now days.nurse c.args.areas.now s) days new) c.of_runs-group.ensures e.labels)
+    (subst (λ (s : Summary). KeepsRest (code_of days.ranges s) (group_places days) c.loop-shift_run.labels new) c.of_runs-group.ensures e.beside)
 
 pub loop-run-preserved : goal.loop-run-preserved
-loop-run-preserved g c =
-    let k = c.args.case.now in
-    let n = c.args.nurse in
-    let z = c.args.ranges.now in
-    let r = c.requires in
-    let last = c.loop-last.last in
-    let few : FewRuns (sizes_of k n) = few_of z (sizes_of k n) c.run-runs.result c.shift_run-shift_runs.result r.1.0 c.run-runs.ensures.run c.run-runs.ensures.within c.shift_run-shift_runs.ensures.shift_run c.shift_run-shift_runs.ensures.within in
-    let long : length c.args.areas.now ≡ 9 = omega (arith, c.told-areas) in
-    let area = area_is g.here c.args.areas.now last _ r.1.1.0 (omega (arith, long, c.loop-last-test.true, c.last-last-end.ensures.within)) in
-    let shift_runs_size : c.shift_run-shift_runs.result ≡ (sizes_of k n).shift_run = c.shift_run-shift_runs.ensures.shift_run ∙ ap (λ (y : Sizes). y.shift_run) r.1.0 in
-    let run = c.loop-run.run in
-    let few_runs : run < 1000 = omega (arith, c.loop-run-test.true, c.below-first_run.ensures.order, c.run-runs.ensures.within) in
-    let to = c.loop-shift_run.shift_run in
-    record {
-      labels = cells_skipped k n g.here (sizes_of k n) (λ s label. label ≡ label_of (best_at_end k n s)) (λ j. j) c.loop-shift_run.labels (group_key last run to) (group_key last (run + 1) 0)
-          (λ s stands. after_last_shift_run k n g.here few s stands last _ area run to few_runs (λ x in_span fits. omega (arith, (c.below-first_shift_run.ensures.each x in_span (omega (arith, fits, shift_runs_size))).1, c.loop-shift_run-test.false))) c.loop-shift_run.invariant.labels;
-      length = c.loop-shift_run.invariant.length;
-    }
+loop-run-preserved c =
+    let at = goal.at.loop-run-preserved c in
+    let is : c.loop-shift_run.shift_run ≡ c.below-first_shift_run.result.1 = omega (arith, c.loop-shift_run.auto.shift_run-end, c.below-first_shift_run.ensures.order, c.loop-shift_run-test.false) in
+    end_on c.loop-shift_run.invariant (group_key c.loop-last.last (c.loop-run.run + 1) 0)
+    (λ s stands. after_last_shift_run _ _ _ (few_here at.After-shift_run-shift_runs) s stands c.loop-last.last c.loop-run.run (run_in at.After-below-first_run c.loop-run.run c.loop-run-test.true) (shift_runs_here at.After-below-first_shift_run) c.loop-shift_run.shift_run is)
 
 pub loop-last-preserved : goal.loop-last-preserved
-loop-last-preserved g c =
-    let k = c.args.case.now in
-    let n = c.args.nurse in
-    let z = c.args.ranges.now in
-    let r = c.requires in
-    let last = c.loop-last.last in
-    let few : FewRuns (sizes_of k n) = few_of z (sizes_of k n) c.run-runs.result c.shift_run-shift_runs.result r.1.0 c.run-runs.ensures.run c.run-runs.ensures.within c.shift_run-shift_runs.ensures.shift_run c.shift_run-shift_runs.ensures.within in
-    let long : length c.args.areas.now ≡ 9 = omega (arith, c.told-areas) in
-    let area = area_is g.here c.args.areas.now last _ r.1.1.0 (omega (arith, long, c.loop-last-test.true, c.last-last-end.ensures.within)) in
-    let runs_size : c.run-runs.result ≡ (sizes_of k n).run = c.run-runs.ensures.run ∙ ap (λ (y : Sizes). y.run) r.1.0 in
-    let to = c.loop-run.run in
-    record {
-      labels = cells_skipped k n g.here (sizes_of k n) (λ s label. label ≡ label_of (best_at_end k n s)) (λ j. j) c.loop-run.labels (group_key last to 0) (group_key (last + 1) 0 0)
-          (λ s stands. after_last_run k n g.here few s stands last _ area to (λ x in_span fits. omega (arith, (c.below-first_run.ensures.each x in_span (omega (arith, fits, runs_size))).1, c.loop-run-test.false))) c.loop-run.invariant.labels;
-      length = c.loop-run.invariant.length;
-    }
+loop-last-preserved c =
+    let at = goal.at.loop-last-preserved c in
+    let is : c.loop-run.run ≡ c.below-first_run.result.1 = omega (arith, c.loop-run.auto.run-end, c.below-first_run.ensures.order, c.loop-run-test.false) in
+    end_on c.loop-run.invariant (group_key (c.loop-last.last + 1) 0 0) (λ s stands. after_last_run _ _ _ (few_here at.After-shift_run-shift_runs) s stands c.loop-last.last (runs_here at.After-below-first_run) c.loop-run.run is)
 
 pub returns-clause-labels : goal.returns-clause-labels
-returns-clause-labels g c s stands =
-    let k = c.args.case.now in
-    let n = c.args.nurse in
-    let z = c.args.ranges.now in
-    let r = c.requires in
-    let last = c.loop-last.last in
-    let few : FewRuns (sizes_of k n) = few_of z (sizes_of k n) c.run-runs.result c.shift_run-shift_runs.result r.1.0 c.run-runs.ensures.run c.run-runs.ensures.within c.shift_run-shift_runs.ensures.shift_run c.shift_run-shift_runs.ensures.within in
-    c.loop-last.invariant.labels s (stands, before_all k n g.here few s stands last (omega (arith, c.loop-last-test.false, c.last-last-end.ensures.last, ap (λ (y : Sizes). y.last) r.1.0)))
+returns-clause-labels c s stands =
+    let few = few_here (goal.at.returns-clause-labels c).After-shift_run-shift_runs in
+    c.loop-last.invariant.labels_are s (stands, before_all _ _ _ few s stands c.loop-last.last (omega (arith, c.loop-last-test.false, c.last-last-end.ensures.last, ap (λ (y : Sizes). y.last) c.args.days.now.search.ranges)))

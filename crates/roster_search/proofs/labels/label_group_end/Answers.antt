@@ -1,59 +1,58 @@
-use Rattle.std.proofs.Common.{◌≡◌, ◌∙◌, ◌+◌, ◌*◌, ◌<◌, ℕ, ap, arith, refl, slice_index_or, subst, sym}
+use Rattle.std.proofs.Common.{◌≡◌, ◌∙◌, ◌+◌, ◌*◌, ◌<◌, ℕ, ap, arith, min, slice_index_or, subst, sym}
 use Rattle.roster_rules.specs.Prefix.{Summary}
-use Rattle.roster_state.specs.Codes.{Sizes, code_of}
+use Rattle.roster_state.specs.declared.area.Area.{Area}
+use Rattle.roster_state.specs.Areas.{area_at}
+use Rattle.roster_state.specs.Codes.{Sizes, code_of, shift_digit, sizes_of}
 use Rattle.roster_state.specs.Step.{with_assignments, with_weekends}
+use Rattle.roster_state.proofs.CodeLemmas.{fits-all}
 use Rattle.roster_search.specs.Tables.{best_at_end, label_of}
-use Rattle.roster_search.proofs.CellLaws.{outside_then, outside_wider}
-use Rattle.roster_search.proofs.GroupLaws.{code_block, like_area, like_fits, cells_of_weekends, weekends_within}
+use Rattle.roster_search.proofs.CellLaws.{rest_same, rest_then, rest_wider}
+use Rattle.roster_search.proofs.CountLaws.{Goes}
+use Rattle.roster_search.proofs.GroupLaws.{code_block, like_fits, like_weekends, cells_of_weekends, weekends_within}
 use Rattle.roster_search.proofs.labels.label_group_end.Goals as goal
+use Rattle.roster_search.proofs.labels.label_group_end.Goals.{After-below-first}
+
+-- the numbers of weekends that are gone through
+weekends_here : (c : After-below-first) → Goes (area_at c.args.areas.now (shift_digit c.args.group.last)).weekends (sizes_of c.args.days.now.case.now c.args.days.now.nurse).weekends c.below-first.result.0 c.below-first.result.1
+weekends_here c =
+    let is = c.area_of-area.ensures ∙ ap (area_at c.args.areas.now) c.last_number.ensures.number in
+    let size = c.weekends.ensures.weekends ∙ ap (λ (z : Sizes). z.weekends) c.args.days.now.search.ranges in
+    record { end_is = c.below-first.ensures.end ∙ (λ i. min ((is i).weekends.greatest + 1) (size i)); from_is = c.below-first.ensures.first ∙ ap (λ (x : Area). min x.weekends.least c.below-first.result.1) is }
+
+pub area_of-area-requires : goal.area_of-area-requires
+area_of-area-requires c =
+    omega (arith, c.last_number.ensures, (fits-all c.args.days.now.ranges c.args.group c.requires.fits).last, ap (λ (z : Sizes). z.last) c.args.days.now.search.ranges, c.keeps_limits.ensures.shifts)
 
 pub loop-weekends-init : goal.loop-weekends-init
-loop-weekends-init g c =
-    let k = c.args.case.now in
-    let n = c.args.nurse in
-    let r = c.requires in
-    record {
-      labels = λ s which.
-          let inside = (like_area k n g.here c.args.group s which.0 c.args.area.now r.1.1.1.1.0).weekends in
-          let fits = (like_fits k n g.here c.args.group s which.0).weekends in
-          let from = (c.below-first.ensures.each s.weekends inside (omega (arith, fits, c.weekends.ensures.weekends, ap (λ (z : Sizes). z.weekends) r.1.0))).0 in
-          absurd (omega (arith, from, which.1));
-      others = record { before = λ i below. refl; after = λ i from. refl };
-      length = refl;
-    }
+loop-weekends-init c = record {
+  labels = λ s which. absurd (omega (arith, (like_weekends which.0 (weekends_here (goal.at.loop-weekends-init c).After-below-first)).0, which.1));
+  beside = rest_same _ _ c.args.labels.now;
+}
 
 pub loop-weekends-preserved : goal.loop-weekends-preserved
-loop-weekends-preserved g c =
-    let k = c.args.case.now in
-    let n = c.args.nurse in
-    let z = c.args.ranges.now in
+loop-weekends-preserved c =
+    let days = c.args.days.now in
+    let k = days.case.now in
+    let n = days.nurse in
+    let z = days.ranges in
     let group = c.args.group in
     let r = c.requires in
     let old = c.loop-weekends.invariant in
     let e = c.label_block_end.ensures in
     let w = c.loop-weekends.weekends in
-    let first = r.1.1.1.0 in
     let is : with_weekends group w ≡ c.with_weekends-block.result = sym c.with_weekends-block.ensures in
-    let code_is : code_of z c.with_weekends-block.result ≡ code_of z group + w * z.assignments = ap (code_of z) (sym is) ∙ code_block z group first.0 first.1 w in
+    let code_is : code_of z c.with_weekends-block.result ≡ code_of z group + w * z.assignments = ap (code_of z) (sym is) ∙ code_block z group r.no_weekends r.no_assignments w in
     let inside : w < z.weekends = omega (arith, c.loop-weekends-test.true, c.below-first.ensures.order, c.weekends.ensures.weekends) in
     let within = weekends_within w z.weekends z.assignments inside in
     let set : (a : ℕ) → a < z.assignments → slice_index_or c.label_block_end.new.labels (code_of z group + w * z.assignments + a) 0 ≡ label_of (best_at_end k n (with_assignments (with_weekends group w) a)) =
     λ a below. subst (λ j. slice_index_or c.label_block_end.new.labels (j + a) 0 ≡ label_of (best_at_end k n (with_assignments (with_weekends group w) a))) code_is
     (subst (λ (b : Summary). slice_index_or c.label_block_end.new.labels (code_of z c.with_weekends-block.result + a) 0 ≡ label_of (best_at_end k n (with_assignments b a))) (sym is) (e.labels a below)) in
     record {
-      labels = cells_of_weekends k n g.here group z r.1.0 first.0 first.1 (λ s label. label ≡ label_of (best_at_end k n s)) (λ code. code) c.loop-weekends.labels c.label_block_end.new.labels w 0 z.assignments
-          (λ j low. e.others.before j (omega (arith, low, code_is))) (λ a low below. set a below)
-          (λ s like. (omega arith, omega (arith, (like_fits k n g.here group s like).assignments, ap (λ (y : Sizes). y.assignments) r.1.0))) old.labels;
-      others = outside_then _ _ _ _ _ old.others (outside_wider _ _ _ _ c.loop-weekends.labels c.label_block_end.new.labels (omega (arith, code_is)) (omega (arith, code_is, within)) e.others);
-      length = e.length ∙ old.length;
+      labels = cells_of_weekends k n c.args.areas.now group z days.search.ranges r.no_weekends r.no_assignments (λ s label. label ≡ label_of (best_at_end k n s)) (λ code. code) c.loop-weekends.labels c.label_block_end.new.labels w 0 z.assignments
+          (λ j low. e.beside.others.before j (omega (arith, low, code_is))) (λ a low below. set a below)
+          (λ s like. (omega arith, omega (arith, (like_fits like).assignments, ap (λ (y : Sizes). y.assignments) days.search.ranges))) old.labels;
+      beside = rest_then old.beside (rest_wider e.beside _ _ (omega (arith, code_is)) (omega (arith, code_is, within)));
     }
 
 pub returns-clause-labels : goal.returns-clause-labels
-returns-clause-labels g c s like =
-    let k = c.args.case.now in
-    let n = c.args.nurse in
-    let r = c.requires in
-    let inside = (like_area k n g.here c.args.group s like c.args.area.now r.1.1.1.1.0).weekends in
-    let fits = (like_fits k n g.here c.args.group s like).weekends in
-    let to = (c.below-first.ensures.each s.weekends inside (omega (arith, fits, c.weekends.ensures.weekends, ap (λ (z : Sizes). z.weekends) r.1.0))).1 in
-    c.loop-weekends.invariant.labels s (like, omega (arith, to, c.loop-weekends-test.false))
+returns-clause-labels c s like = c.loop-weekends.invariant.labels s (like, omega (arith, (like_weekends like (weekends_here (goal.at.returns-clause-labels c).After-below-first)).1, c.loop-weekends-test.false))

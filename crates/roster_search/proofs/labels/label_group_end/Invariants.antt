@@ -1,12 +1,12 @@
-use Rattle.std.proofs.Common.{◌≡◌, ◌+◌, ◌*◌, ◌<◌, length}
-use Rattle.roster_lanes.specs.Lanes.{SameOutside}
+use Rattle.std.proofs.Common.{◌<◌}
 use Rattle.roster_state.specs.Codes.{code_of}
-use Rattle.roster_search.specs.Tables.{LabelsOf, StandsLike, best_at_end}
+use Rattle.roster_search.specs.Days.{EndLabels}
+use Rattle.roster_search.specs.OpenDays.{KeepsRest, group_places}
+use Rattle.roster_search.specs.Tables.{StandsLike}
 use Rattle.roster_search.proofs.labels.label_group_end.Given as goal
 
 abbrev pub invariant-loop-weekends : goal.invariant-loop-weekends
-invariant-loop-weekends g l = record {
-  labels : LabelsOf (λ s. StandsLike l.case l.nurse g.here l.group s × (s.weekends < l.weekends)) l.case l.nurse (best_at_end l.case l.nurse) l.labels;
-  others : SameOutside (code_of l.ranges l.group) (code_of l.ranges l.group + l.ranges.weekends * l.ranges.assignments) l.fn.labels l.labels;
-  length : length l.labels ≡ length l.fn.labels;
+invariant-loop-weekends l = record {
+  labels : EndLabels (λ s. StandsLike l.days.case.now l.days.nurse l.areas l.group s × (s.weekends < l.weekends)) l.days l.labels;
+  beside : KeepsRest (code_of l.days.ranges l.group) (group_places l.days) l.fn.labels l.labels;
 }

@@ -4,15 +4,6 @@ use Rattle.roster_search.specs.Halves.{IsWritten, halves}
 use Rattle.roster_search.proofs.HalfLaws.{written_both}
 use Rattle.roster_search.proofs.pointers.set_stretch.Goals as goal
 
-pub set_low_run-requires-clause-small : goal.set_low_run-requires-clause-small
-set_low_run-requires-clause-small c = c.requires.small
-
-pub set_high_run-requires-clause-small : goal.set_high_run-requires-clause-small
-set_high_run-requires-clause-small c = c.requires.small
-
-pub returns-then-end-half : goal.returns-then-end-half
-returns-then-end-half c = c.set_low_run.ensures
-
 pub returns-then-half-first : goal.returns-then-half-first
 returns-then-half-first c =
     let place : length c.args.bytes.now + (c.args.first - length c.args.bytes.now) ≡ c.args.first = omega (arith, c.if-half-first.true) in

@@ -10,7 +10,7 @@ use Rattle.roster_offers.proofs.LowRows.{LowRow, low_over}
 use Rattle.roster_search.specs.Search.{TableRoom, areas_on}
 use Rattle.roster_search.specs.Tables.{Stands}
 use Rattle.roster_search.proofs.SearchLaws.{first_label, goes_on}
-use Rattle.roster_search.proofs.MostLaws.{standing_within}
+use Rattle.roster_search.proofs.MostLaws.{standing_some, standing_within}
 use Rattle.roster_search.proofs.search.search_row.Goals as goal
 use Rattle.roster_search.proofs.search.search_row.Goals.{After-index, After-of-ranges}
 
@@ -18,10 +18,8 @@ use Rattle.roster_search.proofs.search.search_row.Goals.{After-index, After-of-r
 found : (c : After-of-ranges) → LowRow (best_over c.args.search.now.case.now c.args.search.now.nurse (offers_on c.args.search.now.offers.now))
 found c = low_over c.args.search.now.case.now c.args.search.now.nurse (offers_on c.args.search.now.offers.now) (λ day within. (c.requires.offers.each day within).of_case) c.keeps_limits.ensures.small c.keeps_limits.ensures.weeks c.requires.some
 
-pub label_days-requires-clause-stand : goal.label_days-requires-clause-stand
-label_days-requires-clause-stand c day within =
-    let at = goes_on c.args.search.now.case.now c.args.search.now.nurse (offers_on c.args.search.now.offers.now) c.args.areas.now.days c.requires.standing.lead c.requires.standing.start c.requires.some day (omega (arith, within)) in
-    record { state = at.state; stands = at.stands }
+pub invariant_of-days : goal.invariant_of-days
+invariant_of-days c = record { search = record { nurse = c.requires.nurse; rules = c.contract_rules.ensures.rules; ranges = c.of-ranges.ensures.sizes; offers = c.requires.offers; standing = c.requires.standing } }
 
 pub label_days-requires-clause-labels_room : goal.label_days-requires-clause-labels_room
 label_days-requires-clause-labels_room c =
@@ -34,18 +32,6 @@ label_days-requires-clause-pointers_room c =
 pub label_days-requires-clause-same_room : goal.label_days-requires-clause-same_room
 label_days-requires-clause-same_room c = ap length c.deref_mut-2.ensures.value ∙ sym c.tables.invariant ∙ sym (ap length c.deref_mut.ensures.value)
 
-pub label_days-requires-clause-lead : goal.label_days-requires-clause-lead
-label_days-requires-clause-lead c = c.requires.standing.lead
-
-pub read_row-requires-clause-start : goal.read_row-requires-clause-start
-read_row-requires-clause-start c = c.requires.standing.start
-
-pub read_row-requires-clause-lead : goal.read_row-requires-clause-lead
-read_row-requires-clause-lead c = c.requires.standing.lead
-
-pub read_row-requires-clause-pointers : goal.read_row-requires-clause-pointers
-read_row-requires-clause-pointers c = c.label_days.ensures.pointers
-
 pub read_row-requires-clause-low : goal.read_row-requires-clause-low
 read_row-requires-clause-low c =
     let best = found (goal.at.read_row-requires-clause-low c).After-of-ranges in
@@ -53,23 +39,23 @@ read_row-requires-clause-low c =
 
 pub read_row-requires-clause-pointers_room : goal.read_row-requires-clause-pointers_room
 read_row-requires-clause-pointers_room c =
-    omega (arith, ap (λ (t : TableRoom). t.pointers) c.tables.view_is, c.requires.tables.pointers, ap (λ m. day_count c.args.search.now.case.now * m) c.of-ranges.ensures.states, c.label_days.ensures.lengths.2)
+    omega (arith, ap (λ (t : TableRoom). t.pointers) c.tables.view_is, c.requires.tables.pointers, ap (λ m. day_count c.args.search.now.case.now * m) c.of-ranges.ensures.states, c.label_days.ensures.pointers_length)
 
 pub code-requires : goal.code-requires
 code-requires c = subst (λ (z : Sizes). fits_sizes z c.start-first.result.0 ≡ true) (sym c.of-ranges.ensures.sizes) c.start-first.ensures.fits
 
 pub index-requires : goal.index-requires
 index-requires c =
-    omega (arith, c.code.ensures.within, ap (λ (t : TableRoom). t.labels) c.tables.view_is, c.tables.invariant, c.requires.tables.labels, c.of-ranges.ensures.states, c.label_days.ensures.lengths.0)
+    omega (arith, c.code.ensures.within, ap (λ (t : TableRoom). t.labels) c.tables.view_is, c.tables.invariant, c.requires.tables.labels, c.of-ranges.ensures.states, c.label_days.ensures.lengths.of_labels)
 
 -- ---- the first label
 
 -- the tables, each written through its slice
 labels_after : (c : After-index) → (with_items c.tables.inside.labels c.label_days.new.even).items ≡ c.label_days.new.even
-labels_after c = with_items_is c.tables.inside.labels c.label_days.new.even (c.label_days.ensures.lengths.0 ∙ c.deref_mut.ensures.len)
+labels_after c = with_items_is c.tables.inside.labels c.label_days.new.even (c.label_days.ensures.lengths.of_labels ∙ c.deref_mut.ensures.len)
 
 later_after : (c : After-index) → (with_items c.tables.inside.later c.label_days.new.odd).items ≡ c.label_days.new.odd
-later_after c = with_items_is c.tables.inside.later c.label_days.new.odd (c.label_days.ensures.lengths.1 ∙ c.deref_mut-2.ensures.len)
+later_after c = with_items_is c.tables.inside.later c.label_days.new.odd (c.label_days.ensures.lengths.of_numbers ∙ c.deref_mut-2.ensures.len)
 
 label_is : (c : After-index) (best : LowRow (best_over c.args.search.now.case.now c.args.search.now.nurse (offers_on c.args.search.now.offers.now))) → c.index.result.now ≡ best.row.0
 label_is c best =
@@ -80,7 +66,7 @@ label_is c best =
     let stands = subst (Stands k n (areas_on c.args.areas.now.days 0)) (sym c.start-first.ensures.state) c.requires.standing.start in
     let here : code ≡ code_of (sizes_of k n) s = c.code.ensures.code ∙ ap (λ y. code_of y s) c.of-ranges.ensures.sizes in
     let told = ap (λ j. slice_index_or c.label_days.new.even j 0) here ∙ c.label_days.ensures.labels s stands in
-    let all : product c.of-ranges.result ≤ length c.label_days.new.even = omega (arith, ap (λ (t : TableRoom). t.labels) c.tables.view_is, c.tables.invariant, c.requires.tables.labels, c.of-ranges.ensures.states, c.label_days.ensures.lengths.0) in
+    let all : product c.of-ranges.result ≤ length c.label_days.new.even = omega (arith, ap (λ (t : TableRoom). t.labels) c.tables.view_is, c.tables.invariant, c.requires.tables.labels, c.of-ranges.ensures.states, c.label_days.ensures.lengths.of_labels) in
     let items = labels_after c in
     let read = get_or_read_under (with_items c.tables.inside.labels c.label_days.new.even).items code (length c.label_days.new.even) c.index.result.now 0 c.index.ensures (omega (arith, all, c.code.ensures.within)) (sym (ap length items)) ∙ ap (λ (xs : List ℕ). slice_index_or xs code 0) items in
     first_label k n (offers_on c.args.search.now.offers.now) s c.index.result.now best.row.0 best.row.1 c.start-first.ensures.state (read ∙ told) best.is best.low
@@ -102,30 +88,33 @@ returns-clause-below c =
 -- ---- what it takes
 
 pub returns-clause-each_day : goal.returns-clause-each_day
-returns-clause-each_day c = c.label_days.ensures.each_day
+returns-clause-each_day c =
+    let k = c.args.search.now.case.now in
+    let n = c.args.search.now.nurse in
+    let offers = offers_on c.args.search.now.offers.now in
+    let areas = c.args.areas.now.days in
+    let standing = c.requires.standing in
+    let some = standing_some k n offers areas (λ day within.
+    let at = goes_on k n offers areas standing.lead standing.start c.requires.some day (omega (arith, within)) in
+    (record { state = at.state; stands = at.stands }, (c.requires.offers.each day within).some)) in
+    omega (arith, c.label_days.ensures.exactly, some)
 
 pub returns-clause-counted : goal.returns-clause-counted
 returns-clause-counted c =
     let all = standing_within c.args.search.now.case.now c.args.search.now.nurse (offers_on c.args.search.now.offers.now) c.args.areas.now.days (λ day within. (c.requires.offers.each day within).few) in
     omega (arith, c.label_days.ensures.exactly, all)
 
-pub returns-clause-exactly : goal.returns-clause-exactly
-returns-clause-exactly c = c.label_days.ensures.exactly
-
-pub returns-clause-length : goal.returns-clause-length
-returns-clause-length c = c.read_row.ensures.length
-
 -- ---- the tables after it
 
 pub invariant_of-tables : goal.invariant_of-tables
 invariant_of-tables c =
     let at = (goal.at.invariant_of-tables c).After-index in
-    ap length (labels_after at) ∙ (c.label_days.ensures.lengths.0 ∙ ap length c.deref_mut.ensures.value) ∙ c.tables.invariant ∙ sym (c.label_days.ensures.lengths.1 ∙ ap length c.deref_mut-2.ensures.value) ∙ sym (ap length (later_after at))
+    ap length (labels_after at) ∙ (c.label_days.ensures.lengths.of_labels ∙ ap length c.deref_mut.ensures.value) ∙ c.tables.invariant ∙ sym (c.label_days.ensures.lengths.of_numbers ∙ ap length c.deref_mut-2.ensures.value) ∙ sym (ap length (later_after at))
 
 pub returns-clause-tables : goal.returns-clause-tables
 returns-clause-tables c =
     let at = (goal.at.returns-clause-tables c).After-index in
-    let labels = ap length (labels_after at) ∙ c.label_days.ensures.lengths.0 ∙ ap length c.deref_mut.ensures.value in
-    let later = ap length (later_after at) ∙ c.label_days.ensures.lengths.1 ∙ ap length c.deref_mut-2.ensures.value in
-    let pointers = c.label_days.ensures.lengths.2 in
+    let labels = ap length (labels_after at) ∙ c.label_days.ensures.lengths.of_labels ∙ ap length c.deref_mut.ensures.value in
+    let later = ap length (later_after at) ∙ c.label_days.ensures.lengths.of_numbers ∙ ap length c.deref_mut-2.ensures.value in
+    let pointers = c.label_days.ensures.pointers_length in
     (λ i. record { labels = labels i + later i; pointers = pointers i; label_capacity = vec_capacity c.tables.inside.labels; later_capacity = vec_capacity c.tables.inside.later }) ∙ c.tables.view_is

@@ -7,6 +7,7 @@ use Rattle.roster_instance.specs.Meaning.{shift_count}
 use Rattle.roster_offers.specs.Lists.{IsOfferOf}
 use Rattle.roster_offers.proofs.OfferLaws.{shift_of_case}
 use Rattle.roster_offers.proofs.ListLaws.{no_offer}
+use Rattle.roster_search.specs.Search.{search_day}
 use Rattle.roster_search.specs.Tables.{LeadsOn}
 use Rattle.roster_search.proofs.StandLaws.{leads_by, leads_kept}
 use Rattle.roster_search.proofs.stand.areas_after.Goals as goal
@@ -14,7 +15,7 @@ use Rattle.roster_search.proofs.stand.areas_after.Goals as goal
 pub loop-place-preserved : goal.loop-place-preserved
 loop-place-preserved c =
     let k = c.args.case.now in
-    let at = c.args.at.now in
+    let at = search_day k c.args.nurse c.args.day in
     let areas = c.args.areas.now in
     let offers = c.args.offers.now in
     let place = c.loop-place.place in
@@ -28,4 +29,4 @@ loop-place-preserved c =
 pub returns : goal.returns
 returns c =
     let offers = c.args.offers.now in
-    subst (All (LeadsOn c.args.case.now c.args.at.now c.args.areas.now c.loop-place.after)) (take_all c.loop-place.place offers (omega (arith, c.loop-place-test.false))) c.loop-place.invariant
+    subst (All (LeadsOn c.args.case.now (search_day c.args.case.now c.args.nurse c.args.day) c.args.areas.now c.loop-place.after)) (take_all c.loop-place.place offers (omega (arith, c.loop-place-test.false))) c.loop-place.invariant

@@ -6,12 +6,12 @@ use Rattle.std.specs.List.{All}
 use Rattle.roster_instance.specs.Meaning.{day_count}
 use Rattle.roster_rules.specs.Prefix.{summary_of}
 use Rattle.roster_state.specs.declared.area.Area.{Area}
-use Rattle.roster_state.specs.Codes.{shift_digit, sizes_of}
+use Rattle.roster_state.specs.Codes.{shift_digit}
 use Rattle.roster_state.proofs.CodeLemmas.{fits-all}
 use Rattle.roster_offers.specs.Lists.{IsOfferOf, offers_on}
 use Rattle.roster_offers.proofs.ListLaws.{offers_read}
 use Rattle.roster_search.specs.Counts.{states_on}
-use Rattle.roster_search.specs.Search.{areas_on}
+use Rattle.roster_search.specs.Search.{areas_on, search_day}
 use Rattle.roster_search.specs.Tables.{LeadsOn, Stands}
 use Rattle.roster_search.proofs.SearchLaws.{areas_read, day_kept, lead_more}
 use Rattle.roster_search.proofs.MostLaws.{one_stands}
@@ -56,8 +56,7 @@ loop-day-preserved c =
     let inside : day + 1 < length c.loop-day.areas.days = omega (arith, c.loop-day-test.true, c.days-day-end.ensures.count, old.length) in
     let read = areas_read c.loop-day.areas.days day _ (omega (arith, inside)) in
     let offers = offers_here (goal.at.loop-day-preserved c).After-as_slice-offers in
-    let sizes : c.of-ranges.result ≡ sizes_of k n = c.of-ranges.ensures.sizes in
-    let here = transport (λ i. All (LeadsOn k (record { nurse = n; day = day; ranges = sizes i }) (read i) c.areas_after.result) (offers i)) c.areas_after.ensures in
+    let here = transport (λ i. All (LeadsOn k (search_day k n day) (read i) c.areas_after.result) (offers i)) c.areas_after.ensures in
     record {
       start = subst (λ (x : _). Stands k n x (summary_of k n [])) (sym (day_kept k n table c.loop-day.areas.days day inside c.areas_after.result 0 (omega arith))) old.start;
       first = subst (λ (x : List Area). states_on k n x ≤ 1) (sym (day_kept k n table c.loop-day.areas.days day inside c.areas_after.result 0 (omega arith))) old.first;

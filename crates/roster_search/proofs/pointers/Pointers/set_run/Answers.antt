@@ -10,9 +10,6 @@ pub set_stretch-requires-clause-within : goal.set_stretch-requires-clause-within
 set_stretch-requires-clause-within c =
     omega (arith, c.requires.within, ap length c.self.view_is, length-take c.self.inside.count (halves c.self.inside.bytes.items), ap (λ b. length (halves b)) c.deref_mut.ensures.value)
 
-pub set_stretch-requires-clause-small : goal.set_stretch-requires-clause-small
-set_stretch-requires-clause-small c = c.requires.small
-
 -- the bytes are those that are written
 items_are : (c : After-set_stretch) → (with_items c.self.inside.bytes c.set_stretch.new.bytes).items ≡ c.set_stretch.new.bytes
 items_are c = with_items_is c.self.inside.bytes c.set_stretch.new.bytes (c.set_stretch.auto.bytes ∙ c.deref_mut.ensures.len)

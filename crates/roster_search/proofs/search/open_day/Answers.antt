@@ -1,0 +1,44 @@
+use Rattle.std.proofs.Common.{◌*◌, ◌≤◌, ap, arith, refl, subst, sym}
+use Rattle.std.proofs.Math.Path.{transport}
+use Rattle.std.proofs.lemmas.Nat.{mul-le}
+use Rattle.std.specs.List.{All}
+use Rattle.roster_offers.specs.Lists.{IsOfferOf}
+use Rattle.roster_search.specs.Days.{areas_next, day_of}
+use Rattle.roster_search.specs.Tables.{LeadsOn}
+use Rattle.roster_search.proofs.SearchLaws.{areas_read}
+use Rattle.roster_search.proofs.search.open_day.Goals as goal
+
+pub overflow_mul-first : goal.overflow_mul-first
+overflow_mul-first c =
+    let day : c.args.day ≤ 364 = omega (arith, c.requires.day, c.keeps_limits.ensures.weeks) in
+    omega (arith, mul-le c.args.day c.product.result 364 1048576 day (omega (arith, c.product.ensures.within)))
+
+pub invariant_of-result : goal.invariant_of-result
+invariant_of-result c =
+    let days = c.args.days.now in
+    let d = c.args.day in
+    let back = sym c.requires.offers in
+    let areas = sym (areas_read days.areas.now d _ (omega (arith, c.requires.day, days.search.standing.long))) in
+    record {
+      ready = record {
+        day = c.requires.day;
+        few = c.requires.few;
+        of_case = subst (All (IsOfferOf days.case.now)) back (days.search.offers.each d c.requires.day).of_case;
+        leads = transport (λ i. All (LeadsOn days.case.now (day_of days d) (areas i) (areas_next days d)) (back i)) (days.search.standing.lead d c.requires.day);
+        later = c.requires.later;
+        room = c.requires.room;
+      };
+    }
+
+pub returns : goal.returns
+returns c = record {
+  case_is = refl;
+  nurse_is = refl;
+  ranges_are = refl;
+  table_is = refl;
+  day = refl;
+  areas = areas_read c.args.days.now.areas.now c.args.day _ (omega (arith, c.requires.day, c.args.days.now.search.standing.long));
+  offers = c.requires.offers;
+  later = refl;
+  first = ap (λ n. c.args.day * n) c.product.ensures.product;
+}
