@@ -8,12 +8,12 @@ use Rattle.roster_offers.proofs.PartLaws.{part_before, part_inside, part_length}
 use Rattle.std.proofs.Common.{⊎_elim, ◌∙◌, ◌≤◌, ◌*◌, ◌-◌, ◌≡◌, ◌≢◌, ◌+◌, ◌<◌, ℕ, List, arith, below_more, get_or, get_or-set_other, get_or-set_same, length, set, subst, sym}
 use Rattle.std.proofs.lemmas.List.{get_or_past}
 
-module _ (P : (place cell : ℕ) → Type 0) (cells : List ℕ) (place cell : ℕ) (inside : place < length cells) where
-  pub each_more : ((k : ℕ) → k < place → P k (get_or cells k 0)) → P place cell → (k : ℕ) → k < place + 1 → P k (get_or (set cells place cell) k 0)
+module _ {X : Type 0} (none : X) (P : ℕ → X → Type 0) (xs : List X) (place : ℕ) (x : X) (inside : place < length xs) where
+  pub each_more : ((k : ℕ) → k < place → P k (get_or xs k none)) → P place x → (k : ℕ) → k < place + 1 → P k (get_or (set xs place x) k none)
   each_more below here =
-      below_more (λ k. P k (get_or (set cells place cell) k 0)) place
-      (λ k l. let other : k ≢ place = omega arith in subst (P k) (sym (get_or-set_other cells place k cell 0 other)) (below k l))
-      (subst (P place) (sym (get_or-set_same cells place cell 0 inside)) here)
+      below_more (λ k. P k (get_or (set xs place x) k none)) place
+      (λ k l. let other : k ≢ place = omega arith in subst (P k) (sym (get_or-set_other xs place k x none other)) (below k l))
+      (subst (P place) (sym (get_or-set_same xs place x none inside)) here)
 
 -- a part of a list is written anew, of as many cells
 module _ (cells part : List ℕ) (first width : ℕ) (long : length part ≡ width) (inside : first + width ≤ length cells) where
@@ -27,31 +27,37 @@ module _ (cells part : List ℕ) (first width : ℕ) (long : length part ≡ wid
   put_inside k below = subst (λ w. get_or (put_mid first w cells part) (first + k) 0 ≡ get_or part k 0) long (part_inside first cells part (omega (arith, long, inside)) k (omega (arith, long, below)))
 
 -- rows of so many cells, and one row more
-module _ (cells part : List ℕ) (row size first width : ℕ) (at : first ≡ row * size) (is : width ≡ size) (long : length part ≡ size) (inside : row * size + size ≤ length cells) where
-  fits : first + width ≤ length cells
-  fits = omega (arith, inside, at, is)
+module _ (cells part : List ℕ) (row size : ℕ) (long : length part ≡ size) (inside : row * size + size ≤ length cells) where
+  abbrev pub with_row : List ℕ
+  with_row = put_mid (row * size) (row * size + size - row * size) cells part
 
-  as_long : length part ≡ width
-  as_long = long ∙ sym is
+  width : row * size + size - row * size ≡ size
+  width = omega arith
+
+  fits : row * size + (row * size + size - row * size) ≤ length cells
+  fits = omega (arith, inside)
+
+  as_long : length part ≡ row * size + size - row * size
+  as_long = long ∙ sym width
 
   pub rows_more : (P : (row place cell : ℕ) → Type 0) → ((r q : ℕ) → r < row → q < size → P r q (get_or cells (r * size + q) 0)) → ((q : ℕ) → q < size → P row q (get_or part q 0))
-      → (r q : ℕ) → r < row + 1 → q < size → P r q (get_or (put_mid first width cells part) (r * size + q) 0)
+      → (r q : ℕ) → r < row + 1 → q < size → P r q (get_or with_row (r * size + q) 0)
   rows_more P below here r q l m =
-      below_more (λ r. (q : ℕ) → q < size → P r q (get_or (put_mid first width cells part) (r * size + q) 0)) row
-      (λ r l q m. subst (P r q) (sym (put_before cells part first width as_long fits (r * size + q) (omega (arith, at, mul-add-lt r size q row l m)))) (below r q l m))
-      (λ q m. subst (λ f. P row q (get_or (put_mid first width cells part) (f + q) 0)) at (subst (P row q) (sym (put_inside cells part first width as_long fits q (omega (arith, m, is)))) (here q m))) r l q m
+      below_more (λ r. (q : ℕ) → q < size → P r q (get_or with_row (r * size + q) 0)) row
+      (λ r l q m. subst (P r q) (sym (put_before cells part (row * size) _ as_long fits (r * size + q) (omega (arith, mul-add-lt r size q row l m)))) (below r q l m))
+      (λ q m. subst (P row q) (sym (put_inside cells part (row * size) _ as_long fits q (omega (arith, m)))) (here q m)) r l q m
 
-  pub low_more : (most : ℕ) → ((k : ℕ) → k < row * size → get_or cells k 0 ≤ most) → ((k : ℕ) → get_or part k 0 ≤ most) → (k : ℕ) → k < (row + 1) * size → get_or (put_mid first width cells part) k 0 ≤ most
+  pub low_more : (most : ℕ) → ((k : ℕ) → k < row * size → get_or cells k 0 ≤ most) → ((k : ℕ) → get_or part k 0 ≤ most) → (k : ℕ) → k < (row + 1) * size → get_or with_row k 0 ≤ most
   low_more most below here k l =
       ⊎_elim
-      (λ m. subst (λ x. x ≤ most) (sym (put_before cells part first width as_long fits k m)) (below k (omega (arith, m, at))))
-      (λ m. let there : first + (k - first) ≡ k = omega (arith, m) in
-      subst (λ j. get_or (put_mid first width cells part) j 0 ≤ most) there
-      (subst (λ x. x ≤ most) (sym (put_inside cells part first width as_long fits (k - first) (omega (arith, l, m, at, is)))) (here (k - first))))
-      (cases_lt k first)
+      (λ m. subst (λ x. x ≤ most) (sym (put_before cells part (row * size) _ as_long fits k m)) (below k m))
+      (λ m. let there : row * size + (k - row * size) ≡ k = omega (arith, m) in
+      subst (λ j. get_or with_row j 0 ≤ most) there
+      (subst (λ x. x ≤ most) (sym (put_inside cells part (row * size) _ as_long fits (k - row * size) (omega (arith, l, m)))) (here (k - row * size))))
+      (cases_lt k (row * size))
 
-  pub rows_length : length (put_mid first width cells part) ≡ length cells
-  rows_length = put_length cells part first width as_long fits
+  pub rows_length : length with_row ≡ length cells
+  rows_length = put_length cells part (row * size) _ as_long fits
 
 -- past the end there is nothing
 pub all_low : (most : ℕ) (cells : List ℕ) (count : ℕ) → length cells ≡ count → ((k : ℕ) → k < count → get_or cells k 0 ≤ most) → (k : ℕ) → get_or cells k 0 ≤ most

@@ -1,16 +1,10 @@
 -- What assignments and worked weekends cost from a day on: by one day of those to come, and at least, whatever comes.
-use Rattle.std.proofs.Common.{◌∙◌, mul-le-mul, mul_assoc, mul_comm, subst, ◌≡◌, ◌+◌, ◌-◌, ◌*◌, ◌<◌, ◌≤◌, ◌⊎◌, ℕ, Bool, true, false, inl, inr, ap, arith, min, mul-add, mul-le-mul_left, mul-le-mul_right, nat_le, refl, if◌then◌else◌}
-use Rattle.std.proofs.lemmas.Nat.{mul-add-lt}
+use Rattle.std.proofs.Common.{◌≡◌, ◌+◌, ◌-◌, ◌*◌, ◌<◌, ◌≤◌, ◌⊎◌, ℕ, Bool, true, false, inl, inr, ap, arith, min, mul-add, mul-le-mul_left, mul-le-mul_right, nat_le, refl, if◌then◌else◌}
 use Rattle.std.proofs.lemmas.Bool.{cases_lt, le-leb, lt-leb}
 use Rattle.roster_instance.specs.declared.rules.Limits.{Limits}
 use Rattle.roster_instance.specs.Counting.{one_if}
 use Rattle.roster_instance.specs.Sizes.{cap}
 use Rattle.roster_rules.specs.Weights.{assignment_weight, weekend_weight}
-use Rattle.roster_rules.specs.Prefix.{Summary}
-use Rattle.roster_state.specs.Codes.{Sizes, fits_sizes, shift_digit}
-use Rattle.roster_state.proofs.CodeLemmas.{fits-all}
-use Rattle.roster_floors.specs.Floors.{floor_place}
-use Rattle.roster_floors.specs.Floors.{floor_count}
 use Rattle.roster_floors.specs.Later.{total_later, weekends_later}
 
 -- ---- one day of those that are to come
@@ -61,33 +55,3 @@ weekends_at_least g rate w k left small few = go (min (g - w) left) (rate * k) (
   where
     go : (free paid spared : ℕ) → free ≡ min (g - w) left → paid ≤ spared + weekend_weight * (k - free) → paid ≤ weekends_later g w k + spared
     go free paid spared is low = omega (arith, few, is, low)
-
--- ---- the place of a floor
-
--- a digit more makes a number below the size of both
-digit_below : (q b d a : ℕ) → q < a → d < b → q * b + d < a * b
-digit_below q b d a front digit = subst (λ n. q * b + d < n) (mul_comm b a) (mul-add-lt q b d a front digit)
-
-module _ (z : Sizes) (s : Summary) (fit : fits_sizes z s ≡ true) (d : ℕ) where
-  place_below : floor_place z d s < (d + 1) * z.last * z.run * z.shift_run
-  place_below =
-      let fits = fits-all z s fit in
-      digit_below _ z.shift_run s.shift_run _ (digit_below _ z.run s.run _ (digit_below d z.last (shift_digit s.last) (d + 1) (omega arith) fits.last) fits.run) fits.shift_run
-
-  pub place_inside : (size : ℕ) → (d + 1) * floor_count z ≤ size → floor_place z d s < size
-  place_inside size inside =
-      let all : (d + 1) * z.last * z.run * z.shift_run ≡ (d + 1) * floor_count z = mul_assoc ((d + 1) * z.last) z.run z.shift_run ∙ mul_assoc (d + 1) z.last (z.run * z.shift_run) in
-      omega (arith, place_below, all, inside)
-
-  pub place_small : d < 65536 → z.last ≤ 9 → z.run ≤ 1000 → z.shift_run ≤ 1000 → floor_place z d s < 589824000000
-  place_small day last run shift_run =
-      let days : d + 1 ≤ 65536 = omega (arith, day) in
-      let first : (d + 1) * z.last ≤ 65536 * 9 = mul-le-mul days last in
-      let second : (d + 1) * z.last * z.run ≤ 65536 * 9 * 1000 = mul-le-mul first run in
-      let all : (d + 1) * z.last * z.run * z.shift_run ≤ 65536 * 9 * 1000 * 1000 = mul-le-mul second shift_run in
-      omega (arith, place_below, all)
-
--- ---- what is taken at the rates
-
-pub taken_small : (rate most k left : ℕ) → rate ≤ most → k ≤ left → rate * k ≤ most * left
-taken_small rate most k left small few = mul-le-mul small few

@@ -1,27 +1,26 @@
 -- A day's floors among those of all days.
-use Rattle.std.proofs.Common.{◌≡◌, ◌∙◌, ◌+◌, ◌-◌, ◌*◌, ◌<◌, ◌≤◌, ◌++◌, ℕ, zero, suc, false, List, ap, arith, get_or, length, sym, take, true}
-use Rattle.std.proofs.lemmas.List.{places}
-use Rattle.std.proofs.lemmas.List.Elements.{All-from_get_or, All-get_or}
-use Rattle.std.proofs.Math.Nat.{suc-mul}
-use Rattle.std.proofs.lemmas.Nat.{mul-le}
-use Rattle.roster_instance.specs.Meaning.{day_count, forbids}
-use Rattle.roster_offers.specs.declared.offer.Offer.{Offer}
-use Rattle.roster_state.specs.Codes.{Sizes}
-use Rattle.roster_floors.specs.declared.rates.Rates.{Rates}
-use Rattle.roster_floors.specs.Floors.{AreFloors, floor_at, floor_count, floor_place, rated}
 use borrow.Rule.Slice.PartMut.{post_of}
+use Rattle.std.proofs.Common.{◌≡◌, ◌∙◌, ◌+◌, ◌-◌, ◌*◌, ◌<◌, ◌≤◌, ◌++◌, ℕ, zero, suc, List, ap, arith, get_or, length, refl, subst, sym, take}
+use Rattle.std.proofs.lemmas.List.{places}
+use Rattle.std.proofs.lemmas.List.Elements.{All-from_get_or}
+use Rattle.std.proofs.Math.Nat.{suc-mul}
+use Rattle.std.proofs.Math.Path.{transport}
+use Rattle.std.proofs.lemmas.Nat.{mul-add-lt}
 use Rattle.roster_instance.specs.Choices.{shift_of}
-use Rattle.roster_instance.specs.Meaning.{Meaning}
-use Rattle.roster_rules.specs.Prefix.{Summary}
-use Rattle.roster_offers.specs.Lists.{IsOfferOf}
+use Rattle.roster_instance.specs.Counting.{sum_below}
+use Rattle.roster_instance.specs.Meaning.{Meaning, day_count}
+use Rattle.roster_offers.specs.declared.offer.Offer.{Offer}
 use Rattle.roster_offers.proofs.OfferLaws.{shift_of_case}
-use Rattle.roster_state.specs.Codes.{fits_sizes, sizes_of}
+use Rattle.roster_state.specs.Codes.{shift_digit, sizes_of}
 use Rattle.roster_state.specs.Step.{next_of}
+use Rattle.roster_state.proofs.CodeLemmas.{fits-all}
 use Rattle.roster_state.proofs.RangeLemmas.{next_fits}
-use Rattle.roster_floors.specs.declared.day.FloorDay.{FloorDay}
-use Rattle.roster_floors.specs.Lines.{IsFloorDay, IsSetDay, IsSetOn, IsUnderAll, cell_at, cell_place, nothing, offer_at}
+use Rattle.roster_floors.specs.declared.floor_day.FloorDay.{FloorDay}
+use Rattle.roster_floors.specs.declared.rates.Rates.{Rates}
+use Rattle.roster_floors.specs.Floors.{AreFloors, LieUnder, LiesUnder, floor_count, floor_place}
+use Rattle.roster_floors.specs.Lines.{IsDayOf, IsUnderAll, UnderCell, UnderDay, cell_place, next_at, nothing, offer_on}
 use Rattle.roster_floors.proofs.Cells.{row_inside}
-use Rattle.roster_floors.proofs.Places.{cell_below}
+use Rattle.roster_floors.proofs.Places.{all_are, cell_below, floor_is, of_day}
 
 -- the part that is set, where the list was split after it
 pub set_part : (first count : ℕ) (before here after : List ℕ) → length before ≡ first + count → length here ≡ count → (k : ℕ) → k < count → get_or ((take first before ++ (here ++ post_of first (length before - first) before)) ++ after) (first + k) 0 ≡ get_or here k 0
@@ -30,62 +29,69 @@ set_part first count before here after long as_long k below = grind (arith, plac
 pub set_next : (first count : ℕ) (before here after : List ℕ) → length before ≡ first + count → length here ≡ count → (k : ℕ) → k < count → get_or ((take first before ++ (here ++ post_of first (length before - first) before)) ++ after) (first + count + k) 0 ≡ get_or (take count after) k 0
 set_next first count before here after long as_long k below = grind (arith, places)
 
-module _ (c : Meaning) (day : FloorDay) (is : IsFloorDay c day) (first count : ℕ) (count_is : count ≡ floor_count (sizes_of c day.nurse)) (here next floors : List ℕ) where
-  pub day_set : ((s : Summary) → fits_sizes (sizes_of c day.nurse) s ≡ true → IsUnderAll c day next s (cell_at (sizes_of c day.nurse) here s))
-      → ((k : ℕ) → k < count → get_or floors (first + k) 0 ≡ get_or here k 0) → ((k : ℕ) → k < count → get_or floors (first + count + k) 0 ≡ get_or next k 0) → IsSetDay c day first floors
-  day_set under here_is next_is s fit k l allowed =
-      let z = sizes_of c day.nurse in
-      let offer = offer_at day.offers.now k in
-      let of_case : IsOfferOf c offer = All-get_or (IsOfferOf c) day.offers.now k nothing l is.offers in
-      let to = next_of c day.nurse day.day s (shift_of offer.choice) in
-      let fits = next_fits c day.nurse day.day s (shift_of offer.choice) (shift_of_case c offer.choice of_case.choice) in
-      let at = here_is (cell_place z s) (omega (arith, cell_below z s fit, count_is)) in
-      let there = ap (λ m. get_or floors (first + m + cell_place z to) 0) (sym count_is) ∙ next_is (cell_place z to) (omega (arith, cell_below z to fits, count_is)) in
-      omega (arith, under s fit k l allowed, at, there)
+module _ (day : FloorDay) (first count : ℕ) (first_is : first ≡ day.day * count) (count_is : length day.next.now ≡ count) (here floors : List ℕ) where
+  set_by_day : UnderDay day here → ((k : ℕ) → k < count → get_or floors (first + k) 0 ≡ get_or here k 0) → ((k : ℕ) → k < count → get_or floors (first + count + k) 0 ≡ next_at day k) → LieUnder day.case.now day.nurse day.rates (λ _. day.offers.now) floors day.day
+  set_by_day under here_is next_is s fit =
+      let z = sizes_of day.case.now day.nurse in
+      let size : floor_count z ≡ count = sym (day.all_next ∙ all_are day) ∙ count_is in
+      let all = ap (λ m. day.day * m) size in
+      All-from_get_or (LiesUnder day.case.now day.nurse day.rates floors day.day s) day.offers.now nothing (λ k l allowed.
+      let shift = shift_of (offer_on day k).choice in
+      let to = next_of day.case.now day.nurse day.day s shift in
+      let fits = next_fits day.case.now day.nurse day.day s shift (shift_of_case day.case.now (offer_on day k).choice (of_day day k l).choice) in
+      let at : floor_place z day.day s ≡ first + cell_place z s = omega (arith, floor_is z day.day s, all, first_is) in
+      let then : floor_place z (suc day.day) to ≡ first + count + cell_place z to = omega (arith, floor_is z (suc day.day) to, suc-mul day.day (floor_count z), all, size, first_is) in
+      let here = ap (λ i. get_or floors i 0) at ∙ here_is (cell_place z s) (omega (arith, cell_below z s fit, size)) in
+      let there = ap (λ i. get_or floors i 0) then ∙ next_is (cell_place z to) (omega (arith, cell_below z to fits, size)) in
+      omega (arith, under s fit k l allowed, here, there))
 
--- ---- a last shift's floors
+-- the day of a search, from its place among all days
+pub day_set : {c : Meaning} {n : ℕ} {rates : Rates} {d : ℕ} {next : List ℕ} {day : FloorDay} (offers : ℕ → List Offer) (is : IsDayOf c n rates d (offers d) next day) (count : ℕ) (here floors : List ℕ) → UnderDay day here → length next ≡ count → ((k : ℕ) → k < count → get_or floors (d * count + k) 0 ≡ get_or here k 0) → ((k : ℕ) → k < count → get_or floors (d * count + count + k) 0 ≡ get_or next k 0)
+    → LieUnder c n rates offers floors d
+day_set {c} {n} {rates} {d} {next} {day} offers is count here floors under long here_is next_is =
+    transport (λ i. LieUnder (is.case i) (is.nurse i) (is.rates i) (λ _. is.offers i) floors (is.day i))
+    (set_by_day day (d * count) count (ap (λ m. m * count) (sym is.day)) (ap length is.next ∙ long) here floors under here_is (λ k l. next_is k l ∙ ap (λ ys. get_or ys k 0) (sym is.next)))
 
-module _ (c : Meaning) (day : FloorDay) (is : IsFloorDay c day) where
-  pub area_is : day.runs * day.shift_runs ≡ (sizes_of c day.nurse).run * (sizes_of c day.nurse).shift_run
-  area_is = ap (λ r. r * day.shift_runs) is.runs ∙ ap (λ q. (sizes_of c day.nurse).run * q) is.shift_runs
+-- ---- after each last shift
 
-  pub area_inside : (digit : ℕ) → digit < day.lasts → digit * (day.runs * day.shift_runs) + day.runs * day.shift_runs ≤ floor_count (sizes_of c day.nurse)
-  area_inside digit l =
-      let z = sizes_of c day.nurse in
-      omega (arith, row_inside digit z.last (z.run * z.shift_run) (omega (arith, l, is.lasts)), ap (λ a. digit * a + a) area_is)
+-- at a place among the floors of a last shift, a floor for the states of that place
+abbrev pub UnderPlace : FloorDay → (digit place floor : ℕ) → Type 0
+UnderPlace day digit place floor = (r q : ℕ) → r < day.runs → q < day.shift_runs → place ≡ r * day.shift_runs + q → UnderCell day digit r q floor
+
+pub day_under : (day : FloorDay) (here : List ℕ) (digits : ℕ) → day.lasts ≤ digits → ((digit place : ℕ) → digit < digits → place < day.runs * day.shift_runs → UnderPlace day digit place (get_or here (digit * (day.runs * day.shift_runs) + place) 0)) → UnderDay day here
+day_under day here digits all each s fit =
+    let f = fits-all (sizes_of day.case.now day.nurse) s fit in
+    let digit = shift_digit s.last in
+    let place = s.run * day.shift_runs + s.shift_run in
+    let run : s.run < day.runs = omega (arith, f.run, day.runs_are) in
+    let shift_run : s.shift_run < day.shift_runs = omega (arith, f.shift_run, day.shift_runs_are) in
+    let here_is : digit * (day.runs * day.shift_runs) + place ≡ (digit * day.runs + s.run) * day.shift_runs + s.shift_run = omega arith in
+    let at : (digit * day.runs + s.run) * day.shift_runs + s.shift_run ≡ cell_place (sizes_of day.case.now day.nurse) s = λ i. (digit * day.runs_are i + s.run) * day.shift_runs_are i + s.shift_run in
+    subst (λ (i : ℕ). IsUnderAll day s (get_or here i 0)) (here_is ∙ at)
+    (each digit place (omega (arith, f.last, day.lasts_are, all)) (omega (arith, mul-add-lt s.run day.shift_runs s.shift_run day.runs run shift_run)) s.run s.shift_run run shift_run refl s.last s.assignments s.weekends refl)
 
 -- ---- all days
 
--- a place among the floors of all days
-floor_is : (z : Sizes) (d : ℕ) (s : Summary) → floor_place z d s ≡ d * floor_count z + cell_place z s
-floor_is z d s = omega arith
-
 -- a day stays set while an earlier day is set
-pub set_kept : (c : Meaning) (n : ℕ) (rates : Rates) (offers : ℕ → List Offer) (old new : List ℕ) (day d : ℕ) → day < d → ((k : ℕ) → (day + 1) * floor_count (sizes_of c n) ≤ k → get_or new k 0 ≡ get_or old k 0) → IsSetOn c n rates offers old d → IsSetOn c n rates offers new d
-set_kept c n rates offers old new day d later kept set s fit k l allowed =
-    let count = floor_count (sizes_of c n) in
-    let from : (day + 1) * count ≤ d * count = mul-le (day + 1) count d count (omega (arith, later)) (omega arith) in
-    let to = next_of c n d s (shift_of (offer_at (offers d) k).choice) in
-    omega (arith, set s fit k l allowed, kept (d * count + cell_place (sizes_of c n) s) (omega (arith, from)), kept (d * count + count + cell_place (sizes_of c n) to) (omega (arith, from)))
-
-abbrev IsPlaced : Meaning → ℕ → Rates → (ℕ → List Offer) → List ℕ → ℕ → Summary → Offer → Type 0
-IsPlaced c n rates offers floors d s x = forbids c.successions s.last (shift_of x.choice) ≡ false → floor_at (sizes_of c n) floors d s ≤ rated c n rates d s x + floor_at (sizes_of c n) floors (suc d) (next_of c n d s (shift_of x.choice))
-
-pub all_set : (c : Meaning) (n : ℕ) (rates : Rates) (offers : ℕ → List Offer) (floors : List ℕ) → ((d : ℕ) → d < day_count c → IsSetOn c n rates offers floors d)
-    → ((k : ℕ) → k < floor_count (sizes_of c n) → get_or floors (day_count c * floor_count (sizes_of c n) + k) 0 ≡ 0) → AreFloors c n rates offers floors
-all_set c n rates offers floors set end =
+pub set_kept : (c : Meaning) (n : ℕ) (rates : Rates) (offers : ℕ → List Offer) (old new : List ℕ) (day d : ℕ) → day < d → ((k : ℕ) → day * floor_count (sizes_of c n) + floor_count (sizes_of c n) ≤ k → get_or new k 0 ≡ get_or old k 0) → LieUnder c n rates offers old d → LieUnder c n rates offers new d
+set_kept c n rates offers old new day d later kept set s fit k x inside allowed =
     let z = sizes_of c n in
-    record {
-      under = λ d below s fit. All-from_get_or (IsPlaced c n rates offers floors d s) (offers d) nothing
-          (λ k l allowed. let to = next_of c n d s (shift_of (offer_at (offers d) k).choice) in
-          let here = ap (λ i. get_or floors i 0) (floor_is z d s) in
-          let next : suc d * floor_count z + cell_place z to ≡ d * floor_count z + floor_count z + cell_place z to = omega (arith, suc-mul d (floor_count z)) in
-          let there = ap (λ i. get_or floors i 0) (floor_is z (suc d) to ∙ next) in
-          omega (arith, set d below s fit k l allowed, here, there));
-      end = λ s fit. ap (λ i. get_or floors i 0) (floor_is z (day_count c) s) ∙ end (cell_place z s) (cell_below z s fit);
-    }
+    let from = row_inside day d (floor_count z) later in
+    let to = next_of c n d s (shift_of (get_or (offers d) k x).choice) in
+    omega (arith, set s fit k x inside allowed, kept (floor_place z d s) (omega (arith, from, floor_is z d s)), kept (floor_place z (suc d) to) (omega (arith, from, floor_is z (suc d) to, suc-mul d (floor_count z))))
+
+pub all_days : (c : Meaning) (n : ℕ) (rates : Rates) (offers : ℕ → List Offer) (floors : List ℕ) → ((d : ℕ) → d < day_count c → LieUnder c n rates offers floors d) → ((k : ℕ) → k < floor_count (sizes_of c n) → get_or floors (day_count c * floor_count (sizes_of c n) + k) 0 ≡ 0) → AreFloors c n rates offers floors
+all_days c n rates offers floors set end =
+    let z = sizes_of c n in
+    record { under = set; end = λ s fit. ap (λ i. get_or floors i 0) (floor_is z (day_count c) s) ∙ end (cell_place z s) (cell_below z s fit) }
 
 -- the day before
 pub one_before : (day count : ℕ) → 0 < day → (day - 1) * count + count ≡ day * count
 one_before zero count some = absurd (omega arith)
 one_before (suc d) count some = let is : suc d - 1 ≡ d = omega arith in rw is (omega (arith, suc-mul d count))
+
+-- the steps of the days that are still to be set, and of one of them
+
+pub one_day_more : (count day : ℕ) (f : ℕ → ℕ) → 0 < day → count * sum_below day f ≡ count * sum_below (day - 1) f + count * f (day - 1)
+one_day_more count zero f some = absurd (omega arith)
+one_day_more count (suc d) f some = let is : suc d - 1 ≡ d = omega arith in rw is (omega arith)

@@ -1,5 +1,5 @@
-pub mod AfterOff
-pub mod AfterShift
+pub mod After
+pub mod BestLaw
 pub mod Cells
 pub mod CountLaws
 pub mod DayLaws
@@ -8,6 +8,5 @@ pub mod LeastLaw
 pub mod LineLaws
 pub mod MoreToCome
 pub mod Places
-pub mod Steps
-pub mod ToCome
+pub mod Rows
 pub mod WayLaws

@@ -1,6 +1,6 @@
 -- How many days and weekends can be worked at most in the days that are left.
 use Rattle.std.proofs.lemmas.Bool.{cases_eq, eq-eqb, ne_eqb}
-use Rattle.std.proofs.Common.{get_or, ◌≡◌, ◌+◌, ◌*◌, ◌/◌, ◌%◌, ◌≤◌, ◌==◌, ◌⊎◌, ◌&&◌, ℕ, suc, zero, Bool, true, false, not, inl, inr, arith, List, Option, Some, if◌then◌else◌, is_some}
+use Rattle.std.proofs.Common.{◌≡◌, ◌+◌, ◌*◌, ◌/◌, ◌%◌, ◌≤◌, ◌==◌, ◌⊎◌, ◌&&◌, ℕ, suc, Bool, true, false, not, inl, inr, arith, subst, List, ◌∷◌, Option, Some, if◌then◌else◌, is_some}
 use Rattle.roster_instance.specs.declared.choice.Shift.{Shift}
 use Rattle.roster_instance.specs.Choices.{shift_of}
 use Rattle.roster_instance.specs.Counting.{one_if}
@@ -9,16 +9,13 @@ use Rattle.roster_state.proofs.SumLaw.{one_at_most}
 use Rattle.roster_rules.specs.Prefix.{Summary}
 use Rattle.roster_offers.specs.Offers.{best_of_offers}
 use Rattle.roster_offers.specs.declared.offer.Offer.{Offer}
-use Rattle.roster_floors.specs.Later.{AreToCome, ToCome, days_to_work, weekends_to_work}
-use Rattle.roster_floors.proofs.ToCome.{day_before_has, nothing_more}
+use Rattle.roster_state.specs.Step.{next_of}
+use Rattle.roster_floors.specs.Later.{days_to_work, weekends_to_work}
+use Rattle.roster_floors.proofs.BestLaw.{by_days, last_of_next}
 
 -- in m days up to the end of a week begin or go on so many weekends: on a Sunday this one counts where the Saturday wasn't worked
 abbrev weekends_left : ℕ → Option Shift → ℕ
 weekends_left m last = if m % 7 == 1 then m / 7 + one_if (not (is_some last)) else (m + 6) / 7
-
--- at most each day, and each weekend
-abbrev can_come : ℕ → Option Shift → ToCome
-can_come m last = record { days = record { least = 0; greatest = m }; weekends = record { least = 0; greatest = weekends_left m last } }
 
 -- the same where only what the tests answer is looked at
 abbrev begins : (sat sun before now : Bool) → ℕ
@@ -44,27 +41,26 @@ weekend_step m d weeks before now days = go (cases_eq (d % 7) 5) (cases_eq (d % 
     go (inr not_sat) (inl sun) = rw (ne_eqb (d % 7) 5 not_sat, eq-eqb (d % 7) 6 sun, ne_eqb (m % 7) 1 (λ e. omega (arith, sun, days, e)), eq-eqb (suc m % 7) 1 (omega (arith, sun, days))) (on_sunday m before now (omega (arith, sun, days)))
     go (inr not_sat) (inr not_sun) = rw (ne_eqb (d % 7) 5 not_sat, ne_eqb (d % 7) 6 not_sun, ne_eqb (m % 7) 1 (λ e. not_sat (omega (arith, days, e))), ne_eqb (suc m % 7) 1 (λ e. not_sun (omega (arith, days, e)))) (omega arith)
 
-module _ (c : Meaning) (n : ℕ) (offers : ℕ → List Offer) where
-  are_to_come : (m d : ℕ) → m + d ≡ day_count c → AreToCome c n offers m d (can_come m)
-  are_to_come zero d days = λ s cost row is.
-      let none = nothing_more c n offers d s cost row is in
-      (none.0, record { low = omega arith; high = omega (arith, none.1.high) })
-  are_to_come (suc m) d days =
-      day_before_has c n offers m d (can_come m) (can_come (suc m)) (are_to_come m (suc d) (omega (arith, days))) (λ last place x inside allowed. record {
-        days = record { low = omega arith; high = omega (arith, one_at_most (is_some (shift_of (get_or (offers d) place x).choice))) };
-        weekends = record { low = omega arith; high = omega (arith, weekend_step m d (week_count c) (is_some last) (is_some (shift_of (get_or (offers d) place x).choice)) days) };
-      })
+left_at_most : (m : ℕ) (last : Option Shift) → weekends_left m last ≤ (m + 6) / 7
+left_at_most m last = go (cases_eq (m % 7) 1) (is_some last)
+  where
+    go : (m % 7 ≡ 1) ⊎ (m % 7 ≡ 1 → ⊥) → (before : Bool) → left_where (m % 7 == 1) m before ≤ (m + 6) / 7
+    go (inl at) true = rw (eq-eqb (m % 7) 1 at) (omega (arith, at))
+    go (inl at) false = rw (eq-eqb (m % 7) 1 at) (omega (arith, at))
+    go (inr apart) before = rw (ne_eqb (m % 7) 1 apart) (omega arith)
 
-  left_at_most : (m : ℕ) (last : Option Shift) → weekends_left m last ≤ (m + 6) / 7
-  left_at_most m last = go (cases_eq (m % 7) 1) (is_some last)
-    where
-      go : (m % 7 ≡ 1) ⊎ (m % 7 ≡ 1 → ⊥) → (before : Bool) → left_where (m % 7 == 1) m before ≤ (m + 6) / 7
-      go (inl at) true = rw (eq-eqb (m % 7) 1 at) (omega (arith, at))
-      go (inl at) false = rw (eq-eqb (m % 7) 1 at) (omega (arith, at))
-      go (inr apart) before = rw (ne_eqb (m % 7) 1 apart) (omega arith)
+module _ (c : Meaning) (n : ℕ) where
+  abbrev AreFew : (m d : ℕ) → Summary → List Offer → Type 0
+  AreFew m d s row = (days_to_work row ≤ m) × (weekends_to_work d s.last row ≤ weekends_left m s.last)
+
+  day_more : (m d : ℕ) (s : Summary) (x : Offer) (row : List Offer) → suc m + d ≡ day_count c → AreFew m (suc d) (next_of c n d s (shift_of x.choice)) row → AreFew (suc m) d s (x ∷ row)
+  day_more m d s x row days after =
+      let shift : Option Shift = shift_of x.choice in
+      let later = subst (λ o. weekends_to_work (suc d) o row ≤ weekends_left m o) (last_of_next c n d s shift) after.1 in
+      (omega (arith, after.0, one_at_most (is_some shift)), omega (arith, later, weekend_step m d (week_count c) (is_some s.last) (is_some shift) days))
 
   -- no more than the days and the weekends that are left
-  pub few_to_come : (m d : ℕ) (s : Summary) → m + d ≡ day_count c → (cost : ℕ) (row : List Offer) → best_of_offers c n offers m d s ≡ Some (cost, row) → (days_to_work row ≤ m) × (weekends_to_work d s.last row ≤ (m + 6) / 7)
-  few_to_come m d s days cost row is =
-      let come = are_to_come m d days s cost row is in
-      (come.0.high, omega (arith, come.1.high, left_at_most m s.last))
+  pub few_to_come : (offers : ℕ → List Offer) (m d : ℕ) (s : Summary) → m + d ≡ day_count c → (cost : ℕ) (row : List Offer) → best_of_offers c n offers m d s ≡ Some (cost, row) → (days_to_work row ≤ m) × (weekends_to_work d s.last row ≤ (m + 6) / 7)
+  few_to_come offers m d s days cost row is =
+      let few = by_days c n offers (λ d x. 0 ≤ d) (λ d below k x inside. omega arith) (λ m d s cost row. AreFew m d s row) (λ d s last. (omega arith, omega arith)) (λ m d s x cost row days _ _ after. day_more m d s x row days after) m d s days cost row is in
+      (few.0, omega (arith, few.1, left_at_most m s.last))

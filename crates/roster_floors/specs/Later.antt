@@ -1,18 +1,20 @@
--- What assignments and worked weekends cost from a day on, by how many there are and how many are to come, and how many can come (our
--- own).
-use Rattle.std.specs.Prelude.{◌≡◌, ℕ, suc, ◌+◌, ◌-◌, ◌*◌, ◌≤◌, All, false, List, [], ◌∷◌, max, Option, Some, is_some}
+-- What assignments and worked weekends cost from a day on, by how many there are and how many are to come, and floors under the rest of
+-- a row (our own).
+use Rattle.std.specs.Prelude.{◌≡◌, ℕ, suc, ◌+◌, ◌-◌, ◌*◌, ◌<◌, ◌≤◌, All, true, List, [], ◌∷◌, max, Option, Some, is_some}
 use Rattle.roster_instance.specs.declared.choice.Shift.{Shift}
 use Rattle.roster_instance.specs.declared.rules.Limits.{Limits}
 use Rattle.roster_instance.specs.Choices.{shift_of}
 use Rattle.roster_instance.specs.Counting.{one_if}
-use Rattle.roster_instance.specs.Meaning.{Meaning, forbids}
+use Rattle.roster_instance.specs.Meaning.{Meaning, contract_of, day_count}
 use Rattle.roster_rules.specs.DayLaw.{weekends_more}
 use Rattle.roster_rules.specs.Prefix.{Summary}
 use Rattle.roster_rules.specs.Weights.{assignment_weight, weekend_weight}
-use Rattle.roster_state.specs.declared.area.Span.{Span}
-use Rattle.roster_state.specs.Areas.{InSpan}
+use Rattle.roster_state.specs.Codes.{fits_sizes, sizes_of}
+use Rattle.roster_offers.specs.Lists.{IsOfferOf}
 use Rattle.roster_offers.specs.declared.offer.Offer.{Offer}
 use Rattle.roster_offers.specs.Offers.{best_of_offers}
+use Rattle.roster_floors.specs.declared.rates.Rates.{Rates}
+use Rattle.roster_floors.specs.Floors.{AreFloors, floor_at}
 
 -- ---- how many are to come
 
@@ -36,38 +38,28 @@ total_later l count more = assignment_weight * ((count + more - max count l.grea
 abbrev pub weekends_later : (greatest count more : ℕ) → ℕ
 weekends_later greatest count more = weekend_weight * (count + more - max count greatest)
 
--- ---- what can come
+-- ---- floors under the rest
 
--- how many more assignments and worked weekends can come
-pub record ToCome : Type 0 where
-  pub days : Span
-  pub weekends : Span
+-- the offers of each day are those of a case
+abbrev pub AreOfCase : Meaning → (ℕ → List Offer) → Type 0
+AreOfCase c offers = (d : ℕ) → d < day_count c → All (IsOfferOf c) (offers d)
 
--- so many come in the best row of m days from day d and state s on, if there is one
-abbrev pub IsToCome : Meaning → ℕ → (ℕ → List Offer) → (m d : ℕ) → ToCome → Summary → Type 0
-IsToCome c n offers m d more s =
-    (cost : ℕ) (row : List Offer) → best_of_offers c n offers m d s ≡ Some (cost, row) → InSpan more.days (days_to_work row) × InSpan more.weekends (weekends_to_work d s.last row)
+-- what assignments and worked weekends cost in a row from a day and a state on
+abbrev pub counts_later : Meaning → ℕ → (d : ℕ) → Summary → List Offer → ℕ
+counts_later c n d s row =
+    total_later (contract_of c n).total s.assignments (days_to_work row)
+    + weekends_later (contract_of c n).weekends s.weekends (weekends_to_work d s.last row)
 
--- ---- what can come, from the next day on and from this one
+-- what the days of a row take at the rates
+abbrev pub at_rates : Rates → (d : ℕ) → Summary → List Offer → ℕ
+at_rates rates d s row = rates.day * days_to_work row + rates.weekend * weekends_to_work d s.last row
 
--- by the last shift, or none, so many come from a day on, whatever state it is
-abbrev pub AreToCome : Meaning → ℕ → (ℕ → List Offer) → (m d : ℕ) → (Option Shift → ToCome) → Type 0
-AreToCome c n offers m d to_come = (s : Summary) → IsToCome c n offers m d (to_come s.last) s
+-- from each state that fits, on each day, the floor with what the counts cost is no more than the best row with what its days take
+abbrev pub LieUnderRest : Meaning → ℕ → Rates → (ℕ → List Offer) → List ℕ → Type 0
+LieUnderRest c n rates offers floors =
+    (m d : ℕ) (s : Summary) → m + d ≡ day_count c → fits_sizes (sizes_of c n) s ≡ true → (cost : ℕ) (row : List Offer) → best_of_offers c n offers m d s ≡ Some (cost, row)
+    → floor_at (sizes_of c n) floors d s + counts_later c n d s row ≤ cost + at_rates rates d s row
 
--- nothing comes
-abbrev pub nothing_to_come : ToCome
-nothing_to_come = record { days = record { least = 0; greatest = 0 }; weekends = record { least = 0; greatest = 0 } }
-
--- a span with the numbers of another one, each so much more
-pub record HasMore (more : ℕ) (later span : Span) : Type 0 where
-  pub low : span.least ≤ later.least + more
-  pub high : later.greatest + more ≤ span.greatest
-
--- what can come from a day on after a last shift has what can come after an offer, with that offer's day
-pub record HasOffer (d : ℕ) (last : Option Shift) (later to_come : ToCome) (x : Offer) : Type 0 where
-  pub days : HasMore (one_if (is_some (shift_of x.choice))) later.days to_come.days
-  pub weekends : HasMore (weekends_more d (is_some last) (is_some (shift_of x.choice))) later.weekends to_come.weekends
-
--- so it is for each offer that may follow
-abbrev pub HasOffers : Meaning → (ℕ → List Offer) → ℕ → (later to_come : Option Shift → ToCome) → Type 0
-HasOffers c offers d later to_come = (last : Option Shift) → All (λ x. forbids c.successions last (shift_of x.choice) ≡ false → HasOffer d last (later (shift_of x.choice)) (to_come last) x) (offers d)
+-- so it is where the floors are those of the offers, and these a case's
+abbrev pub HaveRestAbove : Meaning → ℕ → Rates → (ℕ → List Offer) → List ℕ → Type 0
+HaveRestAbove c n rates offers floors = AreFloors c n rates offers floors → AreOfCase c offers → LieUnderRest c n rates offers floors

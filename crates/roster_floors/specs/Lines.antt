@@ -1,54 +1,46 @@
 -- The floors of one day, as they are set from those of the next day (our own). A line has the floors of one last shift and one run, one
 -- for each run of the shift.
-use Rattle.std.specs.Prelude.{◌≡◌, ◌≢◌, ◌⊎◌, ℕ, ◌+◌, ◌*◌, ◌<◌, ◌≤◌, All, Bool, true, false, if◌then◌else◌, List, length, min, Option, Some, None, is_some, slice_index_or}
+use Rattle.std.specs.Prelude.{◌≡◌, ◌≢◌, ◌⊎◌, ℕ, ◌+◌, ◌*◌, ◌<◌, ◌≤◌, Bool, true, false, if◌then◌else◌, List, length, min, Option, Some, None, is_some, slice_index_or}
 use Rattle.roster_instance.specs.declared.choice.Choice.TheVariants.{Off}
 use Rattle.roster_instance.specs.declared.choice.Shift.{Shift}
+use Rattle.roster_instance.specs.declared.rules.Limits.{Limits}
 use Rattle.roster_instance.specs.Choices.{shift_of}
 use Rattle.roster_instance.specs.Counting.{one_if}
-use Rattle.roster_instance.specs.Meaning.{Meaning, contract_of, day_count, forbids, nurse_count, run_of_shift}
+use Rattle.roster_instance.specs.Meaning.{Meaning, forbids, run_of_shift, shift_count}
 use Rattle.roster_instance.specs.RunLaw.{day_violations}
 use Rattle.roster_instance.specs.Sizes.{cap}
 use Rattle.roster_rules.specs.DayLaw.{splits_more, weekends_more}
 use Rattle.roster_rules.specs.Prefix.{Summary}
-use Rattle.roster_rules.specs.Weights.{shift_run_weight, split_weight}
+use Rattle.roster_rules.specs.Weights.{free_run_weight, shift_run_weight, split_weight, working_run_weight}
 use Rattle.roster_offers.specs.declared.offer.Offer.{Offer}
-use Rattle.roster_offers.specs.Lists.{IsOfferOf}
-use Rattle.roster_state.specs.Codes.{Sizes, shift_digit, sizes_of, fits_sizes}
+use Rattle.roster_state.specs.Codes.{Sizes, fits_sizes, shift_digit, sizes_of}
 use Rattle.roster_state.specs.Step.{next_of}
-use Rattle.roster_floors.specs.declared.day.FloorDay.{FloorDay}
+use Rattle.roster_floors.specs.declared.floor_day.FloorDay.{FloorDay}
+use Rattle.roster_floors.specs.declared.line.LineCosts.{LineCosts}
+use Rattle.roster_floors.specs.declared.off.AfterOff.{AfterOff}
 use Rattle.roster_floors.specs.declared.rates.Rates.{Rates}
 use Rattle.roster_floors.specs.declared.shift.AfterShift.{AfterShift}
 use Rattle.roster_floors.specs.declared.ways.Onward.{Onward}
 use Rattle.roster_floors.specs.declared.ways.Way.{Way}
-use Rattle.roster_instance.specs.declared.rules.Limits.{Limits}
-use Rattle.roster_instance.specs.Meaning.{shift_count}
-use Rattle.roster_rules.specs.Weights.{free_run_weight, working_run_weight}
-use Rattle.roster_floors.specs.Floors.{AreSmall, floor_count, rated}
-
--- ---- how large the numbers are
-
--- what a day costs at most whatever comes after it, as floors are reckoned
-abbrev pub most_leave : ℕ
-most_leave = 713655274
-
--- a floor is at most that and what the run of a shift misses: within the bound of labels, as the label of a coarser state
-abbrev pub most_floor : ℕ
-most_floor = 714703850
-
--- each floor is within its bound
-abbrev pub AreLow : List ℕ → Type 0
-AreLow floors = (k : ℕ) → slice_index_or floors k 0 ≤ most_floor
+use Rattle.roster_floors.specs.declared.ways.Ways.{Ways}
+use Rattle.roster_floors.specs.Bounds.{AreLow, most_leave}
+use Rattle.roster_floors.specs.Floors.{rated}
 
 -- ---- places
 
 -- the place of a line among a day's
-abbrev pub line_place : Sizes → (digit run : ℕ) → ℕ
-line_place z digit run = (digit * z.run + run) * z.shift_run
+abbrev pub line_place : FloorDay → (digit run : ℕ) → ℕ
+line_place day digit run = (digit * day.runs + run) * day.shift_runs
+
+-- the next day's floor at a place
+abbrev pub next_at : FloorDay → (place : ℕ) → ℕ
+next_at day place = slice_index_or day.next.now place 0
 
 -- the place of a state's floor among a day's
 abbrev pub cell_place : Sizes → Summary → ℕ
 cell_place z s = (shift_digit s.last * z.run + s.run) * z.shift_run + s.shift_run
 
+-- the floor there
 abbrev pub cell_at : Sizes → List ℕ → Summary → ℕ
 cell_at z floors s = slice_index_or floors (cell_place z s) 0
 
@@ -58,50 +50,95 @@ cell_at z floors s = slice_index_or floors (cell_place z s) 0
 abbrev pub nothing : Offer
 nothing = record { choice = Off; price = 0 }
 
+-- an offer of a list
 abbrev pub offer_at : List Offer → ℕ → Offer
 offer_at offers k = slice_index_or offers k nothing
 
+-- an offer of the day
+abbrev pub offer_on : FloorDay → (k : ℕ) → Offer
+offer_on day k = offer_at day.offers.now k
+
 -- a number is no more than what an offer costs from a state, if it may follow, and the next day's floor after it
-abbrev pub IsUnder : Meaning → ℕ → Rates → ℕ → List ℕ → Summary → ℕ → Offer → Type 0
-IsUnder c n rates d next s floor x = forbids c.successions s.last (shift_of x.choice) ≡ false → floor ≤ rated c n rates d s x + cell_at (sizes_of c n) next (next_of c n d s (shift_of x.choice))
+abbrev pub IsUnder : FloorDay → Summary → (floor : ℕ) → Offer → Type 0
+IsUnder day s floor x =
+    forbids day.case.now.successions s.last (shift_of x.choice) ≡ false
+    → floor ≤ rated day.case.now day.nurse day.rates day.day s x + cell_at (sizes_of day.case.now day.nurse) day.next.now (next_of day.case.now day.nurse day.day s (shift_of x.choice))
 
--- the same of each offer of a day
-abbrev pub IsUnderAll : Meaning → FloorDay → List ℕ → Summary → ℕ → Type 0
-IsUnderAll c day next s floor = (k : ℕ) → k < length day.offers.now → IsUnder c day.nurse day.rates day.day next s floor (offer_at day.offers.now k)
+-- the same of each offer of the day
+abbrev pub IsUnderAll : FloorDay → Summary → (floor : ℕ) → Type 0
+IsUnderAll day s floor = (k : ℕ) → k < length day.offers.now → IsUnder day s floor (offer_on day k)
 
--- ---- the day
+-- a state by its last shift, its run and its run of the shift
+abbrev pub state_of : Option Shift → (run q a w : ℕ) → Summary
+state_of last run q a w = record { last = last; run = run; shift_run = q; assignments = a; weekends = w }
 
--- a day of the nurse's, with the nurse's rules and how many values the last shift and the runs have
-pub record IsFloorDay (c : Meaning) (day : FloorDay) : Type 0 where
-  pub nurse : day.nurse < nurse_count c
-  pub day_of : day.day < day_count c
-  pub rules : day.rules ≡ contract_of c day.nurse
-  pub offers : All (IsOfferOf c) day.offers.now
-  pub few : length day.offers.now ≤ 9
-  pub rates : AreSmall day.rates
-  pub lasts : day.lasts ≡ (sizes_of c day.nurse).last
-  pub runs : day.runs ≡ (sizes_of c day.nurse).run
-  pub shift_runs : day.shift_runs ≡ (sizes_of c day.nurse).shift_run
-  pub few_lasts : day.lasts ≤ 9
-  pub few_runs : day.runs ≤ 1000
-  pub few_shift_runs : day.shift_runs ≤ 1000
+-- a floor for such states, by the number of the last shift, under all offers of the day
+abbrev pub UnderCell : FloorDay → (digit run q floor : ℕ) → Type 0
+UnderCell day digit run q floor = (last : Option Shift) (a w : ℕ) → shift_digit last ≡ digit → IsUnderAll day (state_of last run q a w) floor
 
--- an offer's price with what doesn't depend on the runs: a split weekend, and the rates
-abbrev pub apart_of : Meaning → ℕ → Rates → ℕ → Bool → Offer → ℕ
-apart_of c n rates d before x =
+-- a line of such floors
+abbrev pub UnderLine : FloorDay → (digit run : ℕ) → List ℕ → Type 0
+UnderLine day digit run here = (q : ℕ) → q < day.shift_runs → UnderCell day digit run q (slice_index_or here q 0)
+
+-- the floors after a last shift, line by line
+abbrev pub UnderLines : FloorDay → (digit : ℕ) → List ℕ → Type 0
+UnderLines day digit here = (run q : ℕ) → run < day.runs → q < day.shift_runs → UnderCell day digit run q (slice_index_or here (run * day.shift_runs + q) 0)
+
+-- the floors of the day, from each state that fits
+abbrev pub UnderDay : FloorDay → List ℕ → Type 0
+UnderDay day here =
+    (s : Summary) → fits_sizes (sizes_of day.case.now day.nurse) s ≡ true → IsUnderAll day s (cell_at (sizes_of day.case.now day.nurse) here s)
+
+-- ---- what is set of a day
+
+-- how many steps it takes to set so many floors: each by each offer of the day
+abbrev pub steps_of : FloorDay → List ℕ → ℕ
+steps_of day floors = length floors * length day.offers.now
+
+-- floors of the day are set: as many as before, each within its bound, and each counted by each offer
+pub record AreSet (day : FloorDay) (old new : List ℕ) (before after : ℕ) : Type 0 where
+  pub low : AreLow new
+  pub length : length new ≡ length old
+  pub counted : after ≡ before + steps_of day old
+
+-- ---- what a day costs
+
+-- an offer's price with what doesn't depend on the runs, after a worked day or a day off: a split weekend, and the rates
+abbrev pub apart_of : FloorDay → (before : Bool) → Offer → ℕ
+apart_of day before x =
     x.price
-    + (if (contract_of c n).whole_weekends then split_weight * splits_more d before (is_some (shift_of x.choice)) else 0)
-    + (rates.day * one_if (is_some (shift_of x.choice)) + rates.weekend * weekends_more d before (is_some (shift_of x.choice)))
+    + (if day.rules.whole_weekends then split_weight * splits_more day.day before (is_some (shift_of x.choice)) else 0)
+    + (day.rates.day * one_if (is_some (shift_of x.choice)) + day.rates.weekend * weekends_more day.day before (is_some (shift_of x.choice)))
 
--- how many steps it takes to set a line of the day's, the floors after a last shift, and all: each floor by each offer
-abbrev pub line_steps : Meaning → FloorDay → ℕ
-line_steps c day = (sizes_of c day.nurse).shift_run * length day.offers.now
+-- what a run of so many working days costs where it ends
+abbrev pub work_ends : FloorDay → (run : ℕ) → ℕ
+work_ends day run = working_run_weight * day_violations day.rules.working run false
 
-abbrev pub last_steps : Meaning → FloorDay → ℕ
-last_steps c day = (sizes_of c day.nurse).run * (sizes_of c day.nurse).shift_run * length day.offers.now
+-- what it costs with one day more
+abbrev pub work_goes_on : FloorDay → (run : ℕ) → ℕ
+work_goes_on day run = working_run_weight * day_violations day.rules.working run true
 
-abbrev pub day_steps : Meaning → FloorDay → ℕ
-day_steps c day = floor_count (sizes_of c day.nurse) * length day.offers.now
+-- what a run of so many days off costs where it ends
+abbrev pub rest_ends : FloorDay → (run : ℕ) → ℕ
+rest_ends day run = free_run_weight * day_violations day.rules.free run false
+
+-- what it costs with one day more
+abbrev pub rest_goes_on : FloorDay → (run : ℕ) → ℕ
+rest_goes_on day run = free_run_weight * day_violations day.rules.free run true
+
+-- a run of working days, or of days off, with one day more
+abbrev pub longer : (run : ℕ) → Limits → ℕ
+longer run limits = min (run + 1) (cap limits)
+
+-- ---- a line's cells
+
+-- a number is no more than what leaving a shift costs after a run of it
+abbrev pub IsUnderLeave : LineCosts → (q floor : ℕ) → Type 0
+IsUnderLeave costs q floor = floor ≤ costs.leave + shift_run_weight * day_violations costs.run q false
+
+-- a number is no more than what staying costs after a run of a shift, with the floor after it, of a line
+abbrev pub IsUnderStay : LineCosts → (after : List ℕ) → (q floor : ℕ) → Type 0
+IsUnderStay costs after q floor = floor ≤ costs.stay + shift_run_weight * day_violations costs.run q true + slice_index_or after (longer q costs.run) 0
 
 -- ---- the ways on from a last shift
 
@@ -109,117 +146,150 @@ day_steps c day = floor_count (sizes_of c day.nurse) * length day.offers.now
 abbrev pub no_way : Way
 no_way = record { price = most_leave; place = 0 }
 
-abbrev pub way_at : List Way → ℕ → Way
+-- a way of a list
+abbrev pub way_at : List Way → (k : ℕ) → Way
 way_at ways k = slice_index_or ways k no_way
 
 -- a shift's first floor after another shift, for a run
-abbrev pub begun_place : Meaning → ℕ → Shift → (run : ℕ) → ℕ
-begun_place c n u run = line_place (sizes_of c n) (u.0 + 1) run + min 1 (cap (run_of_shift c u.0))
+abbrev pub begun_place : FloorDay → Shift → (run : ℕ) → ℕ
+begun_place day u run = line_place day (u.0 + 1) run + min 1 (cap (run_of_shift day.case.now u.0))
 
 -- the way on with a shift that begins, after a worked day or a day off
-pub record IsWayOf (c : Meaning) (n : ℕ) (rates : Rates) (d : ℕ) (before : Bool) (x : Offer) (u : Shift) (way : Way) : Type 0 where
-  pub price : way.price ≡ apart_of c n rates d before x + shift_run_weight * day_violations (run_of_shift c u.0) 0 true
-  pub place : way.place ≡ begun_place c n u 0
+pub record IsWayOf (day : FloorDay) (before : Bool) (x : Offer) (u : Shift) (way : Way) : Type 0 where
+  pub price : way.price ≡ apart_of day before x + shift_run_weight * day_violations (run_of_shift day.case.now u.0) 0 true
+  pub place : way.place ≡ begun_place day u 0
+
+-- a way on may be taken: its price is within its bound, and the lines that it leads to are among the next day's
+pub record IsOpenWay (day : FloorDay) (way : Way) : Type 0 where
+  pub price : way.price ≤ most_leave
+  pub place : (run : ℕ) → run < day.runs → way.place + run * day.shift_runs < length day.next.now
 
 -- what an offer costs after a worked day, whatever the last shift, and the way on with its shift
-abbrev pub IsOnward : Meaning → ℕ → Rates → ℕ → Onward → Offer → Option Shift → Type 0
-IsOnward c n rates d onward x None = onward.apart ≡ apart_of c n rates d true x
-IsOnward c n rates d onward x (Some u) = (onward.apart ≡ apart_of c n rates d true x) × IsWayOf c n rates d true x u onward.way
+abbrev pub IsOnward : FloorDay → Onward → Offer → Option Shift → Type 0
+IsOnward day onward x None = onward.apart ≡ apart_of day true x
+IsOnward day onward x (Some u) = (onward.apart ≡ apart_of day true x) × IsWayOf day true x u onward.way
 
+-- what stands for no offer
 abbrev pub no_onward : Onward
 no_onward = record { apart = most_leave; way = no_way }
 
-abbrev pub onward_at : List Onward → ℕ → Onward
+-- what an offer costs, of a list
+abbrev pub onward_at : List Onward → (k : ℕ) → Onward
 onward_at all k = slice_index_or all k no_onward
 
+-- what the first offers of the day cost after a worked day
+pub record AreOnwardTo (day : FloorDay) (place : ℕ) (all : List Onward) : Type 0 where
+  pub count : length all ≡ 9
+  pub each : (k : ℕ) → k < place → IsOnward day (onward_at all k) (offer_on day k) (shift_of (offer_on day k).choice)
+  pub openings : (k : ℕ) → IsOpenWay day (onward_at all k).way
+
+-- what all of them cost
+abbrev pub AreOnward : FloorDay → List Onward → Type 0
+AreOnward day all = AreOnwardTo day (length day.offers.now) all
+
 -- one of the first ways is the way on with a shift
-pub record HasWay (c : Meaning) (n : ℕ) (rates : Rates) (d : ℕ) (x : Offer) (u : Shift) (ways : List Way) (count : ℕ) : Type 0 where
+pub record HasWay (day : FloorDay) (x : Offer) (u : Shift) (ways : Ways) : Type 0 where
   pub at : ℕ
-  pub below : at < count
-  pub way : IsWayOf c n rates d true x u (way_at ways at)
+  pub below : at < ways.count
+  pub way : IsWayOf day true x u (way_at ways.others at)
 
 -- what stands for an offer after a shift: the least for a day off, the least for the same shift, or a way on
-abbrev pub IsWayOn : Meaning → ℕ → Rates → ℕ → Shift → (off stay : ℕ) → List Way → (count : ℕ) → Offer → Option Shift → Type 0
-IsWayOn c n rates d t off stay ways count x None = off ≤ apart_of c n rates d true x
-IsWayOn c n rates d t off stay ways count x (Some u) =
-    forbids c.successions (Some t) (Some u) ≡ false → (t.0 ≡ u.0 → stay ≤ apart_of c n rates d true x) × (t.0 ≢ u.0 → HasWay c n rates d x u ways count)
+abbrev pub IsWayOn : FloorDay → Shift → Ways → Offer → Option Shift → Type 0
+IsWayOn day t ways x None = ways.off ≤ apart_of day true x
+IsWayOn day t ways x (Some u) =
+    forbids day.case.now.successions (Some t) (Some u) ≡ false → (t.0 ≡ u.0 → ways.stay ≤ apart_of day true x) × (t.0 ≢ u.0 → HasWay day x u ways)
 
--- a number is what going on by one of the first ways costs, with the floor after it, or the most that a floor leaves
+-- the same of an offer of the day
+abbrev pub IsWayAt : FloorDay → Shift → Ways → (k : ℕ) → Type 0
+IsWayAt day t ways k = IsWayOn day t ways (offer_on day k) (shift_of (offer_on day k).choice)
+
+-- all ways may be taken
+abbrev pub AreOpen : FloorDay → Ways → Type 0
+AreOpen day ways = (k : ℕ) → IsOpenWay day (way_at ways.others k)
+
+-- the ways on from a last shift by the first offers of the day, and the least that a day off and the same shift cost
+pub record AreWaysTo (day : FloorDay) (t : Shift) (place : ℕ) (ways : Ways) : Type 0 where
+  pub count : length ways.others ≡ 9
+  pub few : ways.count ≤ place
+  pub each : (k : ℕ) → k < place → IsWayAt day t ways k
+  pub openings : AreOpen day ways
+  pub stay : ways.stay ≤ most_leave
+  pub off : ways.off ≤ most_leave
+
+-- the same by all of them
+abbrev pub AreWays : FloorDay → Shift → Ways → Type 0
+AreWays day t ways = AreWaysTo day t (length day.offers.now) ways
+
+-- what going on by a way costs, with the floor after it
 abbrev pub way_cost : List Way → List ℕ → (more k : ℕ) → ℕ
 way_cost ways next more k = (way_at ways k).price + slice_index_or next ((way_at ways k).place + more) 0
 
+-- a number is what going on by one of the first ways costs, or the most that a floor leaves
 abbrev pub IsLeastWay : List Way → (count : ℕ) → List ℕ → (more least : ℕ) → Type 0
 IsLeastWay ways count next more least = (least ≡ most_leave) ⊎ ((k : ℕ) × (k < count) × (least ≡ way_cost ways next more k))
 
--- a number is what leaving a last shift costs, with a run of working days, by a day off or by the least way, or the most
-abbrev pub IsLeave : Meaning → FloorDay → AfterShift → (run least leave : ℕ) → Type 0
-IsLeave c day after run least leave =
-    (leave ≡ most_leave)
-    ⊎ ((leave ≡ after.off + working_run_weight * day_violations (contract_of c day.nurse).working run false)
-    ⊎ (leave ≡ least + working_run_weight * day_violations (contract_of c day.nurse).working run true))
-
--- a way on may be taken: its price is within its bound, and the lines that it leads to are among a day's
-pub record IsOpenWay (z : Sizes) (way : Way) : Type 0 where
-  pub price : way.price ≤ most_leave
-  pub place : (run : ℕ) → run < z.run → way.place + run * z.shift_run < floor_count z
-
--- what the offers of a day cost after a worked day
-pub record AreOnward (c : Meaning) (day : FloorDay) (all : List Onward) : Type 0 where
-  pub count : length all ≡ 9
-  pub each : (k : ℕ) → k < length day.offers.now → IsOnward c day.nurse day.rates day.day (onward_at all k) (offer_at day.offers.now k) (shift_of (offer_at day.offers.now k).choice)
-  pub openings : (k : ℕ) → IsOpenWay (sizes_of c day.nurse) (onward_at all k).way
-
--- the next day's floors
-pub record AreNext (z : Sizes) (next : List ℕ) : Type 0 where
-  pub count : length next ≡ floor_count z
-  pub low : AreLow next
-
--- a run of working days, or of days off, with one day more
-abbrev pub longer : ℕ → Limits → ℕ
-longer run limits = min (run + 1) (cap limits)
-
 -- what follows a last shift: the ways on, and what a day off costs with the floor after it
-pub record IsAfterShift (c : Meaning) (day : FloorDay) (after : AfterShift) : Type 0 where
-  pub known : after.last.0 < shift_count c
-  pub count : length after.ways.others ≡ 9
-  pub few : after.ways.count ≤ 9
-  pub ways : (k : ℕ) → k < length day.offers.now → IsWayOn c day.nurse day.rates day.day after.last after.ways.off after.ways.stay after.ways.others after.ways.count (offer_at day.offers.now k) (shift_of (offer_at day.offers.now k).choice)
-  pub openings : (k : ℕ) → IsOpenWay (sizes_of c day.nurse) (way_at after.ways.others k)
-  pub stay : after.ways.stay ≤ most_leave
-  pub off : after.off ≡ after.ways.off + free_run_weight * day_violations (contract_of c day.nurse).free 0 true + slice_index_or after.next.now (line_place (sizes_of c day.nurse) 0 (min 1 (cap (contract_of c day.nurse).free))) 0
-  pub off_within : after.ways.off ≤ most_leave
-  pub next : AreNext (sizes_of c day.nurse) after.next.now
+pub record IsAfterShift (day : FloorDay) (after : AfterShift) : Type 0 where
+  pub known : after.last.0 < shift_count day.case.now
+  pub ways : AreWays day after.last after.ways
+  pub off : after.off ≡ after.ways.off + rest_goes_on day 0 + next_at day (line_place day 0 (min 1 (cap day.rules.free)))
+
+-- how far the lines after another working day are from those after the first one
+abbrev pub work_place : FloorDay → (run : ℕ) → ℕ
+work_place day run = longer run day.rules.working * day.shift_runs
+
+-- a number is what leaving a last shift costs, with a run of working days, by a day off or by the least way, or the most
+abbrev pub IsLeaveBy : FloorDay → AfterShift → (run least leave : ℕ) → Type 0
+IsLeaveBy day after run least leave = (leave ≡ most_leave) ⊎ ((leave ≡ after.off + work_ends day run) ⊎ (leave ≡ least + work_goes_on day run))
+
+-- so it is with the least of the ways
+abbrev pub IsLeave : FloorDay → AfterShift → (run leave : ℕ) → Type 0
+IsLeave day after run leave =
+    (least : ℕ) × IsLeastWay after.ways.others after.ways.count day.next.now (work_place day run) least × IsLeaveBy day after run least leave
+
+-- a number is no more than what leaving a last shift costs, with a run of working days, by one of the ways
+abbrev pub IsUnderWays : FloorDay → AfterShift → (run leave : ℕ) → Type 0
+IsUnderWays day after run leave = (k : ℕ) → k < after.ways.count → leave ≤ way_cost after.ways.others day.next.now (work_place day run) k + work_goes_on day run
+
+-- ---- after a day off
+
+-- what a shift costs that begins after a day off, with the floor after it
+abbrev pub entry_cost : FloorDay → Offer → Shift → ℕ
+entry_cost day x u =
+    apart_of day false x + shift_run_weight * day_violations (run_of_shift day.case.now u.0) 0 true + work_goes_on day 0
+    + next_at day (begun_place day u (min 1 (cap day.rules.working)))
 
 -- what stands for an offer after a day off: the least for another one, or for a shift that begins
-abbrev pub IsEntry : Meaning → ℕ → Rates → ℕ → List ℕ → (off enter : ℕ) → Offer → Option Shift → Type 0
-IsEntry c n rates d next off enter x None = off ≤ apart_of c n rates d false x
-IsEntry c n rates d next off enter x (Some u) =
-    enter ≤ apart_of c n rates d false x + shift_run_weight * day_violations (run_of_shift c u.0) 0 true + working_run_weight * day_violations (contract_of c n).working 0 true + slice_index_or next (begun_place c n u (min 1 (cap (contract_of c n).working))) 0
+abbrev pub IsEntry : FloorDay → AfterOff → Offer → Option Shift → Type 0
+IsEntry day after x None = after.off ≤ apart_of day false x
+IsEntry day after x (Some u) = after.enter ≤ entry_cost day x u
 
--- a state by the number of its last shift, its run and its run of the shift
-pub record IsState (digit r q : ℕ) (s : Summary) : Type 0 where
-  pub last : shift_digit s.last ≡ digit
-  pub run : s.run ≡ r
-  pub shift_run : s.shift_run ≡ q
+-- the same of an offer of the day
+abbrev pub IsEntryAt : FloorDay → AfterOff → (k : ℕ) → Type 0
+IsEntryAt day after k = IsEntry day after (offer_on day k) (shift_of (offer_on day k).choice)
 
--- a floor for such states, under all offers of the day
-abbrev pub UnderCell : Meaning → FloorDay → List ℕ → (digit run q floor : ℕ) → Type 0
-UnderCell c day next digit run q floor = (s : Summary) → IsState digit run q s → IsUnderAll c day next s floor
+-- what follows a day off: what stands for the first offers of the day
+pub record IsAfterOffTo (day : FloorDay) (place : ℕ) (after : AfterOff) : Type 0 where
+  pub entries : (k : ℕ) → k < place → IsEntryAt day after k
+  pub off : after.off ≤ most_leave
+  pub enter : after.enter ≤ most_leave
 
--- at a place among the floors of a last shift, floors for the states of that place
-abbrev pub UnderPlace : Meaning → FloorDay → List ℕ → (digit place floor : ℕ) → Type 0
-UnderPlace c day next digit place floor =
-    (r q : ℕ) → r < (sizes_of c day.nurse).run → q < (sizes_of c day.nurse).shift_run → place ≡ r * (sizes_of c day.nurse).shift_run + q → UnderCell c day next digit r q floor
+-- what stands for all of them
+abbrev pub IsAfterOff : FloorDay → AfterOff → Type 0
+IsAfterOff day after = IsAfterOffTo day (length day.offers.now) after
 
--- the floors of a day, which stand from a place on, lie under the next day's, which stand after them
-abbrev pub IsSetBy : Meaning → ℕ → Rates → (d : ℕ) → List Offer → (first : ℕ) → List ℕ → Type 0
-IsSetBy c n rates d xs first floors =
-    (s : Summary) → fits_sizes (sizes_of c n) s ≡ true → (k : ℕ) → k < length xs → forbids c.successions s.last (shift_of (offer_at xs k).choice) ≡ false
-    → slice_index_or floors (first + cell_place (sizes_of c n) s) 0 ≤ rated c n rates d s (offer_at xs k) + slice_index_or floors (first + floor_count (sizes_of c n) + cell_place (sizes_of c n) (next_of c n d s (shift_of (offer_at xs k).choice))) 0
+-- a floor after a run of days off, under a shift that begins and under another day off
+pub record IsOffFloor (day : FloorDay) (after : AfterOff) (run floor : ℕ) : Type 0 where
+  pub enter : floor ≤ after.enter + rest_ends day run
+  pub off : floor ≤ after.off + rest_goes_on day run + next_at day (line_place day 0 (longer run day.rules.free))
 
-abbrev pub IsSetDay : Meaning → FloorDay → (first : ℕ) → List ℕ → Type 0
-IsSetDay c day first floors = IsSetBy c day.nurse day.rates day.day day.offers.now first floors
+-- ---- among all days
 
--- the same of a day where all days stand one after another
-abbrev pub IsSetOn : Meaning → ℕ → Rates → (ℕ → List Offer) → List ℕ → (d : ℕ) → Type 0
-IsSetOn c n rates offers floors d = IsSetBy c n rates d (offers d) (d * floor_count (sizes_of c n)) floors
+-- the day of a nurse's search, with the next day's floors
+pub record IsDayOf (c : Meaning) (n : ℕ) (at : Rates) (d : ℕ) (xs : List Offer) (after : List ℕ) (x : FloorDay) : Type 0 where
+  pub case : x.case.now ≡ c
+  pub nurse : x.nurse ≡ n
+  pub rates : x.rates ≡ at
+  pub day : x.day ≡ d
+  pub offers : x.offers.now ≡ xs
+  pub next : x.next.now ≡ after

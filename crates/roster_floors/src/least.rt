@@ -1,13 +1,11 @@
 //! What the rest of a row costs at least, by floors and by what is counted over all days.
 
-ghost use Rattle.std.specs.Prelude.{◌≡◌, ◌+◌, ◌-◌, ◌*◌, ◌<◌, ◌≤◌, ℕ, List, Some, length, true};
+ghost use Rattle.std.specs.Prelude.{◌≡◌, ◌+◌, ◌*◌, ◌<◌, ◌≤◌, length, true};
 ghost use Rattle.roster_instance.specs.Meaning.{day_count, nurse_count};
-ghost use Rattle.roster_offers.specs.Offers.{best_of_offers};
-ghost use Rattle.roster_offers.specs.Lists.{AreOffers, offers_on};
-ghost use Rattle.roster_offers.specs.declared.offer.Offer.{Offer};
-ghost use Rattle.roster_state.specs.Codes.{fits_sizes, sizes_of};
-ghost use Rattle.roster_floors.specs.Floors.{AreFloors, AreSmall, floor_place, floor_count};
-ghost use Rattle.roster_floors.specs.Least.{AreReady, IsBeside};
+ghost use Rattle.roster_offers.specs.Lists.{AreOffers};
+ghost use Rattle.roster_state.specs.Codes.{fits_sizes};
+ghost use Rattle.roster_floors.specs.Floors.{AreFloorsOf, AreSmall, floor_count, floor_place, search_cells};
+ghost use Rattle.roster_floors.specs.Least.{AreReady, IsBesideOf, IsUnderRest, search_sizes};
 
 use crate::rates::Rates;
 use roster_offers::RowSearch;
@@ -31,10 +29,8 @@ impl<'a> Floors<'a> {
         requires nurse { search.now.nurse < nurse_count search.now.case.now }
         requires offers { AreOffers search.now.case.now search.now.nurse search.now.offers.now }
         requires small { AreSmall rates }
-        requires inside { (day_count search.now.case.now + 1) * floor_count
-            (sizes_of search.now.case.now search.now.nurse) ≤ length cells.now }
-        requires floors { AreFloors search.now.case.now search.now.nurse rates
-            (offers_on search.now.offers.now) cells.now }
+        requires inside { search_cells search.now ≤ length cells.now }
+        requires floors { AreFloorsOf search.now rates cells.now }
         ensures search { result.search ≡ search.now }
         ensures ready { AreReady result }
     {
@@ -63,12 +59,9 @@ pub struct Beside {
 pub fn beside_floor(floors: &Floors<'_>, day: u16, assignments: u16, weekends: u16) -> Beside
     requires ready { AreReady floors.now }
     requires day { day ≤ day_count floors.now.search.case.now }
-    requires assignments { assignments < (sizes_of floors.now.search.case.now
-        floors.now.search.nurse).assignments }
-    requires weekends { weekends < (sizes_of floors.now.search.case.now
-        floors.now.search.nurse).weekends }
-    ensures { IsBeside floors.now.search.case.now floors.now.search.nurse floors.now.rates day
-        assignments weekends result }
+    requires assignments { assignments < (search_sizes floors.now.search).assignments }
+    requires weekends { weekends < (search_sizes floors.now.search).weekends }
+    ensures { IsBesideOf floors.now day assignments weekends result }
 {
     let left = (floors.days - day) as u32;
     let days = left.min(floors.ranges.assignments() - 1 - assignments as u32);
@@ -87,14 +80,10 @@ pub fn beside_floor(floors: &Floors<'_>, day: u16, assignments: u16, weekends: u
 pub fn at_least_beside(floors: &Floors<'_>, day: u16, state: &State, beside: &Beside) -> u32
     requires ready { AreReady floors.now }
     requires day { day ≤ day_count floors.now.search.case.now }
-    requires fits { fits_sizes (sizes_of floors.now.search.case.now floors.now.search.nurse)
-        state.now ≡ true }
-    requires beside { IsBeside floors.now.search.case.now floors.now.search.nurse floors.now.rates
-        day state.now.assignments state.now.weekends beside.now }
-    ensures least { (cost : ℕ) (row : List Offer) →
-        best_of_offers floors.now.search.case.now floors.now.search.nurse
-        (offers_on floors.now.search.offers.now) (day_count floors.now.search.case.now - day) day
-        state.now ≡ Some (cost, row) → result ≤ cost }
+    requires fits { fits_sizes (search_sizes floors.now.search) state.now ≡ true }
+    requires beside { IsBesideOf floors.now day state.now.assignments state.now.weekends
+        beside.now }
+    ensures least { IsUnderRest floors.now.search day state.now result }
 {
     let floor = floors.cells[place(floors, day, state)];
     floor
@@ -107,12 +96,8 @@ pub fn at_least_beside(floors: &Floors<'_>, day: u16, state: &State, beside: &Be
 pub fn at_least(floors: &Floors<'_>, day: u16, state: &State) -> u32
     requires ready { AreReady floors.now }
     requires day { day ≤ day_count floors.now.search.case.now }
-    requires fits { fits_sizes (sizes_of floors.now.search.case.now floors.now.search.nurse)
-        state.now ≡ true }
-    ensures least { (cost : ℕ) (row : List Offer) →
-        best_of_offers floors.now.search.case.now floors.now.search.nurse
-        (offers_on floors.now.search.offers.now) (day_count floors.now.search.case.now - day) day
-        state.now ≡ Some (cost, row) → result ≤ cost }
+    requires fits { fits_sizes (search_sizes floors.now.search) state.now ≡ true }
+    ensures least { IsUnderRest floors.now.search day state.now result }
 {
     let beside = beside_floor(floors, day, state.assignments(), state.weekends());
     at_least_beside(floors, day, state, &beside)

@@ -6,6 +6,7 @@
 #![tactic(auto)]
 
 mod day;
+mod floor_day;
 mod laws;
 mod least;
 mod line;

@@ -1,10 +1,9 @@
 //! A line of floors: those of one last shift and one run.
 
-ghost use Rattle.std.specs.Prelude.{◌≡◌, ◌+◌, ◌*◌, ◌<◌, ◌≤◌, ℕ, false, length, min, true, slice_index_or};
-ghost use Rattle.roster_instance.specs.RunLaw.{day_violations};
+ghost use Rattle.std.specs.Prelude.{◌≡◌, ◌<◌, ◌≤◌, ℕ, length, slice_index_or};
 ghost use Rattle.roster_instance.specs.Sizes.{cap};
-ghost use Rattle.roster_rules.specs.Weights.{shift_run_weight};
-ghost use Rattle.roster_floors.specs.Lines.{AreLow, most_floor, most_leave};
+ghost use Rattle.roster_floors.specs.Bounds.{AreLow, most_floor, most_leave};
+ghost use Rattle.roster_floors.specs.Lines.{IsUnderLeave, IsUnderStay};
 
 use roster_rules::Limits;
 use roster_rules::weights::SHIFT_RUN;
@@ -28,12 +27,9 @@ pub(crate) fn set_line(costs: LineCosts, after: &[u32], here: &mut [u32])
     requires stay { costs.stay ≤ most_floor }
     requires low { AreLow after.now }
     ensures leaves { (q : ℕ) → q < length here.new →
-        slice_index_or here.new q 0 ≤ costs.leave
-        + shift_run_weight * day_violations costs.run q false }
+        IsUnderLeave costs q (slice_index_or here.new q 0) }
     ensures stays { (q : ℕ) → q < length here.new →
-        slice_index_or here.new q 0 ≤ costs.stay
-        + shift_run_weight * day_violations costs.run q true
-        + slice_index_or after.now (min (q + 1) (cap costs.run)) 0 }
+        IsUnderStay costs after.now q (slice_index_or here.new q 0) }
     ensures low { AreLow here.new }
     ensures length { length here.new ≡ length here.old }
 {

@@ -1,21 +1,37 @@
 //! The floors of all days.
 
-ghost use Rattle.std.specs.Prelude.{◌≡◌, ◌↔◌, ◌+◌, ◌*◌, ◌<◌, ◌≤◌, ℕ, All, false, length, slice_index_or, suc, true};
+ghost use Rattle.std.specs.Prelude.{◌≡◌, ◌↔◌, ◌+◌, ◌*◌, ◌<◌, ◌≤◌, false, length, true};
 ghost use Rattle.roster_bundle.specs.Limits.{greatest_u64};
 ghost use Rattle.roster_instance.specs.Limits.{most_days};
 ghost use Rattle.roster_instance.specs.Meaning.{day_count, nurse_count};
-ghost use Rattle.roster_rules.specs.Prefix.{Summary};
 ghost use Rattle.roster_offers.specs.Lists.{AreOffers, offers_on};
-ghost use Rattle.roster_state.specs.Codes.{fits_sizes, sizes_of};
-ghost use Rattle.roster_floors.specs.Floors.{AreFloors, AreSmall, floor_count, floor_steps};
-ghost use Rattle.roster_floors.specs.Lines.{IsFloorDay, IsSetDay, day_steps, most_floor};
+ghost use Rattle.roster_state.specs.Codes.{sizes_of};
+ghost use Rattle.roster_floors.specs.Bounds.{AreKeptFrom, AreLow, AreLowFrom};
+ghost use Rattle.roster_floors.specs.Floors.{AreFloorsOf, AreSmall, LieUnder, floor_count, search_cells, search_steps};
+ghost use Rattle.roster_floors.specs.Lines.{IsDayOf};
+ghost use Rattle.roster_floors.specs.Once.{AreSmall-prop, HasOffers, HasOffers-prop};
 
-use crate::day::{FloorDay, set_day};
+use crate::day::set_day;
+use crate::floor_day::FloorDay;
 use crate::line::set_all;
 use crate::rates::Rates;
 use roster_offers::RowSearch;
 use roster_rules::Case;
 use roster_state::{Meter, Ranges};
+
+/// A search whose floors are to be set, at their rates, with how many values each number of a state has, and how many floors a day.
+#[derive(Clone, Copy)]
+struct Setting<'a> {
+    search: RowSearch<'a>,
+    rates: Rates,
+    ranges: Ranges,
+    count: usize,
+    ghost nurse: { search.nurse < nurse_count search.case.now },
+    ghost offers: { HasOffers search } by { HasOffers-prop search },
+    ghost small: { AreSmall rates } by { AreSmall-prop rates },
+    ghost sizes: { ranges ≡ sizes_of search.case.now search.nurse },
+    ghost counted: { count ≡ floor_count ranges },
+}
 
 /// Sets the floors of all days at these rates, from the last day to the first. The answer is whether there is room: a floor for each
 /// day and the end, and for each last shift and runs. The meter counts each floor by each offer of its day. Where there is no room,
@@ -29,16 +45,11 @@ pub fn set_floors(
     requires nurse { search.now.nurse < nurse_count search.now.case.now }
     requires offers { AreOffers search.now.case.now search.now.nurse search.now.offers.now }
     requires small { AreSmall rates }
-    requires room { meter.old
-        + floor_steps search.now.case.now search.now.nurse (offers_on search.now.offers.now)
-        ≤ greatest_u64 }
-    ensures floors { result ≡ true → AreFloors search.now.case.now search.now.nurse rates
-        (offers_on search.now.offers.now) floors.new }
-    ensures room { (result ≡ true) ↔ ((day_count search.now.case.now + 1) * floor_count
-        (sizes_of search.now.case.now search.now.nurse) ≤ length floors.old) }
+    requires room { meter.old + search_steps search.now ≤ greatest_u64 }
+    ensures floors { result ≡ true → AreFloorsOf search.now rates floors.new }
+    ensures room { (result ≡ true) ↔ (search_cells search.now ≤ length floors.old) }
     ensures length { length floors.new ≡ length floors.old }
-    ensures counted { result ≡ true → meter.new ≡ meter.old
-        + floor_steps search.now.case.now search.now.nurse (offers_on search.now.offers.now) }
+    ensures counted { result ≡ true → meter.new ≡ meter.old + search_steps search.now }
     ensures none { result ≡ false → meter.new ≡ meter.old }
 {
     let ranges = Ranges::of(search.case, search.nurse);
@@ -50,9 +61,14 @@ pub fn set_floors(
     let end = days as usize * count;
     // After the last day nothing is to come.
     set_all(0, &mut floors[end..end + count]);
+    let setting = Setting {
+        search: *search,
+        rates,
+        ranges,
+        count,
+    };
     for day in (0..days).rev() {
-        let open = floor_day(search, rates, &ranges, day);
-        set_before(&open, day as usize * count, count, floors, meter);
+        set_before(&setting, day, floors, meter);
     }
     true
 }
@@ -69,8 +85,7 @@ pub fn floor_cells(case: &Case, nurse: usize) -> usize
 pub fn floor_steps(search: &RowSearch<'_>) -> u64
     requires nurse { search.now.nurse < nurse_count search.now.case.now }
     requires offers { AreOffers search.now.case.now search.now.nurse search.now.offers.now }
-    ensures steps { result ≡
-        floor_steps search.now.case.now search.now.nurse (offers_on search.now.offers.now) }
+    ensures steps { result ≡ search_steps search.now }
     ensures within { result ≤ 9000000 * (most_days * 9) }
 {
     let mut offers = 0;
@@ -88,46 +103,48 @@ fn floor_count(ranges: &Ranges) -> usize
     ranges.last() as usize * (ranges.run() as usize * ranges.shift_run() as usize)
 }
 
-/// A day whose floors are to be set.
-fn floor_day<'a>(search: &RowSearch<'a>, rates: Rates, ranges: &Ranges, day: u16) -> FloorDay<'a>
-    requires nurse { search.now.nurse < nurse_count search.now.case.now }
-    requires offers { AreOffers search.now.case.now search.now.nurse search.now.offers.now }
-    requires small { AreSmall rates }
-    requires ranges { ranges.now ≡ sizes_of search.now.case.now search.now.nurse }
-    requires day { day < day_count search.now.case.now }
-    ensures day { IsFloorDay search.now.case.now result }
-    ensures of { (result.case.now ≡ search.now.case.now) × (result.nurse ≡ search.now.nurse)
-        × (result.day ≡ day) × (result.rates ≡ rates)
-        × (result.offers.now ≡ offers_on search.now.offers.now day) }
+/// A day whose floors are to be set by those of the next one.
+fn floor_day<'a, 'b>(setting: &Setting<'a>, day: u16, next: &'b [u32]) -> FloorDay<'a, 'b>
+    requires day { day < day_count setting.now.search.case.now }
+    requires next { length next.now ≡ setting.now.count }
+    requires low { AreLow next.now }
+    ensures of { IsDayOf setting.now.search.case.now setting.now.search.nurse setting.now.rates day
+        (offers_on setting.now.search.offers.now day) next.now result }
 {
+    let search = setting.search;
     FloorDay {
         case: search.case,
         nurse: search.nurse,
         day,
         rules: search.case.contract_rules(search.nurse),
-        rates,
+        rates: setting.rates,
         offers: search.offers[day as usize].as_slice(),
-        lasts: ranges.last() as usize,
-        runs: ranges.run() as usize,
-        shift_runs: ranges.shift_run() as usize,
+        lasts: setting.ranges.last() as usize,
+        runs: setting.ranges.run() as usize,
+        shift_runs: setting.ranges.shift_run() as usize,
+        next,
     }
 }
 
-/// Sets the floors of a day, which stand from a place on, by those of the next day, which stand after them.
-fn set_before(day: &FloorDay<'_>, first: usize, count: usize, floors: &mut [u32], meter: &mut Meter)
-    requires day { IsFloorDay day.now.case.now day.now }
-    requires count { count ≡ floor_count (sizes_of day.now.case.now day.now.nurse) }
-    requires room { first + count + count ≤ length floors.old }
-    requires low { (k : ℕ) → k < count → slice_index_or floors.old (first + count + k)
-        0 ≤ most_floor }
-    requires steps { meter.old + day_steps day.now.case.now day.now ≤ greatest_u64 }
-    ensures under { IsSetDay day.now.case.now day.now first floors.new }
-    ensures kept { (k : ℕ) → first + count ≤ k →
-        slice_index_or floors.new k 0 ≡ slice_index_or floors.old k 0 }
-    ensures low { (k : ℕ) → k < count → slice_index_or floors.new (first + k) 0 ≤ most_floor }
+/// Sets the floors of a day, by those of the next day, which stand after them.
+fn set_before(setting: &Setting<'_>, day: u16, floors: &mut [u32], meter: &mut Meter)
+    requires day { day < day_count setting.now.search.case.now }
+    requires room { day * setting.now.count + setting.now.count + setting.now.count
+        ≤ length floors.old }
+    requires low { AreLowFrom (day * setting.now.count + setting.now.count) setting.now.count
+        floors.old }
+    requires steps { meter.old + setting.now.count
+        * length (offers_on setting.now.search.offers.now day) ≤ greatest_u64 }
+    ensures under { LieUnder setting.now.search.case.now setting.now.search.nurse setting.now.rates
+        (offers_on setting.now.search.offers.now) floors.new day }
+    ensures kept { AreKeptFrom (day * setting.now.count + setting.now.count) floors.old floors.new }
+    ensures low { AreLowFrom (day * setting.now.count) setting.now.count floors.new }
     ensures length { length floors.new ≡ length floors.old }
-    ensures counted { meter.new ≡ meter.old + day_steps day.now.case.now day.now }
+    ensures counted { meter.new ≡ meter.old + setting.now.count
+        * length (offers_on setting.now.search.offers.now day) }
 {
-    let (before, after) = floors.split_at_mut(first + count);
-    set_day(day, &after[..count], &mut before[first..], meter);
+    let first = day as usize * setting.count;
+    let (before, after) = floors.split_at_mut(first + setting.count);
+    let open = floor_day(setting, day, &after[..setting.count]);
+    set_day(&open, &mut before[first..], meter);
 }

@@ -1,14 +1,14 @@
 //! The ways on from a last shift.
 
-ghost use Rattle.std.specs.Prelude.{◌≡◌, ◌≢◌, ◌+◌, ◌*◌, ◌<◌, ◌≤◌, ℕ, length, slice_index_or};
+ghost use Rattle.std.specs.Prelude.{◌≡◌, ◌+◌, ◌<◌, ◌≤◌, ℕ, length};
 ghost use Rattle.roster_instance.specs.Choices.{shift_of};
 ghost use Rattle.roster_instance.specs.Meaning.{shift_count};
 ghost use Rattle.roster_rules.specs.DayLaw.{splits_more, weekends_more};
 ghost use Rattle.roster_offers.specs.Lists.{IsOfferOf, most_price};
-ghost use Rattle.roster_state.specs.Codes.{sizes_of};
-ghost use Rattle.roster_floors.specs.Lines.{AreLow, AreOnward, IsFloorDay, IsLeastWay, IsOnward, IsOpenWay, IsWayOf, IsWayOn, apart_of, most_leave, offer_at, way_at};
+ghost use Rattle.roster_floors.specs.Bounds.{AreLow, most_leave};
+ghost use Rattle.roster_floors.specs.Lines.{AreOnward, AreOpen, AreWays, IsLeastWay, IsOnward, IsOpenWay, IsWayAt, IsWayOf, apart_of, way_at, way_cost};
 
-use crate::day::FloorDay;
+use crate::floor_day::FloorDay;
 use roster_offers::{MOST_OFFERS, Offer};
 use roster_rules::Shift;
 use roster_rules::weights::{SHIFT_RUN, SPLIT};
@@ -49,9 +49,8 @@ const NO_WAY: Way = Way {
 };
 
 /// What the offers of a day cost after a worked day: reckoned once for all last shifts.
-pub(crate) fn onwards(day: &FloorDay<'_>) -> [Onward; MOST_OFFERS]
-    requires day { IsFloorDay day.now.case.now day.now }
-    ensures onwards { AreOnward day.now.case.now day.now result }
+pub(crate) fn onwards(day: &FloorDay<'_, '_>) -> [Onward; MOST_OFFERS]
+    ensures onwards { AreOnward day.now result }
 {
     let nothing = Onward {
         apart: MOST_LEAVE,
@@ -66,12 +65,10 @@ pub(crate) fn onwards(day: &FloorDay<'_>) -> [Onward; MOST_OFFERS]
 
 /// What an offer costs after a worked day.
 #[inline(always)]
-fn of_offer(day: &FloorDay<'_>, offer: Offer) -> Onward
-    requires day { IsFloorDay day.now.case.now day.now }
+fn of_offer(day: &FloorDay<'_, '_>, offer: Offer) -> Onward
     requires offer { IsOfferOf day.now.case.now offer }
-    ensures onward { IsOnward day.now.case.now day.now.nurse day.now.rates day.now.day result offer
-        (shift_of offer.choice) }
-    ensures open { IsOpenWay (sizes_of day.now.case.now day.now.nurse) result.way }
+    ensures onward { IsOnward day.now result offer (shift_of offer.choice) }
+    ensures open { IsOpenWay day.now result.way }
 {
     Onward {
         apart: apart(day, true, offer),
@@ -84,18 +81,13 @@ fn of_offer(day: &FloorDay<'_>, offer: Offer) -> Onward
 
 /// The ways on from a last shift on a day.
 #[inline(always)]
-pub(crate) fn ways_after(day: &FloorDay<'_>, onwards: &[Onward; MOST_OFFERS], last: Shift) -> Ways
-    requires day { IsFloorDay day.now.case.now day.now }
-    requires onwards { AreOnward day.now.case.now day.now onwards.now }
-    ensures ways { (k : ℕ) → k < length day.now.offers.now →
-        IsWayOn day.now.case.now day.now.nurse day.now.rates day.now.day last result.off result.stay
-        result.others result.count (offer_at day.now.offers.now k)
-        (shift_of (offer_at day.now.offers.now k).choice) }
-    ensures open { (k : ℕ) → IsOpenWay (sizes_of day.now.case.now day.now.nurse)
-        (way_at result.others k) }
-    ensures within { (result.off ≤ most_leave) × (result.stay ≤ most_leave) }
-    ensures length { length result.others ≡ 9 }
-    ensures few { result.count ≤ 9 }
+pub(crate) fn ways_after(
+    day: &FloorDay<'_, '_>,
+    onwards: &[Onward; MOST_OFFERS],
+    last: Shift,
+) -> Ways
+    requires onwards { AreOnward day.now onwards.now }
+    ensures ways { AreWays day.now last result }
 {
     let mut ways = Ways {
         off: MOST_LEAVE,
@@ -113,27 +105,22 @@ pub(crate) fn ways_after(day: &FloorDay<'_>, onwards: &[Onward; MOST_OFFERS], la
 #[inline(always)]
 fn add_way(
     ways: &mut Ways,
-    day: &FloorDay<'_>,
+    day: &FloorDay<'_, '_>,
     onwards: &[Onward; MOST_OFFERS],
     last: Shift,
     place: usize,
 )
-    requires day { IsFloorDay day.now.case.now day.now }
-    requires onwards { AreOnward day.now.case.now day.now onwards.now }
+    requires onwards { AreOnward day.now onwards.now }
     requires place { place < length day.now.offers.now }
     requires room { length ways.old.others ≡ 9 }
     requires few { ways.old.count ≤ place }
-    requires open { (k : ℕ) → IsOpenWay (sizes_of day.now.case.now day.now.nurse)
-        (way_at ways.old.others k) }
-    ensures way { IsWayOn day.now.case.now day.now.nurse day.now.rates day.now.day last ways.new.off
-        ways.new.stay ways.new.others ways.new.count (offer_at day.now.offers.now place)
-        (shift_of (offer_at day.now.offers.now place).choice) }
+    requires open { AreOpen day.now ways.old }
+    ensures way { IsWayAt day.now last ways.new place }
     ensures others { (k : ℕ) → k < ways.old.count →
         way_at ways.new.others k ≡ way_at ways.old.others k }
     ensures more { (ways.old.count ≤ ways.new.count) × (ways.new.count ≤ place + 1) }
     ensures lower { (ways.new.off ≤ ways.old.off) × (ways.new.stay ≤ ways.old.stay) }
-    ensures open { (k : ℕ) → IsOpenWay (sizes_of day.now.case.now day.now.nurse)
-        (way_at ways.new.others k) }
+    ensures open { AreOpen day.now ways.new }
     ensures length { length ways.new.others ≡ 9 }
 {
     let onward = onwards[place];
@@ -150,13 +137,11 @@ fn add_way(
 
 /// The way on with a shift that begins, after a worked day or a day off.
 #[inline(always)]
-pub(crate) fn way_to(day: &FloorDay<'_>, before: bool, offer: Offer, shift: Shift) -> Way
-    requires day { IsFloorDay day.now.case.now day.now }
+pub(crate) fn way_to(day: &FloorDay<'_, '_>, before: bool, offer: Offer, shift: Shift) -> Way
     requires offer { IsOfferOf day.now.case.now offer }
     requires shift { shift.0 < shift_count day.now.case.now }
-    ensures way { IsWayOf day.now.case.now day.now.nurse day.now.rates day.now.day before offer
-        shift result }
-    ensures open { IsOpenWay (sizes_of day.now.case.now day.now.nurse) result }
+    ensures way { IsWayOf day.now before offer shift result }
+    ensures open { IsOpenWay day.now result }
 {
     let run = day.case.run_of_shift(shift);
     let place = (shift.0 as usize + 1) * day.runs * day.shift_runs + (run.cap() as usize).min(1);
@@ -168,11 +153,9 @@ pub(crate) fn way_to(day: &FloorDay<'_>, before: bool, offer: Offer, shift: Shif
 
 /// An offer's price with what doesn't depend on the runs, after a worked day or a day off.
 #[inline(always)]
-pub(crate) fn apart(day: &FloorDay<'_>, before: bool, offer: Offer) -> u32
-    requires day { IsFloorDay day.now.case.now day.now }
+pub(crate) fn apart(day: &FloorDay<'_, '_>, before: bool, offer: Offer) -> u32
     requires offer { IsOfferOf day.now.case.now offer }
-    ensures cost { result ≡ apart_of day.now.case.now day.now.nurse day.now.rates day.now.day before
-        offer }
+    ensures cost { result ≡ apart_of day.now before offer }
     ensures within { result ≤ most_price + 80 }
 {
     let now = offer.choice.shift().is_some();
@@ -194,8 +177,7 @@ pub(crate) fn least_way(ways: &Ways, more: usize, next: &[u32]) -> u32
     requires place { (k : ℕ) → (way_at ways.now.others k).place + more < length next.now }
     requires low { AreLow next.now }
     ensures least { (k : ℕ) → k < ways.now.count →
-        result ≤ (way_at ways.now.others k).price
-        + slice_index_or next.now ((way_at ways.now.others k).place + more) 0 }
+        result ≤ way_cost ways.now.others next.now more k }
     ensures met { IsLeastWay ways.now.others ways.now.count next.now more result }
     ensures within { result ≤ most_leave }
 {

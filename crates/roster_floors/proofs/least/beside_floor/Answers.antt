@@ -1,10 +1,10 @@
 use Rattle.std.proofs.Common.{◌≡◌, ◌+◌, ◌*◌, ap, arith}
+use Rattle.std.proofs.lemmas.Nat.{mul-le}
 use Rattle.roster_floors.specs.Least.{days_to_come, weekends_to_come}
-use Rattle.roster_floors.proofs.CountLaws.{taken_small}
 use Rattle.roster_floors.proofs.least.beside_floor.Goals as goal
 
 pub overflow_add-result : goal.overflow_add-result
-overflow_add-result c = omega (arith, taken_small c.args.floors.now.rates.day 20 c.min-days.result 65536 c.requires.ready.small.day (omega (arith, c.min-days.ensures, c.ranges.day.fits)), taken_small c.args.floors.now.rates.weekend 30 c.min-weekends.result 65536 c.requires.ready.small.weekend (omega (arith, c.min-weekends.ensures)))
+overflow_add-result c = omega (arith, mul-le c.args.floors.now.rates.day c.min-days.result 20 65536 c.requires.ready.small.day (omega (arith, c.min-days.ensures, c.ranges.day.fits)), mul-le c.args.floors.now.rates.weekend c.min-weekends.result 30 65536 c.requires.ready.small.weekend (omega (arith, c.min-weekends.ensures)))
 
 pub returns : goal.returns
 returns c =

@@ -1,6 +1,6 @@
 use Rattle.std.proofs.Common.{◌≡◌, ◌+◌, ◌*◌, ◌<◌, arith}
 use Rattle.roster_floors.specs.Floors.{floor_place}
-use Rattle.roster_floors.proofs.CountLaws.{place_inside, place_small}
+use Rattle.roster_floors.proofs.Places.{place_inside, place_small}
 use Rattle.roster_floors.proofs.least.place.Goals as goal
 
 -- the number that is computed is the place

@@ -1,15 +1,15 @@
-use Rattle.std.proofs.Common.{ap, arith, slice_index_or, true}
-use Rattle.roster_instance.specs.declared.rules.ContractRules.{ContractRules}
-use Rattle.roster_instance.specs.RunLaw.{day_violations}
-use Rattle.roster_floors.proofs.AfterOff.{off_inside, off_place}
+use Rattle.std.proofs.Common.{◌≡◌, ap, arith}
+use Rattle.roster_floors.specs.Lines.{longer, next_at}
+use Rattle.roster_floors.proofs.Places.{rest_inside, rest_place}
 use Rattle.roster_floors.proofs.off.off_floor.Goals as goal
 
-pub bounds-next-to : goal.bounds-next-to
-bounds-next-to c = omega (arith, off_inside c.args.day.now.case.now c.args.day.now c.requires.day c.args.run c.min.result c.cap.result c.min.ensures c.cap.ensures, c.requires.next.count)
+pub bounds-day-to : goal.bounds-day-to
+bounds-day-to c = rest_inside c.args.day.now c.min.result c.args.run (omega (arith, c.min.ensures, c.cap.ensures))
 
-pub returns-clause-off : goal.returns-clause-off
-returns-clause-off c =
-    let at = off_place c.args.day.now.case.now c.args.day.now c.requires.day c.args.run c.min.result c.cap.result c.min.ensures c.cap.ensures in
-    let next = ap (λ k. slice_index_or c.args.next.now k 0) at in
-    let rules = ap (λ (r : ContractRules). day_violations r.free c.args.run true) c.requires.day.rules in
-    omega (arith, c.min-2.ensures, next, rules, c.day_violations-more.ensures.violations)
+pub returns-clause-floor : goal.returns-clause-floor
+returns-clause-floor c =
+    let to : c.min.result ≡ longer c.args.run c.args.day.now.rules.free = omega (arith, c.min.ensures, c.cap.ensures) in
+    record {
+      enter = omega (arith, c.min-2.ensures, c.min-enter.ensures, c.day_violations-ended.ensures.violations);
+      off = omega (arith, c.min-2.ensures, ap (next_at c.args.day.now) (rest_place c.args.day.now c.min.result c.args.run to), c.day_violations-more.ensures.violations);
+    }

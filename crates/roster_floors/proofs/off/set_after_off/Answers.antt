@@ -1,70 +1,25 @@
-use Rattle.std.proofs.Common.{◌≡◌, ◌∙◌, ◌+◌, ◌-◌, ◌*◌, ◌≤◌, ap, arith, length, sym, subst}
+use Rattle.std.proofs.Common.{◌≡◌, ◌∙◌, arith, length, subst, sym}
 use Rattle.roster_bundle.specs.Limits.{greatest_u64}
-use Rattle.std.proofs.lemmas.List.Edits.{length-between}
-use Rattle.roster_state.specs.Codes.{sizes_of}
-use Rattle.roster_floors.specs.Lines.{UnderCell, most_floor}
-use Rattle.roster_floors.proofs.AfterOff.{off_under}
-use Rattle.roster_floors.proofs.Cells.{low_more, row_inside, rows_length, rows_more}
-use Rattle.roster_floors.proofs.Steps.{all_counted, one_counted, room_for_one}
+use Rattle.roster_floors.specs.Lines.{UnderCell}
+use Rattle.roster_floors.proofs.After.{off_under}
+use Rattle.roster_floors.proofs.Rows.{all_set, row_long, row_more, row_steps, row_within}
 use Rattle.roster_floors.proofs.off.set_after_off.Goals as goal
 
 pub slice_bounds-set_off-end : goal.slice_bounds-set_off-end
-slice_bounds-set_off-end c =
-    let z = sizes_of c.args.day.now.case.now c.args.day.now.nurse in
-    let inside = row_inside c.loop-run.run z.run z.shift_run (omega (arith, c.requires.day.runs)) in
-    let at = ap (λ q. c.loop-run.run * q + q) c.requires.day.shift_runs in
-    omega (arith, inside, at, c.loop-run.invariant.long, c.requires.room)
+slice_bounds-set_off-end c = row_within c.args.day.now.runs c.requires.room c.loop-run.invariant c.loop-run-test.true
+
+pub set_off-requires-clause-steps : goal.set_off-requires-clause-steps
+set_off-requires-clause-steps c = row_steps c.args.day.now.runs c.requires.room c.loop-run.invariant c.loop-run-test.true greatest_u64 c.requires.steps
 
 pub loop-run-preserved : goal.loop-run-preserved
 loop-run-preserved c =
-    let k = c.args.day.now.case.now in
     let day = c.args.day.now in
-    let z = sizes_of k day.nurse in
     let run = c.loop-run.run in
-    let here = c.loop-run.here in
     let part = c.set_off.new.here in
-    let first = run * day.shift_runs in
-    let width = first + day.shift_runs - first in
-    let after = c.after_off-after.result in
-    let at : first ≡ run * z.shift_run = ap (λ q. run * q) c.requires.day.shift_runs in
-    let is : width ≡ z.shift_run = omega (arith, c.requires.day.shift_runs) in
-    let known = row_inside run z.run z.shift_run (omega (arith, c.requires.day.runs, c.loop-run-test.true)) in
-    let inside : run * z.shift_run + z.shift_run ≤ length here = omega (arith, known, c.loop-run.invariant.long, c.requires.room) in
-    let long : length part ≡ z.shift_run = c.set_off.ensures.length ∙ length-between here first (first + day.shift_runs) (omega (arith, inside, at, is)) ∙ is in
-    record {
-      under = rows_more here part run z.shift_run first width at is long inside (λ r q x. UnderCell k day c.args.next.now 0 r q x) c.loop-run.invariant.under
-          (λ q l. subst (λ x. UnderCell k day c.args.next.now 0 run q x) (sym (c.set_off.ensures.all q (omega (arith, l, long))))
-          (off_under k day c.requires.day c.args.next.now after.off after.enter c.after_off-after.ensures.entries run q c.off_floor-floor.result c.off_floor-floor.ensures.enter c.off_floor-floor.ensures.off));
-      low = low_more here part run z.shift_run first width at is long inside most_floor c.loop-run.invariant.low c.set_off.ensures.low;
-      long = rows_length here part run z.shift_run first width at is long inside ∙ c.loop-run.invariant.long;
-      counted = one_counted run (z.shift_run * length day.offers.now) c.args.meter.now c.loop-run.meter c.set_off.new.meter c.loop-run.invariant.counted c.set_off.ensures.counted;
-    }
+    let long : length part ≡ day.shift_runs = c.set_off.ensures.set.length ∙ row_long day.runs c.requires.room c.loop-run.invariant c.loop-run-test.true in
+    row_more day.runs c.requires.room c.loop-run.invariant c.loop-run-test.true part c.set_off.new.meter
+    (λ q l. subst (λ x. UnderCell day 0 run q x) (sym (c.set_off.ensures.all q (omega (arith, l, long)))) (off_under day c.after_off-after.result c.after_off-after.ensures.after run c.off_floor-floor.result c.off_floor-floor.ensures.floor q))
+    c.set_off.ensures.set
 
-pub returns-clause-under : goal.returns-clause-under
-returns-clause-under c run q l m =
-    let is = c.requires.day.runs in
-    c.loop-run.invariant.under run q (omega (arith, l, is, c.loop-run-test.false)) m
-
-pub set_off-requires-clause-steps : goal.set_off-requires-clause-steps
-set_off-requires-clause-steps c =
-    let day = c.args.day.now in
-    let z = sizes_of day.case.now day.nurse in
-    let size = z.shift_run * length day.offers.now in
-    let room : c.args.meter.now + z.run * size ≤ greatest_u64 = omega (arith, c.requires.steps) in
-    room_for_one c.loop-run.run z.run size c.args.meter.now c.loop-run.meter greatest_u64 (omega (arith, c.requires.day.runs, c.loop-run-test.true)) c.loop-run.invariant.counted room
-
-pub set_off-requires-clause-room : goal.set_off-requires-clause-room
-set_off-requires-clause-room c =
-    let day = c.args.day.now in
-    let z = sizes_of day.case.now day.nurse in
-    let first = c.loop-run.run * day.shift_runs in
-    let inside = row_inside c.loop-run.run z.run z.shift_run (omega (arith, c.requires.day.runs, c.loop-run-test.true)) in
-    let at = ap (λ q. c.loop-run.run * q + q) c.requires.day.shift_runs in
-    omega (arith, length-between c.loop-run.here first (first + day.shift_runs) (omega (arith, inside, at, c.loop-run.invariant.long, c.requires.room)), c.requires.day.shift_runs)
-
-pub returns-clause-counted : goal.returns-clause-counted
-returns-clause-counted c =
-    let day = c.args.day.now in
-    let z = sizes_of day.case.now day.nurse in
-    let size = z.shift_run * length day.offers.now in
-    omega (arith, all_counted c.loop-run.run z.run size c.args.meter.now c.loop-run.meter (omega (arith, c.requires.day.runs, c.loop-run.auto.run-end, c.loop-run-test.false)) c.loop-run.invariant.counted)
+pub returns-clause-set : goal.returns-clause-set
+returns-clause-set c = all_set c.args.day.now.runs c.requires.room c.loop-run.invariant (omega (arith, c.loop-run.auto.run-end, c.loop-run-test.false))

@@ -1,6 +1,6 @@
 use Rattle.std.proofs.Common.{arith}
-use Rattle.roster_floors.proofs.AfterOff.{off_inside}
+use Rattle.roster_floors.proofs.Places.{rest_inside}
 use Rattle.roster_floors.proofs.shift.after_shift.Goals as goal
 
-pub bounds-next-first : goal.bounds-next-first
-bounds-next-first c = omega (arith, off_inside c.args.day.now.case.now c.args.day.now c.requires.day 0 c.min.result c.cap.result (omega arith) c.cap.ensures, c.requires.next.count)
+pub bounds-day-first : goal.bounds-day-first
+bounds-day-first c = rest_inside c.args.day.now c.min.result 0 (omega (arith, c.min.ensures, c.cap.ensures))
