@@ -9,7 +9,7 @@ use Rattle.roster_offers.specs.ByStates.{best_after}
 use Rattle.roster_offers.specs.Cheapest.{Priced, cheaper, cheapest, raised}
 use Rattle.roster_offers.specs.Offers.{best_of_offers, offer_step}
 use Rattle.roster_offers.proofs.Cheapest.{cheaper_none, cheapest_raised, grouped}
-use Rattle.roster_partial.specs.declared.day.LimitedSearch.{LimitedSearch}
+use Rattle.roster_partial.specs.declared.limited.LimitedSearch.{LimitedSearch}
 use Rattle.roster_partial.specs.declared.rows.Entry.{Entry}
 use Rattle.roster_partial.specs.Rows.{Days, IsEntryOf, IsLinked, best_by, best_of, entry_numbered, offer_numbered, offers_to, within}
 use Rattle.roster_partial.specs.Searches.{days_on}
@@ -93,14 +93,6 @@ module _ (limited : LimitedSearch) (day first : ℕ) (rows : List Entry) (inside
   pub entry_of_day : (before : ℕ) → first ≤ before → before < length rows → All (IsEntryOf (days_on limited day (take first rows))) (drop first rows) → IsEntryOf (days_on limited day rows) (entry_numbered rows before)
   entry_of_day before from below are =
       entry_of_all (entry_numbered rows before) (subst (IsEntryOf (days_on limited day (take first rows))) (place_after first rows before _ from) (are (before - first) _ (omega (arith, from, below, length-drop first rows))))
-
--- a partial row of the day, as it is read after others were put at the end
-module _ (limited : LimitedSearch) (day first before : ℕ) (rows now : List Entry) (front : take (length rows) now ≡ rows) (inside : first ≤ length rows) (from : first ≤ before) (below : before < length rows) (are : All (IsEntryOf (days_on limited day (take first rows))) (drop first rows)) where
-  pub same_entry : entry_numbered now before ≡ entry_numbered rows before
-  same_entry = sym (get_or-take (length rows) now before _ below) ∙ ap (λ xs. entry_numbered xs before) front
-
-  pub same_is : IsEntryOf (days_on limited day rows) (entry_numbered rows before)
-  same_is = entry_of_day limited day first rows inside before from below are
 
 -- ---- one partial row after the other
 

@@ -1,12 +1,16 @@
 -- A partial row with an offer more.
-use Rattle.std.proofs.Common.{◌≡◌, ◌∙◌, ◌+◌, ◌<◌, ◌≤◌, ℕ, suc, ap, arith, append_assoc, length, List, [], ◌∷◌, ◌++◌, None, Some, refl, slice_index_or, sym, take}
-use Rattle.std.proofs.lemmas.List.{get_or-take, get_or_default}
+use Rattle.std.proofs.Common.{◌≡◌, ◌∙◌, ◌+◌, ◌<◌, ℕ, suc, ap, arith, append_assoc, length, List, [], ◌∷◌, ◌++◌, None, Option, Some, refl, slice_index_or, sym}
+use Rattle.std.proofs.lemmas.List.{get_or_default}
 use Rattle.roster_rules.specs.Prefix.{Summary}
 use Rattle.roster_offers.specs.declared.offer.Offer.{Offer}
 use Rattle.roster_offers.specs.ByStates.{best_after}
 use Rattle.roster_offers.specs.Cheapest.{Priced, raised}
-use Rattle.roster_offers.specs.Offers.{best_of_offers, offer_step}
+use Rattle.roster_offers.specs.Offers.{best_of_offers, dearer, offer_step}
 use Rattle.roster_offers.specs.Lists.{offers_on}
+use Rattle.roster_instance.specs.Choices.{shift_of}
+use Rattle.roster_instance.specs.Meaning.{Meaning}
+use Rattle.roster_instance.specs.declared.choice.Shift.{Shift}
+use Rattle.roster_state.specs.Step.{step_of}
 use Rattle.arrayvec.specs.ArrayVec.{ArrayVec}
 use Rattle.roster_partial.specs.declared.rows.Entry.{Entry}
 use Rattle.roster_partial.specs.Rows.{Days, best_by, best_of, entry_numbered, offer_numbered, offers_to, within}
@@ -49,8 +53,9 @@ module _ (days : Days) (d : ℕ) (e : Entry) (x : Offer) where
 
 -- ---- what is read
 
-pub taken_entry : (rows : List Entry) (end k : ℕ) (e : Entry) → k < end → end ≤ length rows → e ≡ slice_index_or rows k e → entry_numbered (take end rows) k ≡ e
-taken_entry rows end k e below inside is = get_or-take end rows k _ below ∙ get_or_default rows k _ e (omega (arith, below, inside)) ∙ sym is
-
 pub read_day : (offers : List (ArrayVec Offer)) (day : ℕ) (o : ArrayVec Offer) → day < length offers → o ≡ slice_index_or offers day o → offers_on offers day ≡ o.items
 read_day offers day o inside is = ap (λ o. o.items) (get_or_default offers day _ o inside ∙ sym is)
+
+-- the step by an offer, as it is taken
+pub read_step : (c : Meaning) (n day : ℕ) (s state : Summary) (x wanted : Offer) (shift : Option Shift) (step : Option (Summary × ℕ)) → x ≡ wanted → state ≡ s → shift ≡ shift_of x.choice → step ≡ step_of c n day state shift → offer_step c n day s wanted ≡ dearer x.price step
+read_step c n day s state x wanted shift step same is shift_is step_is = ap (offer_step c n day s) (sym same) ∙ ap (dearer x.price) ((λ i. step_of c n day (sym is i) (sym shift_is i)) ∙ sym step_is)

@@ -10,7 +10,7 @@ use Rattle.roster_offers.specs.declared.offer.Offer.{Offer}
 use Rattle.roster_partial.specs.Rows.{offer_numbered}
 
 -- these are places of offers, and where no row goes on by a forbidden offer the cheapest is by one of them
-pub record IsAllowed (c : Meaning) (last : Option Shift) (offers : List Offer) (places : List ℕ) : Type 0 where
+pub record MayFollow (c : Meaning) (last : Option Shift) (offers : List Offer) (places : List ℕ) : Type 0 where
   pub inside : All (λ k. k < length offers) places
   pub few : length places ≤ length offers
   pub all : (by : Offer → Priced (List Offer)) → ((x : Offer) → forbids c.successions last (shift_of x.choice) ≡ true → by x ≡ None) → cheapest by (map (offer_numbered offers) places) ≡ cheapest by offers
@@ -21,4 +21,4 @@ told_after allowed last = slice_index_or allowed (shift_digit last) None
 
 -- for each last shift of which places are told, these are the ones that may follow it
 abbrev pub AreTold : Meaning → List Offer → List (Option (ArrayVec ℕ)) → Type 0
-AreTold c offers allowed = (last : Option Shift) → IfSome (told_after allowed last) (λ places. IsAllowed c last offers places.items)
+AreTold c offers allowed = (last : Option Shift) → IfSome (told_after allowed last) (λ places. MayFollow c last offers places.items)

@@ -1,12 +1,13 @@
 -- Partial rows in a list, in the order of rows, those of one day after those of the day before (our own).
-use Rattle.std.specs.Prelude.{◌≡◌, ℕ, zero, suc, ◌+◌, ◌*◌, ◌/◌, ◌%◌, ◌<◌, ◌≤◌, List, [], ◌∷◌, ◌++◌, length, nat_lt, slice_index_or, if◌then◌else◌, true, Some, None}
+use Rattle.std.specs.Prelude.{◌≡◌, ℕ, zero, suc, ◌+◌, ◌*◌, ◌/◌, ◌%◌, ◌<◌, ◌≤◌, All, List, [], ◌∷◌, ◌++◌, drop, length, nat_lt, slice_index_or, take, if◌then◌else◌, true, Some, None}
 use Rattle.roster_instance.specs.declared.choice.Choice.TheVariants.{Off}
 use Rattle.roster_instance.specs.Meaning.{Meaning}
 use Rattle.roster_rules.specs.Prefix.{Summary}
 use Rattle.roster_state.specs.Codes.{fits_sizes, shift_numbered, sizes_of}
 use Rattle.roster_offers.specs.declared.offer.Offer.{Offer}
 use Rattle.roster_offers.specs.ByStates.{best_after}
-use Rattle.roster_offers.specs.Cheapest.{Priced, raised}
+use Rattle.roster_offers.specs.Cheapest.{Priced, cheapest, raised}
+use Rattle.roster_offers.specs.Lists.{no_row}
 use Rattle.roster_offers.specs.Offers.{best_of_offers, offer_step}
 use Rattle.roster_partial.specs.declared.rows.Entry.{Entry}
 
@@ -52,6 +53,13 @@ rows_to cells (suc n) = rows_to cells n ++ entry_in cells n ∷ []
 -- all of them
 unfoldable pub rows_in : List ℕ → List Entry
 rows_in cells = rows_to cells (count_in cells)
+
+-- those before a place, and those from it on
+abbrev pub earlier_in : List ℕ → ℕ → List Entry
+earlier_in cells first = take first (rows_in cells)
+
+abbrev pub day_in : List ℕ → ℕ → List Entry
+day_in cells first = drop first (rows_in cells)
 
 -- ---- what an entry stands for
 
@@ -112,6 +120,15 @@ best_of days e = within days.limit (best_with days.case days.nurse days.offers d
 pub record IsEntryOf (days : Days) (e : Entry) : Type 0 where
   pub fits : fits_sizes (sizes_of days.case days.nurse) e.state ≡ true
   pub linked : IsLinked days.offers days.earlier days.day e
+
+-- the entries from a place on are such, and the limit is below the cost of no row
+pub record AreMadeFor (days : Days) (cells : List ℕ) (first : ℕ) : Type 0 where
+  pub low : days.limit < no_row
+  pub entries : All (IsEntryOf days) (day_in cells first)
+
+-- the best row of two lists of entries is the same
+abbrev pub HaveSameBest : Days → (xs ys : List Entry) → Type 0
+HaveSameBest days xs ys = cheapest (best_of days) xs ≡ cheapest (best_of days) ys
 
 -- ---- one day
 

@@ -1,11 +1,11 @@
 //! Which offers of a day may follow a last shift.
 
-ghost use Rattle.std.specs.Prelude.{◌≡◌, ◌+◌, ◌<◌, ◌≤◌, IfSome, IsNone, IsSome, IsSomeAnd, List, length};
+ghost use Rattle.std.specs.Prelude.{◌≡◌, ◌+◌, ◌<◌, ◌≤◌, IsNone, IsSome, IsSomeAnd, List, Some, length};
 ghost use Rattle.roster_bundle.specs.Limits.{greatest_u64};
 ghost use Rattle.roster_instance.specs.Meaning.{Meaning};
 ghost use Rattle.roster_offers.specs.declared.offer.Offer.{Offer};
 ghost use Rattle.roster_state.specs.Codes.{shift_digit};
-ghost use Rattle.roster_partial.specs.Allowed.{AreTold, IsAllowed, told_after};
+ghost use Rattle.roster_partial.specs.Allowed.{AreTold, MayFollow, told_after};
 ghost use Rattle.roster_partial.specs.Rates.{most_offers};
 
 use arrayvec::ArrayVec;
@@ -37,10 +37,13 @@ pub fn allow(case: &Case, state: State, offers: &[Offer], allowed: &mut Allowed,
     requires each { AreTold case.now offers.now allowed.old }
     ensures long { length allowed.new ≡ length allowed.old }
     ensures each { AreTold case.now offers.now allowed.new }
-    ensures looked { IsNone (told_after allowed.old state.last) → IsSomeAnd (told_after allowed.new state.last)
+    ensures looked { IsNone (told_after allowed.old state.last) →
+        IsSomeAnd (told_after allowed.new state.last)
         (λ places. meter.new + length places.items ≡ meter.old + length offers.now) }
     ensures kept { IsSome (told_after allowed.old state.last) →
         (allowed.new ≡ allowed.old) × (meter.new ≡ meter.old) }
+    ensures told { IsSomeAnd (told_after allowed.new state.last) (λ places. (meter.old ≤ meter.new)
+        × (meter.new + length places.items ≤ meter.old + length offers.now)) }
 {
     let digit = state.last_number() as usize;
     if allowed[digit].is_none() {
@@ -52,7 +55,7 @@ pub fn allow(case: &Case, state: State, offers: &[Offer], allowed: &mut Allowed,
 pub fn places_after(allowed: &Allowed, state: State) -> &[u8]
     requires digit { shift_digit state.last < length allowed.now }
     requires told { IsSome (told_after allowed.now state.last) }
-    ensures { IfSome (told_after allowed.now state.last) (λ places. result.now ≡ places.items) }
+    ensures { told_after allowed.now state.last ≡ Some (record { items = result.now }) }
 {
     let places = allowed[state.last_number() as usize].as_ref();
     places.unwrap().as_slice()
@@ -62,7 +65,7 @@ pub fn places_after(allowed: &Allowed, state: State) -> &[u8]
 fn allowed_after(case: &Case, state: State, offers: &[Offer], meter: &mut Meter) -> Places
     requires few { length offers.now ≤ most_offers }
     requires room { meter.old + length offers.now ≤ greatest_u64 }
-    ensures allowed { IsAllowed case.now state.last offers.now result.items }
+    ensures allowed { MayFollow case.now state.last offers.now result.items }
     ensures counted { meter.new + length result.items ≡ meter.old + length offers.now }
 {
     let mut places = ArrayVec::new();

@@ -2,7 +2,7 @@
 //!
 //! Only time depends on it: whichever rates and limits a search begins with, it finds the same row.
 
-use crate::rates::{Aim, Guess};
+use crate::rates::{BestFloors, Guess};
 use roster_offers::RowSearch;
 use roster_rules::{MAX_CONTRACTS, MAX_NURSES};
 
@@ -85,18 +85,18 @@ impl Guesses {
         }
     }
 
-    /// Keeps what a search tells that had this aim and found a row at this cost. Where the two numbers of its aim were farther apart than
+    /// Keeps what a search tells that had these floors and found a row at this cost. Where their two numbers were farther apart than
     /// those of the nurse's last search, it takes some searches until that is held good enough.
-    pub(crate) fn learn(&mut self, search: &RowSearch<'_>, aim: &Aim, cost: u32) {
-        let spread = aim.high.saturating_sub(aim.low);
+    pub(crate) fn learn(&mut self, search: &RowSearch<'_>, best: &BestFloors, cost: u32) {
+        let spread = best.high.saturating_sub(best.low);
         let spread = match self.nurses.get(search.nurse) {
             Some(Some(before)) => spread.min(before.spread.saturating_add(1)),
             _ => spread,
         };
         let guess = Guess {
-            rates: aim.rates,
+            rates: best.rates,
             spread,
-            gap: cost.saturating_sub(aim.low),
+            gap: cost.saturating_sub(best.low),
             is_own: true,
         };
         if let Some(nurse) = self.nurses.get_mut(search.nurse) {

@@ -6,11 +6,12 @@
 //! of `roster_search`. A `Workspace` is what a search writes into: what it has room for is defined in `specs/Workspaces.antt`.
 #![tactic(auto)]
 
-mod add;
+mod all_days;
 mod allowed;
-mod day;
-mod days;
 mod guesses;
+mod limited;
+mod one_day;
+mod one_offer;
 mod rates;
 mod rows;
 mod search;

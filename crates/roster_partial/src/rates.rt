@@ -1,20 +1,20 @@
 //! The rates at which a search by partial rows has its floors.
 
-ghost use Rattle.std.specs.Prelude.{◌≡◌, ◌+◌, ◌-◌, ◌*◌, ◌^◌, ◌<◌, ◌≤◌, IfSome, IsNone, length, true};
+ghost use Rattle.std.specs.Prelude.{◌≡◌, ◌+◌, ◌-◌, ◌^◌, ◌≤◌, ◌<◌, IfSome, IsNone, true};
 ghost use Rattle.roster_bundle.specs.Limits.{greatest_u64};
-ghost use Rattle.roster_instance.specs.Meaning.{day_count, nurse_count};
-ghost use Rattle.roster_offers.specs.Lists.{AreOffers, offers_on};
-ghost use Rattle.roster_state.specs.Codes.{fits_sizes, sizes_of};
-ghost use Rattle.roster_floors.specs.Floors.{AreFloors, AreSmall, floor_count, floor_steps};
+ghost use Rattle.roster_instance.specs.Meaning.{day_count};
+ghost use Rattle.roster_offers.specs.Lists.{offers_on};
+ghost use Rattle.roster_floors.specs.Floors.{AreSmall, search_steps};
 ghost use Rattle.roster_floors.specs.Least.{AreReady};
 ghost use Rattle.roster_partial.specs.Counts.{CountsPartial, CountsSets};
-ghost use Rattle.roster_partial.specs.Rates.{IsTried, NoRoom, most_offers, trial_steps};
+ghost use Rattle.roster_partial.specs.Rates.{AreSetAt, FitsNurse, IsTried, NoRoom, most_offers, row_steps, trial_steps};
 
+use crate::limited::Bounded;
 use roster_floors::{Floors, Rates, at_least, floor_cells, floor_steps, set_floors};
 use roster_offers::{MOST_OFFERS, RowSearch};
 use roster_rules::Case;
 use roster_rules::weights::{ASSIGNMENT, WEEKEND};
-use roster_state::{Meter, NurseDays, State, end_cost, extend_by, start};
+use roster_state::{Meter, NurseDays, State, end_cost, start};
 use std::cmp::min;
 
 /// How many more pairs of rates are tried at most: fewer where an earlier search tells where to begin.
@@ -42,7 +42,7 @@ const CLOSE: u32 = 5;
 #[derive(Clone, Copy)]
 pub struct Guess {
     pub rates: Rates,
-    /// How far apart the two numbers of its aim were.
+    /// How far apart the two numbers of its floors were.
     pub spread: u32,
     /// How much more than the least that a row can cost the best row did.
     pub gap: u32,
@@ -50,10 +50,10 @@ pub struct Guess {
     pub is_own: bool,
 }
 
-/// The rates at which floors were set, with two numbers between which the best row's cost lies, in penalty points: what each row costs
+/// The floors that are set: their rates, with two numbers between which the best row's cost lies, in penalty points: what each row costs
 /// at least, and what one costs.
 #[derive(Clone, Copy)]
-pub struct Aim {
+pub struct BestFloors {
     pub rates: Rates,
     pub low: u32,
     /// The greatest number where no row was found.
@@ -64,39 +64,32 @@ pub struct Aim {
 /// row that follows the floors has too many assignments or worked weekends, and lowered where it has fewer than it may. None where there
 /// isn't room for the floors, or to set them twice and follow two rows.
 pub fn set_best_floors(
-    search: &RowSearch<'_>,
+    bounded: &Bounded<'_>,
     guess: Option<Guess>,
-    most: u64,
     floors: &mut [u32],
     meter: &mut Meter,
-) -> Option<Aim>
-    requires nurse { search.now.nurse < nurse_count search.now.case.now }
-    requires offers { AreOffers search.now.case.now search.now.nurse search.now.offers.now }
-    requires room { meter.old ≤ most }
-    ensures small { IfSome result (λ aim. AreSmall aim.rates) }
-    ensures floors { IfSome result (λ aim. AreFloors search.now.case.now search.now.nurse aim.rates
-        (offers_on search.now.offers.now) floors.new) }
-    ensures inside { IfSome result (λ aim. (day_count search.now.case.now + 1) * floor_count
-        (sizes_of search.now.case.now search.now.nurse) ≤ length floors.new) }
-    ensures counted { CountsPartial search.now.case.now search.now.nurse
-        (offers_on search.now.offers.now) meter.old meter.new }
-    ensures most { meter.new ≤ most }
-    ensures none { IsNone result
-        → NoRoom search.now.case.now search.now.nurse (offers_on search.now.offers.now) floors.old
-        (most - meter.old) }
+) -> Option<BestFloors>
+    requires room { meter.old ≤ bounded.now.most }
+    ensures set { IfSome result (λ best. AreSetAt bounded.now.search best.rates floors.new) }
+    ensures counted { CountsPartial bounded.now.search.case.now bounded.now.search.nurse
+        (offers_on bounded.now.search.offers.now) meter.old meter.new }
+    ensures most { meter.new ≤ bounded.now.most }
+    ensures none { IsNone result →
+        NoRoom bounded.now.search floors.old (bounded.now.most - meter.old) }
 {
-    let each = steps_of_trial(search);
+    let (search, most) = (&bounded.search, bounded.most);
+    let each = steps_of_trial(bounded);
     if floors.len() < floor_cells(search.case, search.nurse) || most - meter.count() < 2 * each {
         return None;
     }
-    let plan = plan_by(search, guess, most, meter);
+    let plan = plan_by(bounded, guess, meter);
     set_floors(search, plan.rates, floors, meter);
-    let first = trial(search, plan.rates, floors, meter);
-    let last = try_rates(search, plan, first, floors, meter);
+    let first = trial(bounded, plan.rates, floors, meter);
+    let last = try_rates(bounded, plan, first, floors, meter);
     if !are_same(last.rates, last.set) {
         set_floors(search, last.rates, floors, meter);
     }
-    Some(Aim {
+    Some(BestFloors {
         rates: last.rates,
         low: last.low,
         high: last.high,
@@ -104,68 +97,59 @@ pub fn set_best_floors(
 }
 
 /// How many steps it takes at most to set the floors and to follow a row.
-fn steps_of_trial(search: &RowSearch<'_>) -> u64
-    requires nurse { search.now.nurse < nurse_count search.now.case.now }
-    requires offers { AreOffers search.now.case.now search.now.nurse search.now.offers.now }
-    ensures steps { result
-        ≡ trial_steps search.now.case.now search.now.nurse (offers_on search.now.offers.now) }
+fn steps_of_trial(bounded: &Bounded<'_>) -> u64
+    ensures steps { result ≡ trial_steps bounded.now.search }
     ensures within { result ≤ 2 ^ 40 }
 {
+    let search = &bounded.search;
     floor_steps(search) + MOST_OFFERS as u64 * search.case.days() as u64
 }
 
 // ---- rates, one pair after another
 
-/// How rates are tried: which first, and by how many points the next ones differ; how many more at most, how close a row to the floors is
-/// good enough, and what the meter may count to.
+/// How rates are tried: which first, and by how many points the next ones differ; how many more at most, and how close a row to the floors
+/// is good enough.
 #[derive(Clone, Copy)]
-struct Plan {
+struct TrialPlan {
     rates: Rates,
     step: u32,
     trials: usize,
     close: u32,
-    most: u64,
 }
 
 /// How rates are tried after an earlier search; where there was none, the first ones are those by the row of the cheapest steps.
-fn plan_by(search: &RowSearch<'_>, guess: Option<Guess>, most: u64, meter: &mut Meter) -> Plan
-    requires nurse { search.now.nurse < nurse_count search.now.case.now }
-    requires offers { AreOffers search.now.case.now search.now.nurse search.now.offers.now }
-    requires room { meter.old + most_offers * day_count search.now.case.now ≤ greatest_u64 }
+fn plan_by(bounded: &Bounded<'_>, guess: Option<Guess>, meter: &mut Meter) -> TrialPlan
+    requires room { meter.old + row_steps bounded.now.search ≤ greatest_u64 }
     ensures small { AreSmall result.rates }
     ensures trials { result.trials ≤ 11 }
-    ensures most { result.most ≡ most }
-    ensures counted { (meter.old ≤ meter.new) × (meter.new ≤ meter.old
-        + most_offers * day_count search.now.case.now) }
+    ensures counted { (meter.old ≤ meter.new)
+        × (meter.new ≤ meter.old + row_steps bounded.now.search) }
 {
     let none = Rates { day: 0, weekend: 0 };
-    let first = first_trials(search.case);
+    let first = first_trials(bounded.search.case);
     match guess {
-        Some(guess) if guess.is_own => Plan {
+        Some(guess) if guess.is_own => TrialPlan {
             rates: within_range(guess.rates),
             step: NEXT_STEP,
             trials: MOST_TRIALS_FROM_SAME,
             close: guess.spread.saturating_add(CLOSE),
-            most,
         },
-        Some(guess) => Plan {
+        Some(guess) => TrialPlan {
             rates: within_range(guess.rates),
             step: NEXT_STEP,
             trials: min(MOST_TRIALS_FROM_OTHER, first),
             close: CLOSE,
-            most,
         },
-        None => Plan {
+        None => TrialPlan {
             rates: rates_after(
-                search,
+                bounded,
                 none,
                 ASSIGNMENT + WEEKEND,
-                follow(search, None, meter),
+                follow(bounded, None, meter),
             ),
             step: FIRST_STEP,
             trials: min(MOST_TRIALS, first),
             close: CLOSE,
-            most,
         },
     }
 }
@@ -201,24 +185,18 @@ struct Tried {
 }
 
 /// What floors tell that were just set, where no others were tried.
-fn trial(search: &RowSearch<'_>, rates: Rates, floors: &[u32], meter: &mut Meter) -> Tried
-    requires nurse { search.now.nurse < nurse_count search.now.case.now }
-    requires offers { AreOffers search.now.case.now search.now.nurse search.now.offers.now }
-    requires small { AreSmall rates }
-    requires floors { AreFloors search.now.case.now search.now.nurse rates
-        (offers_on search.now.offers.now) floors.now }
-    requires inside { (day_count search.now.case.now + 1) * floor_count
-        (sizes_of search.now.case.now search.now.nurse) ≤ length floors.now }
-    requires room { meter.old + most_offers * day_count search.now.case.now ≤ greatest_u64 }
+fn trial(bounded: &Bounded<'_>, rates: Rates, floors: &[u32], meter: &mut Meter) -> Tried
+    requires set { AreSetAt bounded.now.search rates floors.now }
+    requires room { meter.old + row_steps bounded.now.search ≤ greatest_u64 }
     ensures rates { (result.rates ≡ rates) × (result.set ≡ rates) }
-    ensures counted { (meter.old ≤ meter.new) × (meter.new ≤ meter.old
-        + most_offers * day_count search.now.case.now) }
+    ensures counted { (meter.old ≤ meter.new)
+        × (meter.new ≤ meter.old + row_steps bounded.now.search) }
 {
     let RowSearch {
         case,
         nurse,
         offers,
-    } = *search;
+    } = bounded.search;
     // (a search by itself, since the floors are lent for a shorter time)
     let here = RowSearch {
         case,
@@ -228,7 +206,7 @@ fn trial(search: &RowSearch<'_>, rates: Rates, floors: &[u32], meter: &mut Meter
     let floors = Floors::of(&here, rates, floors);
     let (state, _) = start(case, nurse);
     let low = at_least(&floors, 0, &state);
-    let followed = follow(&here, Some(&floors), meter);
+    let followed = follow(bounded, Some(&floors), meter);
     let high = match followed {
         Some(row) => row.cost,
         None => u32::MAX,
@@ -245,40 +223,32 @@ fn trial(search: &RowSearch<'_>, rates: Rates, floors: &[u32], meter: &mut Meter
 /// Tries more rates, one pair after another, as long as others may be better and there is room for the steps, those of setting the floors
 /// once more included. Where they aren't better, the next ones are half as far from the best ones.
 fn try_rates(
-    search: &RowSearch<'_>,
-    plan: Plan,
+    bounded: &Bounded<'_>,
+    plan: TrialPlan,
     first: Tried,
     floors: &mut [u32],
     meter: &mut Meter,
 ) -> Tried
-    requires nurse { search.now.nurse < nurse_count search.now.case.now }
-    requires offers { AreOffers search.now.case.now search.now.nurse search.now.offers.now }
-    requires tried { IsTried search.now.case.now search.now.nurse (offers_on search.now.offers.now)
-        floors.old first }
-    requires room { meter.old
-        + floor_steps search.now.case.now search.now.nurse (offers_on search.now.offers.now)
-        ≤ plan.most }
-    ensures tried { IsTried search.now.case.now search.now.nurse (offers_on search.now.offers.now)
-        floors.new result }
-    ensures counted { CountsSets search.now.case.now search.now.nurse
-        (offers_on search.now.offers.now) plan.trials meter.old meter.new }
-    ensures most { meter.new
-        + floor_steps search.now.case.now search.now.nurse (offers_on search.now.offers.now)
-        ≤ plan.most }
+    requires tried { IsTried bounded.now.search floors.old first }
+    requires room { meter.old + search_steps bounded.now.search ≤ bounded.now.most }
+    ensures tried { IsTried bounded.now.search floors.new result }
+    ensures counted { CountsSets bounded.now.search.case.now bounded.now.search.nurse
+        (offers_on bounded.now.search.offers.now) plan.trials meter.old meter.new }
+    ensures most { meter.new + search_steps bounded.now.search ≤ bounded.now.most }
 {
-    let each = steps_of_trial(search);
+    let each = steps_of_trial(bounded);
     let mut tried = first;
     let mut step = plan.step;
     'trials: for _trial in 0..plan.trials {
-        let rates = rates_after(search, tried.rates, step, tried.followed);
+        let rates = rates_after(bounded, tried.rates, step, tried.followed);
         let is_done = tried.high.saturating_sub(tried.low) <= plan.close
             || are_same(rates, tried.rates)
             || are_same(rates, tried.set);
-        if is_done || plan.most - meter.count() < 2 * each {
+        if is_done || bounded.most - meter.count() < 2 * each {
             return tried;
         }
         let low = tried.low;
-        tried = try_more(search, tried, rates, floors, meter);
+        tried = try_more(bounded, tried, rates, floors, meter);
         if tried.low == low {
             step /= 2;
         }
@@ -288,29 +258,22 @@ fn try_rates(
 
 /// Tries rates once more. They are the best ones if the start's floor is higher at them.
 fn try_more(
-    search: &RowSearch<'_>,
+    bounded: &Bounded<'_>,
     tried: Tried,
     rates: Rates,
     floors: &mut [u32],
     meter: &mut Meter,
 ) -> Tried
-    requires nurse { search.now.nurse < nurse_count search.now.case.now }
-    requires offers { AreOffers search.now.case.now search.now.nurse search.now.offers.now }
     requires small { AreSmall rates }
-    requires tried { IsTried search.now.case.now search.now.nurse (offers_on search.now.offers.now)
-        floors.old tried }
-    requires room { meter.old
-        + trial_steps search.now.case.now search.now.nurse (offers_on search.now.offers.now)
-        ≤ greatest_u64 }
-    ensures tried { IsTried search.now.case.now search.now.nurse (offers_on search.now.offers.now)
-        floors.new result }
-    ensures counted { CountsSets search.now.case.now search.now.nurse
-        (offers_on search.now.offers.now) 1 meter.old meter.new }
-    ensures few { meter.new ≤ meter.old
-        + trial_steps search.now.case.now search.now.nurse (offers_on search.now.offers.now) }
+    requires tried { IsTried bounded.now.search floors.old tried }
+    requires room { meter.old + trial_steps bounded.now.search ≤ greatest_u64 }
+    ensures tried { IsTried bounded.now.search floors.new result }
+    ensures counted { CountsSets bounded.now.search.case.now bounded.now.search.nurse
+        (offers_on bounded.now.search.offers.now) 1 meter.old meter.new }
+    ensures few { meter.new ≤ meter.old + trial_steps bounded.now.search }
 {
-    set_floors(search, rates, floors, meter);
-    let other = trial(search, rates, floors, meter);
+    set_floors(&bounded.search, rates, floors, meter);
+    let other = trial(bounded, rates, floors, meter);
     let high = min(tried.high, other.high);
     if other.low > tried.low {
         return Tried { high, ..other };
@@ -323,15 +286,14 @@ fn try_more(
 }
 
 /// The rates to try after these: so much more where the row that followed has too many, so much less where it has fewer than it may.
-fn rates_after(search: &RowSearch<'_>, rates: Rates, step: u32, followed: Option<Followed>) -> Rates
-    requires nurse { search.now.nurse < nurse_count search.now.case.now }
+fn rates_after(bounded: &Bounded<'_>, rates: Rates, step: u32, followed: Option<Followed>) -> Rates
     requires small { AreSmall rates }
     ensures small { AreSmall result }
 {
     let Some(row) = followed else {
         return rates;
     };
-    let rules = search.case.contract_rules(search.nurse);
+    let rules = bounded.search.case.contract_rules(bounded.search.nurse);
     let most_days = rules.total.greatest as u32;
     let most_weekends = rules.weekends as u32;
     Rates {
@@ -374,27 +336,21 @@ struct Followed {
 
 /// One day of a row: the state after it, and what it costs.
 #[derive(Clone, Copy)]
-struct Step {
+struct DayStep {
     state: State,
     cost: u32,
 }
 
 /// Follows floors from the start on, on each day by the step that is cheapest with the floor after it; by the cheapest step where there
 /// are no floors yet. None where a day has no step.
-fn follow(
-    search: &RowSearch<'_>,
-    floors: Option<&Floors<'_>>,
-    meter: &mut Meter,
-) -> Option<Followed>
-    requires nurse { search.now.nurse < nurse_count search.now.case.now }
-    requires offers { AreOffers search.now.case.now search.now.nurse search.now.offers.now }
-    requires ready { IfSome floors (λ at. AreReady at.now × (at.now.search ≡ search.now)) }
-    requires room { meter.old + most_offers * day_count search.now.case.now ≤ greatest_u64 }
-    ensures counted { (meter.old ≤ meter.new) × (meter.new ≤ meter.old
-        + most_offers * day_count search.now.case.now) }
+fn follow(bounded: &Bounded<'_>, floors: Option<&Floors<'_>>, meter: &mut Meter) -> Option<Followed>
+    requires ready { IfSome floors
+        (λ at. AreReady at.now × (at.now.search ≡ bounded.now.search)) }
+    requires room { meter.old + row_steps bounded.now.search ≤ greatest_u64 }
+    ensures counted { (meter.old ≤ meter.new)
+        × (meter.new ≤ meter.old + row_steps bounded.now.search) }
 {
-    let case = search.case;
-    let nurse = search.nurse;
+    let RowSearch { case, nurse, .. } = bounded.search;
     let (mut state, _) = start(case, nurse);
     let mut row = Followed {
         cost: 0,
@@ -402,7 +358,7 @@ fn follow(
         weekends: state.weekends() as u32,
     };
     for day in 0..case.days() {
-        let step = best_step(search, floors, day, state, meter)?;
+        let step = best_step(bounded, floors, day, state, meter)?;
         row = with_step(row, day, &state, &step);
         state = step.state;
     }
@@ -411,7 +367,7 @@ fn follow(
 }
 
 /// The row with one day more.
-fn with_step(row: Followed, day: u16, before: &State, step: &Step) -> Followed {
+fn with_step(row: Followed, day: u16, before: &State, step: &DayStep) -> Followed {
     let is_worked = step.state.last_number() > 0;
     // A weekend is worked from its first worked day on.
     let begins_weekend = match day % 7 {
@@ -429,51 +385,46 @@ fn with_step(row: Followed, day: u16, before: &State, step: &Step) -> Followed {
 /// The step from a state by an offer of a day that is cheapest, with the floor after it where there is one, of equally cheap ones the
 /// first. None where the last shift forbids each of them.
 fn best_step(
-    search: &RowSearch<'_>,
+    bounded: &Bounded<'_>,
     floors: Option<&Floors<'_>>,
     day: u16,
     state: State,
     meter: &mut Meter,
-) -> Option<Step>
-    requires nurse { search.now.nurse < nurse_count search.now.case.now }
-    requires offers { AreOffers search.now.case.now search.now.nurse search.now.offers.now }
-    requires ready { IfSome floors (λ at. AreReady at.now × (at.now.search ≡ search.now)) }
-    requires day { day < day_count search.now.case.now }
-    requires fits { fits_sizes (sizes_of search.now.case.now search.now.nurse) state ≡ true }
+) -> Option<DayStep>
+    requires ready { IfSome floors
+        (λ at. AreReady at.now × (at.now.search ≡ bounded.now.search)) }
+    requires day { day < day_count bounded.now.search.case.now }
+    requires fits { FitsNurse bounded.now.search state }
     requires room { meter.old + most_offers ≤ greatest_u64 }
-    ensures fits { IfSome result (λ step. fits_sizes (sizes_of search.now.case.now search.now.nurse)
-        step.state ≡ true) }
+    ensures fits { IfSome result (λ step. FitsNurse bounded.now.search step.state) }
     ensures counted { (meter.old ≤ meter.new) × (meter.new ≤ meter.old + most_offers) }
 {
     let RowSearch {
         case,
         nurse,
         offers,
-    } = *search;
+    } = bounded.search;
     case.keeps_limits();
     let offers = offers[day as usize].as_slice();
-    let days = NurseDays {
-        case,
-        nurse,
-        rules: case.contract_rules(nurse),
-    };
+    let days = NurseDays::of(case, nurse);
+    let worked = days.worked(day, state);
     let mut best = None;
     let mut least = u64::MAX;
     for place in 0..offers.len() {
         let offer = offers[place];
         let shift = offer.choice.shift();
-        let Some((next, more)) = extend_by(&days, day, state, shift, meter) else {
+        let Some((next, more)) = days.extend(day, state, &worked, shift, meter) else {
             continue;
         };
         let cost = offer.price.saturating_add(more);
-        let rest = match floors {
+        let floor = match floors {
             Some(floors) => at_least(floors, day + 1, &next),
             None => 0,
         };
-        let whole = cost as u64 + rest as u64;
+        let whole = cost as u64 + floor as u64;
         if whole < least {
             least = whole;
-            best = Some(Step { state: next, cost });
+            best = Some(DayStep { state: next, cost });
         }
     }
     best

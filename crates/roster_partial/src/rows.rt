@@ -3,11 +3,10 @@
 //! The first cell says how many there are. Each takes four: what its days cost; the two runs of its state; the assignments and the worked
 //! weekends; and the place before, the place of the offer, and the last shift.
 
-ghost use Rattle.std.specs.Prelude.{◌≡◌, [], ◌∷◌, ◌++◌, ◌+◌, ◌*◌, ◌/◌, ◌%◌, ◌<◌, ◌≤◌, All, drop, length, slice_set, take, true, false};
-ghost use Rattle.roster_offers.specs.Cheapest.{cheapest};
+ghost use Rattle.std.specs.Prelude.{◌≡◌, [], ◌∷◌, ◌++◌, ◌+◌, ◌*◌, ◌/◌, ◌%◌, ◌<◌, ◌≤◌, All, length, slice_set, true, false};
 ghost use Rattle.roster_offers.specs.Lists.{no_row};
 ghost use Rattle.roster_state.specs.Codes.{shift_digit};
-ghost use Rattle.roster_partial.specs.Rows.{AreKept, Days, IsEntryOf, best_of, count_in, entry_numbered, most_rows, rows_in};
+ghost use Rattle.roster_partial.specs.Rows.{AreKept, AreMadeFor, Days, HaveSameBest, IsEntryOf, count_in, day_in, earlier_in, entry_numbered, most_rows, rows_in};
 
 use roster_search::NO_ROW;
 use roster_state::{Block, State};
@@ -159,7 +158,7 @@ fn mark_out(cells: &mut [u32], place: usize)
 /// Puts a partial row at the end of the list.
 #[inline(always)]
 pub fn push_row(cells: &mut [u32], more: &Entry)
-    requires room { 5 + 4 * count_in cells.old ≤ length cells.old }
+    requires cells { 5 + 4 * count_in cells.old ≤ length cells.old }
     requires few { count_in cells.old < most_rows }
     requires offer { more.now.offer < 16 }
     requires last { shift_digit more.now.state.last < 16 }
@@ -181,20 +180,19 @@ pub fn push_row(cells: &mut [u32], more: &Entry)
 /// row.
 #[inline(always)]
 pub fn leave_out(cells: &mut [u32], first: usize, place: usize, more: &Entry) -> bool
-    ghost days: { Days }
-    requires low { days.limit < no_row }
     requires kept { AreKept cells.old }
-    requires few { count_in cells.old ≤ most_rows }
     requires first { first ≤ count_in cells.old }
     requires last { shift_digit more.now.state.last < 16 }
-    requires entries { All (IsEntryOf days) (drop first (rows_in cells.old)) }
-    ensures stays { result ≡ false
-        → cheapest (best_of days) (drop first (rows_in cells.new) ++ more.now ∷ [])
-        ≡ cheapest (best_of days) (drop first (rows_in cells.old) ++ more.now ∷ []) }
-    ensures left_out { result ≡ true → cheapest (best_of days) (drop first (rows_in cells.new))
-        ≡ cheapest (best_of days) (drop first (rows_in cells.old) ++ more.now ∷ []) }
-    ensures entries { All (IsEntryOf days) (drop first (rows_in cells.new)) }
-    ensures front { take first (rows_in cells.new) ≡ take first (rows_in cells.old) }
+
+    // Whatever the list is made for, the best row stays the best.
+    ensures stays { result ≡ false → (days : Days) → AreMadeFor days cells.old first →
+        HaveSameBest days (day_in cells.new first ++ more.now ∷ [])
+        (day_in cells.old first ++ more.now ∷ []) }
+    ensures left_out { result ≡ true → (days : Days) → AreMadeFor days cells.old first →
+        HaveSameBest days (day_in cells.new first) (day_in cells.old first ++ more.now ∷ []) }
+    ensures entries { (days : Days) → AreMadeFor days cells.old first →
+        All (IsEntryOf days) (day_in cells.new first) }
+    ensures front { earlier_in cells.new first ≡ earlier_in cells.old first }
     ensures count { count_in cells.new ≡ count_in cells.old }
 {
     if place >= row_count(cells) - first {

@@ -1,21 +1,20 @@
 //! The search over a table of offers, by partial rows first.
 
-ghost use Rattle.std.specs.Prelude.{◌≡◌, ◌+◌, ◌-◌, ◌*◌, ◌/◌, ◌<◌, ◌≤◌, ℕ, IfSome, IsSome, None, length, min, take};
+ghost use Rattle.std.specs.Prelude.{◌≡◌, ◌+◌, ◌-◌, ◌/◌, ◌<◌, ◌≤◌, ℕ, IfSome, IsSome, None, length, min, take};
 ghost use Rattle.roster_bundle.specs.Limits.{greatest_u64};
-ghost use Rattle.roster_instance.specs.Meaning.{day_count, nurse_count};
+ghost use Rattle.roster_instance.specs.Meaning.{nurse_count};
 ghost use Rattle.roster_laws.specs.Greatest.{extension_count};
-ghost use Rattle.roster_offers.specs.Lists.{AreOffers, IsFound, best_over, no_row, offers_on};
+ghost use Rattle.roster_offers.specs.Lists.{AreOffers, IsFound, no_row};
 ghost use Rattle.roster_search.specs.Search.{HasTables};
-ghost use Rattle.roster_state.specs.Codes.{sizes_of};
-ghost use Rattle.roster_floors.specs.Floors.{AreFloors, AreSmall, floor_count};
 ghost use Rattle.roster_partial.specs.Counts.{CountsPartial, CountsSearch};
+ghost use Rattle.roster_partial.specs.Rates.{AreSetAt};
 ghost use Rattle.roster_partial.specs.Rows.{most_rows, within};
-ghost use Rattle.roster_partial.specs.Searches.{IsFull};
-ghost use Rattle.roster_partial.specs.declared.days.Within.TheVariants.{Dearer, Found, Full};
+ghost use Rattle.roster_partial.specs.Searches.{IsFull, best_in, days_in, offered};
+ghost use Rattle.roster_partial.specs.declared.all_days.Within.TheVariants.{Dearer, Found, Full};
 
-use crate::day::LimitedSearch;
-use crate::days::{Within, row_within};
+use crate::all_days::{Within, row_within};
 use crate::guesses::Guesses;
+use crate::limited::{Bounded, LimitedSearch};
 use crate::rates::{Guess, set_best_floors};
 use crate::rows::{MOST_ROWS, ROW_CELLS, SEEN, Seen};
 use crate::workspace::most_steps;
@@ -54,8 +53,9 @@ impl Hints {
         }
     }
 
-    /// Whether a search begins with partial rows: where setting the nurse's floors once takes no longer than the tables, which take at most
-    /// so many steps, and where earlier searches don't tell that this one goes to the tables.
+    /// Whether a search begins with partial rows. The tables search at once where the nurse has more floors than the steps that they take at
+    /// most, and in some searches after those in which partial rows found nothing for her (`Guesses::miss`): each call for these is one
+    /// fewer to come.
     fn begins(&mut self, search: &RowSearch<'_>, steps: u64) -> bool
         requires nurse { search.now.nurse < nurse_count search.now.case.now }
     {
@@ -80,24 +80,22 @@ pub fn search_row(
 ) -> u32
     requires nurse { search.now.nurse < nurse_count search.now.case.now }
     requires offers { AreOffers search.now.case.now search.now.nurse search.now.offers.now }
-    requires some { IsSome (best_over search.now.case.now search.now.nurse
-        (offers_on search.now.offers.now)) }
+    requires some { IsSome (best_in search.now) }
     requires tables { HasTables search.now.case.now search.now.nurse tables.old }
-    requires row_room { day_count search.now.case.now ≤ length row.old }
+    requires row_room { days_in search.now ≤ length row.old }
     requires room { meter.old + extension_count search.now.case.now
         search.now.nurse ≤ greatest_u64 }
 
     // The row, and its cost.
-    ensures best { IsFound (best_over search.now.case.now search.now.nurse
-        (offers_on search.now.offers.now)) result (take (day_count search.now.case.now) row.new) }
+    ensures best { IsFound (best_in search.now) result (take (days_in search.now) row.new) }
     ensures below { result < no_row }
     ensures length { length row.new ≡ length row.old }
 
     // What it takes.
-    ensures each_day { meter.old + day_count search.now.case.now ≤ meter.new }
+    ensures each_day { meter.old + days_in search.now ≤ meter.new }
     ensures counted { meter.new ≤ meter.old + extension_count search.now.case.now search.now.nurse }
-    ensures standing { CountsSearch search.now.case.now search.now.nurse
-        (offers_on search.now.offers.now) meter.old meter.new }
+    ensures standing { CountsSearch search.now.case.now search.now.nurse (offered search.now)
+        meter.old meter.new }
     ensures tables { tables.new ≡ tables.old }
 {
     stand_days(search, areas);
@@ -115,13 +113,6 @@ pub fn search_row(
     roster_search::search_row(search, areas, tables, row, meter)
 }
 
-/// A search by partial rows, with what the meter may count to.
-#[derive(Clone, Copy)]
-struct Bounded<'a> {
-    search: RowSearch<'a>,
-    most: u64,
-}
-
 /// What `search_partial` does, in the cells of the two tables: floors in those of the one, partial rows in those of the other.
 fn search_in_tables(
     bounded: &Bounded<'_>,
@@ -130,21 +121,16 @@ fn search_in_tables(
     row: &mut [Choice],
     meter: &mut Meter,
 ) -> Option<u32>
-    requires nurse { bounded.now.search.nurse < nurse_count bounded.now.search.case.now }
-    requires offers { AreOffers bounded.now.search.case.now bounded.now.search.nurse
-        bounded.now.search.offers.now }
     requires tables { HasTables bounded.now.search.case.now bounded.now.search.nurse tables.old }
-    requires row_room { day_count bounded.now.search.case.now ≤ length row.old }
+    requires row_room { days_in bounded.now.search ≤ length row.old }
     requires room { meter.old ≤ bounded.now.most }
-    ensures best { IfSome result
-        (λ cost. IsFound (best_over bounded.now.search.case.now bounded.now.search.nurse
-        (offers_on bounded.now.search.offers.now)) cost
-        (take (day_count bounded.now.search.case.now) row.new)) }
+    ensures best { IfSome result (λ cost. IsFound (best_in bounded.now.search) cost
+        (take (days_in bounded.now.search) row.new)) }
     ensures below { IfSome result (λ cost. cost < no_row) }
-    ensures each_day { IfSome result (λ cost. meter.old + day_count bounded.now.search.case.now
+    ensures each_day { IfSome result (λ cost. meter.old + days_in bounded.now.search
         ≤ meter.new) }
     ensures counted { CountsPartial bounded.now.search.case.now bounded.now.search.nurse
-        (offers_on bounded.now.search.offers.now) meter.old meter.new }
+        (offered bounded.now.search) meter.old meter.new }
     ensures most { meter.new ≤ bounded.now.most }
     ensures length { length row.new ≡ length row.old }
     ensures tables { tables.new ≡ tables.old }
@@ -163,39 +149,43 @@ fn search_partial(
     row: &mut [Choice],
     meter: &mut Meter,
 ) -> Option<u32>
-    requires nurse { bounded.now.search.nurse < nurse_count bounded.now.search.case.now }
-    requires offers { AreOffers bounded.now.search.case.now bounded.now.search.nurse
-        bounded.now.search.offers.now }
     requires cells { 0 < length rows.old }
-    requires row_room { day_count bounded.now.search.case.now ≤ length row.old }
+    requires row_room { days_in bounded.now.search ≤ length row.old }
     requires room { meter.old ≤ bounded.now.most }
-    ensures best { IfSome result
-        (λ cost. IsFound (best_over bounded.now.search.case.now bounded.now.search.nurse
-        (offers_on bounded.now.search.offers.now)) cost
-        (take (day_count bounded.now.search.case.now) row.new)) }
+    ensures best { IfSome result (λ cost. IsFound (best_in bounded.now.search) cost
+        (take (days_in bounded.now.search) row.new)) }
     ensures below { IfSome result (λ cost. cost < no_row) }
-    ensures each_day { IfSome result (λ cost. meter.old + day_count bounded.now.search.case.now
+    ensures each_day { IfSome result (λ cost. meter.old + days_in bounded.now.search
         ≤ meter.new) }
     ensures counted { CountsPartial bounded.now.search.case.now bounded.now.search.nurse
-        (offers_on bounded.now.search.offers.now) meter.old meter.new }
+        (offered bounded.now.search) meter.old meter.new }
     ensures most { meter.new ≤ bounded.now.most }
     ensures length { length row.new ≡ length row.old }
 {
-    let search = &bounded.search;
-    let guess = hints.guesses.of(search);
-    let aim = set_best_floors(search, guess, bounded.most, floors, meter)?;
-    let mut limit = aim.low.saturating_add(first_gap(guess));
+    let RowSearch {
+        case,
+        nurse,
+        offers,
+    } = bounded.search;
+    let guess = hints.guesses.of(&bounded.search);
+    let best = set_best_floors(bounded, guess, floors, meter)?;
+    let mut limit = best.low.saturating_add(first_gap(guess));
     let mut more = 10;
     'limits: for _ in 0..MOST_LIMITS {
         let attempt = Attempt {
+            search: RowSearch {
+                case,
+                nurse,
+                offers,
+            },
             floors,
-            rates: aim.rates,
-            limit: limit.min(aim.high).min(NO_ROW - 1),
+            rates: best.rates,
+            limit: limit.min(best.high).min(NO_ROW - 1),
             most: bounded.most,
         };
-        match search_within(search, &attempt, rows, &mut hints.seen, row, meter) {
+        match search_within(&attempt, rows, &mut hints.seen, row, meter) {
             Within::Found(cost) => {
-                hints.guesses.learn(search, &aim, cost);
+                hints.guesses.learn(&bounded.search, &best, cost);
                 return Some(cost);
             }
             Within::Full => return None,
@@ -219,62 +209,47 @@ fn first_gap(guess: Option<Guess>) -> u32 {
     }
 }
 
-/// A limit that is tried: the floors, with the rates at which they were set, the limit in penalty points, and what the meter may count
-/// to.
+/// A limit that is tried: the search, its floors with the rates at which they were set, the limit in penalty points, and what the meter
+/// may count to.
 #[derive(Clone, Copy)]
 struct Attempt<'a> {
+    search: RowSearch<'a>,
     floors: &'a [u32],
     rates: Rates,
     limit: u32,
     most: u64,
+    ghost nurse: { search.nurse < nurse_count search.case.now },
+    ghost offers: { AreOffers search.case.now search.nurse search.offers.now },
+    ghost set: { AreSetAt search rates floors.now },
+    ghost low: { limit < no_row },
 }
 
 /// Searches the best row by the partial rows within a limit, no more at once than there are cells for.
 fn search_within(
-    search: &RowSearch<'_>,
     attempt: &Attempt<'_>,
     rows: &mut [u32],
     seen: &mut Seen,
     row: &mut [Choice],
     meter: &mut Meter,
 ) -> Within
-    requires nurse { search.now.nurse < nurse_count search.now.case.now }
-    requires offers { AreOffers search.now.case.now search.now.nurse search.now.offers.now }
-    requires small { AreSmall attempt.now.rates }
-    requires inside { (day_count search.now.case.now + 1) * floor_count
-        (sizes_of search.now.case.now search.now.nurse) ≤ length attempt.now.floors.now }
-    requires floors { AreFloors search.now.case.now search.now.nurse attempt.now.rates
-        (offers_on search.now.offers.now) attempt.now.floors.now }
-    requires limit { attempt.now.limit < no_row }
     requires cells { 0 < length rows.old }
-    requires row_room { day_count search.now.case.now ≤ length row.old }
+    requires row_room { days_in attempt.now.search ≤ length row.old }
     requires room { meter.old ≤ attempt.now.most }
-    ensures best { (cost : ℕ) → result ≡ Found cost →
-        IsFound (best_over search.now.case.now search.now.nurse (offers_on search.now.offers.now))
-        cost (take (day_count search.now.case.now) row.new) }
+    ensures best { (cost : ℕ) → result ≡ Found cost → IsFound (best_in attempt.now.search) cost
+        (take (days_in attempt.now.search) row.new) }
     ensures below { (cost : ℕ) → result ≡ Found cost → cost < no_row }
     ensures full { result ≡ Full
         → IsFull (min ((length rows.old - 1) / 4) most_rows) attempt.now.most rows.new meter.new }
     ensures dearer { result ≡ Dearer
-        → within attempt.now.limit
-        (best_over search.now.case.now search.now.nurse (offers_on search.now.offers.now)) ≡ None }
+        → within attempt.now.limit (best_in attempt.now.search) ≡ None }
     ensures each_day { (cost : ℕ) → result ≡ Found cost →
-        meter.old + day_count search.now.case.now ≤ meter.new }
+        meter.old + days_in attempt.now.search ≤ meter.new }
     ensures counted { (meter.old ≤ meter.new) × (meter.new ≤ attempt.now.most) }
     ensures length { length row.new ≡ length row.old }
 {
-    let RowSearch {
-        case,
-        nurse,
-        offers,
-    } = *search;
-    let here = RowSearch {
-        case,
-        nurse,
-        offers,
-    };
+    let RowSearch { case, nurse, .. } = attempt.search;
     let limited = LimitedSearch {
-        floors: Floors::of(&here, attempt.rates, attempt.floors),
+        floors: Floors::of(&attempt.search, attempt.rates, attempt.floors),
         limit: attempt.limit,
         most: ((rows.len() - 1) / ROW_CELLS).min(MOST_ROWS),
         rules: case.contract_rules(nurse),

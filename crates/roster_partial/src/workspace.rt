@@ -7,6 +7,7 @@ ghost use Rattle.roster_instance.specs.Meaning.{day_count, nurse_count};
 ghost use Rattle.roster_laws.specs.Greatest.{extension_count, greatest_state_count};
 ghost use Rattle.roster_offers.specs.Lists.{AreOffers, IsFound, best_over, no_row, offers_on};
 ghost use Rattle.roster_partial.specs.Counts.{CountsSearch};
+ghost use Rattle.roster_partial.specs.Searches.{best_in, days_in, offered};
 ghost use Rattle.roster_partial.specs.Workspaces.{SameRoom, fits_space};
 
 use crate::search::{Hints, search_row};
@@ -164,23 +165,21 @@ impl Workspace {
     pub fn search(&mut self, search: &RowSearch<'_>, meter: &mut Meter) -> u32
         requires nurse { search.now.nurse < nurse_count search.now.case.now }
         requires offers { AreOffers search.now.case.now search.now.nurse search.now.offers.now }
-        requires some { IsSome (best_over search.now.case.now search.now.nurse
-            (offers_on search.now.offers.now)) }
+        requires some { IsSome (best_in search.now) }
         requires fits { fits_space search.now.case.now self.old ≡ true }
         requires room { meter.old + extension_count search.now.case.now
             search.now.nurse ≤ greatest_u64 }
 
         // The row, and its cost.
-        ensures best { IsFound (best_over search.now.case.now search.now.nurse
-            (offers_on search.now.offers.now)) result self.new.row }
+        ensures best { IsFound (best_in search.now) result self.new.row }
         ensures below { result < no_row }
 
         // What it takes.
-        ensures each_day { meter.old + day_count search.now.case.now ≤ meter.new }
+        ensures each_day { meter.old + days_in search.now ≤ meter.new }
         ensures counted { meter.new ≤ meter.old + extension_count search.now.case.now
             search.now.nurse }
-        ensures standing { CountsSearch search.now.case.now search.now.nurse
-            (offers_on search.now.offers.now) meter.old meter.new }
+        ensures standing { CountsSearch search.now.case.now search.now.nurse (offered search.now)
+            meter.old meter.new }
         ensures same_room { SameRoom self.old self.new }
         ensures fits { fits_space search.now.case.now self.new ≡ true }
         ensures offers { self.new.offers ≡ self.old.offers }
@@ -253,23 +252,21 @@ impl SearchSpace {
     fn search(&mut self, search: &RowSearch<'_>, meter: &mut Meter) -> u32
         requires nurse { search.now.nurse < nurse_count search.now.case.now }
         requires offers { AreOffers search.now.case.now search.now.nurse search.now.offers.now }
-        requires some { IsSome (best_over search.now.case.now search.now.nurse
-            (offers_on search.now.offers.now)) }
+        requires some { IsSome (best_in search.now) }
         requires fits { fits_space search.now.case.now self.old ≡ true }
         requires room { meter.old + extension_count search.now.case.now
             search.now.nurse ≤ greatest_u64 }
 
         // The row, and its cost.
-        ensures best { IsFound (best_over search.now.case.now search.now.nurse
-            (offers_on search.now.offers.now)) result self.new.row }
+        ensures best { IsFound (best_in search.now) result self.new.row }
         ensures below { result < no_row }
 
         // What it takes.
-        ensures each_day { meter.old + day_count search.now.case.now ≤ meter.new }
+        ensures each_day { meter.old + days_in search.now ≤ meter.new }
         ensures counted { meter.new ≤ meter.old + extension_count search.now.case.now
             search.now.nurse }
-        ensures standing { CountsSearch search.now.case.now search.now.nurse
-            (offers_on search.now.offers.now) meter.old meter.new }
+        ensures standing { CountsSearch search.now.case.now search.now.nurse (offered search.now)
+            meter.old meter.new }
         ensures same_room { SameRoom self.old self.new }
         ensures fits { fits_space search.now.case.now self.new ≡ true }
     {

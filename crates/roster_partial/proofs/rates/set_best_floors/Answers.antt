@@ -1,35 +1,33 @@
 use Rattle.std.proofs.Common.{◌+◌, ℕ, List, arith, subst, sym}
 use Rattle.roster_offers.specs.Lists.{offers_on}
-use Rattle.roster_floors.specs.Floors.{AreFloors}
 use Rattle.roster_floors.specs.declared.rates.Rates.{Rates}
 use Rattle.roster_partial.specs.Counts.{CountsSets, most_sets}
+use Rattle.roster_partial.specs.Rates.{AreSetAt}
 use Rattle.roster_partial.proofs.CountLaws.{no_set, one_set, sets_more, sets_within}
 use Rattle.roster_partial.proofs.rates.set_best_floors.Goals as goal
 use Rattle.roster_partial.proofs.rates.set_best_floors.Goals.{then-not-are_same, else-not-are_same}
 
 pub returns-then-floors-floor_cells-clause-counted : goal.returns-then-floors-floor_cells-clause-counted
 returns-then-floors-floor_cells-clause-counted c =
-    let search = c.args.search.now in
-    let offers = offers_on search.offers.now in
-    sets_within search.case.now search.nurse offers 0 most_sets c.args.meter.now c.args.meter.now (omega arith) (no_set search.case.now search.nurse offers c.args.meter.now c.args.meter.now (omega arith))
+    let search = c.args.bounded.now.search in
+    sets_within search.case.now search.nurse (offers_on search.offers.now) 0 most_sets c.args.meter.now c.args.meter.now (omega arith) (no_set search.case.now search.nurse (offers_on search.offers.now) c.args.meter.now c.args.meter.now (omega arith))
 
-pub returns-clause-floors : goal.returns-clause-floors
-returns-clause-floors c =
-    let search = c.args.search.now in
-    let k = search.case.now in
-    let offers = offers_on search.offers.now in
+pub returns-clause-set : goal.returns-clause-set
+returns-clause-set c =
+    let search = c.args.bounded.now.search in
     let tried = c.try_rates-last.ensures.tried in
     elim c.if-not-are_same.branch [
       | then-not-are_same w ↦
-          subst (λ (cells : List ℕ). AreFloors k search.nurse c.try_rates-last.result.rates offers cells) (sym w.floors-is) (w.set_floors-then-not-are_same.ensures.floors (w.set_floors-then-not-are_same.ensures.room.1 tried.inside))
+          let set = w.set_floors-then-not-are_same.ensures in
+          subst (λ (cells : List ℕ). AreSetAt search c.try_rates-last.result.rates cells) (sym w.floors-is) (record { small = tried.small; floors = set.floors (set.room.1 tried.set.inside); inside = omega (arith, tried.set.inside, set.length) })
       | else-not-are_same w ↦
-          subst (λ (cells : List ℕ). AreFloors k search.nurse c.try_rates-last.result.rates offers cells) (sym w.floors-is)
-          (subst (λ (rates : Rates). AreFloors k search.nurse rates offers c.try_rates-last.new.floors) (sym (c.are_same.ensures w.if-not-are_same.false)) tried.floors)
+          subst (λ (cells : List ℕ). AreSetAt search c.try_rates-last.result.rates cells) (sym w.floors-is)
+          (subst (λ (rates : Rates). AreSetAt search rates c.try_rates-last.new.floors) (sym (c.are_same.ensures w.if-not-are_same.false)) tried.set)
     ]
 
 pub returns-clause-counted : goal.returns-clause-counted
 returns-clause-counted c =
-    let search = c.args.search.now in
+    let search = c.args.bounded.now.search in
     let k = search.case.now in
     let n = search.nurse in
     let offers = offers_on search.offers.now in
@@ -46,7 +44,7 @@ returns-clause-counted c =
     elim c.if-not-are_same.branch [
       | then-not-are_same w ↦
           let again = w.set_floors-then-not-are_same.new.meter in
-          let all = sets_more k n offers (1 + trials) 1 start tried again more (one_set k n offers tried again (w.set_floors-then-not-are_same.ensures.counted (w.set_floors-then-not-are_same.ensures.room.1 c.try_rates-last.ensures.tried.inside))) in
+          let all = sets_more k n offers (1 + trials) 1 start tried again more (one_set k n offers tried again (w.set_floors-then-not-are_same.ensures.counted (w.set_floors-then-not-are_same.ensures.room.1 c.try_rates-last.ensures.tried.set.inside))) in
           subst (λ (m : ℕ). CountsSets k n offers most_sets start m) (sym w.meter-is) (sets_within k n offers (1 + trials + 1) most_sets start again (omega (arith, c.plan_by-plan.ensures.trials)) all)
       | else-not-are_same w ↦
           subst (λ (m : ℕ). CountsSets k n offers most_sets start m) (sym w.meter-is) (sets_within k n offers (1 + trials) most_sets start tried (omega (arith, c.plan_by-plan.ensures.trials)) more)

@@ -6,11 +6,11 @@ use Rattle.roster_partial.proofs.rates.try_more.Goals as goal
 use Rattle.roster_partial.proofs.rates.try_more.Goals.{After-trial-other}
 
 -- the floors are set once, and then a row is followed
-counted : (c : After-trial-other) → CountsSets c.args.search.now.case.now c.args.search.now.nurse (offers_on c.args.search.now.offers.now) 1 c.args.meter.now c.trial-other.new.meter
+counted : (c : After-trial-other) → CountsSets c.args.bounded.now.search.case.now c.args.bounded.now.search.nurse (offers_on c.args.bounded.now.search.offers.now) 1 c.args.meter.now c.trial-other.new.meter
 counted c =
-    let search = c.args.search.now in
+    let search = c.args.bounded.now.search in
     let offers = offers_on search.offers.now in
-    let set : c.set_floors.result ≡ true = c.set_floors.ensures.room.1 c.requires.tried.inside in
+    let set : c.set_floors.result ≡ true = c.set_floors.ensures.room.1 c.requires.tried.set.inside in
     sets_more search.case.now search.nurse offers 1 0 c.args.meter.now c.set_floors.new.meter c.trial-other.new.meter (one_set search.case.now search.nurse offers c.args.meter.now c.set_floors.new.meter (c.set_floors.ensures.counted set))
     (no_set search.case.now search.nurse offers c.set_floors.new.meter c.trial-other.new.meter c.trial-other.ensures.counted.0)
 

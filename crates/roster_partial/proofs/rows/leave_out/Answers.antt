@@ -1,63 +1,56 @@
-use Rattle.std.proofs.Common.{◌≡◌, ◌∙◌, ◌++◌, ◌+◌, ◌<◌, ℕ, List, [], ◌∷◌, ap, arith, drop, length, refl, slice_index_or, subst, sym}
+use Rattle.std.proofs.Common.{◌≡◌, ◌∙◌, ◌++◌, ◌+◌, ◌<◌, ◌≤◌, ℕ, List, [], ◌∷◌, ap, arith, drop, length, refl, slice_index_or, slice_set, subst, sym}
 use Rattle.std.proofs.lemmas.List.{drop-set-add, get_or-drop, get_or_default, length-drop}
 use Rattle.std.proofs.lemmas.List.Elements.{All-set}
 use Rattle.std.specs.List.{All}
 use Rattle.roster_offers.specs.Cheapest.{cheapest}
 use Rattle.roster_offers.specs.Lists.{no_row}
 use Rattle.roster_partial.specs.declared.rows.Entry.{Entry}
-use Rattle.roster_partial.specs.Rows.{Days, IsEntryOf, best_of, entry_numbered, rows_in}
+use Rattle.roster_partial.specs.Rows.{AreMadeFor, Days, HaveSameBest, IsEntryOf, best_of, day_in, entry_numbered, rows_in}
 use Rattle.roster_partial.proofs.RowCells.{length-rows_in}
 use Rattle.roster_partial.proofs.RowLaws.{Beats, dear_is_none, marked_entry, new_left_out, old_left_out, same_beats}
 use Rattle.roster_partial.proofs.rows.leave_out.Goals as goal
 
 -- the entry with which the new one is compared, among those of the day
-module _ (days : Days) (rows : List Entry) (first place : ℕ) (inside : first + place < length rows) (entries : All (IsEntryOf days) (drop first rows)) where
-  within : place < length (drop first rows)
-  within = omega (arith, inside, length-drop first rows)
+module _ (cells : List ℕ) (first place : ℕ) (more : Entry) (inside : first + place < length (rows_in cells)) (days : Days) (made : AreMadeFor days cells first) where
+  abbrev this : Entry
+  this = entry_numbered (rows_in cells) (first + place)
 
-  there : (d : Entry) → slice_index_or (drop first rows) place d ≡ entry_numbered rows (first + place)
-  there d = get_or-drop first rows place d ∙ get_or_default rows (first + place) d _ inside
+  abbrev out : Entry
+  out = record this { cost = no_row }
 
-  is : IsEntryOf days (entry_numbered rows (first + place))
-  is = subst (IsEntryOf days) (there (entry_numbered rows (first + place))) (entries place (entry_numbered rows (first + place)) within)
+  within : place < length (day_in cells first)
+  within = omega (arith, inside, length-drop first (rows_in cells))
+
+  there : (d : Entry) → slice_index_or (day_in cells first) place d ≡ this
+  there d = get_or-drop first (rows_in cells) place d ∙ get_or_default (rows_in cells) (first + place) d _ inside
+
+  new_out : this.state ≡ more.state → this.cost ≤ more.cost → HaveSameBest days (day_in cells first) (day_in cells first ++ more ∷ [])
+  new_out same low =
+      new_left_out (best_of days) (day_in cells first) place this more within (subst (λ e. Beats 0 (best_of days e) (best_of days more)) (sym (there this)) (same_beats days 0 this more same (omega (arith, low))))
+
+  module _ (now : List ℕ) (marked : rows_in now ≡ slice_set (rows_in cells) (first + place) out) where
+    day_now : day_in now first ≡ slice_set (day_in cells first) place out
+    day_now = ap (drop first) marked ∙ drop-set-add first (rows_in cells) place out
+
+    old_out : this.state ≡ more.state → more.cost < this.cost → HaveSameBest days (day_in now first ++ more ∷ []) (day_in cells first ++ more ∷ [])
+    old_out same low =
+        ap (λ xs. cheapest (best_of days) (xs ++ more ∷ [])) day_now
+        ∙ old_left_out (best_of days) (day_in cells first) place this more out within (dear_is_none days out made.low) (subst (λ e. Beats 1 (best_of days more) (best_of days e)) (sym (there this)) (same_beats days 1 more this (sym same) (omega (arith, low))))
+
+    still : All (IsEntryOf days) (day_in now first)
+    still = subst (All (IsEntryOf days)) (sym day_now) (All-set (IsEntryOf days) (day_in cells first) place out (marked_entry days this out (subst (IsEntryOf days) (there this) (made.entries place this within)) refl refl refl) made.entries)
 
 pub returns-then-cost_at-more-clause-left_out : goal.returns-then-cost_at-more-clause-left_out
-returns-then-cost_at-more-clause-left_out g c = λ _.
-    let rows = rows_in c.args.cells.now in
-    let first = c.args.first in
-    let place = c.args.place in
-    let more = c.args.more.now in
-    let inside : first + place < length rows = omega (arith, c.if-place-row_count.false, c.row_count.ensures, length-rows_in c.args.cells.now) in
-    let entries = c.requires.1.1.1.1.1 in
-    let x = entry_numbered rows (first + place) in
-    let same : x.state ≡ more.state = c.leads_to.ensures c.if-not-leads_to.false in
-    let beats : Beats 0 (best_of g.days x) (best_of g.days more) = same_beats g.days 0 x more same (omega (arith, c.if-cost_at-more.true, c.cost_at.ensures)) in
-    new_left_out (best_of g.days) (drop first rows) place x more (within g.days rows first place inside entries) (subst (λ e. Beats 0 (best_of g.days e) (best_of g.days more)) (sym (there g.days rows first place inside entries x)) beats)
+returns-then-cost_at-more-clause-left_out c = λ _ days made.
+    let inside : c.args.first + c.args.place < length (rows_in c.args.cells.now) = omega (arith, c.if-place-row_count.false, c.row_count.ensures, length-rows_in c.args.cells.now) in
+    new_out c.args.cells.now c.args.first c.args.place c.args.more.now inside days made (c.leads_to.ensures c.if-not-leads_to.false) (omega (arith, c.if-cost_at-more.true, c.cost_at.ensures))
 
 pub returns-clause-stays : goal.returns-clause-stays
-returns-clause-stays g c = λ _.
-    let rows = rows_in c.args.cells.now in
-    let first = c.args.first in
-    let place = c.args.place in
-    let more = c.args.more.now in
-    let inside : first + place < length rows = omega (arith, c.if-place-row_count.false, c.row_count.ensures, length-rows_in c.args.cells.now) in
-    let entries = c.requires.1.1.1.1.1 in
-    let x = entry_numbered rows (first + place) in
-    let out : Entry = record x { cost = no_row } in
-    let same : x.state ≡ more.state = c.leads_to.ensures c.if-not-leads_to.false in
-    let beats : Beats 1 (best_of g.days more) (best_of g.days x) = same_beats g.days 1 more x (sym same) (omega (arith, c.if-cost_at-more.false, c.cost_at.ensures)) in
-    ap (λ xs. cheapest (best_of g.days) (drop first xs ++ more ∷ [])) c.mark_out.ensures.rows
-    ∙ ap (λ xs. cheapest (best_of g.days) (xs ++ more ∷ [])) (drop-set-add first rows place out)
-    ∙ old_left_out (best_of g.days) (drop first rows) place x more out (within g.days rows first place inside entries) (dear_is_none g.days out c.requires.0) (subst (λ e. Beats 1 (best_of g.days more) (best_of g.days e)) (sym (there g.days rows first place inside entries x)) beats)
+returns-clause-stays c = λ _ days made.
+    let inside : c.args.first + c.args.place < length (rows_in c.args.cells.now) = omega (arith, c.if-place-row_count.false, c.row_count.ensures, length-rows_in c.args.cells.now) in
+    old_out c.args.cells.now c.args.first c.args.place c.args.more.now inside days made c.mark_out.new.cells c.mark_out.ensures.rows (c.leads_to.ensures c.if-not-leads_to.false) (omega (arith, c.if-cost_at-more.false, c.cost_at.ensures))
 
 pub returns-clause-entries : goal.returns-clause-entries
-returns-clause-entries g c =
-    let rows = rows_in c.args.cells.now in
-    let first = c.args.first in
-    let place = c.args.place in
-    let inside : first + place < length rows = omega (arith, c.if-place-row_count.false, c.row_count.ensures, length-rows_in c.args.cells.now) in
-    let entries = c.requires.1.1.1.1.1 in
-    let x = entry_numbered rows (first + place) in
-    let out : Entry = record x { cost = no_row } in
-    subst (All (IsEntryOf g.days)) (sym (ap (drop first) c.mark_out.ensures.rows ∙ drop-set-add first rows place out))
-    (All-set (IsEntryOf g.days) (drop first rows) place out (marked_entry g.days x out (is g.days rows first place inside entries) refl refl refl) entries)
+returns-clause-entries c = λ days made.
+    let inside : c.args.first + c.args.place < length (rows_in c.args.cells.now) = omega (arith, c.if-place-row_count.false, c.row_count.ensures, length-rows_in c.args.cells.now) in
+    still c.args.cells.now c.args.first c.args.place c.args.more.now inside days made c.mark_out.new.cells c.mark_out.ensures.rows

@@ -12,7 +12,7 @@ returns-clause-rows c =
     let counts = c.counts_cell.result in
     let link = (more.before * 16 + more.offer) * 16 + c.last_number.result in
     let count = count_in cells + 1 in
-    let room : first + 5 ≤ length cells = omega (arith, c.requires.room) in
+    let room : first + 5 ≤ length cells = omega (arith, c.requires.cells) in
     let is = entry_is more more.cost runs counts link refl c.runs_cell.ensures.run c.runs_cell.ensures.shift_run c.counts_cell.ensures.assignments c.counts_cell.ensures.weekends
     (ap (λ n. (more.before * 16 + more.offer) * 16 + n) c.last_number.ensures.number) c.requires.offer c.requires.last in
     pushed cells _ (written_others cells first more.cost runs counts link count room) more

@@ -1,0 +1,194 @@
+//! All days within a limit.
+
+ghost use Rattle.std.specs.Prelude.{◌≡◌, ◌+◌, ◌*◌, ◌<◌, ◌≤◌, ℕ, [], IfSome, IsNone, None, length, option_map, take};
+ghost use Rattle.roster_offers.specs.Offers.{choices_of};
+ghost use Rattle.roster_offers.specs.Lists.{AreOffers, IsFound, no_row};
+ghost use Rattle.roster_state.specs.Codes.{shift_digit};
+ghost use Rattle.roster_partial.specs.Rates.{FitsNurse};
+ghost use Rattle.roster_partial.specs.Rows.{AreKept, IsEntryOf, IsLinked, best_of, count_in, entry_numbered, rows_in, within};
+ghost use Rattle.roster_partial.specs.Searches.{HasCells, AreOfDay, IsFull, best_of_last, best_in, best_of_day, days_in, days_on, offered, offers_of_last};
+ghost use Rattle.roster_partial.specs.declared.all_days.Within.TheVariants.{Dearer, Found, Full};
+
+use crate::limited::LimitedSearch;
+use crate::one_day::add_day;
+use crate::one_offer::RowsDay;
+use crate::rows::{Entry, Seen, clear_rows, cost_at, link_at, push_row, row_count, row_state};
+use roster_offers::RowSearch;
+use roster_rules::Choice;
+use roster_state::{Meter, end_cost, start};
+
+/// What the partial rows within a limit tell.
+#[derive(Clone, Copy, Debug, PartialEq, Eq)]
+pub enum Within {
+    /// The best row costs so much, and was written.
+    Found(u32),
+    /// No row within the limit was found.
+    Dearer,
+    /// There wasn't room for all partial rows, or for the steps.
+    Full,
+}
+
+/// Searches the best row by the partial rows within a limit. If one is found, `row` begins with its choices, one for each day. The meter
+/// counts each partial row that is taken over an offer: to no more than `most`.
+pub fn row_within(
+    limited: &LimitedSearch<'_>,
+    most: u64,
+    rows: &mut [u32],
+    seen: &mut Seen,
+    row: &mut [Choice],
+    meter: &mut Meter,
+) -> Within
+    requires row_room { days_in limited.now.floors.search ≤ length row.old }
+    requires room { meter.old ≤ most }
+    requires cells { 1 + 4 * limited.now.most ≤ length rows.old }
+    ensures best { (cost : ℕ) → result ≡ Found cost → IsFound (best_in limited.now.floors.search)
+        cost (take (days_in limited.now.floors.search) row.new) }
+    ensures below { (cost : ℕ) → result ≡ Found cost → cost < no_row }
+    ensures full { result ≡ Full → IsFull limited.now.most most rows.new meter.new }
+    ensures dearer { result ≡ Dearer →
+        within limited.now.limit (best_in limited.now.floors.search) ≡ None }
+    ensures each_day { (cost : ℕ) → result ≡ Found cost →
+        meter.old + days_in limited.now.floors.search ≤ meter.new }
+    ensures counted { (meter.old ≤ meter.new) × (meter.new ≤ most) }
+    ensures length { length row.new ≡ length row.old }
+{
+    clear_rows(rows);
+    if limited.most == 0 {
+        return Within::Full;
+    }
+    push_row(rows, &start_entry(limited));
+    let Some(first) = add_days(limited, most, rows, seen, meter) else {
+        return Within::Full;
+    };
+    let Some((cost, place)) = least_at_end(limited, rows, first) else {
+        return Within::Dearer;
+    };
+    read_row(&limited.floors.search, rows, place, row);
+    Within::Found(cost)
+}
+
+/// The partial row without a day. It costs nothing: what the start owes isn't counted.
+fn start_entry(limited: &LimitedSearch<'_>) -> Entry
+    ensures entry { IsEntryOf (days_on limited.now 0 []) result }
+    ensures best { best_of (days_on limited.now 0 []) result
+        ≡ within limited.now.limit (best_in limited.now.floors.search) }
+    ensures first { result.offer ≡ 0 }
+    ensures last { shift_digit result.state.last < 16 }
+{
+    let search = &limited.floors.search;
+    search.case.keeps_limits();
+    let (state, _) = start(search.case, search.nurse);
+    Entry {
+        state,
+        cost: 0,
+        before: 0,
+        offer: 0,
+    }
+}
+
+/// Adds all days, one after another, to the partial row without a day. The answer is where the partial rows of all days begin, none
+/// where there wasn't room for all partial rows, or for the steps.
+fn add_days(
+    limited: &LimitedSearch<'_>,
+    most: u64,
+    rows: &mut [u32],
+    seen: &mut Seen,
+    meter: &mut Meter,
+) -> Option<usize>
+    requires room { meter.old ≤ most }
+    requires rows { AreOfDay limited.now 0 0 rows.old }
+    ensures rows { IfSome result
+        (λ first. AreOfDay limited.now (days_in limited.now.floors.search) first rows.new) }
+    ensures best { IfSome result
+        (λ first. best_of_day limited.now (days_in limited.now.floors.search) first rows.new
+        ≡ best_of_day limited.now 0 0 rows.old) }
+    ensures each_day { IfSome result (λ first. first < length (rows_in rows.new) →
+        meter.old + days_in limited.now.floors.search ≤ meter.new) }
+    ensures counted { (meter.old ≤ meter.new) × (meter.new ≤ most) }
+    ensures full { IsNone result → IsFull limited.now.most most rows.new meter.new }
+{
+    let search = &limited.floors.search;
+    let mut first = 0;
+    for day in 0..search.case.days() {
+        let end = row_count(rows);
+        let offers = search.offers[day as usize].len() as u64;
+        let steps = (end - first) as u64 * offers;
+        if steps > most - meter.count() {
+            return None;
+        }
+        let at = RowsDay { day, end };
+        if !add_day(limited, at, first, rows, seen, meter) {
+            return None;
+        }
+        first = end;
+    }
+    Some(first)
+}
+
+/// The first of the cheapest rows among the partial rows of all days, which begin at `first`, with its cost and its place; none where each
+/// costs more than the limit.
+fn least_at_end(limited: &LimitedSearch<'_>, rows: &[u32], first: usize) -> Option<(u32, usize)>
+    requires rows { AreOfDay limited.now (days_in limited.now.floors.search) first rows.now }
+    ensures best { best_of_day limited.now (days_in limited.now.floors.search) first rows.now
+        ≡ option_map (λ least. (
+          least.0,
+          offers_of_last limited.now.floors.search rows.now least.1,
+        )) result }
+    ensures place { IfSome result
+        (λ least. (first ≤ least.1) × (least.1 < count_in rows.now)) }
+{
+    let mut least: Option<(u32, usize)> = None;
+    let end = row_count(rows);
+    for place in first..end {
+        let Some(cost) = cost_at_end(limited, rows, place) else {
+            continue;
+        };
+        match least {
+            Some((low, _)) if low <= cost => {}
+            _ => least = Some((cost, place)),
+        }
+    }
+    least
+}
+
+/// What the row of a partial row of all days costs; none where it is more than the limit.
+fn cost_at_end(limited: &LimitedSearch<'_>, rows: &[u32], place: usize) -> Option<u32>
+    requires held { HasCells limited.now rows.now }
+    requires inside { place < count_in rows.now }
+    requires fits { FitsNurse limited.now.floors.search
+        (entry_numbered (rows_in rows.now) place).state }
+    ensures best { best_of_last limited.now rows.now place ≡ option_map
+        (λ cost. (cost, offers_of_last limited.now.floors.search rows.now place)) result }
+{
+    let days = cost_at(rows, place);
+    if days > limited.limit {
+        return None;
+    }
+    let search = &limited.floors.search;
+    let state = row_state(rows, place);
+    let cost = days + end_cost(search.case, search.nurse, state);
+    if cost > limited.limit {
+        return None;
+    }
+    Some(cost)
+}
+
+/// Reads the choices of a partial row of all days backward, by the places that it and those before it name.
+fn read_row(search: &RowSearch<'_>, rows: &[u32], last: usize, row: &mut [Choice])
+    requires offers { AreOffers search.now.case.now search.now.nurse search.now.offers.now }
+    requires row_room { days_in search.now ≤ length row.old }
+    requires kept { AreKept rows.now }
+    requires inside { last < count_in rows.now }
+    requires linked { IsLinked (offered search.now) (rows_in rows.now) (days_in search.now)
+        (entry_numbered (rows_in rows.now) last) }
+    ensures row { take (days_in search.now) row.new
+        ≡ choices_of (offers_of_last search.now rows.now last) }
+    ensures length { length row.new ≡ length row.old }
+{
+    let mut place = last;
+    for day in (0..search.case.days()).rev() {
+        let link = link_at(rows, place);
+        row[day as usize] = search.offers[day as usize][link.offer].choice;
+        place = link.before;
+    }
+}
