@@ -21,7 +21,7 @@ use Rattle.roster_rules.specs.Weights.{staffing_weight}
 use Rattle.roster_laws.specs.OneRow.{is_open, others}
 use Rattle.roster_laws.specs.Staffing.{lacking, meets, with_choice}
 use Rattle.roster_case.proofs.DayTableLemmas.{cover-parts}
-use Rattle.roster_case.proofs.Lacking.{lacking-off, lacking-work, meets-lacking, staffing-lacking}
+use Rattle.roster_laws.proofs.Lacking.{lacking-off, lacking-work, meets-lacking, staffing-lacking}
 use Rattle.roster_offers.specs.declared.offer.Offer.{Offer}
 use Rattle.roster_offers.specs.Offers.{offer_of}
 use Rattle.roster_offers.proofs.OfferLaws.{present_open}

@@ -15,8 +15,8 @@ use Rattle.roster_instance.specs.Rosters.{Row, Rows, choice_on, is_choice_of, is
 use Rattle.roster_rules.specs.AllowedRows.{keeps_frozen_days, row_keeps}
 use Rattle.roster_rules.specs.HardRules.{breaks_succession, keeps_hard, keeps_successions}
 use Rattle.roster_laws.specs.OneRow.{is_offered, is_offered_row}
-use Rattle.roster_case.proofs.Below.{all_both, all_elim, all_true}
-use Rattle.roster_case.proofs.Keeps.{allowed-with_row}
+use Rattle.roster_laws.proofs.Below.{all_both, all_elim, all_true}
+use Rattle.roster_laws.proofs.Keeps.{allowed-with_row}
 use Rattle.roster_laws.proofs.Allowed.{kept_is_member, kept_passes, member_is_kept}
 use Rattle.roster_laws.proofs.AllRows.{choice_is_member, member_is_choice}
 use Rattle.roster_offers.specs.declared.offer.Offer.{Offer}

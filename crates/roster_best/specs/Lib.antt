@@ -1,4 +1,3 @@
 pub mod Offers
 pub mod Searches
-pub mod Workspaces
 pub mod Known

@@ -13,7 +13,7 @@ ghost use Rattle.roster_instance.specs.Rosters.{choice_on, is_choice_of, row_of}
 ghost use Rattle.roster_rules.specs.AllowedRows.{is_frozen};
 ghost use Rattle.roster_rules.specs.HardRules.{may_take};
 ghost use Rattle.roster_rules.specs.Penalties.{request_cost_on};
-ghost use Rattle.roster_rules.specs.Weights.{off_request_weight, wish_weight};
+ghost use Rattle.roster_rules.specs.Weights.{most_request};
 ghost use Rattle.roster_laws.specs.OneRow.{is_open, others};
 ghost use Rattle.roster_laws.specs.Staffing.{lacking, with_choice};
 ghost use Rattle.roster_offers.specs.Offers.{offer_of, offers_of, open_offers};
@@ -151,7 +151,7 @@ fn offered(
         (others held.now.roster nurse day) }
     requires within { without.optimum ≤ 1 + most_shifts * most_skills * most_small }
     requires asked { asked ≡ request_cost_on held.now.case nurse day (shift_of choice) }
-    requires asked_within { asked ≤ off_request_weight + wish_weight }
+    requires asked_within { asked ≤ most_request }
     ensures { result ≡ (if is_open held.now.case held.now.roster nurse day choice then Some
         (offer_of held.now.case held.now.roster nurse day choice) else None) }
 {
@@ -209,8 +209,8 @@ fn lacking_without_choice(held: &Held, nurse: usize, day: u16, own: Choice) -> L
         Choice::Work(shift, skill) => {
             let need = held.case().need(day, shift, skill);
             let others = held.others(nurse, day, shift, skill);
-            let minimum = one_where_fewer(others, need.least);
-            let optimum = all + one_where_fewer(others, need.greatest);
+            let minimum = one_where_fewer(others, need.minimum);
+            let optimum = all + one_where_fewer(others, need.optimum);
             Lacking { minimum, optimum }
         }
     }
@@ -270,8 +270,8 @@ fn lacking_with(
 {
     let need = held.case().need(day, shift, skill);
     let others = held.others(nurse, day, shift, skill);
-    let minimum = with_one_more(without.minimum, others, need.least);
-    let optimum = with_one_more(without.optimum, others, need.greatest);
+    let minimum = with_one_more(without.minimum, others, need.minimum);
+    let optimum = with_one_more(without.optimum, others, need.optimum);
     Lacking { minimum, optimum }
 }
 

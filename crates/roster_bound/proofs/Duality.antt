@@ -2,8 +2,6 @@
 use Rattle.std.proofs.Common.{◌≡◌, ◌∙◌, ◌+◌, ◌-◌, ◌*◌, ◌%◌, ◌||◌, ◌<◌, ◌≤◌, ◌&&◌, ◌==◌, ℕ, zero, suc, Bool, true, false, not, ap, arith, refl, sym, subst, List, [], length, nat_lt, Contains, mul-add, None, Some, if◌then◌else◌}
 use Rattle.std.specs.List.{list_all}
 use Rattle.std.proofs.lemmas.Bool.{and_from, and_parts, eqb-true}
-use Rattle.std.proofs.lemmas.List.{length-map}
-use Rattle.std.proofs.Math.ListN.{get_or-map}
 use Rattle.roster_instance.specs.declared.choice.Choice.{Choice}
 use Rattle.roster_instance.specs.declared.choice.Choice.TheVariants.{Off, Work}
 use Rattle.roster_instance.specs.Choices.{all_choices, all_rows, days_of, same_choice, shift_of}
@@ -12,10 +10,10 @@ use Rattle.roster_instance.specs.Levels.{levelled}
 use Rattle.roster_rules.specs.HardRules.{keeps_absences, keeps_hard, keeps_skills, keeps_successions}
 use Rattle.roster_instance.specs.Meaning.{Meaning, day_count, minimum, nurse_count, optimum, shift_at, shift_count, skill_at, skill_count}
 use Rattle.roster_rules.specs.AllowedRows.{is_frozen, keeps_frozen_day, keeps_frozen_days}
-use Rattle.roster_rules.specs.Penalties.{nurse_cost, off_request_cost_on, penalty, request_cost, request_cost_on, staffing_cost, wish_cost_on}
+use Rattle.roster_rules.specs.Penalties.{nurse_cost, penalty, request_cost_on, staffing_cost}
 use Rattle.roster_instance.specs.Rosters.{Row, Rows, choice_on, cover, days_of_nurse, fits_case, is_row_of, row_of}
 use Rattle.roster_rules.specs.Weights.{staffing_weight}
-use Rattle.roster_rules.proofs.RosterFacts.{row-length, row_fits}
+use Rattle.roster_instance.proofs.RosterFacts.{row-length, row_fits}
 use Rattle.roster_rules.proofs.RunSums.{sum_zero, sum_same}
 use Rattle.roster_laws.specs.Staffing.{meets}
 use Rattle.roster_laws.proofs.AllRows.{row_is_member}
@@ -26,7 +24,7 @@ use Rattle.roster_laws.proofs.Below.{all_elim, all_true}
 use Rattle.roster_laws.proofs.Fives.{penalty_is}
 use Rattle.roster_laws.proofs.SameRows.{same_choice_self}
 use Rattle.roster_laws.proofs.Keeps.{keeps_hard-parts}
-use Rattle.roster_laws.proofs.OneRow.{penalty-parts}
+use Rattle.roster_laws.proofs.OneRow.{penalty-parts, requests_of_row}
 use Rattle.roster_bound.specs.Worths.{ArePays, AreWorths, IsLowerBound, NursePays, PlaceWorths, bound_by, can_work, earned, floors_together, free_by, levelled_bound, most_worth, nurse_floor, own_rows, place_floor, places_floor, price_with, rounded_up, row_cost_by, row_floor}
 use Rattle.roster_bound.proofs.Levels.{level_below}
 use Rattle.roster_bound.proofs.LeastCosts.{least_below, place_least}
@@ -95,14 +93,6 @@ prices_split (suc n) p e q within each = omega (arith, prices_split n p e q with
 earned_within : (w : PlaceWorths) → AreWorths w → (d : ℕ) (x : Choice) → earned w d x ≤ most_worth
 earned_within w are d Off = omega arith
 earned_within w are d (Work s k) = are d s.0 k.0
-
-requests_of_row : (c : Meaning) (n : ℕ) (row : Row) → request_cost c n (days_of row) ≡ sum_below (length row) (λ d. request_cost_on c n d (shift_of (choice_on row d)))
-requests_of_row c n row =
-    let off : ℕ → ℕ = λ d. off_request_cost_on c n d (shift_of (choice_on row d)) in
-    let wished : ℕ → ℕ = λ d. wish_cost_on c n d (shift_of (choice_on row d)) in
-    let both : request_cost c n (days_of row) ≡ sum_below (length row) off + sum_below (length row) wished =
-    λ i. sum_below (length-map row shift_of i) (λ d. off_request_cost_on c n d (get_or-map shift_of row d Off i)) + sum_below (length-map row shift_of i) (λ d. wish_cost_on c n d (get_or-map shift_of row d Off i)) in
-    both ∙ sym (sum_both (length row) off wished)
 
 without_free : (a r : ℕ) → a + r + 0 ≡ a + r
 without_free a r = omega arith

@@ -1,5 +1,5 @@
 -- The least that a nurse costs is what the search finds.
-use Rattle.std.proofs.Common.{◌≡◌, ◌∙◌, ◌+◌, ◌<◌, ◌≤◌, ◌&&◌, ◌==◌, ℕ, Bool, true, false, not, ap, arith, refl, subst, sym, List, [], ◌∷◌, length, Contains, IsSome, Option, Some, None, if◌then◌else◌}
+use Rattle.std.proofs.Common.{◌≡◌, ◌∙◌, ◌+◌, ◌<◌, ◌≤◌, ◌&&◌, ◌==◌, ℕ, Bool, true, false, not, ap, arith, refl, subst, sym, List, [], ◌∷◌, length, Contains, IsSome, Option, Some, None}
 use Rattle.std.specs.Prelude.{option_map}
 use Rattle.std.specs.List.{All, filter, list_all}
 use Rattle.std.specs.Option.{option_map_or}
@@ -13,12 +13,11 @@ use Rattle.roster_instance.specs.declared.choice.Choice.TheVariants.{Off, Work}
 use Rattle.roster_rules.specs.AllowedRows.{first_least, keeps_frozen_day, keeps_frozen_days}
 use Rattle.roster_instance.specs.Choices.{all_choices, all_rows, days_of, shift_of}
 use Rattle.roster_rules.specs.HardRules.{breaks_succession, is_able, is_able_on, is_here, is_here_on, keeps_hard, keeps_successions, may_take}
-use Rattle.roster_instance.specs.Meaning.{Meaning, day_count, nurse_at, nurse_count}
-use Rattle.roster_rules.specs.Penalties.{breaks_off_request, meets_wishes}
+use Rattle.roster_instance.specs.Meaning.{Meaning, day_count, nurse_at}
 use Rattle.roster_rules.specs.Prefix.{due, summary_of}
 use Rattle.roster_instance.specs.Rosters.{Row, Rows, choice_on, fits_case, is_choice_of, row_of}
-use Rattle.roster_rules.specs.Weights.{off_request_weight, wish_weight}
-use Rattle.roster_rules.proofs.RosterFacts.{row_fits}
+use Rattle.roster_rules.proofs.Bounds.{request_on-within}
+use Rattle.roster_instance.proofs.RosterFacts.{row_fits}
 use Rattle.roster_laws.proofs.AllRows.{choice_is_member, member_is_choice, row_is_member}
 use Rattle.roster_laws.proofs.Allowed.{member_is_kept}
 use Rattle.roster_laws.proofs.Below.{all_both, all_elim, all_same}
@@ -48,14 +47,6 @@ some_least : {X : Type 0} (cost : X → ℕ) (xs : List X) (x : X) → Contains 
 some_least cost [] x member = absurd (omega (arith, member.1))
 some_least cost (y ∷ ys) x member = refl
 
-asked_within : (b : Bool) → (if b then off_request_weight else 0) ≤ off_request_weight
-asked_within true = omega arith
-asked_within false = omega arith
-
-wish_within : (b : Bool) → (if b then 0 else wish_weight) ≤ wish_weight
-wish_within true = omega arith
-wish_within false = omega arith
-
 free_within : (free : ℕ) (x : Choice) → free_price free x ≤ free
 free_within free Off = omega arith
 free_within free (Work s k) = omega arith
@@ -67,7 +58,7 @@ module _ (c : Meaning) (from : ℕ) (given : Rows) (w : PlaceWorths) (free : ℕ
   -- ---- the offers of a day
 
   price_within : (d : ℕ) (x : Choice) → price_with c w free n d x ≤ most_price
-  price_within d x = omega (arith, asked_within (breaks_off_request c n d (shift_of x)), wish_within (meets_wishes c n d (shift_of x)), free_within free x)
+  price_within d x = omega (arith, request_on-within c n d (shift_of x), free_within free x)
 
   offers_of_case : (d : ℕ) → All (IsOfferOf c) (offers_by_worth c from given w free n d)
   offers_of_case d =

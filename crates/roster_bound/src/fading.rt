@@ -9,7 +9,7 @@ use crate::moves::count_row;
 use crate::workspace::FloorWorkspace;
 use crate::worths::{MOST_FINE, PARTS, Worths};
 use roster_rules::weights::STAFFING;
-use roster_rules::{Case, Choice, Limits, Roster, Shift, Skill};
+use roster_rules::{Case, Choice, Need, Roster, Shift, Skill};
 
 /// How far a fade has come: how much of what a place pays is its worth, in 1024ths, and how many points a place pays besides as long
 /// as it is below its minimum. The rest is what a missing nurse costs, where one is missing to the optimum.
@@ -59,7 +59,7 @@ pub fn raise_missed(case: &Case, points: u32, floor: &mut FloorWorkspace)
     ensures { FitsFloor case.now floor.new }
 {
     for place in 0..64 * case.days() as usize {
-        if floor.rows.cover[place] < need_at(case, place).least {
+        if floor.rows.cover[place] < need_at(case, place).minimum {
             let fine = floor.worths.fine_at(place);
             let more = PARTS.saturating_mul(points);
             floor.worths.put_fine(place, fine.saturating_add(more));
@@ -123,7 +123,7 @@ pub fn lacks_nurses(case: &Case, floor: &FloorWorkspace) -> bool
     requires { FitsFloor case.now floor.now }
 {
     for place in 0..64 * case.days() as usize {
-        if floor.rows.cover[place] < need_at(case, place).least {
+        if floor.rows.cover[place] < need_at(case, place).minimum {
             return true;
         }
     }
@@ -148,7 +148,7 @@ fn place_of(case: &Case, row: &[Choice], day: usize) -> Option<usize>
 }
 
 /// Minimum and optimum of a place.
-fn need_at(case: &Case, place: usize) -> Limits
+fn need_at(case: &Case, place: usize) -> Need
     requires { place < 64 * day_count case.now }
 {
     case.keeps_limits();
@@ -158,13 +158,13 @@ fn need_at(case: &Case, place: usize) -> Limits
 
 /// A worth that follows its place: nurses are wanted to the optimum as long as it is no more than a missing one costs, and else to
 /// the minimum.
-fn followed(need: Limits, nurses: u16, fine: u32, step: u32) -> u32 {
+fn followed(need: Need, nurses: u16, fine: u32, step: u32) -> u32 {
     let wanted = if fine <= PARTS * STAFFING {
-        need.least.max(need.greatest)
+        need.minimum.max(need.optimum)
     } else {
-        need.least
+        need.minimum
     };
-    if need.least == 0 && need.greatest == 0 {
+    if need.minimum == 0 && need.optimum == 0 {
         fine
     } else if nurses < wanted {
         fine.saturating_add(step)
@@ -189,9 +189,9 @@ fn pay_place(case: &Case, place: usize, fading: Fading, floor: &FloorWorkspace, 
 }
 
 /// What a place pays, in 256ths of a point: a share of its worth, and the rest of what a nurse more is good for.
-fn faded_pay(need: Limits, nurses: u16, fine: u32, fading: Fading) -> u32 {
-    let lacking = if nurses < need.greatest { STAFFING } else { 0 };
-    let missing = if nurses < need.least {
+fn faded_pay(need: Need, nurses: u16, fine: u32, fading: Fading) -> u32 {
+    let lacking = if nurses < need.optimum { STAFFING } else { 0 };
+    let missing = if nurses < need.minimum {
         fading.missing
     } else {
         0

@@ -1,21 +1,19 @@
 //! The least that nurses cost, and the floor under a roster.
 
-ghost use Rattle.std.specs.Prelude.{◌≡◌, ◌+◌, ◌-◌, ◌*◌, ◌<◌, ◌≤◌, true, Some};
+ghost use Rattle.std.specs.Prelude.{◌≡◌, ◌+◌, ◌-◌, ◌*◌, ◌<◌, ◌≤◌, Some};
 ghost use Rattle.roster_bundle.specs.Limits.{greatest_u64};
 ghost use Rattle.roster_instance.specs.Levels.{levelled};
 ghost use Rattle.roster_instance.specs.Limits.{most_days, most_nurses, most_small};
 ghost use Rattle.roster_instance.specs.Meaning.{day_count, nurse_count};
-ghost use Rattle.roster_instance.specs.Rosters.{fits_case};
 ghost use Rattle.roster_instance.specs.Small.{AreSmall};
-ghost use Rattle.roster_rules.specs.HardRules.{keeps_hard};
 ghost use Rattle.roster_rules.specs.Penalties.{penalty};
-ghost use Rattle.roster_rules.specs.Weights.{assignment_weight, shift_run_weight};
+ghost use Rattle.roster_rules.specs.Weights.{assignment_weight};
 ghost use Rattle.roster_laws.specs.Greatest.{extension_count, greatest_extension_count};
 ghost use Rattle.roster_bound.specs.Days.{AreWorthOffers, shift_offers_by_worth};
 ghost use Rattle.roster_bound.specs.Levelled.{pays_of};
 ghost use Rattle.roster_bound.specs.Tables.{worths_of};
 ghost use Rattle.roster_bound.specs.Workspaces.{FitsRows};
-ghost use Rattle.roster_bound.specs.Worths.{HasRow, HaveRows, IsLowerBound, floor_row, level_cost, levelled_bound, most_free, most_pay, most_total, most_worth, row_floor, total_floor};
+ghost use Rattle.roster_bound.specs.Worths.{HasRow, HaveRows, IsLowerBound, floor_row, level_cost, levelled_bound, most_pay, most_total, most_worth, nurse_floor, row_floor, total_floor};
 
 use crate::levelled::Levelled;
 use crate::moves::count_row;
@@ -93,20 +91,28 @@ fn nurse_floor(
     requires given { terms.now.given.now ≡ held.now.roster }
     requires nurse { nurse < nurse_count held.now.case }
     requires pay { pay ≤ most_pay }
-    requires worths { terms.now.worths.now.days ≡ day_count held.now.case }
     requires rows { FitsRows (levelled held.now.case) rows.old }
     requires room { meter.old + extension_count (levelled held.now.case) nurse ≤ greatest_u64 }
-    ensures floor { result ≡ row_floor (levelled held.now.case) terms.now.from held.now.roster
-        (worths_of terms.now.worths.now) (shift_run_weight + pay) nurse
-        + total_floor held.now.case nurse pay - level_cost held.now.case nurse pay }
+    ensures floor { result ≡ nurse_floor held.now.case terms.now.from held.now.roster
+        (worths_of terms.now.worths.now) (λ n. pay) nurse }
     ensures within { result ≤ 8600000000 }
     ensures rows { FitsRows (levelled held.now.case) rows.new }
     ensures counted { meter.new ≤ meter.old + extension_count (levelled held.now.case) nurse }
 {
     held.roster();
+    let Terms {
+        case,
+        worths,
+        given,
+        from,
+        ..
+    } = *terms;
     let own = Terms {
+        case,
+        worths,
+        given,
+        from,
         free: SHIFT_RUN as u16 + pay,
-        ..*terms
     };
     let floor = row_floor(&own, nurse, rows, meter);
     let total = total_floor(held, nurse, pay) as u64;
@@ -176,8 +182,6 @@ fn level_cost(held: &Levelled, nurse: usize, pay: u16) -> u32
 pub fn row_floor(terms: &Terms<'_>, nurse: usize, rows: &mut RowSpace, meter: &mut Meter) -> u64
     requires row { HasRow terms.now.case.now terms.now.from terms.now.given.now nurse }
     requires nurse { nurse < nurse_count terms.now.case.now }
-    requires worths { terms.now.worths.now.days ≡ day_count terms.now.case.now }
-    requires free { terms.now.free ≤ most_free }
     requires rows { FitsRows terms.now.case.now rows.old }
     requires room { meter.old + extension_count terms.now.case.now nurse ≤ greatest_u64 }
     ensures floor { result ≡ row_floor terms.now.case.now terms.now.from terms.now.given.now
@@ -212,8 +216,6 @@ pub fn row_floor(terms: &Terms<'_>, nurse: usize, rows: &mut RowSpace, meter: &m
 /// The first of the cheapest rows of each nurse by worths. They are counted at their places.
 pub(crate) fn find_rows(terms: &Terms<'_>, rows: &mut RowSpace, meter: &mut Meter)
     requires each { HaveRows terms.now.case.now terms.now.from terms.now.given.now }
-    requires worths { terms.now.worths.now.days ≡ day_count terms.now.case.now }
-    requires free { terms.now.free ≤ most_free }
     requires rows { FitsRows terms.now.case.now rows.old }
     requires room { meter.old + nurse_count terms.now.case.now * greatest_extension_count
         terms.now.case.now ≤ greatest_u64 }
@@ -237,7 +239,6 @@ fn put_days(worked: &mut [u16], nurse: usize, days: u16) {
 /// Puts the offers of each day in the place of others: to be off, and for each shift the cheapest, of equally cheap ones the first.
 fn offers_of_days(terms: &Terms<'_>, nurse: usize, offers: &mut DayOffers)
     requires nurse { nurse < nurse_count terms.now.case.now }
-    requires worths { terms.now.worths.now.days ≡ day_count terms.now.case.now }
     ensures offers { AreWorthOffers terms.now.case.now terms.now.from terms.now.given.now
         (worths_of terms.now.worths.now) terms.now.free nurse offers.new.items }
 {
@@ -252,7 +253,6 @@ fn offers_of_days(terms: &Terms<'_>, nurse: usize, offers: &mut DayOffers)
 fn offers_of_day(terms: &Terms<'_>, nurse: usize, day: u16) -> ArrayVec<Offer, MOST_OFFERS>
     requires nurse { nurse < nurse_count terms.now.case.now }
     requires day { day < day_count terms.now.case.now }
-    requires worths { terms.now.worths.now.days ≡ day_count terms.now.case.now }
     ensures offers { result.items ≡ shift_offers_by_worth terms.now.case.now terms.now.from
         terms.now.given.now (worths_of terms.now.worths.now) terms.now.free nurse day }
 {

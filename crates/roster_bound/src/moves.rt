@@ -58,9 +58,9 @@ fn wanted(case: &Case, worths: &Worths, day: u16, place: u8) -> u16
     let (shift, skill) = (Shift(place / 8), Skill(place % 8));
     let need = case.need(day, shift, skill);
     if worths.at(day, shift, skill) as u32 <= STAFFING {
-        need.least.max(need.greatest)
+        need.minimum.max(need.optimum)
     } else {
-        need.least
+        need.minimum
     }
 }
 

@@ -8,11 +8,10 @@ ghost use Rattle.roster_instance.specs.Meaning.{day_count, nurse_count};
 ghost use Rattle.roster_instance.specs.Rosters.{is_choice_of};
 ghost use Rattle.roster_rules.specs.AllowedRows.{keeps_frozen_day};
 ghost use Rattle.roster_rules.specs.Penalties.{request_cost_on};
-ghost use Rattle.roster_rules.specs.Weights.{off_request_weight, wish_weight};
-ghost use Rattle.roster_bound.specs.Days.{can_do, offers_by_worth};
-ghost use Rattle.roster_offers.specs.Offers.{offer_at};
+ghost use Rattle.roster_rules.specs.Weights.{most_request};
+ghost use Rattle.roster_bound.specs.Days.{offer_if_able, offers_by_worth};
 ghost use Rattle.roster_bound.specs.Tables.{worths_of};
-ghost use Rattle.roster_bound.specs.Worths.{earned, free_price, most_worth, price_with};
+ghost use Rattle.roster_bound.specs.Worths.{earned, free_price, most_free, most_worth};
 
 use crate::worths::{MOST_WORTH, Worths};
 use arrayvec::ArrayVec;
@@ -28,6 +27,8 @@ pub struct Terms<'a> {
     pub given: &'a Roster,
     pub from: u16,
     pub free: u16,
+    pub ghost days: { worths.now.days ≡ day_count case.now },
+    pub ghost cheap: { free ≤ most_free },
 }
 
 /// A case, and a roster of which the days before week `from` stay.
@@ -43,7 +44,6 @@ pub struct Base<'a> {
 pub fn choices(terms: &Terms<'_>, nurse: usize, day: u16) -> ArrayVec<Offer, MOST_CHOICES>
     requires nurse { nurse < nurse_count terms.now.case.now }
     requires day { day < day_count terms.now.case.now }
-    requires worths { terms.now.worths.now.days ≡ day_count terms.now.case.now }
     ensures offers { result.items ≡ offers_by_worth terms.now.case.now terms.now.from
         terms.now.given.now (worths_of terms.now.worths.now) terms.now.free nurse day }
 {
@@ -77,13 +77,11 @@ fn push_some(offers: &mut ArrayVec<Offer, MOST_CHOICES>, offer: Option<Offer>)
 fn offered(terms: &Terms<'_>, nurse: usize, day: u16, choice: Choice, asked: u32) -> Option<Offer>
     requires nurse { nurse < nurse_count terms.now.case.now }
     requires day { day < day_count terms.now.case.now }
-    requires worths { terms.now.worths.now.days ≡ day_count terms.now.case.now }
     requires choice { is_choice_of terms.now.case.now choice ≡ true }
     requires asked { asked ≡ request_cost_on terms.now.case.now nurse day (shift_of choice) }
-    requires within { asked ≤ off_request_weight + wish_weight }
-    ensures { result ≡ (if can_do terms.now.case.now terms.now.from terms.now.given.now nurse day
-        choice then Some (offer_at (price_with terms.now.case.now (worths_of terms.now.worths.now)
-        terms.now.free nurse) day choice) else None) }
+    requires within { asked ≤ most_request }
+    ensures { result ≡ offer_if_able terms.now.case.now terms.now.from terms.now.given.now
+        (worths_of terms.now.worths.now) terms.now.free nurse day choice }
 {
     let able = may_take(terms.case, nurse, day, choice);
     let kept = keeps_frozen_day(terms, nurse, day, choice);
@@ -111,7 +109,6 @@ fn keeps_frozen_day(terms: &Terms<'_>, nurse: usize, day: u16, choice: Choice) -
 /// What a nurse earns on a day.
 fn earned(terms: &Terms<'_>, day: u16, choice: Choice) -> u16
     requires day { day < day_count terms.now.case.now }
-    requires worths { terms.now.worths.now.days ≡ day_count terms.now.case.now }
     requires choice { is_choice_of terms.now.case.now choice ≡ true }
     ensures pay { result ≡ earned (worths_of terms.now.worths.now) day choice }
     ensures within { result ≤ most_worth }

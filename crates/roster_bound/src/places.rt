@@ -70,8 +70,8 @@ fn place_floor(case: &Case, worths: &Worths, day: u16, shift: Shift, skill: Skil
     case.keeps_limits();
     let need = case.need(day, shift, skill);
     let worth = worths.at(day, shift, skill);
-    let at_minimum = place_cost(need.greatest, worth, need.least);
-    let at_optimum = place_cost(need.greatest, worth, need.least.max(need.greatest));
+    let at_minimum = place_cost(need.optimum, worth, need.minimum);
+    let at_optimum = place_cost(need.optimum, worth, need.minimum.max(need.optimum));
     at_minimum.min(at_optimum)
 }
 

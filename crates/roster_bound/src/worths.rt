@@ -131,7 +131,7 @@ fn asks_for_nurses(case: &Case, place: usize) -> bool
     case.keeps_limits();
     let (day, shift, skill) = (place / 64, place % 64 / 8, place % 8);
     let need = case.need(day as u16, Shift(shift as u8), Skill(skill as u8));
-    need.least > 0 || need.greatest > 0
+    need.minimum > 0 || need.optimum > 0
 }
 
 /// A worth in 256ths of a point, moved by a share: up where nurses are wanted, and by one more down where there are too many.

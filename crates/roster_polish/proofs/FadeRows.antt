@@ -12,7 +12,7 @@ use Rattle.roster_rules.specs.AllowedRows.{keeps_frozen_day, keeps_frozen_days}
 use Rattle.roster_rules.specs.HardRules.{hard_faults, keeps_absences, keeps_hard, keeps_skills, keeps_successions}
 use Rattle.roster_rules.specs.declared.fault.HardFault.{HardFault}
 use Rattle.roster_rules.proofs.FirstLeast as least
-use Rattle.roster_rules.proofs.RosterFacts.{row-length}
+use Rattle.roster_instance.proofs.RosterFacts.{row-length}
 use Rattle.roster_laws.specs.FrozenDays.{FrozenDaysStay}
 use Rattle.roster_laws.proofs.Allowed.{kept_is_member, kept_passes}
 use Rattle.roster_laws.proofs.AllRows.{member_is_row}

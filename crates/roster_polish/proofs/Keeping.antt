@@ -6,7 +6,7 @@ use Rattle.std.proofs.lemmas.List.{ext_get_or, get_or-map, length-map}
 use Rattle.roster_instance.specs.Meaning.{Meaning, nurse_count}
 use Rattle.roster_instance.specs.Rosters.{Row, Rows, fits_case, is_row_of}
 use Rattle.roster_rules.specs.HardRules.{keeps_hard}
-use Rattle.roster_rules.proofs.RosterFacts.{row-length}
+use Rattle.roster_instance.proofs.RosterFacts.{row-length}
 use Rattle.roster_laws.specs.FrozenDays.{FrozenDaysStay}
 use Rattle.roster_polish.specs.Polished.{IsReached}
 

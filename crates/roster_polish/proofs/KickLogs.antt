@@ -20,7 +20,7 @@ use Rattle.roster_laws.proofs.Runs.{fall, settled_rows}
 use Rattle.roster_rounds.specs.PutIn.{IsAccepted}
 use Rattle.roster_log.specs.declared.fault.LogFault.TheVariants.{LogFailed}
 use Rattle.roster_polish.specs.declared.run.Polished.{Polished}
-use Rattle.roster_polish.specs.Polished.{Falls, IsFaded, IsKickLog, IsPolishing, IsReached, KickLine, PolishLogStops, Polishes, Told, begun, fade_line, fade_text, first_run, held_at, kick_line, kicks_text, last_kick, last_line, most_rounds, no_kick, told_fade, told_kick, told_last, told_lines, told_start}
+use Rattle.roster_polish.specs.Polished.{Falls, IsFaded, IsKickLog, IsPolishing, IsReached, KickLine, PolishLogStops, Polishes, Told, begun, fade_line, fade_text, first_run, held_at, kick_line, kicks_text, last_kick, last_line, settling_rounds, no_kick, told_fade, told_kick, told_last, told_lines, told_start}
 use Rattle.roster_polish.specs.Settled.{IsSettled}
 
 -- ---- one line more
@@ -112,7 +112,7 @@ module _ (c : Meaning) (from : ℕ) (given : Rows) (start : ℕ) (alone : Bool) 
   no_log begin made = record { reached = All-nil IsLine; falls = tt; within = omega arith }
 
   first_settled : (first_run c from given).is_settled ≡ true → IsSettled c from first
-  first_settled end = settled_rows c from most_rounds given end
+  first_settled end = settled_rows c from settling_rounds given end
 
   later_log : (begin : Rows) (made next : ℕ) (lines : List KickLine) → made ≤ next → IsKickLog c from given begin made lines → IsKickLog c from given begin next lines
   later_log begin made next lines h p = let within : (last_kick (no_kick begin) lines).kick ≤ made = p.within in record { reached = p.reached; falls = p.falls; within = omega arith }
@@ -121,14 +121,14 @@ module _ (c : Meaning) (from : ℕ) (given : Rows) (start : ℕ) (alone : Bool) 
   pub no_dearer_than : (fade : Option Rows) → IfSome fade (IsFaded c from given first) → (lines : List KickLine) (kept : Rows) → Falls c (no_kick (begun fade first)) lines
       → penalty c kept ≡ penalty c (last_kick (no_kick (begun fade first)) lines).roster → penalty c kept ≤ penalty c given
   no_dearer_than fade faded lines kept falls told =
-      omega (arith, told, last_is_least c (no_kick (begun fade first)) lines falls, begun_reached c from given first fade faded, fall c (best_row c from) most_rounds given)
+      omega (arith, told, last_is_least c (no_kick (begun fade first)) lines falls, begun_reached c from given first fade faded, fall c (best_row c from) settling_rounds given)
 
   -- ---- a run without a kick
 
   pub first_kept : IsAccepted c given → IsReached c from given first
   first_kept accepted = record {
-    accepted = run_keeps c (best_row c from) (IsKept c) (step_keeps c from) most_rounds given accepted;
-    stays = run_keeps c (best_row c from) (FrozenDaysStay c from given) (steps_stay c from given) most_rounds given (stays_self c from given);
+    accepted = run_keeps c (best_row c from) (IsKept c) (step_keeps c from) settling_rounds given accepted;
+    stays = run_keeps c (best_row c from) (FrozenDaysStay c from given) (steps_stay c from given) settling_rounds given (stays_self c from given);
   }
 
   pub unkicked : (kicks : ℕ) → IsAccepted c given → IsPolishing c from given start kicks alone (first_run c from given).is_settled first (unkicked_text c from start given)

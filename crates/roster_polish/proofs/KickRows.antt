@@ -14,7 +14,7 @@ use Rattle.roster_instance.specs.Meaning.{Meaning, day_count, nurse_at, nurse_co
 use Rattle.roster_instance.specs.Rosters.{Row, Rows, choice_on, fits_case, is_choice_of, is_row_of, row_of, with_row}
 use Rattle.roster_rules.specs.AllowedRows.{is_frozen, keeps_frozen_day, keeps_frozen_days, row_keeps}
 use Rattle.roster_rules.specs.HardRules.{breaks_succession, is_able, is_here, keeps_hard, may_take}
-use Rattle.roster_rules.proofs.RosterFacts.{has_row, row_fits}
+use Rattle.roster_instance.proofs.RosterFacts.{has_row, row_fits}
 use Rattle.roster_laws.specs.OneRow.{is_offered, is_open, is_open_row}
 use Rattle.roster_laws.specs.Staffing.{meets, with_choice}
 use Rattle.roster_laws.specs.OneRow.{others}

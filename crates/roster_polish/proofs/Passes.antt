@@ -7,7 +7,7 @@ use Rattle.std.proofs.lemmas.Nat.{mul-le}
 use Rattle.roster_instance.specs.Meaning.{Meaning, nurse_count}
 use Rattle.roster_instance.specs.Rosters.{Rows}
 use Rattle.roster_rules.specs.AllowedRows.{best_row}
-use Rattle.roster_rules.specs.Improver.{Run, round, run, same_rows, step}
+use Rattle.roster_rules.specs.Improver.{round, run, same_rows, step}
 use Rattle.roster_rules.specs.Penalties.{penalty}
 use Rattle.roster_laws.specs.Greatest.{greatest_extension_count}
 use Rattle.roster_laws.proofs.Runs.{run-goes_on, run-settled, run-stopped}
@@ -15,8 +15,9 @@ use Rattle.roster_laws.proofs.SameRows.{same_rows_is, same_rows_of}
 use Rattle.roster_rounds.proofs.RoundSteps.{fold_more}
 use Rattle.roster_polish.specs.declared.settle.Pass.{Pass}
 use Rattle.roster_polish.specs.declared.settle.Pass.TheVariants.{Changed, Stopped, Unchanged}
-use Rattle.roster_polish.specs.Polished.{first_searches, most_rounds, rounds_made, settling_searches}
-use Rattle.roster_polish.specs.Settled.{HasBestRow, Spends, extensions_of}
+use Rattle.roster_polish.specs.Polished.{first_searches, settling_rounds, rounds_made, settling_searches}
+use Rattle.roster_laws.specs.Settled.{HasBestRow, settled_at}
+use Rattle.roster_polish.specs.Settled.{Spends, extensions_of}
 use Rattle.roster_polish.proofs.Steps.{both_of, falls_if, has_best, is_same, one_and_rest}
 
 -- the steps of the nurses from the first to before this one led from one roster to another, and changed it or not
@@ -99,13 +100,10 @@ module _ (c : Meaning) (from : ℕ) (old now : Rows) (rounds made : ℕ) (next :
       ap (λ m. run c (best_row c from) m old) one_more ∙ run-goes_on c (best_row c from) (rounds - (made + 1)) old (ap (λ r. same_rows r old) (sym is_round) ∙ differs)
       ∙ ap (run c (best_row c from) (rounds - (made + 1))) (sym is_round)
 
-  pub run_ends : same_rows now old ≡ true → run c (best_row c from) (rounds - made) old ≡ record { roster = now; is_settled = true }
+  pub run_ends : same_rows now old ≡ true → run c (best_row c from) (rounds - made) old ≡ settled_at now
   run_ends same =
       ap (λ m. run c (best_row c from) m old) one_more ∙ run-settled c (best_row c from) (rounds - (made + 1)) old (ap (λ r. same_rows r old) (sym is_round) ∙ same)
       ∙ ap settled_at (sym (same_rows_is now old same))
-    where
-      settled_at : Rows → Run
-      settled_at r = record { roster = r; is_settled = true }
 
   -- ---- how many rounds it makes
 
@@ -140,7 +138,7 @@ rounds_few c from (suc m) r = one_more_or_last (same_rows (round c (best_row c f
 
 -- no first settling takes more searches than any does
 pub settling_few : (c : Meaning) (from : ℕ) (r : Rows) → settling_searches c from r ≤ first_searches c
-settling_few c from r = mul-le (rounds_made c from most_rounds r) (nurse_count c) most_rounds (nurse_count c) (rounds_few c from most_rounds r) (omega arith)
+settling_few c from r = mul-le (rounds_made c from settling_rounds r) (nurse_count c) settling_rounds (nurse_count c) (rounds_few c from settling_rounds r) (omega arith)
 
 -- what a settling of so many rounds has counted, where each took at most one search for each nurse
 pub counted_in : (c : Meaning) (rounds meter left new new_left : ℕ) → Spends c meter left new new_left → left ≤ new_left + rounds * nurse_count c → new ≤ meter + extensions_of c (rounds * nurse_count c)

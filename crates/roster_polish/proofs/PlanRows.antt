@@ -18,7 +18,7 @@ use Rattle.roster_instance.specs.Rosters.{Row, Rows, choice_on, days_of_nurse, f
 use Rattle.roster_rules.specs.AllowedRows.{is_frozen, keeps_frozen_day, keeps_frozen_days}
 use Rattle.roster_rules.specs.HardRules.{absence_fault, absences_before, breaks_succession, is_able, is_able_on, is_here, is_here_on, keeps_absences, keeps_skills, keeps_successions, skill_faults, succession_fault, skill_fault, successions_before}
 use Rattle.roster_rules.proofs.CountLemmas.{shift_of_day}
-use Rattle.roster_rules.proofs.RosterFacts.{row-length, row_fits}
+use Rattle.roster_instance.proofs.RosterFacts.{row-length, row_fits}
 use Rattle.roster_laws.proofs.Allowed.{present_stays}
 use Rattle.roster_laws.proofs.Below.{all_elim, all_true}
 use Rattle.roster_laws.proofs.Keeps.{none_below, none_of_both, none_where_not, not_not}

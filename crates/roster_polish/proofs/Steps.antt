@@ -13,7 +13,8 @@ use Rattle.roster_laws.specs.Greatest.{extension_count, extensions_in, greatest_
 use Rattle.roster_laws.proofs.GreatestLemmas.{greatest_extensions}
 use Rattle.roster_laws.proofs.SameRows.{same_rows_is}
 use Rattle.roster_laws.proofs.Steps.{changed_is_cheaper, step_is_least}
-use Rattle.roster_polish.specs.Settled.{HasBestRow, Spends, extensions_of}
+use Rattle.roster_laws.specs.Settled.{HasBestRow}
+use Rattle.roster_polish.specs.Settled.{Spends, extensions_of}
 
 -- a Boolean whose negation is false
 not_false : (b : Bool) → false ≡ not b → b ≡ true

@@ -18,16 +18,17 @@ use Rattle.roster_polish.specs.Settled.{IsSettled}
 
 -- ---- the first settling
 
-abbrev pub most_rounds : ℕ
-most_rounds = 1000000
+-- the most rounds of it
+abbrev pub settling_rounds : ℕ
+settling_rounds = 1000000
 
--- that is `improve`: settled for sure where the given roster costs less than 5 * most_rounds
+-- that is `improve`: settled for sure where the given roster costs less than 5 * settling_rounds
 abbrev pub first_run : Meaning → ℕ → Rows → Run
-first_run c from given = run c (best_row c from) most_rounds given
+first_run c from given = run c (best_row c from) settling_rounds given
 
 -- why a settling is given up: no search is left, the roster is dearer than is asked, or it was so dear that all rounds may not be enough
 abbrev pub IsGivenUp : Meaning → (most left : ℕ) → (before after : Rows) → Type 0
-IsGivenUp c most left before after = (left ≡ 0) ⊎ (most < penalty c after) ⊎ (most_rounds ≤ penalty c before + 1)
+IsGivenUp c most left before after = (left ≡ 0) ⊎ (most < penalty c after) ⊎ (settling_rounds ≤ penalty c before + 1)
 
 -- how many rounds a run of at most so many makes: it ends with the first that changes nothing
 unfoldable pub rounds_made : Meaning → ℕ → (rounds : ℕ) → Rows → ℕ
@@ -38,7 +39,7 @@ rounds_made c from (suc rounds) r =
 
 -- how many searches the first settling makes at most: one for each nurse in each of its rounds
 abbrev pub settling_searches : Meaning → ℕ → Rows → ℕ
-settling_searches c from given = rounds_made c from most_rounds given * nurse_count c
+settling_searches c from given = rounds_made c from settling_rounds given * nurse_count c
 
 -- ---- the memory of a run
 
@@ -57,7 +58,7 @@ pub record FitsPolish (c : Meaning) (w : PolishSpace) : Type 0 where
 
 -- and how many from whatever roster
 abbrev pub first_searches : Meaning → ℕ
-first_searches c = most_rounds * nurse_count c
+first_searches c = settling_rounds * nurse_count c
 
 -- the most searches beside these for which a new meter surely has room
 abbrev pub most_searches : ℕ
@@ -177,6 +178,10 @@ pub record Polishes {W : Type 0} (contents : W → Option (List ℕ)) (c : Meani
   pub writes : Writes contents old new text
   pub total : told.total ≡ penalty c after
 
+-- the log begins with the penalty of the given roster
+abbrev pub PolishesGiven : {W : Type 0} → (W → Option (List ℕ)) → Meaning → ℕ → Rows → ℕ → Bool → Rows → Watched W → Watched W → Polished → Type 0
+PolishesGiven contents c from given kicks alone after old new = Polishes contents c from given (penalty c given) kicks alone after old new
+
 -- just the first bytes of the log of a run went out, and the roster is that of the line at which the log failed
 pub record PolishLogStops {W : Type 0} (contents : W → Option (List ℕ)) (c : Meaning) (from : ℕ) (given : Rows) (start kicks : ℕ) (alone : Bool) (after : Rows) (old new : Watched W) (fault : LogFault) : Type 0 where
   pub settled : Bool
@@ -188,3 +193,7 @@ pub record PolishLogStops {W : Type 0} (contents : W → Option (List ℕ)) (c :
   pub counted : fault ≡ LogFailed (saturated sent)
   pub held : after ≡ held_at sent (told_lines c given start run.fade run.lines settled last) given
   pub reached : IsReached c from given after
+
+-- the log begins with the penalty of the given roster
+abbrev pub GivenLogStops : {W : Type 0} → (W → Option (List ℕ)) → Meaning → ℕ → Rows → ℕ → Bool → Rows → Watched W → Watched W → LogFault → Type 0
+GivenLogStops contents c from given kicks alone after old new = PolishLogStops contents c from given (penalty c given) kicks alone after old new

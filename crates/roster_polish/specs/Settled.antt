@@ -1,16 +1,11 @@
 -- A roster to which no step adds anything, and searches that are paid for (our own).
-use Rattle.std.specs.Prelude.{ℕ, ◌+◌, ◌*◌, ◌<◌, ◌≤◌, All}
+use Rattle.std.specs.Prelude.{ℕ, ◌+◌, ◌*◌, ◌<◌, ◌≤◌}
 use Rattle.roster_instance.specs.Meaning.{Meaning, nurse_count}
 use Rattle.roster_instance.specs.Rosters.{Rows}
-use Rattle.roster_rules.specs.AllowedRows.{allowed_rows, penalty_with}
-use Rattle.roster_rules.specs.Penalties.{penalty}
 use Rattle.roster_laws.specs.Greatest.{greatest_extension_count}
+use Rattle.roster_laws.specs.Settled.{HasBestRow}
 
--- no allowed row of a nurse is cheaper than the present one
-abbrev pub HasBestRow : Meaning → ℕ → Rows → ℕ → Type 0
-HasBestRow c from r n = All (λ row. penalty c r ≤ penalty_with c r n row) (allowed_rows c from r n)
-
--- that is so for every nurse
+-- no allowed row of any nurse is cheaper than the present one
 abbrev pub IsSettled : Meaning → ℕ → Rows → Type 0
 IsSettled c from r = (n : ℕ) → n < nurse_count c → HasBestRow c from r n
 

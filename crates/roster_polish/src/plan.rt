@@ -104,7 +104,7 @@ fn missing_on(case: &Case, roster: &Roster, day: u16) -> u32
     let mut missing = 0;
     for shift in 0..case.shifts() {
         for skill in 0..case.skills() {
-            let need = case.need(day, Shift(shift), Skill(skill)).least;
+            let need = case.need(day, Shift(shift), Skill(skill)).minimum;
             let have = present(case, roster, day, Shift(shift), Skill(skill));
             missing += need.saturating_sub(have) as u32;
         }

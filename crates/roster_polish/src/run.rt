@@ -5,7 +5,7 @@ ghost use Rattle.roster_bundle.specs.Limits.{greatest_u64};
 ghost use Rattle.roster_instance.specs.Limits.{most_nurses};
 ghost use Rattle.roster_laws.specs.FrozenDays.{FrozenDaysStay};
 ghost use Rattle.roster_rules.specs.Penalties.{penalty};
-ghost use Rattle.roster_polish.specs.Polished.{FitsPolish, PolishLogStops, Polishes, first_searches, settling_searches};
+ghost use Rattle.roster_polish.specs.Polished.{FitsPolish, GivenLogStops, PolishLogStops, Polishes, PolishesGiven, first_searches, settling_searches};
 ghost use Rattle.roster_polish.specs.Settled.{extensions_of};
 
 use crate::fade::try_fade;
@@ -58,10 +58,10 @@ pub fn polish<W: Write>(
     requires room { meter.old + extensions_of held.old.case
         (course.now.searches + first_searches held.old.case) ≤ greatest_u64 }
     ensures case { held.new.case ≡ held.old.case }
-    ensures ok { IfOk result (Polishes W.contents held.old.case course.now.from held.old.roster (penalty held.old.case held.old.roster)
-        course.now.searches course.now.kicks held.new.roster log.old log.new) }
-    ensures err { IfErr result (PolishLogStops W.contents held.old.case course.now.from held.old.roster (penalty held.old.case held.old.roster)
-        course.now.searches course.now.kicks held.new.roster log.old log.new) }
+    ensures ok { IfOk result (PolishesGiven W.contents held.old.case course.now.from
+        held.old.roster course.now.searches course.now.kicks held.new.roster log.old log.new) }
+    ensures err { IfErr result (GivenLogStops W.contents held.old.case course.now.from
+        held.old.roster course.now.searches course.now.kicks held.new.roster log.old log.new) }
     ensures no_dearer { penalty held.old.case held.new.roster ≤ penalty held.old.case
         held.old.roster }
     ensures frozen { FrozenDaysStay held.old.case course.now.from held.old.roster held.new.roster }
@@ -90,10 +90,11 @@ pub fn polish_found<W: Write>(
     requires room { meter.old + extensions_of held.old.case
         (course.now.searches + first_searches held.old.case) ≤ greatest_u64 }
     ensures case { held.new.case ≡ held.old.case }
-    ensures ok { IfOk result (Polishes W.contents held.old.case course.now.from held.old.roster start
-        course.now.searches course.now.kicks held.new.roster log.old log.new) }
-    ensures err { IfErr result (PolishLogStops W.contents held.old.case course.now.from held.old.roster start
-        course.now.searches course.now.kicks held.new.roster log.old log.new) }
+    ensures ok { IfOk result (Polishes W.contents held.old.case course.now.from held.old.roster
+        start course.now.searches course.now.kicks held.new.roster log.old log.new) }
+    ensures err { IfErr result (PolishLogStops W.contents held.old.case course.now.from
+        held.old.roster start course.now.searches course.now.kicks held.new.roster log.old
+        log.new) }
     ensures no_dearer { penalty held.old.case held.new.roster ≤ penalty held.old.case
         held.old.roster }
     ensures frozen { FrozenDaysStay held.old.case course.now.from held.old.roster held.new.roster }

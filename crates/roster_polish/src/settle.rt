@@ -11,7 +11,8 @@ ghost use Rattle.roster_partial.specs.Workspaces.{fits_space};
 ghost use Rattle.roster_best.specs.Known.{IsKnown};
 ghost use Rattle.roster_polish.specs.declared.settle.Pass.TheVariants.{Changed, Stopped, Unchanged};
 ghost use Rattle.roster_polish.specs.Polished.{FitsPolish, IsGivenUp, first_run, first_searches, settling_searches};
-ghost use Rattle.roster_polish.specs.Settled.{HasBestRow, IsSettled, Spends, extensions_of};
+ghost use Rattle.roster_laws.specs.Settled.{HasBestRow};
+ghost use Rattle.roster_polish.specs.Settled.{IsSettled, Spends, extensions_of};
 
 use crate::searches::Searches;
 use crate::space::PolishSpace;

@@ -8,7 +8,7 @@ use Rattle.roster_instance.specs.Limits.{most_nurses}
 use Rattle.roster_instance.specs.Meaning.{Meaning, nurse_count}
 use Rattle.roster_rules.specs.Penalties.{penalty}
 use Rattle.roster_instance.specs.Rosters.{Rows}
-use Rattle.roster_laws.specs.Logs.{changes_in, outcome_of, rounds_in}
+use Rattle.roster_laws.specs.Logs.{changes_in, end_of, rounds_in}
 use Rattle.roster_laws.specs.Logs as laws
 use Rattle.roster_laws.proofs.Rounds.{changes_in-append, changes_in-round, round_stays, rounds_in-append, rounds_in-round, stays_none}
 use Rattle.roster_laws.proofs.Runs.{entries-goes_on, entries-settled, run-goes_on, run-settled, run-stopped}
@@ -40,7 +40,7 @@ round_moves c best k r some = go (same_rows (round c best r) r) refl
 abbrev pub ended : Rows → Bool → Run
 ended r is_settled = record { roster = r; is_settled = is_settled }
 
-abbrev pub record_of : Bool → ℕ → ℕ → ℕ → laws.Outcome
+abbrev pub record_of : Bool → ℕ → ℕ → ℕ → laws.RunEnd
 record_of is_settled made count total = record { is_settled = is_settled; rounds = made; changes = count; total = total }
 
 -- ---- the first `made` rounds of a run that began with the roster r
@@ -56,7 +56,7 @@ pub record Going {W : Type 0} (contents : W → Option (List ℕ)) (c : Meaning)
 
 module _ {W : Type 0} (contents : W → Option (List ℕ)) (c : Meaning) (best : BestRows) (rounds : ℕ) (r : Rows) (old : Watched W) where
   outcome_from : (is_settled : Bool) (made count total : ℕ) → is_settled ≡ (run c best rounds r).is_settled → made ≡ rounds_in (log_of c best rounds r) → count ≡ changes_in (log_of c best rounds r)
-      → total ≡ penalty c (run c best rounds r).roster → record_of is_settled made count total ≡ outcome_of c best rounds r
+      → total ≡ penalty c (run c best rounds r).roster → record_of is_settled made count total ≡ end_of c best rounds r
   outcome_from is_settled made count total e f g h = rw (e, f, g, h) refl
 
   -- a fault in the whole log

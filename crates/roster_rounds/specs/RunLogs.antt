@@ -18,7 +18,7 @@ abbrev pub text_of : Meaning → List Entry → List ℕ
 text_of c entries = flat_map (line_of c) entries
 
 -- what is told of a run's end
-abbrev pub told : Outcome → laws.Outcome
+abbrev pub told : Outcome → laws.RunEnd
 told outcome = record { is_settled = outcome.settled; rounds = outcome.rounds; changes = outcome.changes; total = outcome.total }
 
 -- ---- a writer that stops
@@ -59,4 +59,4 @@ pub record RoundMade {W : Type 0} (contents : W → Option (List ℕ)) (c : Mean
 pub record Ran {W : Type 0} (contents : W → Option (List ℕ)) (c : Meaning) (best : BestRows) (rounds : ℕ) (before after : Rows) (old new : Watched W) (outcome : Outcome) : Type 0 where
   pub roster_is : after ≡ (run c best rounds before).roster
   pub writes : Writes contents old new (text_of c (log_of c best rounds before))
-  pub outcome_is : told outcome ≡ laws.outcome_of c best rounds before
+  pub outcome_is : told outcome ≡ laws.end_of c best rounds before

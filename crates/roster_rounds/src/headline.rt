@@ -1,11 +1,12 @@
 //! The headline, as one law of the definitions.
 
-ghost use Rattle.std.specs.Prelude.{◌≡◌, ℕ, ◌<◌, ◌≤◌, true, All, AllPairs};
+ghost use Rattle.std.specs.Prelude.{◌≡◌, ℕ, ◌<◌, ◌≤◌, All, AllPairs};
 ghost use Rattle.roster_instance.specs.Meaning.{Meaning, nurse_count};
 ghost use Rattle.roster_instance.specs.Rosters.{Rows};
-ghost use Rattle.roster_rules.specs.AllowedRows.{allowed_rows, best_row, penalty_with};
+ghost use Rattle.roster_rules.specs.AllowedRows.{best_row};
 ghost use Rattle.roster_rules.specs.Improver.{log_of, run};
 ghost use Rattle.roster_rules.specs.Penalties.{penalty};
+ghost use Rattle.roster_laws.specs.Settled.{HasBestRow, settled_at};
 ghost use Rattle.roster_rounds.specs.PutIn.{AllDo, IsAccepted};
 
 /// A run from an accepted roster, of any number of rounds, with any number of weeks frozen.
@@ -16,7 +17,8 @@ pub fn each_row_put_in_is_best()
 
     // The penalty never rises.
     ensures falls { (c : Meaning) (r : Rows) (from rounds : ℕ) → IsAccepted c r
-        → AllPairs (λ e later. penalty c later.roster ≤ penalty c e.roster) (log_of c (best_row c from) rounds r) }
+        → AllPairs (λ e later. penalty c later.roster ≤ penalty c e.roster)
+        (log_of c (best_row c from) rounds r) }
 
     // Each roster on the way is one that would be accepted.
     ensures accepted { (c : Meaning) (r : Rows) (from rounds : ℕ) → IsAccepted c r
@@ -24,6 +26,6 @@ pub fn each_row_put_in_is_best()
 
     // Where a run is settled, no allowed row of a nurse is cheaper than the present one.
     ensures settled { (c : Meaning) (r last : Rows) (from rounds : ℕ) → IsAccepted c r
-        → run c (best_row c from) rounds r ≡ record { roster = last; is_settled = true } → (n : ℕ) → n < nurse_count c
-        → All (λ row. penalty c last ≤ penalty_with c last n row) (allowed_rows c from last n) }
+        → run c (best_row c from) rounds r ≡ settled_at last
+        → (n : ℕ) → n < nurse_count c → HasBestRow c from last n }
 {}

@@ -1,4 +1,4 @@
-use Rattle.roster_case.proofs.OneRow.{prices-with_row}
+use Rattle.roster_laws.proofs.OneRow.{prices-with_row}
 use Rattle.roster_best.proofs.RowLemmas.{keeps-of_offers, of_offers-keeps}
 use Rattle.roster_best.proofs.laws.offers_tell_the_allowed_rows.Goals as goal
 

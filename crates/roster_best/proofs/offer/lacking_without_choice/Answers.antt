@@ -1,6 +1,6 @@
 use Rattle.std.proofs.Common.{◌≡◌, ◌∙◌, ◌<◌, ap, arith, sym, length, nat_lt}
 use Rattle.std.proofs.lemmas.Bool.{and_parts, ltb-true}
-use Rattle.roster_instance.specs.declared.rules.Limits.{Limits}
+use Rattle.roster_instance.specs.declared.rules.Need.{Need}
 use Rattle.roster_instance.specs.Meaning.{Meaning, minimum, optimum, shift_count, skill_count}
 use Rattle.roster_instance.specs.Rosters.{is_choice_of}
 use Rattle.roster_instance.proofs.RosterFacts.{has_row}
@@ -37,10 +37,10 @@ returns-in-Work c =
     let parts = and_parts (nat_lt shift.0 (shift_count k)) (nat_lt skill.0 (skill_count k)) (ap (is_choice_of k) (sym c.in-Work.is) ∙ c.requires.choice) in
     let shift_in : shift.0 < shift_count k = ltb-true shift.0 (shift_count k) parts.0 in
     let skill_in : skill.0 < skill_count k = ltb-true skill.0 (skill_count k) parts.1 in
-    let least : need.least ≡ minimum k d shift.0 skill.0 = ap (λ (l : Limits). l.least) c.need-need.ensures.limits ∙ ap (λ (m : Meaning). minimum m d shift.0 skill.0) c.case.ensures in
-    let greatest : need.greatest ≡ optimum k d shift.0 skill.0 = ap (λ (l : Limits). l.greatest) c.need-need.ensures.limits ∙ ap (λ (m : Meaning). optimum m d shift.0 skill.0) c.case.ensures in
+    let least : need.minimum ≡ minimum k d shift.0 skill.0 = ap (λ (n : Need). n.minimum) c.need-need.ensures.limits ∙ ap (λ (m : Meaning). minimum m d shift.0 skill.0) c.case.ensures in
+    let greatest : need.optimum ≡ optimum k d shift.0 skill.0 = ap (λ (n : Need). n.optimum) c.need-need.ensures.limits ∙ ap (λ (m : Meaning). optimum m d shift.0 skill.0) c.case.ensures in
     record {
-      minimum = omega (arith, c.one_where_fewer-minimum.ensures.one, lacking_of_work k r n d within c.args.own c.requires.own (minimum k d) 0 shift skill c.in-Work.is shift_in skill_in have need.least have_is least missed);
-      optimum = omega (arith, c.one_where_fewer.ensures.one, lacking_of_work k r n d within c.args.own c.requires.own (optimum k d) c.lacking-all.result shift skill c.in-Work.is shift_in skill_in have need.greatest have_is greatest c.lacking-all.ensures.lacking);
+      minimum = omega (arith, c.one_where_fewer-minimum.ensures.one, lacking_of_work k r n d within c.args.own c.requires.own (minimum k d) 0 shift skill c.in-Work.is shift_in skill_in have need.minimum have_is least missed);
+      optimum = omega (arith, c.one_where_fewer.ensures.one, lacking_of_work k r n d within c.args.own c.requires.own (optimum k d) c.lacking-all.result shift skill c.in-Work.is shift_in skill_in have need.optimum have_is greatest c.lacking-all.ensures.lacking);
       within = omega (arith, c.lacking-all.ensures.within, c.one_where_fewer.ensures.within);
     }

@@ -1,23 +1,26 @@
-use Rattle.std.proofs.Common.{◌≡◌, ◌∙◌, ◌+◌, ◌++◌, ◌≤◌, None, Some, [], ap, arith, codes, decimal, refl, subst, sym, true}
+use Rattle.std.proofs.Common.{◌≡◌, ◌∙◌, ◌+◌, ◌++◌, ◌≤◌, ℕ, None, Some, [], ap, arith, codes, decimal, refl, subst, sym, true}
 use Rattle.std.proofs.lemmas.Nat.{mul-le}
 use Rattle.std.proofs.lemmas.Bool.{true≢false}
 use Rattle.std.proofs.lemmas.Result.{err_from_is_err_and}
 use Rattle.roster_text.specs.Io.{BreaksIn, Sends}
 use Rattle.roster_instance.specs.Meaning.{Meaning}
+use Rattle.roster_instance.specs.Rosters.{fits_case}
+use Rattle.roster_rules.specs.HardRules.{keeps_hard}
 use Rattle.roster_rules.specs.Penalties.{penalty}
 use Rattle.roster_laws.specs.FrozenDays.{FrozenDaysStay}
 use Rattle.roster_laws.specs.Greatest.{greatest_extension_count}
 use Rattle.roster_laws.proofs.Frozen.{stays_on}
 use Rattle.roster_rounds.specs.PutIn.{IsAccepted}
 use Rattle.roster_rules.specs.Improver.{line}
-use Rattle.roster_polish.specs.Polished.{FitsPolish, IsFaded, first_run, first_searches, kicks_text, last_line, settling_searches}
+use Rattle.roster_polish.specs.Polished.{FitsPolish, IsFaded, IsReached, first_run, first_searches, kicks_text, last_line, settling_searches}
 use Rattle.roster_polish.specs.Settled.{IsSettled, extensions_of}
 use Rattle.roster_polish.proofs.Keeping.{reached_by}
 use Rattle.roster_polish.proofs.KickLogs.{cheaper_breaks, fade_breaks, no_dearer_than, underway_faded, end_breaks, ends, first_kept, first_text, start_breaks, underway_cheaper, underway_first, underway_no_dearer, underway_same}
 use Rattle.roster_polish.proofs.Passes.{settling_few}
 use Rattle.roster_polish.proofs.Steps.{at_same, both_of}
+use Rattle.roster_polish.proofs.run.polish_found.Given as given
 use Rattle.roster_polish.proofs.run.polish_found.Goals as goal
-use Rattle.roster_polish.proofs.run.polish_found.Goals.{else-total-before, else-try_fade, then-total-before+in_ok-sent-3, then-try_fade+in_ok-sent-2}
+use Rattle.roster_polish.proofs.run.polish_found.Goals.{After-total-total, After-try_fade, else-total-before, else-try_fade, then-total-before+in_ok-sent-3, then-try_fade+in_ok-sent-2}
 
 pub returns-in_err-sent-clause-err : goal.returns-in_err-sent-clause-err
 returns-in_err-sent-clause-err g c =
@@ -63,122 +66,98 @@ try_fade-requires-clause-room g c =
       mul-le settling (greatest_extension_count k) (first_searches k) (greatest_extension_count k) (settling_few k c.args.course.now.from given) (omega arith),
     ))
 
-pub returns-in_err-sent-2-clause-frozen : goal.returns-in_err-sent-2-clause-frozen
-returns-in_err-sent-2-clause-frozen g c =
+-- the fade leaves the case, and what is so of its case and week is so of the given ones
+case_is : (g : given.Over) (c : After-try_fade g) → c.try_fade.new.held.case ≡ c.args.held.now.case
+case_is g c = c.try_fade.ensures.case ∙ c.settle_first-settled.ensures.case
+
+at_given : (g : given.Over) (c : After-try_fade g) (P : Meaning → ℕ → Type 0) → P c.settle_first-settled.new.held.case c.begin-kicking.result.searches.from → P c.args.held.now.case c.args.course.now.from
+at_given g c P told = at_same P c.settle_first-settled.new.held.case c.args.held.now.case c.begin-kicking.result.searches.from c.args.course.now.from c.settle_first-settled.ensures.case c.begin-kicking.ensures.from told
+
+frozen : (g : given.Over) (c : After-try_fade g) → FrozenDaysStay c.args.held.now.case c.args.course.now.from c.args.held.now.roster c.try_fade.new.held.roster
+frozen g c =
     let k = c.args.held.now.case in
     let from = c.args.course.now.from in
-    let given = c.args.held.now.roster in
-    let alone = c.args.course.now.kicks in
-    let told = c.settle_first-settled.ensures in
-    let begins = c.begin-kicking.ensures in
-    let f = c.try_fade.ensures in
+    let start = c.args.held.now.roster in
     let first = c.settle_first-settled.new.held.roster in
+    let accepted : IsAccepted k start = (c.keeps_rules.ensures.fits, c.keeps_rules.ensures.keeps) in
+    stays_on k from start first c.try_fade.new.held.roster (subst (FrozenDaysStay k from start) (sym c.settle_first-settled.ensures.roster) (first_kept k from start c.args.start c.args.course.now.kicks accepted).stays)
+    (at_given g c (λ m week. FrozenDaysStay m week first c.try_fade.new.held.roster) c.try_fade.ensures.frozen)
+
+no_dearer : (g : given.Over) (c : After-try_fade g) → penalty c.args.held.now.case c.try_fade.new.held.roster ≤ penalty c.args.held.now.case (first_run c.args.held.now.case c.args.course.now.from c.args.held.now.roster).roster
+no_dearer g c =
     let next = c.try_fade.new.held.roster in
-    let same : c.try_fade.new.held.case ≡ k = f.case ∙ told.case in
-    let accepted : IsAccepted k given = (c.keeps_rules.ensures.fits, c.keeps_rules.ensures.keeps) in
-    let stays : FrozenDaysStay k from first next = at_same (λ m week. FrozenDaysStay m week first next) c.settle_first-settled.new.held.case k c.begin-kicking.result.searches.from from told.case begins.from f.frozen in
-    let frozen : FrozenDaysStay k from given next = stays_on k from given first next (subst (FrozenDaysStay k from given) (sym told.roster) (first_kept k from given c.args.start alone accepted).stays) stays in
-    frozen
+    subst (λ r. penalty c.args.held.now.case next ≤ penalty c.args.held.now.case r) c.settle_first-settled.ensures.roster
+    (subst (λ (m : Meaning). penalty m next ≤ penalty m c.settle_first-settled.new.held.roster) c.settle_first-settled.ensures.case c.try_fade.ensures.no_dearer)
+
+-- the log's first line is sent
+begun_log : (g : given.Over) (c : After-try_fade g) → Sends g.W.Write.contents c.args.log.now c.log_word.new.log 0 c.in_ok-sent.sent (kicks_text c.args.held.now.case c.args.start None [])
+begun_log g c = subst (Sends g.W.Write.contents c.args.log.now c.log_word.new.log 0 c.in_ok-sent.sent) (first_text c.args.held.now.case c.args.start) c.in_ok-sent.ensures.ok
+
+-- a fade that stayed was not ruled out, and its roster may be kept
+fades : (g : given.Over) (c : After-try_fade g) → c.try_fade.result ≡ true → c.args.course.now.kicks ≡ true → ⊥
+fades g c stayed alone = true≢false (sym stayed ∙ c.try_fade.ensures.none (c.begin-kicking.ensures.fadeless alone))
+
+faded : (g : given.Over) (c : After-try_fade g) → c.try_fade.result ≡ true → fits_case c.try_fade.new.held.case c.try_fade.new.held.roster ≡ true → keeps_hard c.try_fade.new.held.case c.try_fade.new.held.roster ≡ true
+    → IsFaded c.args.held.now.case c.args.course.now.from c.args.held.now.roster (first_run c.args.held.now.case c.args.course.now.from c.args.held.now.roster).roster c.try_fade.new.held.roster
+faded g c stayed fits keeps = record {
+  reached = reached_by c.try_fade.new.held.case c.args.held.now.case c.args.course.now.from c.args.held.now.roster c.try_fade.new.held.roster (case_is g c) fits keeps (frozen g c);
+  is_settled = at_given g c (λ m week. IsSettled m week c.try_fade.new.held.roster) (c.try_fade.ensures.stayed stayed);
+  no_dearer = no_dearer g c;
+}
+
+pub returns-in_err-sent-2-clause-frozen : goal.returns-in_err-sent-2-clause-frozen
+returns-in_err-sent-2-clause-frozen g c = frozen g (goal.at.returns-in_err-sent-2-clause-frozen g c).After-try_fade
 
 pub returns-in_err-sent-2-clause-no_dearer : goal.returns-in_err-sent-2-clause-no_dearer
 returns-in_err-sent-2-clause-no_dearer g c =
-    let k = c.args.held.now.case in
-    let from = c.args.course.now.from in
-    let given = c.args.held.now.roster in
-    let alone = c.args.course.now.kicks in
-    let told = c.settle_first-settled.ensures in
-    let begins = c.begin-kicking.ensures in
-    let f = c.try_fade.ensures in
-    let first = c.settle_first-settled.new.held.roster in
+    let at = (goal.at.returns-in_err-sent-2-clause-no_dearer g c).After-try_fade in
     let next = c.try_fade.new.held.roster in
-    let same : c.try_fade.new.held.case ≡ k = f.case ∙ told.case in
-    let accepted : IsAccepted k given = (c.keeps_rules.ensures.fits, c.keeps_rules.ensures.keeps) in
-    let stays : FrozenDaysStay k from first next = at_same (λ m week. FrozenDaysStay m week first next) c.settle_first-settled.new.held.case k c.begin-kicking.result.searches.from from told.case begins.from f.frozen in
-    let frozen : FrozenDaysStay k from given next = stays_on k from given first next (subst (FrozenDaysStay k from given) (sym told.roster) (first_kept k from given c.args.start alone accepted).stays) stays in
-    let no_dearer : penalty k next ≤ penalty k (first_run k from given).roster = subst (λ r. penalty k next ≤ penalty k r) told.roster (subst (λ (m : Meaning). penalty m next ≤ penalty m first) told.case f.no_dearer) in
-    let begun_log : Sends g.W.Write.contents c.args.log.now c.log_word.new.log 0 c.in_ok-sent.sent (kicks_text k c.args.start None []) = subst (Sends g.W.Write.contents c.args.log.now c.log_word.new.log 0 c.in_ok-sent.sent) (first_text k c.args.start) c.in_ok-sent.ensures.ok in
-    let fades : alone ≡ true → ⊥ = λ e. true≢false (sym c.if-try_fade.true ∙ f.none (begins.fadeless e)) in
-    let faded : IsFaded k from given (first_run k from given).roster next = record {
-      reached = reached_by c.try_fade.new.held.case k from given next same c.keeps_rules-then-try_fade.ensures.fits c.keeps_rules-then-try_fade.ensures.keeps frozen;
-      is_settled = at_same (λ m week. IsSettled m week next) c.settle_first-settled.new.held.case k c.begin-kicking.result.searches.from from told.case begins.from (f.stayed c.if-try_fade.true);
-      no_dearer = no_dearer;
-    } in
-    let total : c.total.result ≡ penalty k next = c.total.ensures.total ∙ ap (λ (m : Meaning). penalty m next) same in
-    no_dearer_than k from given c.args.start alone (Some next) faded [] next tt refl
+    no_dearer_than c.args.held.now.case c.args.course.now.from c.args.held.now.roster c.args.start c.args.course.now.kicks (Some next) (faded g at c.if-try_fade.true c.keeps_rules-then-try_fade.ensures.fits c.keeps_rules-then-try_fade.ensures.keeps) [] next tt refl
 
 pub returns-in_err-sent-2-clause-err : goal.returns-in_err-sent-2-clause-err
 returns-in_err-sent-2-clause-err g c =
+    let at = (goal.at.returns-in_err-sent-2-clause-err g c).After-try_fade in
     let p = err_from_is_err_and c.from_residual-in_err-sent-2.result c.from_residual-in_err-sent-2.ensures.1 in
     let k = c.args.held.now.case in
-    let from = c.args.course.now.from in
-    let given = c.args.held.now.roster in
-    let alone = c.args.course.now.kicks in
-    let told = c.settle_first-settled.ensures in
-    let begins = c.begin-kicking.ensures in
-    let f = c.try_fade.ensures in
-    let first = c.settle_first-settled.new.held.roster in
     let next = c.try_fade.new.held.roster in
-    let same : c.try_fade.new.held.case ≡ k = f.case ∙ told.case in
-    let accepted : IsAccepted k given = (c.keeps_rules.ensures.fits, c.keeps_rules.ensures.keeps) in
-    let stays : FrozenDaysStay k from first next = at_same (λ m week. FrozenDaysStay m week first next) c.settle_first-settled.new.held.case k c.begin-kicking.result.searches.from from told.case begins.from f.frozen in
-    let frozen : FrozenDaysStay k from given next = stays_on k from given first next (subst (FrozenDaysStay k from given) (sym told.roster) (first_kept k from given c.args.start alone accepted).stays) stays in
-    let no_dearer : penalty k next ≤ penalty k (first_run k from given).roster = subst (λ r. penalty k next ≤ penalty k r) told.roster (subst (λ (m : Meaning). penalty m next ≤ penalty m first) told.case f.no_dearer) in
-    let begun_log : Sends g.W.Write.contents c.args.log.now c.log_word.new.log 0 c.in_ok-sent.sent (kicks_text k c.args.start None []) = subst (Sends g.W.Write.contents c.args.log.now c.log_word.new.log 0 c.in_ok-sent.sent) (first_text k c.args.start) c.in_ok-sent.ensures.ok in
-    let fades : alone ≡ true → ⊥ = λ e. true≢false (sym c.if-try_fade.true ∙ f.none (begins.fadeless e)) in
-    let faded : IsFaded k from given (first_run k from given).roster next = record {
-      reached = reached_by c.try_fade.new.held.case k from given next same c.keeps_rules-then-try_fade.ensures.fits c.keeps_rules-then-try_fade.ensures.keeps frozen;
-      is_settled = at_same (λ m week. IsSettled m week next) c.settle_first-settled.new.held.case k c.begin-kicking.result.searches.from from told.case begins.from (f.stayed c.if-try_fade.true);
-      no_dearer = no_dearer;
-    } in
-    let total : c.total.result ≡ penalty k next = c.total.ensures.total ∙ ap (λ (m : Meaning). penalty m next) same in
-    rw (p.1, p.2) (fade_breaks k from given c.args.start alone g.W.Write.contents c.args.log.now c.log_word.new.log c.in_ok-sent.sent begun_log next fades faded c.args.course.now.searches c.log_word-then-try_fade.new.log c.in_err-sent-2.field-0.0
+    let total : c.total.result ≡ penalty k next = c.total.ensures.total ∙ ap (λ (m : Meaning). penalty m next) (case_is g at) in
+    rw (p.1, p.2) (fade_breaks k c.args.course.now.from c.args.held.now.roster c.args.start c.args.course.now.kicks g.W.Write.contents c.args.log.now c.log_word.new.log c.in_ok-sent.sent (begun_log g at) next (fades g at c.if-try_fade.true)
+    (faded g at c.if-try_fade.true c.keeps_rules-then-try_fade.ensures.fits c.keeps_rules-then-try_fade.ensures.keeps) c.args.course.now.searches c.log_word-then-try_fade.new.log c.in_err-sent-2.field-0.0
     (subst (λ n. BreaksIn g.W.Write.contents c.log_word.new.log c.log_word-then-try_fade.new.log c.in_ok-sent.sent (line (codes "fade") n) c.in_err-sent-2.field-0.0) total c.in_err-sent-2.ensures.err))
 
 pub loop-kicks_before-init : goal.loop-kicks_before-init
 loop-kicks_before-init g c =
+    let at = (goal.at.loop-kicks_before-init g c).After-try_fade in
     let k = c.args.held.now.case in
     let from = c.args.course.now.from in
-    let given = c.args.held.now.roster in
+    let start = c.args.held.now.roster in
     let alone = c.args.course.now.kicks in
     let told = c.settle_first-settled.ensures in
-    let begins = c.begin-kicking.ensures in
     let f = c.try_fade.ensures in
-    let first = c.settle_first-settled.new.held.roster in
     let next = c.try_fade.new.held.roster in
-    let same : c.try_fade.new.held.case ≡ k = f.case ∙ told.case in
-    let accepted : IsAccepted k given = (c.keeps_rules.ensures.fits, c.keeps_rules.ensures.keeps) in
-    let stays : FrozenDaysStay k from first next = at_same (λ m week. FrozenDaysStay m week first next) c.settle_first-settled.new.held.case k c.begin-kicking.result.searches.from from told.case begins.from f.frozen in
-    let frozen : FrozenDaysStay k from given next = stays_on k from given first next (subst (FrozenDaysStay k from given) (sym told.roster) (first_kept k from given c.args.start alone accepted).stays) stays in
-    let no_dearer : penalty k next ≤ penalty k (first_run k from given).roster = subst (λ r. penalty k next ≤ penalty k r) told.roster (subst (λ (m : Meaning). penalty m next ≤ penalty m first) told.case f.no_dearer) in
-    let begun_log : Sends g.W.Write.contents c.args.log.now c.log_word.new.log 0 c.in_ok-sent.sent (kicks_text k c.args.start None []) = subst (Sends g.W.Write.contents c.args.log.now c.log_word.new.log 0 c.in_ok-sent.sent) (first_text k c.args.start) c.in_ok-sent.ensures.ok in
     record {
-      case = same;
+      case = case_is g at;
       kept = f.kept;
-      frozen = frozen;
+      frozen = frozen g at;
       going = elim c.if-try_fade.branch [
         | then-try_fade+in_ok-sent-2 w ↦ (
-            let fades : alone ≡ true → ⊥ = λ e. true≢false (sym w.if-try_fade.true ∙ f.none (begins.fadeless e)) in
-            let faded : IsFaded k from given (first_run k from given).roster next = record {
-              reached = reached_by c.try_fade.new.held.case k from given next same w.keeps_rules-then-try_fade.ensures.fits w.keeps_rules-then-try_fade.ensures.keeps frozen;
-              is_settled = at_same (λ m week. IsSettled m week next) c.settle_first-settled.new.held.case k c.begin-kicking.result.searches.from from told.case begins.from (f.stayed w.if-try_fade.true);
-              no_dearer = no_dearer;
-            } in
-            let total : w.total.result ≡ penalty k next = w.total.ensures.total ∙ ap (λ (m : Meaning). penalty m next) same in
-            rw (w.log-is, w.sent-is, w.settled-is) (underway_faded k from given c.args.start alone g.W.Write.contents c.args.log.now c.log_word.new.log c.in_ok-sent.sent begun_log next fades faded w.log_word-then-try_fade.new.log w.in_ok-sent-2.sent
+            let total : w.total.result ≡ penalty k next = w.total.ensures.total ∙ ap (λ (m : Meaning). penalty m next) (case_is g at) in
+            rw (w.log-is, w.sent-is, w.settled-is) (underway_faded k from start c.args.start alone g.W.Write.contents c.args.log.now c.log_word.new.log c.in_ok-sent.sent (begun_log g at) next (fades g at w.if-try_fade.true)
+            (faded g at w.if-try_fade.true w.keeps_rules-then-try_fade.ensures.fits w.keeps_rules-then-try_fade.ensures.keeps) w.log_word-then-try_fade.new.log w.in_ok-sent-2.sent
             (subst (λ n. Sends g.W.Write.contents c.log_word.new.log w.log_word-then-try_fade.new.log c.in_ok-sent.sent w.in_ok-sent-2.sent (line (codes "fade") n)) total w.in_ok-sent-2.ensures.ok)))
         | else-try_fade w ↦
-            rw (w.log-is, w.sent-is, w.settled-is, f.back w.if-try_fade.false, told.roster, told.settled) (underway_first k from given c.args.start alone g.W.Write.contents c.args.log.now c.log_word.new.log c.in_ok-sent.sent begun_log)
+            rw (w.log-is, w.sent-is, w.settled-is, f.back w.if-try_fade.false, told.roster, told.settled) (underway_first k from start c.args.start alone g.W.Write.contents c.args.log.now c.log_word.new.log c.in_ok-sent.sent (begun_log g at))
       ];
-      from = f.from ∙ begins.from;
+      from = f.from ∙ c.begin-kicking.ensures.from;
       counted = omega (
         arith,
         told.counted,
-        begins.counted,
+        c.begin-kicking.ensures.counted,
         f.spends.counted,
         ap (λ (m : Meaning). extensions_of m c.try_fade.new.kicking.searches.left) told.case,
         ap (λ (m : Meaning). extensions_of m c.begin-kicking.result.searches.left) told.case,
         ap (λ (m : Meaning). extensions_of m c.args.course.now.searches) told.case,
-        both_of c.args.course.now.searches (settling_searches k from given) (greatest_extension_count k),
+        both_of c.args.course.now.searches (settling_searches k from start) (greatest_extension_count k),
       );
       fits = subst (λ (m : Meaning). FitsPolish m c.try_fade.new.space) told.case f.fits;
     }
@@ -225,53 +204,60 @@ loop-kicks_before-preserved-then-not-try_kick g c =
     }
 
 -- the roster after a kick that stayed is settled, and may be kept
-pub returns-in_err-sent-3-clause-err : goal.returns-in_err-sent-3-clause-err
-returns-in_err-sent-3-clause-err g c =
-    let p = err_from_is_err_and c.from_residual-in_err-sent-3.result c.from_residual-in_err-sent-3.ensures.1 in
+kicked : (g : given.Over) (c : After-total-total g) → c.total-total.result ≡ penalty c.args.held.now.case c.try_kick.new.held.roster
+kicked g c = c.total-total.ensures.total ∙ ap (λ (m : Meaning). penalty m c.try_kick.new.held.roster) (c.try_kick.ensures.case ∙ c.loop-kicks_before.invariant.case)
+
+before_it : (g : given.Over) (c : After-total-total g) → c.total-before.result ≡ penalty c.args.held.now.case c.loop-kicks_before.held.roster
+before_it g c = c.total-before.ensures.total ∙ ap (λ (m : Meaning). penalty m c.loop-kicks_before.held.roster) c.loop-kicks_before.invariant.case
+
+stayed : (g : given.Over) (c : After-total-total g) → IsSettled c.args.held.now.case c.args.course.now.from c.try_kick.new.held.roster
+stayed g c =
+    let i = c.loop-kicks_before.invariant in
+    at_same (λ m week. IsSettled m week c.try_kick.new.held.roster) c.loop-kicks_before.held.case c.args.held.now.case c.loop-kicks_before.kicking.searches.from c.args.course.now.from i.case i.from (c.try_kick.ensures.stayed c.if-not-try_kick.false)
+
+reached : (g : given.Over) (c : After-total-total g) → IsReached c.args.held.now.case c.args.course.now.from c.args.held.now.roster c.try_kick.new.held.roster
+reached g c =
     let k = c.args.held.now.case in
     let from = c.args.course.now.from in
-    let given = c.args.held.now.roster in
     let l = c.loop-kicks_before in
     let i = l.invariant in
-    let told = c.try_kick.ensures in
     let next = c.try_kick.new.held.roster in
-    let same : c.try_kick.new.held.case ≡ k = told.case ∙ i.case in
-    let settled = subst (λ (m : Meaning). IsSettled m from next) i.case (subst (λ week. IsSettled l.held.case week next) i.from (told.stayed c.if-not-try_kick.false)) in
-    let frozen = stays_on k from given l.held.roster next i.frozen (subst (λ (m : Meaning). FrozenDaysStay m from l.held.roster next) i.case (subst (λ week. FrozenDaysStay l.held.case week l.held.roster next) i.from told.frozen)) in
-    let total : c.total-total.result ≡ penalty k next = c.total-total.ensures.total ∙ ap (λ (m : Meaning). penalty m next) same in
-    let before : c.total-before.result ≡ penalty k l.held.roster = c.total-before.ensures.total ∙ ap (λ (m : Meaning). penalty m l.held.roster) i.case in
-    rw (p.1, p.2) (cheaper_breaks k from given c.args.start c.args.course.now.kicks g.W.Write.contents c.args.log.now l.log l.kicks_before l.sent l.settled l.held.roster i.going next (omega (arith, total, before, c.if-total-before.true))
-    (reached_by c.try_kick.new.held.case k from given next same c.keeps_rules-in-loop-kicks_before.ensures.fits c.keeps_rules-in-loop-kicks_before.ensures.keeps frozen) settled
-    c.args.course.now.searches c.log_kick.new.log c.in_err-sent-3.field-0.0 c.loop-kicks_before-test.true
-    (subst (λ n. BreaksIn g.W.Write.contents l.log c.log_kick.new.log l.sent (line (codes "kick " ++ decimal (l.kicks_before + 1)) n) c.in_err-sent-3.field-0.0) total c.in_err-sent-3.ensures.err))
+    let stays = at_same (λ m week. FrozenDaysStay m week l.held.roster next) l.held.case k l.kicking.searches.from from i.case i.from c.try_kick.ensures.frozen in
+    reached_by c.try_kick.new.held.case k from c.args.held.now.roster next (c.try_kick.ensures.case ∙ i.case) c.keeps_rules-in-loop-kicks_before.ensures.fits c.keeps_rules-in-loop-kicks_before.ensures.keeps
+    (stays_on k from c.args.held.now.roster l.held.roster next i.frozen stays)
+
+pub returns-in_err-sent-3-clause-err : goal.returns-in_err-sent-3-clause-err
+returns-in_err-sent-3-clause-err g c =
+    let at = (goal.at.returns-in_err-sent-3-clause-err g c).After-total-total in
+    let p = err_from_is_err_and c.from_residual-in_err-sent-3.result c.from_residual-in_err-sent-3.ensures.1 in
+    let l = c.loop-kicks_before in
+    rw (p.1, p.2) (cheaper_breaks c.args.held.now.case c.args.course.now.from c.args.held.now.roster c.args.start c.args.course.now.kicks g.W.Write.contents c.args.log.now l.log l.kicks_before l.sent l.settled l.held.roster l.invariant.going c.try_kick.new.held.roster
+    (omega (arith, kicked g at, before_it g at, c.if-total-before.true)) (reached g at) (stayed g at) c.args.course.now.searches c.log_kick.new.log c.in_err-sent-3.field-0.0 c.loop-kicks_before-test.true
+    (subst (λ n. BreaksIn g.W.Write.contents l.log c.log_kick.new.log l.sent (line (codes "kick " ++ decimal (l.kicks_before + 1)) n) c.in_err-sent-3.field-0.0) (kicked g at) c.in_err-sent-3.ensures.err))
 
 pub loop-kicks_before-preserved : goal.loop-kicks_before-preserved
 loop-kicks_before-preserved g c =
+    let at = (goal.at.loop-kicks_before-preserved g c).After-total-total in
     let k = c.args.held.now.case in
     let from = c.args.course.now.from in
-    let given = c.args.held.now.roster in
+    let start = c.args.held.now.roster in
     let l = c.loop-kicks_before in
     let i = l.invariant in
     let told = c.try_kick.ensures in
     let next = c.try_kick.new.held.roster in
-    let same : c.try_kick.new.held.case ≡ k = told.case ∙ i.case in
-    let settled = subst (λ (m : Meaning). IsSettled m from next) i.case (subst (λ week. IsSettled l.held.case week next) i.from (told.stayed c.if-not-try_kick.false)) in
-    let frozen = stays_on k from given l.held.roster next i.frozen (subst (λ (m : Meaning). FrozenDaysStay m from l.held.roster next) i.case (subst (λ week. FrozenDaysStay l.held.case week l.held.roster next) i.from told.frozen)) in
-    let total : c.total-total.result ≡ penalty k next = c.total-total.ensures.total ∙ ap (λ (m : Meaning). penalty m next) same in
-    let before : c.total-before.result ≡ penalty k l.held.roster = c.total-before.ensures.total ∙ ap (λ (m : Meaning). penalty m l.held.roster) i.case in
-    let no_dearer : penalty k next ≤ penalty k l.held.roster = subst (λ (m : Meaning). penalty m next ≤ penalty m l.held.roster) i.case told.no_dearer in
+    let less : penalty k next ≤ penalty k l.held.roster = subst (λ (m : Meaning). penalty m next ≤ penalty m l.held.roster) i.case told.no_dearer in
     record {
-      case = same;
+      case = told.case ∙ i.case;
       kept = told.kept;
-      frozen = frozen;
+      frozen = (reached g at).stays;
       going = elim c.if-total-before.branch [
         | then-total-before+in_ok-sent-3 w ↦
-            rw (w.log-is, w.sent-is) (underway_cheaper k from given c.args.start c.args.course.now.kicks g.W.Write.contents c.args.log.now l.log l.kicks_before l.sent l.settled l.held.roster i.going next (omega (arith, total, before, w.if-total-before.true))
-            (reached_by c.try_kick.new.held.case k from given next same c.keeps_rules-in-loop-kicks_before.ensures.fits c.keeps_rules-in-loop-kicks_before.ensures.keeps frozen) settled
-            w.log_kick.new.log w.in_ok-sent-3.sent
-            (subst (λ n. Sends g.W.Write.contents l.log w.log_kick.new.log l.sent w.in_ok-sent-3.sent (line (codes "kick " ++ decimal (l.kicks_before + 1)) n)) total w.in_ok-sent-3.ensures.ok))
+            rw (w.log-is, w.sent-is) (underway_cheaper k from start c.args.start c.args.course.now.kicks g.W.Write.contents c.args.log.now l.log l.kicks_before l.sent l.settled l.held.roster i.going next
+            (omega (arith, kicked g at, before_it g at, w.if-total-before.true)) (reached g at) (stayed g at) w.log_kick.new.log w.in_ok-sent-3.sent
+            (subst (λ n. Sends g.W.Write.contents l.log w.log_kick.new.log l.sent w.in_ok-sent-3.sent (line (codes "kick " ++ decimal (l.kicks_before + 1)) n)) (kicked g at) w.in_ok-sent-3.ensures.ok))
         | else-total-before w ↦
-            rw (w.log-is, w.sent-is) (underway_same k from given c.args.start c.args.course.now.kicks g.W.Write.contents c.args.log.now l.log l.kicks_before l.sent l.settled l.held.roster i.going true next (omega (arith, total, before, no_dearer, w.if-total-before.false)) (λ e. settled) (λ e. refl))
+            rw (w.log-is, w.sent-is) (underway_same k from start c.args.start c.args.course.now.kicks g.W.Write.contents c.args.log.now l.log l.kicks_before l.sent l.settled l.held.roster i.going true next
+            (omega (arith, kicked g at, before_it g at, less, w.if-total-before.false)) (λ e. stayed g at) (λ e. refl))
       ];
       from = told.from ∙ i.from;
       counted = omega (

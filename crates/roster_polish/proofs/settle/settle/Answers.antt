@@ -8,7 +8,8 @@ use Rattle.roster_laws.specs.FrozenDays.{FrozenDaysStay}
 use Rattle.roster_laws.proofs.Frozen.{stays_on, stays_self}
 use Rattle.roster_polish.specs.declared.settle.Pass.{Pass}
 use Rattle.roster_polish.specs.declared.settle.Pass.TheVariants.{Changed, Stopped, Unchanged}
-use Rattle.roster_polish.specs.Settled.{HasBestRow, Spends}
+use Rattle.roster_laws.specs.Settled.{HasBestRow}
+use Rattle.roster_polish.specs.Settled.{Spends}
 use Rattle.roster_polish.proofs.Steps.{at_same, room_left, spent_both, spent_none}
 use Rattle.roster_polish.proofs.settle.settle.Goals as goal
 use Rattle.roster_polish.proofs.settle.settle.Goals.{After-make_pass-end, else-first-eq0-via-then-first-eq0+else-eq, else-first-eq0-via-else-first-eq0, then-eq-2-via-then-eq-2, then-eq-2-via-else-eq-2+then-total-saturating_add}
