@@ -4,7 +4,7 @@ use Rattle.std.specs.Io.KnownBytes.{Appends}
 use Rattle.roster_bundle.specs.declared.bundle.Bundle.{Bundle}
 use Rattle.roster_text.specs.Io.{Watched}
 use Rattle.roster_commands.specs.Answer.{IsAnswer, IsSilent, IsTaken, Logged, Logs, Report, SpellsBundle}
-use Rattle.roster_commands.specs.Lines.{Text}
+use Rattle.roster_reports.specs.Lines.{Text}
 use Rattle.roster_request.specs.CommandLine.{IsAsked, Refuses}
 use Rattle.roster_request.specs.declared.request.CliFault.{CliFault}
 use Rattle.roster_request.specs.declared.request.CliFault.TheVariants as cli
@@ -44,6 +44,10 @@ pub record ReadsAndSends {Out Log : Type 0} (contents : Out → Option Text) (he
 -- the bytes of the input, where no file is named; what files give isn't known
 abbrev pub given_for : (files : ℕ) → Option Text → Option Text
 given_for files input = if files == 0 then input else None
+
+-- of the bytes that a request is about
+abbrev pub given_to : Request → Option Text → Option Text
+given_to request input = given_for request.files.len input
 
 -- the words are those of a request; with status 0 it is done for its files, or else for the input
 pub record AnswersRequest {Out Log : Type 0} (contents : Out → Option Text) (held : Out → Text) (logged : Log → Option Text) (words : List Text) (input : Option Text) (status : ℕ) (output output_after : Out) (log log_after : Watched Log) : Type 0 where

@@ -4,7 +4,7 @@ ghost use Rattle.std.specs.Prelude.{◌≡◌, [], codes, map, string_bytes};
 ghost use Rattle.std.specs.Io.KnownBytes.{Keeps};
 ghost use Rattle.std.specs.Io.Buffered.{writer_buffer, writer_contents};
 ghost use Rattle.roster_commands.specs.Answer.{Logs};
-ghost use Rattle.roster_cli.specs.Start.{AnswersWords, ReadsAndSends, SendsText, TellsWords, given_for};
+ghost use Rattle.roster_cli.specs.Start.{AnswersWords, ReadsAndSends, SendsText, TellsWords, given_to};
 
 use roster_commands::{refuse, refuse_output, run};
 use roster_joined::Joined;
@@ -53,8 +53,8 @@ pub fn answer_words<R: Files + AllocGlobal, In: Read + Drop, Out: Write + Drop, 
     output: BufWriter<Out>,
     log: &mut Watch<Log>,
 ) -> (u8, BufWriter<Out>)
-    ensures answers { AnswersWords (writer_contents Out.contents) writer_buffer Log.contents (map string_bytes words.now) (In.remaining input)
-        result.0 output result.1 log.old log.new }
+    ensures answers { AnswersWords (writer_contents Out.contents) writer_buffer Log.contents
+        (map string_bytes words.now) (In.remaining input) result.0 output result.1 log.old log.new }
 {
     match request_of(rt.alloc(), words) {
         Ok(request) => answer_request(rt, &request, input, output, log),
@@ -105,8 +105,9 @@ fn answer_request<R: Files + AllocGlobal, In: Read + Drop, Out: Write + Drop, Lo
     output: BufWriter<Out>,
     log: &mut Watch<Log>,
 ) -> (u8, BufWriter<Out>)
-    ensures done { result.0 ≡ 0 → ReadsAndSends (writer_contents Out.contents) writer_buffer Log.contents request.now.command
-        (given_for request.now.files.len (In.remaining input)) output result.1 log.old log.new }
+    ensures done { result.0 ≡ 0 → ReadsAndSends (writer_contents Out.contents) writer_buffer
+        Log.contents request.now.command (given_to request.now (In.remaining input)) output result.1
+        log.old log.new }
 {
     let alloc = rt.alloc();
     if request.files.is_empty() {
@@ -145,8 +146,8 @@ fn run_and_flush<In: Read + Drop, Out: Write + Drop, Log: Write>(
     output: BufWriter<Out>,
     log: &mut Watch<Log>,
 ) -> (u8, BufWriter<Out>)
-    ensures done { result.0 ≡ 0 → ReadsAndSends (writer_contents Out.contents) writer_buffer Log.contents request.now.command
-        (In.remaining input) output result.1 log.old log.new }
+    ensures done { result.0 ≡ 0 → ReadsAndSends (writer_contents Out.contents) writer_buffer
+        Log.contents request.now.command (In.remaining input) output result.1 log.old log.new }
 {
     let mut input = Watch::new(input);
     let mut watched = Watch::new(output);

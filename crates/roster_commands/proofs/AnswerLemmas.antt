@@ -16,10 +16,11 @@ use Rattle.roster_instance.specs.Names.{nurse_names, shift_names, skill_names}
 use Rattle.roster_instance.specs.Refusals.{all_faults, case_faults, roster_faults}
 use Rattle.roster_instance.specs.declared.fault.CaseFault.{CaseFault}
 use Rattle.roster_instance.specs.declared.fault.CaseFault.TheVariants as case
-use Rattle.roster_case.proofs.Sections.{IsFirst-after}
+use Rattle.roster_instance.proofs.Sections.{IsFirst-after}
 use Rattle.roster_rules.specs.declared.fault.HardFault.{HardFault}
-use Rattle.roster_commands.specs.Answer.{Answers, Ends, Input, IsAllowed, IsAnswer, IsOutcomeOf, IsPlanReport, IsPolishReport, IsReportOf, IsUnheld, IsUnread, Leaves, LeavesLog, Logged, Outcome, Output, Report, Reports, SpellsInstance, StopsOutput, StopsReading, Untouched, best_report, bound_report, cost_report, improve_report, outcome_of, plain, plan_report, polish_report, roster_of}
-use Rattle.roster_commands.specs.Lines.{Text, sizes_text, status_of}
+use Rattle.roster_commands.specs.Answer.{Answers, Ends, Input, IsAllowed, IsAnswer, IsOutcomeOf, IsPlanReport, IsPolishReport, IsReportOf, IsUnheld, IsUnread, Leaves, LeavesLog, Logged, CommandEnd, Output, Report, Reports, SpellsInstance, StopsOutput, StopsReading, Untouched, best_report, bound_report, cost_report, improve_report, outcome_of, plain, plan_report, polish_report, roster_of}
+use Rattle.roster_reports.specs.Lines.{Text, sizes_text}
+use Rattle.roster_commands.specs.Lines.{status_of}
 use Rattle.roster_commands.specs.declared.fault.Fault.{Fault}
 use Rattle.roster_commands.specs.declared.fault.Fault.TheVariants as fault
 use Rattle.roster_commands.specs.declared.reading.Instance.{Instance}
@@ -155,7 +156,7 @@ module _ {W L : Type 0} (output : Output W) (log : Output L) (command : Command)
       subst (λ m. IsReportOf command m (roster_of source i.bundle) p) says.case (subst (λ r. IsReportOf command i.case r p) roster is)
 
   module _ (p : Report) (is : IsAnswer command source i.bundle p) where
-    as_taken : (outcome : Outcome) → IsOutcomeOf p source i.bundle outcome → Leaves output p.output outcome → LeavesLog log p.log outcome → Answers output log command source outcome
+    as_taken : (outcome : CommandEnd) → IsOutcomeOf p source i.bundle outcome → Leaves output p.output outcome → LeavesLog log p.log outcome → Answers output log command source outcome
     as_taken None h o l = record { bundle = i.bundle; spelled = says.spelled; report = p; is = is; ends = record { taken = says.taken; ends = h }; left = o; logged = l }
     as_taken (Some (fault.Text f)) h o l = absurd h
     as_taken (Some (fault.Case f nurse)) h o l = absurd h
@@ -167,7 +168,7 @@ module _ {W L : Type 0} (output : Output W) (log : Output L) (command : Command)
     as_taken (Some fault.Output) h o l = record { bundle = i.bundle; spelled = says.spelled; report = p; is = is; ends = record { taken = says.taken; ends = h }; left = o; logged = l }
     as_taken (Some fault.Log) h o l = record { bundle = i.bundle; spelled = says.spelled; report = p; is = is; ends = record { taken = says.taken; ends = h }; left = o; logged = l }
 
-  pub answers : (outcome : Outcome) → Reports output log (IsReportOf command i.case i.roster) source i.bundle outcome → Answers output log command source outcome
+  pub answers : (outcome : CommandEnd) → Reports output log (IsReportOf command i.case i.roster) source i.bundle outcome → Answers output log command source outcome
   answers outcome h = as_taken h.report (report_meant h.report h.is) outcome h.ends.ends h.ends.left h.logged
 
 -- ---- a command for an instance
@@ -207,7 +208,7 @@ pub plain_ends : {W X : Type 0} (output : Output W) (text source : Text) (b : Bu
 plain_ends output text source b result ok err = written_ends output (plain text) source b result (record { kept = refl; found = refl; known = refl }) ok err
 
 -- one that tells nothing leaves the log as it was
-pub silent_log : {W L : Type 0} (output : Output W) (log : Output L) (p : Report) (source : Text) (b : Bundle) (outcome : Outcome) → p.log ≡ None → Ends output p source b outcome
+pub silent_log : {W L : Type 0} (output : Output W) (log : Output L) (p : Report) (source : Text) (b : Bundle) (outcome : CommandEnd) → p.log ≡ None → Ends output p source b outcome
     → Untouched log → LeavesLog log p.log outcome
 silent_log output log p source b None none e same = rw none same
 silent_log output log p source b (Some (fault.Text f)) none e same = same

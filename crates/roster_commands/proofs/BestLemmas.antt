@@ -7,7 +7,7 @@ use Rattle.roster_rules.specs.Penalties.{penalty}
 use Rattle.roster_instance.specs.Rosters.{Row, Rows, with_row}
 use Rattle.roster_rules.proofs.FirstLeast.{only}
 use Rattle.roster_commands.specs.Answer.{number_of, unknown_in, with_best}
-use Rattle.roster_commands.specs.Lines.{Text}
+use Rattle.roster_reports.specs.Lines.{Text}
 
 module _ (c : Meaning) (from : ℕ) (r : Rows) (n : ℕ) (row : Row) (best : IsBestRow c from r n row) where
   -- it is the one of the definition

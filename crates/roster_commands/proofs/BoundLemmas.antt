@@ -10,7 +10,7 @@ use Rattle.roster_instance.specs.Rosters.{Rows}
 use Rattle.roster_log.specs.declared.fault.LogFault.{LogFault}
 use Rattle.roster_bound.specs.Floors.{FloorLogStops, RaisesFloor, floor_text}
 use Rattle.roster_commands.specs.Answer.{IsBoundReport, IsUnheld, Output, Reports, StopsOutput, Untouched, bound_report, outcome_of}
-use Rattle.roster_commands.specs.Lines.{Text, bound_text}
+use Rattle.roster_reports.specs.Lines.{Text, bound_text}
 use Rattle.roster_commands.specs.declared.fault.Fault.{Fault}
 use Rattle.roster_commands.specs.declared.fault.Fault.TheVariants as fault
 use Rattle.roster_bound.proofs.FloorLogs.{some_log}

@@ -1,11 +1,9 @@
 -- How `plan` ends: whatever roster a run reached, it is one that a run reaches from the nearest that it found.
-use Rattle.std.proofs.Common.{◌≡◌, ◌≤◌, [], ◌∷◌, ℕ, Bool, List, None, Result, Some, true, refl}
+use Rattle.std.proofs.Common.{◌≡◌, ◌≤◌, [], ℕ, Bool, Result, Some, true, refl}
 use Rattle.std.specs.Prelude.{IfErr, OnOk}
 use Rattle.roster_text.specs.Io.{Writes}
 use Rattle.roster_bundle.specs.declared.bundle.Bundle.{Bundle}
 use Rattle.roster_rules.specs.HardRules.{hard_faults}
-use Rattle.roster_rules.specs.declared.fault.HardFault.{HardFault}
-use Rattle.roster_instance.specs.Faults.{first_fault}
 use Rattle.roster_instance.specs.Meaning.{Meaning}
 use Rattle.roster_instance.specs.Rosters.{Rows, fits_case}
 use Rattle.roster_case.specs.Shown.{weeks_text}
@@ -16,16 +14,12 @@ use Rattle.roster_polish.specs.Plans.{missing, unmendable}
 use Rattle.roster_polish.specs.Polished.{IsPolishing, PolishLogStops, Polishes}
 use Rattle.roster_polish.specs.declared.run.Polished.{Polished}
 use Rattle.roster_commands.specs.Answer.{IsPlanReport, IsUnfound, Output, Reports, StopsOutput, Untouched, outcome_of, plan_report}
-use Rattle.roster_commands.specs.Lines.{IsFirstBreach, Text}
+use Rattle.roster_reports.specs.Lines.{Text}
+use Rattle.roster_commands.specs.Lines.{IsFirstBreach}
 use Rattle.roster_commands.specs.declared.fault.Fault.{Fault}
 use Rattle.roster_commands.specs.declared.fault.Fault.TheVariants as fault
 use Rattle.roster_commands.proofs.AnswerLemmas.{no_plan, unplanned, written_ends, written_log}
 use Rattle.roster_commands.proofs.PolishLemmas.{more_kicks}
-
--- where none of the breaches is the first, there is none
-pub none_first : (faults : List HardFault) → first_fault faults ≡ None → faults ≡ []
-none_first [] none = refl
-none_first (f ∷ fs) none = absurd cc
 
 module _ (searches from : ℕ) (alone : Bool) (c : Meaning) (r : Rows) {W L : Type 0} (output : Output W) (log : Output L) (source : Text) (b : Bundle) where
   -- no roster is looked for

@@ -13,7 +13,7 @@ use Rattle.roster_polish.specs.Polished.{IsPolishing, PolishLogStops, Polishes}
 use Rattle.roster_polish.specs.declared.run.Polished.{Polished}
 use Rattle.roster_polish.proofs.KickLogs.{unkicked_text}
 use Rattle.roster_commands.specs.Answer.{IsPolishReport, IsUnheld, Output, Reports, StopsOutput, Untouched, outcome_of, polish_report}
-use Rattle.roster_commands.specs.Lines.{Text}
+use Rattle.roster_reports.specs.Lines.{Text}
 use Rattle.roster_commands.specs.declared.fault.Fault.{Fault}
 use Rattle.roster_commands.specs.declared.fault.Fault.TheVariants as fault
 use Rattle.roster_commands.proofs.AnswerLemmas.{kickless, no_kick, unheld_ends, unheld_log}

@@ -6,7 +6,8 @@ use Rattle.roster_text.specs.declared.fault.TextFault.TheVariants as text
 use Rattle.roster_instance.specs.declared.fault.CaseFault.{CaseFault}
 use Rattle.roster_instance.specs.declared.fault.CaseFault.TheVariants as case
 use Rattle.roster_commands.specs.Answer.{Input, IsLogFailed, IsSilent, Logged, Logs, Output, ReadsAndAnswers, StopsCommand, StopsLog, StopsRun, Tells, TellsOutput, Untouched}
-use Rattle.roster_commands.specs.Lines.{Text, case_status, status_of}
+use Rattle.roster_reports.specs.Lines.{Text}
+use Rattle.roster_commands.specs.Lines.{case_status, status_of}
 use Rattle.roster_commands.specs.declared.fault.Fault.{Fault}
 use Rattle.roster_commands.specs.declared.fault.Fault.TheVariants as fault
 use Rattle.roster_request.specs.declared.request.Command.{Command}

@@ -30,7 +30,9 @@ use Rattle.roster_bound.specs.Worths.{IsLowerBound}
 use Rattle.roster_rounds.specs.PutIn.{IsAccepted}
 use Rattle.roster_polish.specs.Plans.{missing, unmendable}
 use Rattle.roster_polish.specs.Polished.{IsPolishing}
-use Rattle.roster_commands.specs.Lines.{IsFirstBreach, Text, best_log, bound_text, costs_text, fault_line, nurse_of, output_line, sizes_text, status_of}
+use Rattle.roster_polish.specs.declared.run.Course.{Course}
+use Rattle.roster_reports.specs.Lines.{Text, bound_text, costs_text, nurse_of, sizes_text}
+use Rattle.roster_commands.specs.Lines.{IsFirstBreach, best_log, fault_line, output_line, status_of}
 use Rattle.roster_commands.specs.declared.fault.Fault.{Fault}
 use Rattle.roster_commands.specs.declared.fault.Fault.TheVariants as fault
 use Rattle.roster_commands.specs.declared.reading.Instance.{Instance}
@@ -89,19 +91,23 @@ abbrev pub Tells : {L : Type 0} → (L → Option (List ℕ)) → Watched L → 
 Tells contents old new fault.Log = new ≡ old
 Tells contents old new f = Logs contents old new (fault_line f)
 
+-- one call of a device more has failed
+abbrev pub FailsOnce : {W : Type 0} → (old new : Watched W) → Type 0
+FailsOnce old new = new.failures ≡ one_more old.failures
+
 -- ---- how a run ends: it is done, or it stops for a fault
 
 -- no fault where the run is done, else the fault for which it stops
-abbrev pub Outcome : Type 0
-Outcome = Option Fault
+abbrev pub CommandEnd : Type 0
+CommandEnd = Option Fault
 
 -- the outcome of a call's answer
-abbrev pub outcome_of : {X : Type 0} → Result X Fault → Outcome
+abbrev pub outcome_of : {X : Type 0} → Result X Fault → CommandEnd
 outcome_of (Ok x) = None
 outcome_of (Err f) = Some f
 
 -- what a run leaves of its text: all, where it is done; some, where the output failed; else none
-abbrev pub Leaves : {W : Type 0} → Output W → Text → Outcome → Type 0
+abbrev pub Leaves : {W : Type 0} → Output W → Text → CommandEnd → Type 0
 Leaves output text None = Writes output.contents output.before output.after text
 Leaves output text (Some fault.Output) = Stops output.contents output.before output.after text
 Leaves output text (Some (fault.Text f)) = Untouched output
@@ -115,7 +121,7 @@ Leaves output text (Some fault.Log) = Untouched output
 
 -- what it leaves of its log before a fault is told: all, where it is done or the output failed; some, where the log failed;
 -- else none
-abbrev pub LeavesLog : {L : Type 0} → Output L → Option Text → Outcome → Type 0
+abbrev pub LeavesLog : {L : Type 0} → Output L → Option Text → CommandEnd → Type 0
 LeavesLog log told None = Logged log told
 LeavesLog log told (Some fault.Output) = Logged log told
 LeavesLog log told (Some fault.Log) = StopsLog log told
@@ -176,6 +182,10 @@ with_best c from r n = with_row r n (unwrap_or (best_row c from r n) [])
 abbrev pub cost_report : Meaning → Rows → Report
 cost_report c r = record (plain (costs_text (costs_of c r))) { is_held = true; broken = hard_faults c r }
 
+-- the log of a search for that row: what the roster costs before, and what it costs with it
+abbrev pub log_with_best : Meaning → ℕ → Rows → ℕ → Text → Text
+log_with_best c from r n name = best_log (penalty c r) name (penalty c (with_best c from r n))
+
 -- the best row of the nurse of this name from a week on
 abbrev pub best_report : Text → ℕ → Meaning → Rows → Report
 best_report name from c r =
@@ -186,7 +196,7 @@ best_report name from c r =
       unfound = [];
       unknown = unknown_in c name;
       output = weeks_text c better;
-      log = Some (best_log (penalty c r) name (penalty c better));
+      log = Some (log_with_best c from r (number_of c name) name);
     }
 
 -- the roster after a run of at most so many rounds from a week on
@@ -255,6 +265,22 @@ IsReportOf (command.Bound rounds from) c r p = IsBoundReport rounds from c r p
 IsReportOf (command.Polish searches seed from kicks) c r p = IsPolishReport searches from kicks c r p
 IsReportOf (command.Plan searches seed from) c r p = IsPlanReport searches from false c r p
 
+-- ---- the same of an instance that was read
+
+abbrev pub IsReportFor : Command → Instance → Report → Type 0
+IsReportFor command instance p = IsReportOf command instance.case instance.roster p
+
+abbrev pub IsBoundFor : (rounds from : ℕ) → Instance → Report → Type 0
+IsBoundFor rounds from instance p = IsBoundReport rounds from instance.case instance.roster p
+
+abbrev pub IsPolishFor : Course → Instance → Report → Type 0
+IsPolishFor course instance p = IsPolishReport course.searches course.from course.kicks instance.case instance.roster p
+
+abbrev pub IsPlanFor : Course → Instance → Report → Type 0
+IsPlanFor course instance p = IsPlanReport course.searches course.from course.kicks instance.case instance.roster p
+
+-- ---- what is refused
+
 -- a command that tells nothing of its work
 abbrev pub IsSilent : Command → Type 0
 IsSilent command = (c : Meaning) (r : Rows) (p : Report) → IsReportOf command c r p → p.log ≡ None
@@ -266,7 +292,7 @@ pub record IsAllowed (p : Report) : Type 0 where
   pub known : p.unknown ≡ None
 
 -- how a command ends for them; of its faults the first is told
-abbrev pub IsOutcomeOf : Report → Text → Bundle → Outcome → Type 0
+abbrev pub IsOutcomeOf : Report → Text → Bundle → CommandEnd → Type 0
 IsOutcomeOf p bytes b None = IsAllowed p
 IsOutcomeOf p bytes b (Some fault.Output) = IsAllowed p
 IsOutcomeOf p bytes b (Some fault.Log) = IsAllowed p × (is_some p.log ≡ true)
@@ -279,12 +305,12 @@ IsOutcomeOf p bytes b (Some (fault.Text f)) = ⊥
 IsOutcomeOf p bytes b (Some (fault.Case f nurse)) = ⊥
 
 -- the same with what it leaves of its text
-pub record Ends {W : Type 0} (output : Output W) (p : Report) (bytes : Text) (b : Bundle) (outcome : Outcome) : Type 0 where
+pub record Ends {W : Type 0} (output : Output W) (p : Report) (bytes : Text) (b : Bundle) (outcome : CommandEnd) : Type 0 where
   pub ends : IsOutcomeOf p bytes b outcome
   pub left : Leaves output p.output outcome
 
 -- a command of such reports ends so for a case and its roster: there is one of which it leaves so much of its text and of its log
-pub record Reports {W L : Type 0} (output : Output W) (log : Output L) (is_report : Report → Type 0) (bytes : Text) (b : Bundle) (outcome : Outcome) : Type 0 where
+pub record Reports {W L : Type 0} (output : Output W) (log : Output L) (is_report : Report → Type 0) (bytes : Text) (b : Bundle) (outcome : CommandEnd) : Type 0 where
   pub report : Report
   pub is : is_report report
   pub ends : Ends output report bytes b outcome
@@ -322,19 +348,19 @@ pub record IsRefusedFor (bytes : Text) (b : Bundle) (f : CaseFault) (nurse : Tex
   pub nurse_is : nurse ≡ nurse_of bytes b f
 
 -- its case and its roster are taken, and a command of this report ends so for them
-pub record IsTaken (p : Report) (bytes : Text) (b : Bundle) (outcome : Outcome) : Type 0 where
+pub record IsTaken (p : Report) (bytes : Text) (b : Bundle) (outcome : CommandEnd) : Type 0 where
   pub taken : all_faults bytes b ≡ []
   pub ends : IsOutcomeOf p bytes b outcome
 
 -- how such a command ends for it
-abbrev pub IsOutcomeFor : Report → Text → Bundle → Outcome → Type 0
+abbrev pub IsOutcomeFor : Report → Text → Bundle → CommandEnd → Type 0
 IsOutcomeFor p bytes b (Some (fault.Case f nurse)) = IsRefusedFor bytes b f nurse.now
 IsOutcomeFor p bytes b outcome = IsTaken p bytes b outcome
 
 -- ---- a command, from the bytes
 
 -- the bytes spell a bundle, for which the command ends so, with what it leaves of its text and of its log
-pub record AnswersBundle {W L : Type 0} (output : Output W) (log : Output L) (command : Command) (bytes : Text) (outcome : Outcome) : Type 0 where
+pub record AnswersBundle {W L : Type 0} (output : Output W) (log : Output L) (command : Command) (bytes : Text) (outcome : CommandEnd) : Type 0 where
   pub bundle : Bundle
   pub spelled : SpellsBundle bytes bundle
   pub report : Report
@@ -344,7 +370,7 @@ pub record AnswersBundle {W L : Type 0} (output : Output W) (log : Output L) (co
   pub logged : LeavesLog log report.log outcome
 
 -- the command ends so for the bytes
-abbrev pub Answers : {W L : Type 0} → Output W → Output L → Command → Text → Outcome → Type 0
+abbrev pub Answers : {W L : Type 0} → Output W → Output L → Command → Text → CommandEnd → Type 0
 Answers output log command bytes (Some (fault.Text f)) = HasFault bytes f × Untouched output × Untouched log
 Answers output log command bytes outcome = AnswersBundle output log command bytes outcome
 
@@ -371,10 +397,14 @@ StopsReading bytes _ = ⊥
 -- ---- from the reader
 
 -- the input was read, and the command ends so for its bytes
-pub record ReadsAndAnswers {R W L : Type 0} (input : Input R) (output : Output W) (log : Output L) (command : Command) (outcome : Outcome) : Type 0 where
+pub record ReadsAndAnswers {R W L : Type 0} (input : Input R) (output : Output W) (log : Output L) (command : Command) (outcome : CommandEnd) : Type 0 where
   pub bytes : Text
   pub read : ReadsAll input bytes
   pub answers : Answers output log command bytes outcome
+
+-- that is so, and no fault stops it
+abbrev pub IsAnswered : {R W L : Type 0} → Input R → Output W → Output L → Command → Type 0
+IsAnswered input output log command = ReadsAndAnswers input output log command None
 
 -- the input was not read to its end
 abbrev pub IsUnread : {R : Type 0} → Input R → Fault → Type 0

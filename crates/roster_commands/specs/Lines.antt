@@ -8,8 +8,7 @@ use Rattle.roster_instance.specs.declared.fault.CaseFault.{CaseFault}
 use Rattle.roster_instance.specs.declared.fault.CaseFault.TheVariants as case
 use Rattle.roster_rules.specs.Improver.{line}
 use Rattle.roster_rules.specs.declared.fault.HardFault.{HardFault}
-pub use Rattle.roster_reports.specs.Lines.{AreNamesOf, Text, bound_text, case_line, hard_line, memory_line, nurse_of, sizes_line, text_line}
-unfoldable pub use Rattle.roster_reports.specs.Lines.{costs_text, sizes_text}
+use Rattle.roster_reports.specs.Lines.{AreNamesOf, Text, case_line, hard_line, memory_line, text_line}
 use Rattle.roster_commands.specs.declared.fault.Fault.{Fault}
 use Rattle.roster_commands.specs.declared.fault.Fault.TheVariants as fault
 

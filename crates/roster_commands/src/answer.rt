@@ -1,8 +1,7 @@
 //! A command, from the bytes of its input to its output, its log and its status.
 
-ghost use Rattle.std.specs.Prelude.{◌≡◌, ◌≢◌, ◌⊎◌, ℕ, None, Contains, [], ◌∷◌, codes};
-ghost use Rattle.roster_text.specs.Io.{one_more};
-ghost use Rattle.roster_commands.specs.Answer.{Answers, IsLogFailed, IsSilent, Logs, ReadsAndAnswers, StopsRun, TellsOutput, input_of, outcome_of, output_of};
+ghost use Rattle.std.specs.Prelude.{◌≡◌, ◌≢◌, ◌⊎◌, Contains, [], ◌∷◌, codes};
+ghost use Rattle.roster_commands.specs.Answer.{Answers, FailsOnce, IsAnswered, IsLogFailed, IsSilent, Logs, StopsRun, TellsOutput, input_of, outcome_of, output_of};
 
 use crate::commands::report;
 use crate::fault::Fault;
@@ -25,13 +24,13 @@ pub fn run<R: Read, Out: Write, Log: Write>(
     ensures status { Contains (0 ∷ 1 ∷ 3 ∷ 4 ∷ []) result }
 
     // What is answered, where nothing is refused.
-    ensures done { result ≡ 0 → ReadsAndAnswers (input_of R.remaining input.old input.new)
+    ensures done { result ≡ 0 → IsAnswered (input_of R.remaining input.old input.new)
         (output_of Out.contents output.old output.new)
-        (output_of Log.contents log.old log.new) request.now.command None }
+        (output_of Log.contents log.old log.new) request.now.command }
     ensures silent { result ≡ 0 → IsSilent request.now.command → log.new ≡ log.old }
 
     // Else there is a fault, with its status and its line.
-    ensures refused { (result ≡ 0 → ⊥) → StopsRun (input_of R.remaining input.old input.new)
+    ensures refused { result ≢ 0 → StopsRun (input_of R.remaining input.old input.new)
         (output_of Out.contents output.old output.new)
         (output_of Log.contents log.old log.new) request.now.command result }
 
@@ -40,8 +39,7 @@ pub fn run<R: Read, Out: Write, Log: Write>(
         × (output.new ≡ output.old) × Logs Log.contents log.old log.new (codes "read failed\n") }
     ensures write_failed { output.new.failures ≢ output.old.failures → (result ≡ 3)
         × TellsOutput (output_of Log.contents log.old log.new) request.now.command }
-    ensures device { result ≡ 3 → (input.new.failures ≡ one_more input.old.failures)
-        ⊎ (output.new.failures ≡ one_more output.old.failures)
+    ensures device { result ≡ 3 → FailsOnce input.old input.new ⊎ FailsOnce output.old output.new
         ⊎ IsLogFailed (output_of Log.contents log.old log.new) request.now.command }
 {
     run_command(alloc, &request.command, input, output, log)
@@ -54,10 +52,10 @@ fn run_command<R: Read, Out: Write, Log: Write>(
     output: &mut Watch<Out>,
     log: &mut Watch<Log>,
 ) -> u8
-    ensures done { result ≡ 0 → ReadsAndAnswers (input_of R.remaining input.old input.new)
+    ensures done { result ≡ 0 → IsAnswered (input_of R.remaining input.old input.new)
         (output_of Out.contents output.old output.new)
-        (output_of Log.contents log.old log.new) command.now None }
-    ensures refused { (result ≡ 0 → ⊥) → StopsRun (input_of R.remaining input.old input.new)
+        (output_of Log.contents log.old log.new) command.now }
+    ensures refused { result ≢ 0 → StopsRun (input_of R.remaining input.old input.new)
         (output_of Out.contents output.old output.new)
         (output_of Log.contents log.old log.new) command.now result }
 {

@@ -5,10 +5,8 @@ ghost use Rattle.roster_bundle.specs.Limits.{greatest_u64};
 ghost use Rattle.roster_text.specs.Io.{Stops, Writes};
 ghost use Rattle.roster_instance.specs.Meaning.{nurse_count};
 ghost use Rattle.roster_rules.specs.Improver.{line};
-ghost use Rattle.roster_rules.specs.Penalties.{penalty};
 ghost use Rattle.roster_instance.specs.Rosters.{fits_case};
-ghost use Rattle.roster_commands.specs.Answer.{Ends, LeavesLog, best_report, outcome_of, output_of, with_best};
-ghost use Rattle.roster_commands.specs.Lines.{best_log};
+ghost use Rattle.roster_commands.specs.Answer.{Ends, LeavesLog, best_report, log_with_best, outcome_of, output_of, with_best};
 ghost use Rattle.roster_laws.specs.Greatest.{extension_count};
 ghost use Rattle.roster_partial.specs.Workspaces.{fits_space};
 
@@ -83,11 +81,9 @@ fn put_best_row<Log: Write>(
     ensures put { OnOk result (held.new ≡ record
         { case = held.old.case; roster = with_best held.old.case from held.old.roster nurse }) }
     ensures ok { OnOk result (Writes Log.contents log.old log.new
-        (best_log (penalty held.old.case held.old.roster) name.now
-        (penalty held.old.case (with_best held.old.case from held.old.roster nurse)))) }
+        (log_with_best held.old.case from held.old.roster nurse name.now)) }
     ensures err { OnErr result (Stops Log.contents log.old log.new
-        (best_log (penalty held.old.case held.old.roster) name.now
-        (penalty held.old.case (with_best held.old.case from held.old.roster nurse)))) }
+        (log_with_best held.old.case from held.old.roster nurse name.now)) }
 {
     write_start(held.total(), log)?;
     let best = best_row(held, nurse, from, workspace, meter);

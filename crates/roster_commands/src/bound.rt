@@ -4,7 +4,7 @@ ghost use Rattle.std.specs.Prelude.{◌≡◌, true, IfOk};
 ghost use Rattle.roster_instance.specs.Levels.{levelled};
 ghost use Rattle.roster_instance.specs.Rosters.{fits_case};
 ghost use Rattle.roster_bound.specs.Workspaces.{FitsFloor};
-ghost use Rattle.roster_commands.specs.Answer.{IsBoundReport, Reports, outcome_of, output_of};
+ghost use Rattle.roster_commands.specs.Answer.{IsBoundFor, Reports, outcome_of, output_of};
 
 use crate::fault::Fault;
 use crate::held::hold;
@@ -33,8 +33,7 @@ pub(crate) fn report_bound<'a, Out: Write, Log: Write>(
     requires { fits_case instance.case instance.roster ≡ true }
     ensures { Reports (output_of Out.contents output.old output.new)
         (output_of Log.contents log.old log.new)
-        (IsBoundReport rounds from instance.case instance.roster) source.now instance.bundle
-        (outcome_of result) }
+        (IsBoundFor rounds from instance) source.now instance.bundle (outcome_of result) }
 {
     let mut meter = Meter::new(&mut instance.case);
     let held = hold(alloc, source, instance)?;

@@ -1,12 +1,10 @@
 //! What each command writes for an instance.
 
-ghost use Rattle.std.specs.Prelude.{◌≡◌, true, [], OnOk, IfErr};
+ghost use Rattle.std.specs.Prelude.{◌≡◌, true, OnOk, IfErr};
 ghost use Rattle.roster_text.specs.Io.{Writes};
-ghost use Rattle.roster_rules.specs.HardRules.{hard_faults};
-ghost use Rattle.roster_rules.specs.Penalties.{costs_of};
 ghost use Rattle.roster_instance.specs.Rosters.{fits_case};
-ghost use Rattle.roster_commands.specs.Answer.{Ends, IsReportOf, Reports, StopsOutput, cost_report, outcome_of, output_of};
-ghost use Rattle.roster_commands.specs.Lines.{costs_text, sizes_text};
+ghost use Rattle.roster_commands.specs.Answer.{Ends, IsReportFor, Reports, StopsOutput, cost_report, outcome_of, output_of};
+ghost use Rattle.roster_reports.specs.Lines.{sizes_text};
 
 use crate::best::report_best;
 use crate::bound::report_bound;
@@ -38,8 +36,7 @@ pub(crate) fn report<'a, Out: Write, Log: Write>(
     requires { fits_case instance.case instance.roster ≡ true }
     ensures { Reports (output_of Out.contents output.old output.new)
         (output_of Log.contents log.old log.new)
-        (IsReportOf command.now instance.case instance.roster) source.now instance.bundle
-        (outcome_of result) }
+        (IsReportFor command.now instance) source.now instance.bundle (outcome_of result) }
 {
     match command {
         Command::Show => show_weeks(&instance.case, &instance.roster, output),

@@ -3,7 +3,8 @@
 ghost use Rattle.std.specs.Prelude.{◌≡◌, OnOk, IfErr, codes};
 ghost use Rattle.roster_text.specs.Io.{StopsIn, Writes};
 ghost use Rattle.roster_commands.specs.Answer.{Logs, Tells};
-ghost use Rattle.roster_commands.specs.Lines.{fault_line, status_of, text_line, text_status};
+ghost use Rattle.roster_reports.specs.Lines.{text_line};
+ghost use Rattle.roster_commands.specs.Lines.{fault_line, status_of, text_status};
 
 use crate::fault::Fault;
 use roster_case::CaseFault;

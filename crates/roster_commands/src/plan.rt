@@ -3,7 +3,7 @@
 ghost use Rattle.std.specs.Prelude.{◌≡◌, true, [], IfOk, IfErr, OnOk};
 ghost use Rattle.roster_instance.specs.Rosters.{fits_case};
 ghost use Rattle.roster_rules.specs.HardRules.{hard_faults};
-ghost use Rattle.roster_commands.specs.Answer.{IsPlanReport, IsUnfound, Reports, outcome_of, output_of};
+ghost use Rattle.roster_commands.specs.Answer.{IsPlanFor, IsUnfound, Reports, outcome_of, output_of};
 
 use crate::fault::Fault;
 use crate::held::hold;
@@ -34,8 +34,7 @@ pub(crate) fn report_plan<'a, Out: Write, Log: Write>(
     requires { fits_case instance.case instance.roster ≡ true }
     ensures { Reports (output_of Out.contents output.old output.new)
         (output_of Log.contents log.old log.new)
-        (IsPlanReport course.now.searches course.now.from course.now.kicks instance.case
-        instance.roster) source.now instance.bundle (outcome_of result) }
+        (IsPlanFor course.now instance) source.now instance.bundle (outcome_of result) }
 {
     let Instance { case, roster, .. } = &mut instance;
     if let Some(fault) = first_unmendable(case, roster, course.from) {

@@ -3,7 +3,7 @@
 ghost use Rattle.std.specs.Prelude.{◌≡◌, min, true};
 ghost use Rattle.roster_instance.specs.Rosters.{fits_case};
 ghost use Rattle.roster_polish.specs.Polished.{most_searches};
-ghost use Rattle.roster_commands.specs.Answer.{IsPolishReport, Reports, outcome_of, output_of};
+ghost use Rattle.roster_commands.specs.Answer.{IsPolishFor, Reports, outcome_of, output_of};
 
 use crate::fault::Fault;
 use crate::held::hold;
@@ -28,8 +28,7 @@ pub(crate) fn report_polish<'a, Out: Write, Log: Write>(
     requires { fits_case instance.case instance.roster ≡ true }
     ensures { Reports (output_of Out.contents output.old output.new)
         (output_of Log.contents log.old log.new)
-        (IsPolishReport course.now.searches course.now.from course.now.kicks instance.case
-        instance.roster) source.now instance.bundle (outcome_of result) }
+        (IsPolishFor course.now instance) source.now instance.bundle (outcome_of result) }
 {
     let mut meter = Meter::new(&mut instance.case);
     let mut held = hold(alloc, source, instance)?;

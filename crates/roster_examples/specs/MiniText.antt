@@ -79,6 +79,63 @@ solved count assignments lines = line 41 (codes "ASSIGNMENTS = " ++ count) lines
 abbrev pub early_lines : List ℕ → List (List ℕ) → Lines
 early_lines nurse days = map (λ day. nurse ++ codes " " ++ day ++ codes " Early Nurse") days
 
+-- a solution of one assignment
+abbrev pub assigned : List ℕ → Lines
+assigned assignment = solved (codes "1") (assignment ∷ []) mini_lines
+
+abbrev pub bob_on_monday_night : Lines
+bob_on_monday_night = assigned (codes "Bob Mon Night Nurse")
+
+abbrev pub bob_early_on_tuesday : Lines
+bob_early_on_tuesday = assigned (codes "Bob Tue Early Nurse")
+
+-- other off requests, as they are written from their number on, with wishes and absences after them
+abbrev pub requested : List ℕ → Lines → Lines
+requested text lines = line 36 (codes "SHIFT_OFF_REQUESTS = " ++ text) lines
+
+-- a line more after the off requests: Eve, whom nobody knows
+abbrev pub eve_on_tuesday : Lines
+eve_on_tuesday = line_after 36 (codes "Eve Tue") mini_lines
+
+-- a third shift, and another contract
+abbrev pub with_late : List ℕ → Lines
+with_late contract = line 8 (codes "SHIFT_TYPES = 3") (line 11 (codes "Late (1,7)") (line 17 (codes "Full " ++ contract) mini_lines))
+
+-- Ann works in her absence, and Bob with a skill that he lacks
+abbrev pub absence_and_skill : Lines
+absence_and_skill =
+    line 5 (codes "SKILLS = 2")
+    (line 6 (codes "Nurse Head")
+    (line 36 (codes "SHIFT_OFF_REQUESTS = 0 ABSENCES = 1 Ann Mon")
+    (solved (codes "2") (codes "Ann Mon Early Nurse" ∷ codes "Bob Tue Early Head" ∷ []) mini_lines)))
+
+-- Early is worked two days in a row at least, and three days are; Ann's history ends with a run of one
+abbrev pub short_early_run : Lines
+short_early_run = line 9 (codes "Early (2,5)") (line 17 (codes "Full (2,5) (3,5) (1,5) 1 1") (line 27 (codes "Ann 0 0 Early 1 1 0") mini_lines))
+
+-- working days in a row are four at least and three at most, and Ann is off on Wednesday alone
+abbrev pub four_and_three_days : Lines
+four_and_three_days =
+    line 17 (codes "Full (2,5) (4,3) (1,5) 1 1")
+    (solved (codes "6") (early_lines (codes "Ann") (codes "Mon" ∷ codes "Tue" ∷ codes "Thu" ∷ codes "Fri" ∷ codes "Sat" ∷ codes "Sun" ∷ [])) mini_lines)
+
+-- a nurse is needed on Thursday night
+abbrev pub night_needed : Lines → Lines
+night_needed lines = line_after 34 (codes "Night Nurse (0,0) (0,0) (0,0) (1,1) (0,0) (0,0) (0,0)") lines
+
+-- Bob works that night, and Early on all days but Friday
+abbrev pub around_the_night : Lines
+around_the_night =
+    solved (codes "6") (codes "Bob Thu Night Nurse" ∷ early_lines (codes "Bob") (codes "Mon" ∷ codes "Tue" ∷ codes "Wed" ∷ codes "Sat" ∷ codes "Sun" ∷ [])) mini_lines
+
+-- a second skill, which Ann has too, and of which one nurse is best on each day
+abbrev pub heads_wanted : Lines
+heads_wanted =
+    line 5 (codes "SKILLS = 2")
+    (line 6 (codes "Nurse Head")
+    (line 20 (codes "Ann Full 2 Head Nurse")
+    (line_after 34 (codes "Early Head (0,1) (0,1) (0,1) (0,1) (0,1) (0,1) (0,1)") mini_lines)))
+
 -- two weeks of the instance, with this off request in the second, and these assignments in the solutions of the first and the second
 abbrev pub two_weeks : List ℕ → List ℕ → List ℕ → Lines
 two_weeks request first second =

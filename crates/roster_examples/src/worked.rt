@@ -5,7 +5,7 @@ ghost use Rattle.std.specs.Prelude.{◌≡◌, [], ◌∷◌, None, codes, take,
 ghost use Rattle.roster_instance.specs.declared.fault.CaseFault.{CaseFault};
 ghost use Rattle.roster_rules.specs.declared.fault.HardFault.{HardFault};
 ghost use Rattle.roster_run_examples.specs.Mini.{mini, big, limits, is_among, early_on, early_but, free_week, all_free, ann, bob, costs, costs_with_wishes};
-ghost use Rattle.roster_examples.specs.MiniText.{mini_lines, two_weeks, line, line_after, solved, early_lines, case_in, roster_in, refusals_in, refusal_in, breaches_in, costs_in, total_in, sizes_in};
+ghost use Rattle.roster_examples.specs.MiniText.{mini_lines, two_weeks, line, line_after, solved, assigned, bob_on_monday_night, bob_early_on_tuesday, requested, eve_on_tuesday, with_late, absence_and_skill, short_early_run, four_and_three_days, night_needed, around_the_night, heads_wanted, case_in, roster_in, refusals_in, refusal_in, breaches_in, costs_in, total_in, sizes_in};
 ghost use Rattle.roster_instance.specs.Meaning.{shift_at, skill_at};
 ghost use Rattle.roster_rules.specs.Penalties.{penalty};
 ghost use Rattle.roster_instance.specs.Rosters.{fits_case};
@@ -42,11 +42,9 @@ pub fn refusals_of_names_and_counts()
     ensures two_shifts_a_day { refusal_in (solved (codes "2")
         (codes "Ann Mon Early Nurse" ∷ codes "Ann Mon Night Nurse" ∷ []) mini_lines) ≡ Some
         (CaseFault.H1 0 0) }
-    ensures most_states_taken { refusals_in (line 8 (codes "SHIFT_TYPES = 3")
-        (line 11 (codes "Late (1,7)") (line 17 (codes "Full (2,511) (1,7) (1,5) 7 1") mini_lines)))
+    ensures most_states_taken { refusals_in (with_late (codes "(2,511) (1,7) (1,5) 7 1"))
         ≡ Some [] }
-    ensures states { refusal_in (line 8 (codes "SHIFT_TYPES = 3")
-        (line 11 (codes "Late (1,7)") (line 17 (codes "Full (2,512) (1,7) (1,5) 7 1") mini_lines)))
+    ensures states { refusal_in (with_late (codes "(2,512) (1,7) (1,5) 7 1"))
         ≡ Some (CaseFault.TooManyStates 0 (record { start = 209; end = 212; line = 20 })) }
 {}
 
@@ -59,41 +57,35 @@ pub fn breaches_of_the_hard_rules()
         (codes "Ann Tue Night Nurse" ∷ codes "Ann Wed Early Nurse" ∷ []) mini_lines) ≡ Some
         (HardFault.H3 ann 2 ∷ []) }
     ensures succession_from_the_history { breaches_in (line 27 (codes "Ann 0 0 Night 1 1 0")
-        (solved (codes "1") (codes "Ann Mon Early Nurse" ∷ []) mini_lines)) ≡ Some
+        (assigned (codes "Ann Mon Early Nurse"))) ≡ Some
         (HardFault.H3 ann 0 ∷ []) }
     ensures skill { breaches_in (line 5 (codes "SKILLS = 2")
-        (line 6 (codes "Nurse Head") (solved (codes "1") (codes "Bob Tue Early Head" ∷ [])
-        mini_lines))) ≡ Some (HardFault.H4 bob 1 ∷ []) }
+        (line 6 (codes "Nurse Head") (assigned (codes "Bob Tue Early Head"))))
+        ≡ Some (HardFault.H4 bob 1 ∷ []) }
 {}
 
 /// Work of an absent nurse, told after a skill that one lacks, and a second line of the same nurse and day. The section stands
 /// after the wishes where the week has both.
 pub fn breaches_of_absences()
-    ensures work { breaches_in (line 36 (codes "SHIFT_OFF_REQUESTS = 0 ABSENCES = 1 Bob Tue")
-        (solved (codes "1") (codes "Bob Tue Early Nurse" ∷ []) mini_lines)) ≡ Some
-        (HardFault.Absent bob 1 ∷ []) }
-    ensures another_day { breaches_in (line 36 (codes "SHIFT_OFF_REQUESTS = 0 ABSENCES = 1 Bob Tue")
+    ensures work { breaches_in (requested (codes "0 ABSENCES = 1 Bob Tue")
+        bob_early_on_tuesday) ≡ Some (HardFault.Absent bob 1 ∷ []) }
+    ensures another_day { breaches_in (requested (codes "0 ABSENCES = 1 Bob Tue")
         (solved (codes "2") (codes "Ann Tue Early Nurse" ∷ codes "Bob Wed Early Nurse" ∷ [])
         mini_lines)) ≡ Some [] }
-    ensures after_a_skill { breaches_in (line 5 (codes "SKILLS = 2")
-        (line 6 (codes "Nurse Head") (line 36 (codes "SHIFT_OFF_REQUESTS = 0 ABSENCES = 1 Ann Mon")
-        (solved (codes "2") (codes "Ann Mon Early Nurse" ∷ codes "Bob Tue Early Head" ∷ [])
-        mini_lines)))) ≡ Some (HardFault.H4 bob 1 ∷ HardFault.Absent ann 0 ∷ []) }
-    ensures after_wishes { breaches_in (line 36 (codes
-        "SHIFT_OFF_REQUESTS = 0 SHIFT_ON_REQUESTS = 1 Bob Any Mon ABSENCES = 2 Bob Tuesday Bob Tue")
-        (solved (codes "1") (codes "Bob Tue Early Nurse" ∷ []) mini_lines)) ≡ Some
-        (HardFault.Absent bob 1 ∷ []) }
-    ensures twice { refusals_in
-        (line 36 (codes "SHIFT_OFF_REQUESTS = 0 ABSENCES = 2 Bob Tuesday Bob Tue") mini_lines)
+    ensures after_a_skill { breaches_in absence_and_skill
+        ≡ Some (HardFault.H4 bob 1 ∷ HardFault.Absent ann 0 ∷ []) }
+    ensures after_wishes { breaches_in (requested
+        (codes "0 SHIFT_ON_REQUESTS = 1 Bob Any Mon ABSENCES = 2 Bob Tuesday Bob Tue")
+        bob_early_on_tuesday) ≡ Some (HardFault.Absent bob 1 ∷ []) }
+    ensures twice { refusals_in (requested (codes "0 ABSENCES = 2 Bob Tuesday Bob Tue") mini_lines)
         ≡ Some [] }
-    ensures unknown { refusal_in (line 36 (codes "SHIFT_OFF_REQUESTS = 0 ABSENCES = 1")
-        (line_after 36 (codes "Eve Tue") mini_lines)) ≡ Some (CaseFault.Unknown 37) }
-    ensures unknown_after_a_wish { refusals_in (line 36 (codes
-        "SHIFT_OFF_REQUESTS = 0 SHIFT_ON_REQUESTS = 1 Eve Any Tue ABSENCES = 1")
-        (line_after 36 (codes "Eve Tue") mini_lines)) ≡ Some
-        (CaseFault.Unknown 36 ∷ CaseFault.Unknown 37 ∷ []) }
-    ensures before_wishes { refusals_in (line 36 (codes
-        "SHIFT_OFF_REQUESTS = 0 ABSENCES = 0 SHIFT_ON_REQUESTS = 0") mini_lines) ≡ None }
+    ensures unknown { refusal_in (requested (codes "0 ABSENCES = 1") eve_on_tuesday)
+        ≡ Some (CaseFault.Unknown 37) }
+    ensures unknown_after_a_wish { refusals_in (requested
+        (codes "0 SHIFT_ON_REQUESTS = 1 Eve Any Tue ABSENCES = 1") eve_on_tuesday)
+        ≡ Some (CaseFault.Unknown 36 ∷ CaseFault.Unknown 37 ∷ []) }
+    ensures before_wishes { refusals_in
+        (requested (codes "0 ABSENCES = 0 SHIFT_ON_REQUESTS = 0") mini_lines) ≡ None }
 {}
 
 /// Each nurse has eight days off in a row, one of them before the first Monday, and three too many.
@@ -104,11 +96,9 @@ pub fn penalties_of_an_empty_roster()
 /// The days before the first Monday count for the length of a run and for the place of its days, and have no costs of their own.
 pub fn penalties_with_runs_that_the_history_began()
     ensures going_on { costs_in (line 27 (codes "Ann 0 0 Early 7 7 0")
-        (solved (codes "1") (codes "Ann Mon Early Nurse" ∷ []) mini_lines)) ≡ Some
+        (assigned (codes "Ann Mon Early Nurse"))) ≡ Some
         (costs 180 45 120 0 0 60 0) }
-    ensures ended_before_monday { costs_in (line 9 (codes "Early (2,5)")
-        (line 17 (codes "Full (2,5) (3,5) (1,5) 1 1")
-        (line 27 (codes "Ann 0 0 Early 1 1 0") mini_lines))) ≡ Some (costs 210 75 150 0 0 80 0) }
+    ensures ended_before_monday { costs_in short_early_run ≡ Some (costs 210 75 150 0 0 80 0) }
     ensures of_no_days { costs_in (line 27 (codes "Ann 0 0 Early 0 0 0") mini_lines) ≡ Some
         (costs 210 0 150 0 0 80 0) }
     ensures without_a_shift { costs_in (line 27 (codes "Ann 0 0 None 4 4 1") mini_lines) ≡ Some
@@ -117,34 +107,29 @@ pub fn penalties_with_runs_that_the_history_began()
 
 /// A least above its greatest, the totals of the history, and a shift that two off requests name.
 pub fn penalties_of_contracts_and_off_requests()
-    ensures least_above_greatest { costs_in (line 17 (codes "Full (2,5) (4,3) (1,5) 1 1")
-        (solved (codes "6") (early_lines (codes "Ann")
-        (codes "Mon" ∷ codes "Tue" ∷ codes "Thu" ∷ codes "Fri" ∷ codes "Sat" ∷ codes "Sun" ∷ []))
-        mini_lines)) ≡ Some (costs 30 90 90 0 0 60 0) }
+    ensures least_above_greatest { costs_in four_and_three_days ≡ Some (costs 30 90 90 0 0 60 0) }
     ensures totals_of_the_history { costs_in (line 27 (codes "Ann 9 3 None 0 0 1")
         (line 28 (codes "Bob 9 3 None 0 0 1") mini_lines)) ≡ Some (costs 210 0 180 0 0 160 120) }
-    ensures off_requests_and_a_split_weekend { costs_in (line 36 (codes
-        "SHIFT_OFF_REQUESTS = 2 Ann Any Sat Ann Early Sat")
-        (solved (codes "1") (codes "Ann Sat Early Nurse" ∷ []) mini_lines)) ≡ Some
+    ensures off_requests_and_a_split_weekend { costs_in (requested
+        (codes "2 Ann Any Sat Ann Early Sat") (assigned (codes "Ann Sat Early Nurse"))) ≡ Some
         (costs 180 0 120 10 30 60 0) }
 {}
 
 /// A day with two wishes that aren't met costs once. `Any` is met by each shift, and a wish for a shift by that one alone. An off
 /// request and a wish may both cost on one day.
 pub fn penalties_of_wishes()
-    ensures two_for_a_day_off { costs_in (line 36 (codes
-        "SHIFT_OFF_REQUESTS = 0 SHIFT_ON_REQUESTS = 2 Bob Night Mon Bob Any Mon") mini_lines) ≡ Some
+    ensures two_for_a_day_off { costs_in (requested
+        (codes "0 SHIFT_ON_REQUESTS = 2 Bob Night Mon Bob Any Mon") mini_lines) ≡ Some
         (costs_with_wishes 10 (costs 210 0 180 0 0 80 0)) }
-    ensures any_by_a_shift { costs_in (line 36 (codes
-        "SHIFT_OFF_REQUESTS = 0 SHIFT_ON_REQUESTS = 1 Bob Any Mon")
-        (solved (codes "1") (codes "Bob Mon Night Nurse" ∷ []) mini_lines)) ≡ Some
+    ensures any_by_a_shift { costs_in (requested (codes "0 SHIFT_ON_REQUESTS = 1 Bob Any Mon")
+        bob_on_monday_night) ≡ Some
         (costs 210 0 120 0 0 60 0) }
-    ensures another_shift { costs_in
-        (line 36 (codes "SHIFT_OFF_REQUESTS = 1 Bob Any Mon SHIFT_ON_REQUESTS = 1 Bob Early Mon")
-        (solved (codes "1") (codes "Bob Mon Night Nurse" ∷ []) mini_lines)) ≡ Some
+    ensures another_shift { costs_in (requested
+        (codes "1 Bob Any Mon SHIFT_ON_REQUESTS = 1 Bob Early Mon")
+        bob_on_monday_night) ≡ Some
         (costs_with_wishes 10 (costs 210 0 120 10 0 60 0)) }
     ensures unknown { refusal_in
-        (line 36 (codes "SHIFT_OFF_REQUESTS = 0 SHIFT_ON_REQUESTS = 1 Eve Any Tue") mini_lines)
+        (requested (codes "0 SHIFT_ON_REQUESTS = 1 Eve Any Tue") mini_lines)
         ≡ Some (CaseFault.Unknown 36) }
 {}
 
@@ -168,18 +153,10 @@ pub fn totals_of_better_rosters()
         ≡ 0 }
     ensures later_row { penalty mini (early_but 4 ∷ free_week ∷ []) ≡ 180 }
     ensures later_rows { penalty mini (early_but 4 ∷ early_on (4 ∷ 5 ∷ 6 ∷ []) ∷ []) ≡ 20 }
-    ensures needed_night { total_in (line_after 34 (codes
-        "Night Nurse (0,0) (0,0) (0,0) (1,1) (0,0) (0,0) (0,0)")
-        (solved (codes "1") (codes "Bob Thu Night Nurse" ∷ []) mini_lines)) ≡ Some 360 }
-    ensures around_a_needed_night { total_in (line_after 34
-        (codes "Night Nurse (0,0) (0,0) (0,0) (1,1) (0,0) (0,0) (0,0)")
-        (solved (codes "6") (codes "Bob Thu Night Nurse"
-        ∷ early_lines (codes "Bob") (codes "Mon" ∷ codes "Tue" ∷ codes "Wed" ∷ codes "Sat"
-        ∷ codes "Sun" ∷ [])) mini_lines)) ≡ Some 210 }
-    ensures two_skills { total_in (line 5 (codes "SKILLS = 2")
-        (line 6 (codes "Nurse Head") (line 20 (codes "Ann Full 2 Head Nurse")
-        (line_after 34 (codes "Early Head (0,1) (0,1) (0,1) (0,1) (0,1) (0,1) (0,1)") mini_lines))))
-        ≡ Some 680 }
+    ensures needed_night { total_in (night_needed (assigned (codes "Bob Thu Night Nurse")))
+        ≡ Some 360 }
+    ensures around_a_needed_night { total_in (night_needed around_the_night) ≡ Some 210 }
+    ensures two_skills { total_in heads_wanted ≡ Some 680 }
 {}
 
 /// What single runs owe.
@@ -200,8 +177,7 @@ pub fn sizes_of_instances()
     ensures small { sizes_in mini_lines ≡ Some ((1296, 3) ∷ (1296, 3) ∷ []) }
     ensures many_assignments { sizes_in (line 17 (codes "Full (2,999) (1,5) (1,5) 1 1") mini_lines)
         ≡ Some ((216000, 3) ∷ (216000, 3) ∷ []) }
-    ensures most { sizes_in (line 8 (codes "SHIFT_TYPES = 3")
-        (line 11 (codes "Late (1,7)") (line 17 (codes "Full (2,511) (1,7) (1,5) 7 1") mini_lines)))
+    ensures most { sizes_in (with_late (codes "(2,511) (1,7) (1,5) 7 1"))
         ≡ Some ((1048576, 4) ∷ (1048576, 4) ∷ []) }
     ensures big_states { state_count big 0 ≡ 40500 }
     ensures big_choices { choice_count big 0 ≡ 5 }

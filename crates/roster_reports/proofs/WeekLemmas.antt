@@ -8,7 +8,7 @@ use Rattle.roster_bundle.specs.Canonical.{canonical}
 use Rattle.roster_text.specs.Io.{Stops, StopsIn, Watched, Writes}
 use Rattle.roster_text.specs.declared.fault.WriteFault.{WriteFault}
 use Rattle.roster_text.proofs.Texts.{Stops-after, Stops-from_in, Writes-append}
-use Rattle.roster_text.proofs.Ranges.{range_with_len-add}
+use Rattle.roster_bundle.proofs.Ranges.{range_with_len-add}
 use Rattle.roster_instance.specs.Meaning.{Meaning, week_count}
 use Rattle.roster_instance.specs.Rosters.{Rows}
 use Rattle.roster_case.specs.Shown.{shown_week, weeks_text}

@@ -7,12 +7,16 @@ use Rattle.roster_rules.specs.declared.penalties.Costs.{Costs}
 use Rattle.roster_instance.specs.declared.rules.Border.TheVariants.{Free}
 use Rattle.roster_instance.specs.declared.rules.ContractRules.{ContractRules}
 use Rattle.roster_instance.specs.declared.rules.Limits.{Limits}
+use Rattle.roster_instance.specs.declared.rules.Need.{Need}
 use Rattle.roster_instance.specs.declared.rules.Past.{Past}
 use Rattle.roster_instance.specs.Meaning.{Meaning, NurseFacts, WeekFacts, no_requests, shift_at, skill_at}
 use Rattle.roster_instance.specs.Rosters.{Row, Rows}
 
 abbrev pub limits : ℕ → ℕ → Limits
 limits least greatest = record { least = least; greatest = greatest }
+
+abbrev pub a_need : ℕ → ℕ → Need
+a_need minimum optimum = record { minimum = minimum; optimum = optimum }
 
 abbrev pub full : ContractRules
 full = record { total = limits 2 5; working = limits 1 5; free = limits 1 5; weekends = 1; whole_weekends = true }
@@ -28,7 +32,7 @@ off_for days = Some (record { border = Free days; assignments = 0; weekends = 0 
 -- a week that wants one nurse at best on each day, for each of these places, without requests and absences
 abbrev pub week_wanting : List Bool → ℕ → WeekFacts
 week_wanting places nurses = record {
-  needs = map (λ wanted. if wanted then Some (replicate 7 (limits 0 1)) else None) places;
+  needs = map (λ wanted. if wanted then Some (replicate 7 (a_need 0 1)) else None) places;
   off_requests = replicate (7 * nurses) no_requests;
   wishes = replicate (7 * nurses) no_requests;
   absences = replicate (7 * nurses) false;

@@ -1,18 +1,20 @@
 -- The small instance, where minimums, successions, the history, skills or absences leave a nurse few rows.
-use Rattle.std.specs.Prelude.{ℕ, true, false, List, [], ◌∷◌, ◌++◌, codes, map, replicate, take, if◌then◌else◌, Some, None}
+use Rattle.std.specs.Prelude.{ℕ, true, false, List, [], ◌∷◌, ◌++◌, codes, flat_map, map, replicate, take, if◌then◌else◌, Some, None}
 use Rattle.std.specs.List.{range_with_len}
 use Rattle.roster_instance.specs.declared.choice.Choice.{Choice}
-use Rattle.roster_instance.specs.declared.choice.Choice.TheVariants.{Work}
+use Rattle.roster_instance.specs.declared.choice.Choice.TheVariants.{Off, Work}
 use Rattle.roster_instance.specs.declared.rules.Border.TheVariants.{Working}
 use Rattle.roster_instance.specs.Meaning.{Meaning, no_requests, shift_at, skill_at}
-use Rattle.roster_run_examples.specs.Mini.{a_nurse, free_week, is_among, limits, mini_of_one_shift, off_for}
-use Rattle.roster_instance.specs.Rosters.{Row}
+use Rattle.roster_run_examples.specs.Mini.{a_need, a_nurse, all_free, early_on, early_shift, free_week, is_among, mini_of_one_shift, off_for}
+use Rattle.roster_instance.specs.Rosters.{Row, Rows}
+use Rattle.roster_rules.specs.AllowedRows.{best_row}
+use Rattle.roster_rules.specs.Improver.{Run, line_of, log_of, run}
 
 -- these days need a nurse at least, and Ann is absent on those
 abbrev pub needing_without_ann : List ℕ → List ℕ → Meaning
 needing_without_ann days away = record mini_of_one_shift {
   weeks = record {
-    needs = Some (map (λ d. limits (if is_among days d then 1 else 0) 1) (range_with_len 0 7)) ∷ replicate 63 None;
+    needs = Some (map (λ d. a_need (if is_among days d then 1 else 0) 1) (range_with_len 0 7)) ∷ replicate 63 None;
     off_requests = replicate 14 no_requests;
     wishes = replicate 14 no_requests;
     absences = map (is_among away) (range_with_len 0 7) ++ replicate 7 false;
@@ -48,3 +50,51 @@ early_as_head = Work (shift_at 0) (skill_at 1)
 -- a week that begins so, and then is free
 abbrev pub beginning : Row → Row
 beginning row = take 7 (row ++ free_week)
+
+-- ---- what the worked examples speak of
+
+-- a nurse is needed from Monday to Friday
+abbrev pub needing_weekdays : Meaning
+needing_weekdays = needing (0 ∷ 1 ∷ 2 ∷ 3 ∷ 4 ∷ [])
+
+-- Bob works on Tuesday alone
+abbrev pub bob_on_tuesday : Rows
+bob_on_tuesday = free_week ∷ early_on (1 ∷ []) ∷ []
+
+-- Early on these days and a weekend: off, its Sunday, its Saturday, both
+abbrev pub with_each_weekend : List ℕ → List Row
+with_each_weekend days = early_on days ∷ early_on (days ++ 6 ∷ []) ∷ early_on (days ++ 5 ∷ []) ∷ early_on (days ++ 5 ∷ 6 ∷ []) ∷ []
+
+-- weeks that begin with Early, with Night, and with Early on Tuesday
+abbrev pub early_first : Row
+early_first = beginning (early_shift ∷ [])
+
+abbrev pub night_first : Row
+night_first = beginning (night_shift ∷ [])
+
+abbrev pub early_second : Row
+early_second = beginning (Off ∷ early_shift ∷ [])
+
+-- weeks that begin with two shifts, on Monday and on the next day or the one after it
+abbrev pub night_early : Row
+night_early = beginning (night_shift ∷ early_shift ∷ [])
+
+abbrev pub early_night : Row
+early_night = beginning (early_shift ∷ night_shift ∷ [])
+
+abbrev pub night_off_early : Row
+night_off_early = beginning (night_shift ∷ Off ∷ early_shift ∷ [])
+
+abbrev pub two_nights : Row
+two_nights = beginning (night_shift ∷ night_shift ∷ [])
+
+-- the run of so many rounds with one shift, from the free weeks, and the text of its log
+abbrev pub run_of : ℕ → Run
+run_of rounds = run mini_of_one_shift (best_row mini_of_one_shift 0) rounds all_free
+
+abbrev pub log_text : ℕ → List ℕ
+log_text rounds = flat_map (line_of mini_of_one_shift) (log_of mini_of_one_shift (best_row mini_of_one_shift 0) rounds all_free)
+
+-- where it comes to
+abbrev pub shared_week : Rows
+shared_week = early_on (0 ∷ 2 ∷ 3 ∷ 4 ∷ []) ∷ early_on (1 ∷ 5 ∷ 6 ∷ []) ∷ []

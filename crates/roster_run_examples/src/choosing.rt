@@ -1,35 +1,27 @@
 //! Worked examples of allowed rows, best rows and runs of the improver.
 #![tactic(auto, unfolding(roster_instance::specs::Choices::all_rows, roster_rules::specs::HardRules::hard_faults, roster_rules::specs::Penalties::costs_of, roster_rules::specs::Penalties::penalty, roster_rules::specs::Runs::run_violations))]
 
-ghost use Rattle.std.specs.Prelude.{◌≡◌, [], ◌∷◌, Some, None, codes, filter, flat_map, map, true, false};
-ghost use Rattle.roster_instance.specs.declared.choice.Choice.TheVariants.{Off};
-ghost use Rattle.roster_rules.specs.Improver.{line_of, log_of, run};
+ghost use Rattle.std.specs.Prelude.{◌≡◌, [], ◌∷◌, ◌++◌, Some, None, codes, filter, map, true, false};
 ghost use Rattle.roster_run_examples.specs.Mini.{all_free, ann, bob, early_but, early_on, early_shift, free_week, mini, mini_of_one_shift};
 ghost use Rattle.roster_rules.specs.AllowedRows.{allowed_rows, best_row, penalty_with, row_keeps};
-ghost use Rattle.roster_run_examples.specs.Tight.{after_shift, beginning, early_as_head, needing, needing_without_ann, night_shift, resting, unskilled, with_heads};
+ghost use Rattle.roster_run_examples.specs.Tight.{after_shift, beginning, bob_on_tuesday, early_as_head, early_first, early_night, early_second, log_text, needing, needing_weekdays, needing_without_ann, night_early, night_first, night_off_early, resting, run_of, shared_week, two_nights, unskilled, with_each_weekend, with_heads};
 
 /// From Monday to Friday a nurse is needed, and Bob is off: Ann can choose her weekend. The row that is the best without minimums
 /// is not allowed. Where Bob works on Tuesday Ann can be off on that day too.
 pub fn rows_that_minimums_exclude()
-    ensures allowed { allowed_rows (needing (0 ∷ 1 ∷ 2 ∷ 3 ∷ 4 ∷ [])) 0 all_free ann ≡ early_on
-        (0 ∷ 1 ∷ 2 ∷ 3 ∷ 4 ∷ []) ∷ early_on (0 ∷ 1 ∷ 2 ∷ 3 ∷ 4 ∷ 6 ∷ [])
-        ∷ early_on (0 ∷ 1 ∷ 2 ∷ 3 ∷ 4 ∷ 5 ∷ []) ∷ early_on (0 ∷ 1 ∷ 2 ∷ 3 ∷ 4 ∷ 5 ∷ 6 ∷ []) ∷ [] }
-    ensures kept { filter (row_keeps (needing (0 ∷ 1 ∷ 2 ∷ 3 ∷ 4 ∷ [])) all_free ann)
+    ensures allowed { allowed_rows needing_weekdays 0 all_free ann
+        ≡ with_each_weekend (0 ∷ 1 ∷ 2 ∷ 3 ∷ 4 ∷ []) }
+    ensures kept { filter (row_keeps needing_weekdays all_free ann)
         (map early_but (0 ∷ 1 ∷ 2 ∷ 3 ∷ 4 ∷ 5 ∷ 6 ∷ [])) ≡ early_but 5 ∷ early_but 6 ∷ [] }
-    ensures best { best_row (needing (0 ∷ 1 ∷ 2 ∷ 3 ∷ 4 ∷ [])) 0 all_free ann ≡ Some
-        (early_on (0 ∷ 1 ∷ 2 ∷ 3 ∷ 4 ∷ [])) }
-    ensures penalty_of_the_best { penalty_with (needing (0 ∷ 1 ∷ 2 ∷ 3 ∷ 4 ∷ [])) all_free ann
+    ensures best { best_row needing_weekdays 0 all_free ann
+        ≡ Some (early_on (0 ∷ 1 ∷ 2 ∷ 3 ∷ 4 ∷ [])) }
+    ensures penalty_of_the_best { penalty_with needing_weekdays all_free ann
         (early_on (0 ∷ 1 ∷ 2 ∷ 3 ∷ 4 ∷ [])) ≡ 190 }
-    ensures penalty_of_an_excluded { penalty_with (needing (0 ∷ 1 ∷ 2 ∷ 3 ∷ 4 ∷ [])) all_free ann
-        (early_but 1) ≡ 180 }
-    ensures allowed_beside_bob { allowed_rows (needing (0 ∷ 1 ∷ 2 ∷ 3 ∷ 4 ∷ [])) 0
-        (free_week ∷ early_on (1 ∷ []) ∷ []) ann ≡ early_on (0 ∷ 2 ∷ 3 ∷ 4 ∷ [])
-        ∷ early_on (0 ∷ 2 ∷ 3 ∷ 4 ∷ 6 ∷ []) ∷ early_on (0 ∷ 2 ∷ 3 ∷ 4 ∷ 5 ∷ [])
-        ∷ early_on (0 ∷ 2 ∷ 3 ∷ 4 ∷ 5 ∷ 6 ∷ []) ∷ early_on (0 ∷ 1 ∷ 2 ∷ 3 ∷ 4 ∷ [])
-        ∷ early_on (0 ∷ 1 ∷ 2 ∷ 3 ∷ 4 ∷ 6 ∷ []) ∷ early_on (0 ∷ 1 ∷ 2 ∷ 3 ∷ 4 ∷ 5 ∷ [])
-        ∷ early_on (0 ∷ 1 ∷ 2 ∷ 3 ∷ 4 ∷ 5 ∷ 6 ∷ []) ∷ [] }
-    ensures best_beside_bob { best_row (needing (0 ∷ 1 ∷ 2 ∷ 3 ∷ 4 ∷ [])) 0
-        (free_week ∷ early_on (1 ∷ []) ∷ []) ann ≡ Some (early_but 1) }
+    ensures penalty_of_an_excluded { penalty_with needing_weekdays all_free ann (early_but 1)
+        ≡ 180 }
+    ensures allowed_beside_bob { allowed_rows needing_weekdays 0 bob_on_tuesday ann
+        ≡ with_each_weekend (0 ∷ 2 ∷ 3 ∷ 4 ∷ []) ++ with_each_weekend (0 ∷ 1 ∷ 2 ∷ 3 ∷ 4 ∷ []) }
+    ensures best_beside_bob { best_row needing_weekdays 0 bob_on_tuesday ann ≡ Some (early_but 1) }
 {}
 
 /// A nurse is needed on Wednesday and Friday, and Early may not follow Early: Ann can work on Monday and Sunday too, or not. Of
@@ -49,10 +41,10 @@ pub fn rows_that_successions_exclude()
 /// Ann lacks the skill: she can only be off. Where a nurse is needed and Bob is off too, no row of hers is allowed, and her step
 /// changes nothing.
 pub fn rows_that_skills_exclude()
-    ensures allowed { allowed_rows (unskilled (needing (1 ∷ []))) 0
-        (free_week ∷ early_on (1 ∷ []) ∷ []) ann ≡ free_week ∷ [] }
-    ensures best { best_row (unskilled (needing (1 ∷ []))) 0 (free_week ∷ early_on (1 ∷ []) ∷ [])
-        ann ≡ Some free_week }
+    ensures allowed { allowed_rows (unskilled (needing (1 ∷ []))) 0 bob_on_tuesday
+        ann ≡ free_week ∷ [] }
+    ensures best { best_row (unskilled (needing (1 ∷ []))) 0 bob_on_tuesday ann
+        ≡ Some free_week }
     ensures nothing_allowed { allowed_rows (unskilled (needing (1 ∷ []))) 0 all_free ann ≡ [] }
     ensures none { best_row (unskilled (needing (1 ∷ []))) 0 all_free ann ≡ None }
 {}
@@ -76,39 +68,24 @@ pub fn rows_that_absences_exclude()
 /// for each day, with a shift and a skill of the case.
 pub fn rows_that_are_kept()
     ensures after_a_night { filter (row_keeps mini all_free ann)
-        (beginning (night_shift ∷ early_shift ∷ []) ∷ beginning (early_shift ∷ night_shift ∷ [])
-        ∷ beginning (night_shift ∷ Off ∷ early_shift ∷ [])
-        ∷ beginning (night_shift ∷ night_shift ∷ []) ∷ []) ≡ beginning
-        (early_shift ∷ night_shift ∷ []) ∷ beginning (night_shift ∷ Off ∷ early_shift ∷ [])
-        ∷ beginning (night_shift ∷ night_shift ∷ []) ∷ [] }
+        (night_early ∷ early_night ∷ night_off_early ∷ two_nights ∷ [])
+        ≡ early_night ∷ night_off_early ∷ two_nights ∷ [] }
     ensures after_the_last_night { filter (row_keeps (after_shift 1 mini) all_free ann)
-        (beginning (early_shift ∷ []) ∷ beginning (night_shift ∷ [])
-        ∷ beginning (Off ∷ early_shift ∷ []) ∷ []) ≡ beginning (night_shift ∷ [])
-        ∷ beginning (Off ∷ early_shift ∷ []) ∷ [] }
+        (early_first ∷ night_first ∷ early_second ∷ []) ≡ night_first ∷ early_second ∷ [] }
     ensures with_the_skill { filter (row_keeps with_heads all_free ann)
-        (beginning (early_shift ∷ []) ∷ beginning (early_as_head ∷ []) ∷ free_week ∷ []) ≡ beginning
-        (early_as_head ∷ []) ∷ free_week ∷ [] }
+        (early_first ∷ beginning (early_as_head ∷ []) ∷ free_week ∷ [])
+        ≡ beginning (early_as_head ∷ []) ∷ free_week ∷ [] }
     ensures rows_of_the_case { filter (row_keeps mini_of_one_shift all_free ann)
-        ([] ∷ (early_shift ∷ []) ∷ beginning (night_shift ∷ []) ∷ beginning (early_as_head ∷ [])
-        ∷ beginning (early_shift ∷ []) ∷ []) ≡ beginning (early_shift ∷ []) ∷ [] }
+        ([] ∷ (early_shift ∷ []) ∷ night_first ∷ beginning (early_as_head ∷ []) ∷ early_first ∷ [])
+        ≡ early_first ∷ [] }
 {}
 
 /// Two rounds that change something, and a third that doesn't. With two rounds the run is stopped, with the same roster.
 pub fn run_of_three_rounds()
-    ensures log { flat_map (line_of mini_of_one_shift)
-        (log_of mini_of_one_shift (best_row mini_of_one_shift 0) 3 all_free) ≡ codes
+    ensures log { log_text 3 ≡ codes
         "start 470\n1 Ann 180\n1 Bob 20\nround 1 20\n2 Ann 0\nround 2 0\nround 3 0\nsettled 0\n" }
-    ensures settled { run mini_of_one_shift (best_row mini_of_one_shift 0) 3 all_free ≡ record {
-      roster = early_on (0 ∷ 2 ∷ 3 ∷ 4 ∷ []) ∷ early_on (1 ∷ 5 ∷ 6 ∷ [])
-          ∷ [];
-      is_settled = true;
-    } }
-    ensures stopped { run mini_of_one_shift (best_row mini_of_one_shift 0) 2 all_free ≡ record {
-      roster = early_on (0 ∷ 2 ∷ 3 ∷ 4 ∷ []) ∷ early_on (1 ∷ 5 ∷ 6 ∷ [])
-          ∷ [];
-      is_settled = false;
-    } }
-    ensures stopped_log { flat_map (line_of mini_of_one_shift)
-        (log_of mini_of_one_shift (best_row mini_of_one_shift 0) 2 all_free) ≡ codes
+    ensures settled { run_of 3 ≡ record { roster = shared_week; is_settled = true } }
+    ensures stopped { run_of 2 ≡ record { roster = shared_week; is_settled = false } }
+    ensures stopped_log { log_text 2 ≡ codes
         "start 470\n1 Ann 180\n1 Bob 20\nround 1 20\n2 Ann 0\nround 2 0\nstopped 0\n" }
 {}

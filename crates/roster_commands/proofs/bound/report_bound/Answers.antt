@@ -7,7 +7,7 @@ use Rattle.roster_instance.specs.Meaning.{Meaning}
 use Rattle.roster_rules.specs.Penalties.{penalty}
 use Rattle.roster_bound.specs.Floors.{FloorLogStops, RaisesFloor}
 use Rattle.roster_commands.specs.Answer.{IsUnheld, Output}
-use Rattle.roster_commands.specs.Lines.{bound_text}
+use Rattle.roster_reports.specs.Lines.{bound_text}
 use Rattle.roster_commands.specs.declared.fault.Fault.TheVariants as fault
 use Rattle.roster_commands.proofs.BoundLemmas.{bound_ends, bound_stops, bound_unheld}
 use Rattle.roster_commands.proofs.bound.report_bound.Goals as goal

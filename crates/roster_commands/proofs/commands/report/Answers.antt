@@ -1,7 +1,7 @@
 use Rattle.std.proofs.Common.{ap, refl, subst, sym}
 use Rattle.roster_case.specs.Shown.{weeks_text}
 use Rattle.roster_commands.specs.Answer.{IsReportOf, Output, best_report, cost_report, improve_report, outcome_of, plain}
-use Rattle.roster_commands.specs.Lines.{sizes_text}
+use Rattle.roster_reports.specs.Lines.{sizes_text}
 use Rattle.roster_commands.proofs.AnswerLemmas.{plain_ends, silent_log}
 use Rattle.roster_commands.proofs.commands.report.Goals as goal
 

@@ -2,7 +2,7 @@ use Rattle.std.proofs.Common.{◌≡◌, ◌+◌, ◌-◌, arith, flat_map, subs
 use Rattle.std.specs.List.{range_with_len}
 use Rattle.roster_text.specs.Io.{Stops, Writes}
 use Rattle.roster_text.proofs.Texts.{Stops-after, Stops-append, Stops-from_in, Writes-append}
-use Rattle.roster_text.proofs.Ranges.{flat_map-range_more}
+use Rattle.roster_bundle.proofs.Ranges.{flat_map-range_more}
 use Rattle.roster_instance.specs.Meaning.{nurse_count}
 use Rattle.roster_reports.specs.Lines.{sizes_line}
 use Rattle.roster_reports.proofs.PieceLemmas.{sizes_text-all, sizes_text-split}

@@ -1,7 +1,7 @@
 use Rattle.std.proofs.Common.{◌∙◌, ◌<◌, ap, ap₂, arith}
 use Rattle.roster_instance.specs.Meaning.{nurse_count, week_count}
 use Rattle.roster_instance.specs.Rosters.{is_row_of}
-use Rattle.roster_case.proofs.RosterFacts.{row_fits}
+use Rattle.roster_instance.proofs.RosterFacts.{row_fits}
 use Rattle.roster_tests.proofs.state_tests.rows_cost.Goals as goal
 
 pub row_cost-requires-clause-nurse : goal.row_cost-requires-clause-nurse
