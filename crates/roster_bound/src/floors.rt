@@ -178,7 +178,7 @@ fn level_cost(held: &Levelled, nurse: usize, pay: u16) -> u32
     (ASSIGNMENT + pay as u32) * most + SHIFT_RUN * case.days() as u32
 }
 
-/// The least that a nurse costs by worths, as a row. The first of the cheapest rows is then counted at its places.
+/// The least that a row of the nurse costs by worths. The workspace then shows the first of the cheapest rows, and the cover counts it.
 pub fn row_floor(terms: &Terms<'_>, nurse: usize, rows: &mut RowSpace, meter: &mut Meter) -> u64
     requires row { HasRow terms.now.case.now terms.now.from terms.now.given.now nurse }
     requires nurse { nurse < nurse_count terms.now.case.now }
@@ -213,7 +213,7 @@ pub fn row_floor(terms: &Terms<'_>, nurse: usize, rows: &mut RowSpace, meter: &m
     owed as u64 + cost as u64
 }
 
-/// The first of the cheapest rows of each nurse by worths. They are counted at their places.
+/// Finds the first of the cheapest rows of each nurse by worths. The cover counts them.
 pub(crate) fn find_rows(terms: &Terms<'_>, rows: &mut RowSpace, meter: &mut Meter)
     requires each { HaveRows terms.now.case.now terms.now.from terms.now.given.now }
     requires rows { FitsRows terms.now.case.now rows.old }

@@ -118,7 +118,7 @@ fn make_round(held: &Levelled, from: u16, workspace: &mut FloorWorkspace, meter:
     lower_bound(held, from, worths, pays, rows, meter)
 }
 
-/// Each nurse's cheapest row by the worths, over the case as it is. They are counted.
+/// Finds each nurse's cheapest row by the worths, over the case as it is, and counts them.
 fn make_rows(base: &Base<'_>, workspace: &mut FloorWorkspace, meter: &mut Meter)
     requires each { HaveRows base.now.case.now base.now.from base.now.given.now }
     requires fits { FitsFloor base.now.case.now workspace.old }
@@ -138,7 +138,7 @@ fn make_rows(base: &Base<'_>, workspace: &mut FloorWorkspace, meter: &mut Meter)
     find_rows(&terms, &mut workspace.rows, meter);
 }
 
-/// Moves the pays after a round, so many of all having been made before it: four points at most, where a worth moves by 18.
+/// Moves the pays after a round, `made` of all rounds having been made before it: by four points at most, where a worth moves by 18.
 fn move_pays(held: &Levelled, made: u16, rounds: u16, workspace: &mut FloorWorkspace)
     requires made { made < rounds }
     requires fits { FitsFloor (levelled held.now.case) workspace.old }
@@ -151,7 +151,7 @@ fn move_pays(held: &Levelled, made: u16, rounds: u16, workspace: &mut FloorWorks
     workspace.pays.follow(most_step(made + 1, rounds) / 9 * 2);
 }
 
-/// Moves the worths after a round, so many of all having been made before it.
+/// Moves the worths after a round, `made` of all rounds having been made before it.
 fn move_worths(case: &Case, made: u16, rounds: u16, workspace: &mut FloorWorkspace)
     requires made { made < rounds }
     requires fits { FitsFloor case.now workspace.old }

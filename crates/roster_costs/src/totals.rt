@@ -1,4 +1,4 @@
-//! The worked days of a row.
+//! What the worked days of a row cost beside their limits.
 
 ghost use Rattle.std.specs.Prelude.{◌≡◌, ◌≤◌, length};
 ghost use Rattle.roster_instance.specs.Choices.{days_of};

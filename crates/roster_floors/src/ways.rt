@@ -13,8 +13,8 @@ use roster_offers::{MOST_OFFERS, Offer};
 use roster_rules::Shift;
 use roster_rules::weights::{SHIFT_RUN, SPLIT};
 
-/// What a day costs at most whatever comes after it, as floors are reckoned. A floor is at most that and what the run of a shift misses,
-/// 714,703,850: within the bound of labels, as the label of a coarser state.
+/// What a day costs at most, whatever comes after it, as floors are reckoned. With what the run of a shift misses a floor is at most
+/// 714,703,850. So it is within the bound of labels, as it has to be: a floor is the label of a coarser state.
 pub(crate) const MOST_LEAVE: u32 = 713_655_274;
 
 /// What another shift costs that begins, whatever the run, and the place of its first floor.

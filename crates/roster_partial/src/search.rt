@@ -53,9 +53,8 @@ impl Hints {
         }
     }
 
-    /// Whether a search begins with partial rows. The tables search at once where the nurse has more floors than the steps that they take at
-    /// most, and in some searches after those in which partial rows found nothing for her (`Guesses::miss`): each call for these is one
-    /// fewer to come.
+    /// Whether a search begins with partial rows. The tables search at once where the nurse has more floors than they take steps at most,
+    /// and in the searches that are left to them since partial rows found nothing for her (`Guesses::miss`): a call uses up one of these.
     fn begins(&mut self, search: &RowSearch<'_>, steps: u64) -> bool
         requires nurse { search.now.nurse < nurse_count search.now.case.now }
     {
@@ -69,7 +68,8 @@ impl Hints {
 /// Searches the best row over a table of offers, wherever these come from. `row` then begins with its choices, one for each day, and the
 /// answer is its cost: its prices, and what the nurse's own rules cost along it beside what the start owes. It takes no memory. The
 /// meter counts each floor, each partial row and each state that is taken over an offer: one for each day at least, and at most one for
-/// each state, day and choice of the nurse. So many are left for the tables, before anything else is counted, as they may take.
+/// each state, day and choice of the nurse. What the tables may take is set aside before
+/// anything else is counted.
 pub fn search_row(
     search: &RowSearch<'_>,
     hints: &mut Hints,

@@ -56,7 +56,7 @@ pub record FitsPolish (c : Meaning) (w : PolishSpace) : Type 0 where
   pub count : length w.order.items ≡ nurse_count c
   pub order : All (λ n. n < nurse_count c) w.order.items
 
--- and how many from whatever roster
+-- how many searches the first settling makes at most, from whatever roster
 abbrev pub first_searches : Meaning → ℕ
 first_searches c = settling_rounds * nurse_count c
 

@@ -96,7 +96,7 @@ wish_cost c n days = sum_below (length days) (λ d. wish_cost_on c n d (shift_on
 abbrev pub split_cost : Meaning → ℕ → Days → ℕ
 split_cost c n days = if (contract_of c n).whole_weekends then split_weight * split_weekends days else 0
 
--- the assignments and the worked weekends, with the history's
+-- the assignments, with the history's
 abbrev pub total_of : Meaning → ℕ → Days → ℕ
 total_of c n days = (past_of c n).assignments + days_worked days
 

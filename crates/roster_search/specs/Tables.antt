@@ -92,7 +92,7 @@ abbrev pub PointersOf : (Summary → Type 0) → Meaning → SearchDay → List 
 PointersOf which c at offers later first pointers =
     CellsOf which (sizes_of c at.nurse) (λ s. PointsWhereBest (best_by c at later s) offers (best_on c at offers later s)) (λ code. first + code) pointers
 
--- and so are their pointers
+-- the pointers of all states that stand are right
 abbrev pub ArePointers : Meaning → SearchDay → List Area → List Offer → BestOnward → ℕ → List ℕ → Type 0
 ArePointers c at areas offers later first pointers = PointersOf (Stands c at.nurse areas) c at offers later first pointers
 

@@ -30,11 +30,11 @@ open_shift_run s t = if is_shift t s.last then s.shift_run else 0
 
 -- ---- what one day more costs
 
--- S2: points for each missing or extra day of the runs of working days and of days off
+-- S2: points for each missing or extra day of the runs of working days
 abbrev pub working_more : Meaning → ℕ → Summary → Option Shift → ℕ
 working_more c n s shift = working_run_weight * day_violations (contract_of c n).working (working_run s) (is_some shift)
 
--- S3: points for the runs of days off
+-- S3: points for each missing or extra day of the runs of days off
 abbrev pub free_more : Meaning → ℕ → Summary → Option Shift → ℕ
 free_more c n s shift = free_run_weight * day_violations (contract_of c n).free (free_run s) (not (is_some shift))
 

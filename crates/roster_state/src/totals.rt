@@ -76,7 +76,8 @@ pub(crate) fn total_more(total: Limits, assignments: u32) -> u32
     ASSIGNMENT
 }
 
-/// S6. From which place of a block on an assignment of the day is above the greatest total. The number of places where the nurse is off.
+/// S6. From which place of a block on an assignment of the day is above the greatest total. Where the nurse is off, from none: the number
+/// of places.
 #[inline(always)]
 pub(crate) fn dearer_from(total: Limits, shift: Option<Shift>) -> u32
     ensures { result ≡ (if is_some shift then total.greatest else cap total + 1) }
