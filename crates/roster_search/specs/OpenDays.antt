@@ -125,8 +125,9 @@ RowsAlike day rows =
 abbrev pub AllAlike : OpenDay → Stretch → Type 0
 AllAlike day stretch = IsAlike day.days.case.now day.days.nurse day.day stretch.block stretch.rows stretch.from stretch.end
 
--- what a worked day brings is what it brings to its first state
+-- the rules are the nurse's, and what a worked day brings is what it brings to its first state
 pub record IsStretchDay (day : OpenDay) (from : StretchDay) : Type 0 where
+  pub rules : from.rules ≡ contract_of day.days.case.now day.days.nurse
   pub of_day : IsStretchOf day from.stretch
   pub alike : AllAlike day from.stretch
   pub worked : IsWorkedDay day.days.case.now day.days.nurse day.day (with_assignments from.stretch.block from.stretch.from) from.worked

@@ -14,6 +14,7 @@ use crate::day::OpenDay;
 use crate::days::SearchDays;
 use crate::pointers::Pointers;
 use roster_lanes::{lower_all, set_all};
+use roster_rules::ContractRules;
 use roster_state::{AREAS, Area, Block, Meter, NurseDays, Stretch, WorkedDay, end_cost};
 
 /// The label of a state from which no row goes on. Each row costs less.
@@ -351,10 +352,12 @@ fn put_run(labels: &mut [u32], first: usize, run: &[u32])
     labels[first..first + run.len()].copy_from_slice(run);
 }
 
-/// A stretch from which a day is taken by one offer after another, and what a worked day brings to its first state, whatever the shift.
+/// A stretch from which a day is taken by one offer after another: the nurse's rules, and what a worked day brings to the first state,
+/// whatever the shift.
 #[derive(Clone, Copy)]
 struct StretchDay {
     stretch: Stretch,
+    rules: ContractRules,
     worked: WorkedDay,
 }
 
@@ -384,6 +387,7 @@ fn label_run(
     let days = NurseDays { case, nurse, rules };
     let from = StretchDay {
         stretch: *stretch,
+        rules,
         worked: days.worked_stretch(day.day, stretch),
     };
     let mut is_set = false;
@@ -418,13 +422,11 @@ fn labels_by(
 {
     let offer = day.offers[place];
     let shift = offer.choice.shift();
-    let SearchDays {
-        case,
-        nurse,
-        rules,
-        ..
-    } = day.days;
-    let days = NurseDays { case, nurse, rules };
+    let days = NurseDays {
+        case: day.days.case,
+        nurse: day.days.nurse,
+        rules: from.rules,
+    };
     let (stretch, worked) = (&from.stretch, &from.worked);
     let Some(step) = days.extend_stretch(day.day, stretch, worked, shift, meter) else {
         return None;
