@@ -60,7 +60,7 @@ pub fn best_row(
 {
     held.keeps_rules();
     offers_of_days(held, nurse, from, workspace);
-    let (_, best) = search_offers(held, nurse, workspace, meter);
+    let (_, best) = best_of_offers(held, nurse, workspace, meter);
     best
 }
 
@@ -101,14 +101,14 @@ pub fn cheaper_row(
     if last.has_none_cheaper(held, nurse, workspace.offers()) {
         return None;
     }
-    let (cost, best) = search_offers(held, nurse, workspace, meter);
+    let (cost, best) = best_of_offers(held, nurse, workspace, meter);
     last.remember(held, nurse, workspace.offers(), cost);
     Some(best)
 }
 
 /// Searches over a nurse's offers of all days, which were put into the workspace. Beside the best row's penalty it returns what that row
 /// costs beside what the start owes.
-fn search_offers(
+fn best_of_offers(
     held: &Held,
     nurse: usize,
     workspace: &mut Workspace,

@@ -18,7 +18,7 @@ use Rattle.roster_state.proofs.RangeLemmas.{next_fits}
 use Rattle.roster_floors.specs.declared.floor_day.FloorDay.{FloorDay}
 use Rattle.roster_floors.specs.declared.rates.Rates.{Rates}
 use Rattle.roster_floors.specs.Floors.{AreFloors, LieUnder, LiesUnder, floor_count, floor_place}
-use Rattle.roster_floors.specs.Lines.{IsDayOf, IsUnderAll, UnderCell, UnderDay, cell_place, next_at, nothing, offer_on}
+use Rattle.roster_floors.specs.Lines.{IsFloorDayOf, IsUnderAll, UnderCell, UnderDay, cell_place, next_at, nothing, offer_on}
 use Rattle.roster_floors.proofs.Cells.{row_inside}
 use Rattle.roster_floors.proofs.Places.{all_are, cell_below, floor_is, of_day}
 
@@ -46,7 +46,7 @@ module _ (day : FloorDay) (first count : ℕ) (first_is : first ≡ day.day * co
       omega (arith, under s fit k l allowed, here, there))
 
 -- the day of a search, from its place among all days
-pub day_set : {c : Meaning} {n : ℕ} {rates : Rates} {d : ℕ} {next : List ℕ} {day : FloorDay} (offers : ℕ → List Offer) (is : IsDayOf c n rates d (offers d) next day) (count : ℕ) (here floors : List ℕ) → UnderDay day here → length next ≡ count → ((k : ℕ) → k < count → get_or floors (d * count + k) 0 ≡ get_or here k 0) → ((k : ℕ) → k < count → get_or floors (d * count + count + k) 0 ≡ get_or next k 0)
+pub day_set : {c : Meaning} {n : ℕ} {rates : Rates} {d : ℕ} {next : List ℕ} {day : FloorDay} (offers : ℕ → List Offer) (is : IsFloorDayOf c n rates d (offers d) next day) (count : ℕ) (here floors : List ℕ) → UnderDay day here → length next ≡ count → ((k : ℕ) → k < count → get_or floors (d * count + k) 0 ≡ get_or here k 0) → ((k : ℕ) → k < count → get_or floors (d * count + count + k) 0 ≡ get_or next k 0)
     → LieUnder c n rates offers floors d
 day_set {c} {n} {rates} {d} {next} {day} offers is count here floors under long here_is next_is =
     transport (λ i. LieUnder (is.case i) (is.nurse i) (is.rates i) (λ _. is.offers i) floors (is.day i))

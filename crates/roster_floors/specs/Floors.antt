@@ -15,7 +15,7 @@ use Rattle.roster_offers.specs.declared.offer.Offer.{Offer}
 use Rattle.roster_floors.specs.declared.rates.Rates.{Rates}
 
 -- no more than what one assignment or weekend too many costs
-pub record AreSmall (rates : Rates) : Type 0 where
+pub record AreSmallRates (rates : Rates) : Type 0 where
   pub day : rates.day ≤ assignment_weight
   pub weekend : rates.weekend ≤ weekend_weight
 

@@ -9,7 +9,7 @@ use Rattle.roster_offers.specs.declared.offer.Offer.{Offer}
 use Rattle.roster_offers.specs.Lists.{AreOffers, offers_on}
 use Rattle.roster_offers.specs.Offers.{best_of_offers}
 use Rattle.roster_state.specs.Codes.{Sizes, sizes_of}
-use Rattle.roster_floors.specs.Floors.{AreFloors, AreSmall, floor_count}
+use Rattle.roster_floors.specs.Floors.{AreFloors, AreSmallRates, floor_count}
 use Rattle.roster_floors.specs.declared.least.Beside.{Beside}
 use Rattle.roster_floors.specs.declared.least.Floors.{Floors}
 use Rattle.roster_floors.specs.declared.rates.Rates.{Rates}
@@ -22,7 +22,7 @@ search_sizes search = sizes_of search.case.now search.nurse
 pub record AreReady (floors : Floors) : Type 0 where
   pub nurse : floors.search.nurse < nurse_count floors.search.case.now
   pub offers : AreOffers floors.search.case.now floors.search.nurse floors.search.offers.now
-  pub small : AreSmall floors.rates
+  pub small : AreSmallRates floors.rates
   pub under : AreFloors floors.search.case.now floors.search.nurse floors.rates (offers_on floors.search.offers.now) floors.cells.now
   pub inside : (day_count floors.search.case.now + 1) * floor_count (sizes_of floors.search.case.now floors.search.nurse) ≤ length floors.cells.now
   pub days : floors.days ≡ day_count floors.search.case.now

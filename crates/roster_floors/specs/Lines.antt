@@ -286,7 +286,7 @@ pub record IsOffFloor (day : FloorDay) (after : AfterOff) (run floor : ℕ) : Ty
 -- ---- among all days
 
 -- the day of a nurse's search, with the next day's floors
-pub record IsDayOf (c : Meaning) (n : ℕ) (at : Rates) (d : ℕ) (xs : List Offer) (after : List ℕ) (x : FloorDay) : Type 0 where
+pub record IsFloorDayOf (c : Meaning) (n : ℕ) (at : Rates) (d : ℕ) (xs : List Offer) (after : List ℕ) (x : FloorDay) : Type 0 where
   pub case : x.case.now ≡ c
   pub nurse : x.nurse ≡ n
   pub rates : x.rates ≡ at

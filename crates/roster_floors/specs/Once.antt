@@ -9,11 +9,11 @@ use Rattle.roster_offers.specs.declared.lists.RowSearch.{RowSearch}
 use Rattle.roster_offers.specs.declared.offer.Offer.{Offer}
 use Rattle.roster_offers.specs.Lists.{AreDayOffers, AreOffers, IsOfferOf, offers_on}
 use Rattle.roster_floors.specs.declared.rates.Rates.{Rates}
-use Rattle.roster_floors.specs.Floors.{AreSmall}
+use Rattle.roster_floors.specs.Floors.{AreSmallRates}
 
 -- that rates are small
-pub AreSmall-prop : (rates : Rates) → IsProp (AreSmall rates)
-AreSmall-prop rates a b = λ i. record { day = le_prop a.day b.day i; weekend = le_prop a.weekend b.weekend i }
+pub AreSmallRates-prop : (rates : Rates) → IsProp (AreSmallRates rates)
+AreSmallRates-prop rates a b = λ i. record { day = le_prop a.day b.day i; weekend = le_prop a.weekend b.weekend i }
 
 -- that a choice is a case's
 choice-prop : (c : Meaning) (choice : Choice) → IsProp (is_choice_of c choice ≡ true)

@@ -5,8 +5,8 @@ ghost use Rattle.roster_instance.specs.Meaning.{contract_of};
 ghost use Rattle.roster_offers.specs.Lists.{IsOfferOf};
 ghost use Rattle.roster_state.specs.Codes.{sizes_of};
 ghost use Rattle.roster_floors.specs.Bounds.{AreLow};
-ghost use Rattle.roster_floors.specs.Floors.{AreSmall};
-ghost use Rattle.roster_floors.specs.Once.{AreSmall-prop, OfCase-prop};
+ghost use Rattle.roster_floors.specs.Floors.{AreSmallRates};
+ghost use Rattle.roster_floors.specs.Once.{AreSmallRates-prop, OfCase-prop};
 
 use crate::rates::Rates;
 use roster_offers::Offer;
@@ -27,7 +27,7 @@ pub(crate) struct FloorDay<'a, 'b> {
     pub(crate) shift_runs: usize,
     pub(crate) next: &'b [u32],
     ghost rules_are: { rules ≡ contract_of case.now nurse },
-    ghost small: { AreSmall rates } by { AreSmall-prop rates },
+    ghost small: { AreSmallRates rates } by { AreSmallRates-prop rates },
     ghost of_case: { All (IsOfferOf case.now) offers.now } by { OfCase-prop case.now offers.now },
     ghost few: { length offers.now ≤ 9 },
     ghost lasts_are: { lasts ≡ (sizes_of case.now nurse).last },

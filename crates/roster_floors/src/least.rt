@@ -4,7 +4,7 @@ ghost use Rattle.std.specs.Prelude.{◌≡◌, ◌+◌, ◌*◌, ◌<◌, ◌≤
 ghost use Rattle.roster_instance.specs.Meaning.{day_count, nurse_count};
 ghost use Rattle.roster_offers.specs.Lists.{AreOffers};
 ghost use Rattle.roster_state.specs.Codes.{fits_sizes};
-ghost use Rattle.roster_floors.specs.Floors.{AreFloorsOf, AreSmall, floor_count, floor_place, search_cells};
+ghost use Rattle.roster_floors.specs.Floors.{AreFloorsOf, AreSmallRates, floor_count, floor_place, search_cells};
 ghost use Rattle.roster_floors.specs.Least.{AreReady, IsBesideOf, IsUnderRest, search_sizes};
 
 use crate::rates::Rates;
@@ -28,7 +28,7 @@ impl<'a> Floors<'a> {
     pub fn of(search: &RowSearch<'a>, rates: Rates, cells: &'a [u32]) -> Floors<'a>
         requires nurse { search.now.nurse < nurse_count search.now.case.now }
         requires offers { AreOffers search.now.case.now search.now.nurse search.now.offers.now }
-        requires small { AreSmall rates }
+        requires small { AreSmallRates rates }
         requires inside { search_cells search.now ≤ length cells.now }
         requires floors { AreFloorsOf search.now rates cells.now }
         ensures search { result.search ≡ search.now }

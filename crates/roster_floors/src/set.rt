@@ -7,9 +7,9 @@ ghost use Rattle.roster_instance.specs.Meaning.{day_count, nurse_count};
 ghost use Rattle.roster_offers.specs.Lists.{AreOffers, offers_on};
 ghost use Rattle.roster_state.specs.Codes.{sizes_of};
 ghost use Rattle.roster_floors.specs.Bounds.{AreKeptFrom, AreLow, AreLowFrom};
-ghost use Rattle.roster_floors.specs.Floors.{AreFloorsOf, AreSmall, LieUnder, floor_count, search_cells, search_steps};
-ghost use Rattle.roster_floors.specs.Lines.{IsDayOf};
-ghost use Rattle.roster_floors.specs.Once.{AreSmall-prop, HasOffers, HasOffers-prop};
+ghost use Rattle.roster_floors.specs.Floors.{AreFloorsOf, AreSmallRates, LieUnder, floor_count, search_cells, search_steps};
+ghost use Rattle.roster_floors.specs.Lines.{IsFloorDayOf};
+ghost use Rattle.roster_floors.specs.Once.{AreSmallRates-prop, HasOffers, HasOffers-prop};
 
 use crate::day::set_day;
 use crate::floor_day::FloorDay;
@@ -28,7 +28,7 @@ struct Setting<'a> {
     count: usize,
     ghost nurse: { search.nurse < nurse_count search.case.now },
     ghost offers: { HasOffers search } by { HasOffers-prop search },
-    ghost small: { AreSmall rates } by { AreSmall-prop rates },
+    ghost small: { AreSmallRates rates } by { AreSmallRates-prop rates },
     ghost sizes: { ranges ≡ sizes_of search.case.now search.nurse },
     ghost counted: { count ≡ floor_count ranges },
 }
@@ -44,7 +44,7 @@ pub fn set_floors(
 ) -> bool
     requires nurse { search.now.nurse < nurse_count search.now.case.now }
     requires offers { AreOffers search.now.case.now search.now.nurse search.now.offers.now }
-    requires small { AreSmall rates }
+    requires small { AreSmallRates rates }
     requires room { meter.old + search_steps search.now ≤ greatest_u64 }
     ensures floors { result ≡ true → AreFloorsOf search.now rates floors.new }
     ensures room { (result ≡ true) ↔ (search_cells search.now ≤ length floors.old) }
@@ -108,7 +108,7 @@ fn floor_day<'a, 'b>(setting: &Setting<'a>, day: u16, next: &'b [u32]) -> FloorD
     requires day { day < day_count setting.now.search.case.now }
     requires next { length next.now ≡ setting.now.count }
     requires low { AreLow next.now }
-    ensures of { IsDayOf setting.now.search.case.now setting.now.search.nurse setting.now.rates day
+    ensures of { IsFloorDayOf setting.now.search.case.now setting.now.search.nurse setting.now.rates day
         (offers_on setting.now.search.offers.now day) next.now result }
 {
     let search = setting.search;

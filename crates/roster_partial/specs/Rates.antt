@@ -4,7 +4,7 @@ use Rattle.roster_instance.specs.Meaning.{day_count}
 use Rattle.roster_rules.specs.Prefix.{Summary}
 use Rattle.roster_state.specs.Codes.{fits_sizes, sizes_of}
 use Rattle.roster_offers.specs.declared.lists.RowSearch.{RowSearch}
-use Rattle.roster_floors.specs.Floors.{AreFloorsOf, AreSmall, search_cells, search_steps}
+use Rattle.roster_floors.specs.Floors.{AreFloorsOf, AreSmallRates, search_cells, search_steps}
 use Rattle.roster_floors.specs.declared.rates.Rates.{Rates}
 use Rattle.roster_partial.specs.declared.rates.Tried.{Tried}
 
@@ -30,11 +30,11 @@ NoRoom search cells left = (length cells < search_cells search) ⊎ (left < 2 * 
 
 -- the rates are small, and the floors at these rates stand in the cells
 pub record AreSetAt (search : RowSearch) (rates : Rates) (cells : List ℕ) : Type 0 where
-  pub small : AreSmall rates
+  pub small : AreSmallRates rates
   pub floors : AreFloorsOf search rates cells
   pub inside : search_cells search ≤ length cells
 
 -- the best rates are small, and the floors that stand are those at the rates that were set last
 pub record IsTried (search : RowSearch) (cells : List ℕ) (tried : Tried) : Type 0 where
-  pub small : AreSmall tried.rates
+  pub small : AreSmallRates tried.rates
   pub set : AreSetAt search tried.set cells

@@ -4,7 +4,7 @@ ghost use Rattle.std.specs.Prelude.{◌≡◌, ◌+◌, ◌-◌, ◌^◌, ◌≤
 ghost use Rattle.roster_bundle.specs.Limits.{greatest_u64};
 ghost use Rattle.roster_instance.specs.Meaning.{day_count};
 ghost use Rattle.roster_offers.specs.Lists.{offers_on};
-ghost use Rattle.roster_floors.specs.Floors.{AreSmall, search_steps};
+ghost use Rattle.roster_floors.specs.Floors.{AreSmallRates, search_steps};
 ghost use Rattle.roster_floors.specs.Least.{AreReady};
 ghost use Rattle.roster_partial.specs.Counts.{CountsPartial, CountsSets};
 ghost use Rattle.roster_partial.specs.Rates.{AreSetAt, FitsNurse, IsTried, NoRoom, most_offers, row_steps, trial_steps};
@@ -120,7 +120,7 @@ struct TrialPlan {
 /// How rates are tried after an earlier search; where there was none, the first ones are those by the row of the cheapest steps.
 fn plan_by(bounded: &Bounded<'_>, guess: Option<Guess>, meter: &mut Meter) -> TrialPlan
     requires room { meter.old + row_steps bounded.now.search ≤ greatest_u64 }
-    ensures small { AreSmall result.rates }
+    ensures small { AreSmallRates result.rates }
     ensures trials { result.trials ≤ 11 }
     ensures counted { (meter.old ≤ meter.new)
         × (meter.new ≤ meter.old + row_steps bounded.now.search) }
@@ -162,7 +162,7 @@ fn first_trials(case: &Case) -> usize {
 
 /// Rates that are no more than what one too many costs.
 fn within_range(rates: Rates) -> Rates
-    ensures { AreSmall result }
+    ensures { AreSmallRates result }
 {
     Rates {
         day: min(rates.day, ASSIGNMENT),
@@ -264,7 +264,7 @@ fn try_more(
     floors: &mut [u32],
     meter: &mut Meter,
 ) -> Tried
-    requires small { AreSmall rates }
+    requires small { AreSmallRates rates }
     requires tried { IsTried bounded.now.search floors.old tried }
     requires room { meter.old + trial_steps bounded.now.search ≤ greatest_u64 }
     ensures tried { IsTried bounded.now.search floors.new result }
@@ -287,8 +287,8 @@ fn try_more(
 
 /// The rates to try after these: so much more where the row that followed has too many, so much less where it has fewer than it may.
 fn rates_after(bounded: &Bounded<'_>, rates: Rates, step: u32, followed: Option<Followed>) -> Rates
-    requires small { AreSmall rates }
-    ensures small { AreSmall result }
+    requires small { AreSmallRates rates }
+    ensures small { AreSmallRates result }
 {
     let Some(row) = followed else {
         return rates;

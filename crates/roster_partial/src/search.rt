@@ -110,7 +110,7 @@ pub fn search_row(
         }
         hints.guesses.miss(search.nurse);
     }
-    roster_search::search_row(search, areas, tables, row, meter)
+    roster_search::search_states(search, areas, tables, row, meter)
 }
 
 /// What `search_partial` does, in the cells of the two tables: floors in those of the one, partial rows in those of the other.

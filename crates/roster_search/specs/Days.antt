@@ -34,8 +34,8 @@ abbrev pub best_here : SearchDays → ℕ → BestOnward
 best_here days d = best_on days.case.now (day_of days d) (offers_on days.offers.now d) (best_next days d)
 
 -- the best row of all days
-abbrev pub best_row : SearchDays → Priced (List Offer)
-best_row days = best_over days.case.now days.nurse (offers_on days.offers.now)
+abbrev pub best_of_days : SearchDays → Priced (List Offer)
+best_of_days days = best_over days.case.now days.nurse (offers_on days.offers.now)
 
 -- the labels of a day are right, and the pointers of each day from one on
 abbrev pub LabelsOn : SearchDays → ℕ → List ℕ → Type 0

@@ -178,13 +178,13 @@ pub record KeepLengths (labels_old labels numbers_old numbers : List ℕ) : Type
   pub of_numbers : length numbers ≡ length numbers_old
 
 -- so many numbers are such that half a byte holds them
-abbrev pub AreSmall : ℕ → List ℕ → Type 0
-AreSmall count numbers = (a : ℕ) → a < count → slice_index_or numbers a 0 < 16
+abbrev pub AreHalfBytes : ℕ → List ℕ → Type 0
+AreHalfBytes count numbers = (a : ℕ) → a < count → slice_index_or numbers a 0 < 16
 
 -- the labels and the numbers of a stretch by so many offers
 pub record IsLowered (day : OpenDay) (stretch : Stretch) (count : ℕ) (labels numbers : List ℕ) : Type 0 where
   pub cells : RunCells day stretch (take count day.offers.now) labels numbers
-  pub small : AreSmall (length numbers) numbers
+  pub small : AreHalfBytes (length numbers) numbers
 
 -- none of so many offers is allowed there: no row goes on by them
 abbrev pub NoneYet : OpenDay → Stretch → (count long : ℕ) → Type 0

@@ -7,7 +7,7 @@ ghost use Rattle.roster_state.specs.Areas.{area_at};
 ghost use Rattle.roster_state.specs.Codes.{code_of, fits_sizes, product};
 ghost use Rattle.roster_search.specs.Halves.{IsWritten};
 ghost use Rattle.roster_search.specs.Days.{BlockLabels, EndLabels};
-ghost use Rattle.roster_search.specs.OpenDays.{AllAlike, AreLabelsBy, AreRefusedBy, AreSmall, AreTables, HaveLength, HaveRoom, IsGroupOf, IsLowered, IsPut, IsStretchDay, IsStretchOf, KeepBeside, KeepLengths, KeepTables, KeepsRest, NoneYet, RowsAlike, RunCells, StandsBy, StandsOn, StretchCells, day_steps, group_places, group_steps, most_places, places_of, states_of, stretch_steps};
+ghost use Rattle.roster_search.specs.OpenDays.{AllAlike, AreLabelsBy, AreRefusedBy, AreHalfBytes, AreTables, HaveLength, HaveRoom, IsGroupOf, IsLowered, IsPut, IsStretchDay, IsStretchOf, KeepBeside, KeepLengths, KeepTables, KeepsRest, NoneYet, RowsAlike, RunCells, StandsBy, StandsOn, StretchCells, day_steps, group_places, group_steps, most_places, places_of, states_of, stretch_steps};
 ghost use Rattle.roster_search.specs.Tables.{Stands, StandsLike};
 
 use crate::day::OpenDay;
@@ -301,7 +301,7 @@ fn label_room(
     requires numbers_room { most_places ≤ length numbers.old }
     requires room { meter.old + stretch_steps day.now stretch.now ≤ greatest_u64 }
     ensures least { RunCells day.now stretch.now day.now.offers.now apart.new numbers.new }
-    ensures small { AreSmall (places_of day.now stretch.now) numbers.new }
+    ensures small { AreHalfBytes (places_of day.now stretch.now) numbers.new }
     ensures lengths { KeepLengths apart.old apart.new numbers.old numbers.new }
     ensures counted { meter.new ≡ meter.old + stretch_steps day.now stretch.now }
 {
@@ -327,7 +327,7 @@ fn put_rows(
 )
     requires stretch { IsStretchOf day.now stretch.now }
     requires least { RunCells day.now stretch.now day.now.offers.now apart.now numbers.now }
-    requires small { AreSmall (places_of day.now stretch.now) numbers.now }
+    requires small { AreHalfBytes (places_of day.now stretch.now) numbers.now }
     requires apart_room { most_places ≤ length apart.now }
     requires numbers_room { most_places ≤ length numbers.now }
     requires tables { HaveRoom day.now labels.old pointers.old }
@@ -374,7 +374,7 @@ fn label_run(
     requires lengths { HaveLength day.now stretch.now labels.old numbers.old }
     requires room { meter.old + stretch_steps day.now stretch.now ≤ greatest_u64 }
     ensures least { RunCells day.now stretch.now day.now.offers.now labels.new numbers.new }
-    ensures small { AreSmall (length numbers.new) numbers.new }
+    ensures small { AreHalfBytes (length numbers.new) numbers.new }
     ensures lengths { KeepLengths labels.old labels.new numbers.old numbers.new }
     ensures counted { meter.new ≡ meter.old + stretch_steps day.now stretch.now }
 {

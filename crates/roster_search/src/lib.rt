@@ -1,7 +1,7 @@
 //! The search for a nurse's best row by tables, from state to state.
 //!
 //! Right labels and pointers of a day are defined in `specs/Tables.antt`. `label_end` and `label_day` promise them, `read_day` the
-//! choices of the best row by these pointers, and `search_row` that row with its cost over a table of offers for all days
+//! choices of the best row by these pointers, and `search_states` that row with its cost over a table of offers for all days
 //! (`specs/Search.antt`). A search's days and a day that is still to be labelled keep what is known of them, so that no function asks for
 //! it (`specs/Days.antt`, `specs/OpenDays.antt`). What is offered, and the laws that make such a search right, stand in `roster_offers`,
 //! and are handed on.
@@ -23,7 +23,7 @@ pub use roster_offers::{
     cheapest_by_shift, cheapest_offered_row_is_found, cheapest_row_is_found_by_states,
     cost_rises_with_prices, offers_are_few, one_offer_for_each_shift_is_enough,
 };
-pub use search::search_row;
+pub use search::search_states;
 pub use stand::{DayAreas, stand_days};
 pub use steps::steps_at_most;
 pub use tables::Tables;

@@ -8,7 +8,7 @@ ghost use Rattle.roster_state.specs.Codes.{product};
 ghost use Rattle.roster_offers.specs.Offers.{choices_of};
 ghost use Rattle.roster_offers.specs.Lists.{AreOffers, IsFound, best_over, no_row, offers_on};
 ghost use Rattle.roster_offers.specs.declared.offer.Offer.{Offer};
-ghost use Rattle.roster_search.specs.Days.{LabelsOn, PointersOn, all_pointers, best_row, steps_below};
+ghost use Rattle.roster_search.specs.Days.{LabelsOn, PointersOn, all_pointers, best_of_days, steps_below};
 ghost use Rattle.roster_search.specs.OpenDays.{IsDayOf, KeepLengths};
 ghost use Rattle.roster_search.specs.Search.{AreStanding, HasTables, standing_steps};
 
@@ -27,7 +27,7 @@ use roster_state::{Meter, Ranges, start};
 /// answer is its cost: its prices, and what the nurse's own rules cost along it beside what the start owes. It takes no memory. On each
 /// day the states in these areas stand. The meter counts each of them, where a row may lead to it, once for each of the day's offers:
 /// one for each day at least, and no more than one for each of the nurse's states, each day and each choice.
-pub fn search_row(
+pub fn search_states(
     search: &RowSearch<'_>,
     areas: &DayAreas,
     tables: &mut Tables,
@@ -174,9 +174,9 @@ fn read_row(days: &SearchDays<'_>, pointers: &Pointers, row: &mut [Choice])
     requires pointers { PointersOn days.now 0 pointers.now }
     requires pointers_room { all_pointers days.now ≤ length pointers.now }
     requires row_room { day_count days.now.case.now ≤ length row.old }
-    requires some { IsSome (best_row days.now) }
-    requires low { IfSome (best_row days.now) (λ row. row.0 < no_row) }
-    ensures row { (cost : ℕ) (offers : List Offer) → best_row days.now ≡ Some (cost, offers) →
+    requires some { IsSome (best_of_days days.now) }
+    requires low { IfSome (best_of_days days.now) (λ row. row.0 < no_row) }
+    ensures row { (cost : ℕ) (offers : List Offer) → best_of_days days.now ≡ Some (cost, offers) →
         take (day_count days.now.case.now) row.new ≡ choices_of offers }
     ensures length { length row.new ≡ length row.old }
 {

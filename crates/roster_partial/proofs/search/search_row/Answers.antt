@@ -6,8 +6,8 @@ use Rattle.roster_partial.proofs.CountLaws.{no_set, sets_within}
 use Rattle.roster_partial.proofs.search.search_row.Goals as goal
 use Rattle.roster_partial.proofs.search.search_row.Goals.{then-begins+in_default, else-begins}
 
-pub search_row-requires-clause-room : goal.search_row-requires-clause-room
-search_row-requires-clause-room c =
+pub search_states-requires-clause-room : goal.search_states-requires-clause-room
+search_states-requires-clause-room c =
     let search = c.args.search.now in
     let steps = standing_steps search.case.now search.nurse (offers_on search.offers.now) c.stand_days.new.areas.days in
     elim c.if-begins.branch [
@@ -44,5 +44,5 @@ returns-clause-standing c =
         | then-begins+in_default w ↦ omega (arith, w.meter-is, w.search_in_tables.ensures.most, w.count.ensures, w.most_steps.ensures.count, c.steps_at_most-steps.ensures.all, c.steps_at_most-steps.ensures.within)
         | else-begins w ↦ omega (arith, w.meter-is, c.steps_at_most-steps.ensures.all, c.steps_at_most-steps.ensures.within)
       ];
-      states = inr c.search_row.ensures.exactly;
+      states = inr c.search_states.ensures.exactly;
     }

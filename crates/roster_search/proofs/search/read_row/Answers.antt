@@ -2,7 +2,7 @@ use Rattle.std.proofs.Common.{◌≡◌, ◌∙◌, ◌<◌, ap, arith, refl, su
 use Rattle.std.proofs.lemmas.List.{length-set}
 use Rattle.roster_instance.specs.Meaning.{day_count}
 use Rattle.roster_offers.specs.Lists.{offers_on}
-use Rattle.roster_search.specs.Days.{StandsIn, best_row}
+use Rattle.roster_search.specs.Days.{StandsIn, best_of_days}
 use Rattle.roster_search.specs.Tables.{BestOnward}
 use Rattle.roster_search.proofs.ReadLaws.{low_of, low_row}
 use Rattle.roster_search.proofs.SearchLaws.{IsReadTo, onward-day, read_first, read_last, read_on, reads_low, reads_some}
@@ -27,13 +27,13 @@ read_day-choice-requires-clause-day c = day_in (goal.at.read_day-choice-requires
 pub read_day-choice-requires-clause-some : goal.read_day-choice-requires-clause-some
 read_day-choice-requires-clause-some c =
     let days = c.args.days.now in
-    let low = low_row (best_row days) c.requires.some c.requires.low in
+    let low = low_row (best_of_days days) c.requires.some c.requires.low in
     reads_some days.case.now days.nurse (offers_on days.offers.now) c.loop-day.day (day_in (goal.at.read_day-choice-requires-clause-some c).In-loop-day) c.loop-day.state c.loop-day.row low.row.1 (c.loop-day.invariant.read low.row.0 low.row.1 low.is)
 
 pub read_day-choice-requires-clause-low : goal.read_day-choice-requires-clause-low
 read_day-choice-requires-clause-low c =
     let days = c.args.days.now in
-    let low = low_row (best_row days) c.requires.some c.requires.low in
+    let low = low_row (best_of_days days) c.requires.some c.requires.low in
     reads_low days.case.now days.nurse (offers_on days.offers.now) c.loop-day.day (day_in (goal.at.read_day-choice-requires-clause-low c).In-loop-day) c.loop-day.state c.loop-day.row low.row.1 (c.loop-day.invariant.read low.row.0 low.row.1 low.is)
 
 pub loop-day-preserved : goal.loop-day-preserved

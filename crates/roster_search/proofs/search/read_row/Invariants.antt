@@ -1,13 +1,13 @@
 use Rattle.std.proofs.Common.{◌≡◌, ℕ, List, Some, length}
 use Rattle.roster_offers.specs.declared.offer.Offer.{Offer}
 use Rattle.roster_offers.specs.Lists.{offers_on}
-use Rattle.roster_search.specs.Days.{StandsIn, best_row}
+use Rattle.roster_search.specs.Days.{StandsIn, best_of_days}
 use Rattle.roster_search.proofs.SearchLaws.{IsReadTo}
 use Rattle.roster_search.proofs.search.read_row.Given as goal
 
 abbrev pub invariant-loop-day : goal.invariant-loop-day
 invariant-loop-day l = record {
   stands : StandsIn l.days l.day l.state;
-  read : (cost : ℕ) (best : List Offer) → best_row l.days ≡ Some (cost, best) → IsReadTo l.days.case.now l.days.nurse (offers_on l.days.offers.now) l.day l.state l.row best;
+  read : (cost : ℕ) (best : List Offer) → best_of_days l.days ≡ Some (cost, best) → IsReadTo l.days.case.now l.days.nurse (offers_on l.days.offers.now) l.day l.state l.row best;
   same_length : length l.row ≡ length l.fn.row;
 }

@@ -11,8 +11,8 @@ use Rattle.roster_search.specs.Search.{TableRoom, areas_on}
 use Rattle.roster_search.specs.Tables.{Stands}
 use Rattle.roster_search.proofs.SearchLaws.{first_label, goes_on}
 use Rattle.roster_search.proofs.MostLaws.{standing_some, standing_within}
-use Rattle.roster_search.proofs.search.search_row.Goals as goal
-use Rattle.roster_search.proofs.search.search_row.Goals.{After-index, After-of-ranges}
+use Rattle.roster_search.proofs.search.search_states.Goals as goal
+use Rattle.roster_search.proofs.search.search_states.Goals.{After-index, After-of-ranges}
 
 -- the best row, and it is low
 found : (c : After-of-ranges) → LowRow (best_over c.args.search.now.case.now c.args.search.now.nurse (offers_on c.args.search.now.offers.now))

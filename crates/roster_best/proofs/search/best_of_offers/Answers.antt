@@ -7,8 +7,8 @@ use Rattle.roster_partial.specs.Counts.{CountsSearch}
 use Rattle.std.proofs.Common.{IsSome}
 use Rattle.roster_best.proofs.BestLaws.{KeepsLimits, found_is, sum_within}
 use Rattle.roster_best.proofs.SearchLaws.{can_search, some_found}
-use Rattle.roster_best.proofs.search.search_offers.Goals as goal
-use Rattle.roster_best.proofs.search.search_offers.Goals.{After-rest}
+use Rattle.roster_best.proofs.search.best_of_offers.Goals as goal
+use Rattle.roster_best.proofs.search.best_of_offers.Goals.{After-rest}
 
 -- ---- the search can be made
 
