@@ -5,3 +5,4 @@ pub mod FadeRows
 pub mod KickLogs
 pub mod Passes
 pub mod PlanRows
+mod Fading

@@ -2,3 +2,4 @@ pub mod Kicks
 pub mod Settled
 pub mod Polished
 pub mod Plans
+pub mod Fades

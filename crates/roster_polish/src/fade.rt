@@ -10,6 +10,7 @@ ghost use Rattle.roster_laws.specs.FrozenDays.{FrozenDaysStay};
 ghost use Rattle.roster_laws.specs.Greatest.{extension_count};
 ghost use Rattle.roster_instance.specs.Rosters.{fits_case};
 ghost use Rattle.roster_bound.specs.Worths.{HaveRows};
+ghost use Rattle.roster_polish.specs.Fades.{AreFaded};
 ghost use Rattle.roster_polish.specs.Polished.{FitsPolish};
 ghost use Rattle.roster_polish.specs.Settled.{IsSettled, Spends, extensions_of};
 
@@ -89,14 +90,9 @@ pub(crate) fn fade_rows(
     requires fits { FitsPolish base.now.case.now space.old }
     requires room { meter.old + extensions_of base.now.case.now
         kicking.old.searches.left ≤ greatest_u64 }
-    ensures kept { space.new.kept ≡ space.old.kept }
     ensures keeps { result ≡ true → keeps_hard base.now.case.now space.new.faded ≡ true }
-    ensures frozen { FrozenDaysStay base.now.case.now base.now.from base.now.given.now
-        space.new.faded }
-    ensures from { kicking.new.searches.from ≡ kicking.old.searches.from }
-    ensures spends { Spends base.now.case.now meter.old kicking.old.searches.left meter.new
-        kicking.new.searches.left }
-    ensures fits { FitsPolish base.now.case.now space.new }
+    ensures faded { AreFaded base.now kicking.old kicking.new space.old space.new meter.old
+        meter.new }
 {
     let passes = kicking.passes;
     space.begin_fade(base.case, base.given);
@@ -151,13 +147,8 @@ pub(crate) fn make_fade_pass(
         space.old.faded }
     requires room { meter.old + extensions_of base.now.case.now
         kicking.old.searches.left ≤ greatest_u64 }
-    ensures kept { space.new.kept ≡ space.old.kept }
-    ensures frozen { FrozenDaysStay base.now.case.now base.now.from base.now.given.now
-        space.new.faded }
-    ensures from { kicking.new.searches.from ≡ kicking.old.searches.from }
-    ensures spends { Spends base.now.case.now meter.old kicking.old.searches.left meter.new
-        kicking.new.searches.left }
-    ensures fits { FitsPolish base.now.case.now space.new }
+    ensures faded { AreFaded base.now kicking.old kicking.new space.old space.new meter.old
+        meter.new }
 {
     base.case.keeps_limits();
     pay_places(base.case, fading, &space.floor, &mut space.pays);

@@ -9,6 +9,7 @@ ghost use Rattle.roster_rules.specs.HardRules.{keeps_hard};
 ghost use Rattle.roster_bound.specs.Worths.{HaveRows};
 ghost use Rattle.roster_laws.specs.FrozenDays.{FrozenDaysStay};
 ghost use Rattle.roster_laws.specs.Staffing.{lacking};
+ghost use Rattle.roster_polish.specs.Fades.{AreFaded};
 ghost use Rattle.roster_polish.specs.Plans.{frozen_count, missing, missing_before, present, unmendable};
 ghost use Rattle.roster_polish.specs.Polished.{FitsPolish};
 ghost use Rattle.roster_polish.specs.Settled.{Spends, extensions_of};
@@ -250,12 +251,8 @@ fn fade_and_mend(
     requires fits { FitsPolish base.now.case.now space.old }
     requires room { meter.old + extensions_of base.now.case.now
         kicking.old.searches.left ≤ greatest_u64 }
-    ensures kept { space.new.kept ≡ space.old.kept }
-    ensures frozen { FrozenDaysStay base.now.case.now base.now.from base.now.given.now
-        space.new.faded }
-    ensures spends { Spends base.now.case.now meter.old kicking.old.searches.left meter.new
-        kicking.new.searches.left }
-    ensures fits { FitsPolish base.now.case.now space.new }
+    ensures faded { AreFaded base.now kicking.old kicking.new space.old space.new meter.old
+        meter.new }
 {
     if fade_rows(base, kicking, space, meter) {
         return true;
@@ -277,13 +274,8 @@ fn mend_rows(
         space.old.faded }
     requires room { meter.old + extensions_of base.now.case.now
         kicking.old.searches.left ≤ greatest_u64 }
-    ensures kept { space.new.kept ≡ space.old.kept }
-    ensures frozen { FrozenDaysStay base.now.case.now base.now.from base.now.given.now
-        space.new.faded }
-    ensures from { kicking.new.searches.from ≡ kicking.old.searches.from }
-    ensures spends { Spends base.now.case.now meter.old kicking.old.searches.left meter.new
-        kicking.new.searches.left }
-    ensures fits { FitsPolish base.now.case.now space.new }
+    ensures faded { AreFaded base.now kicking.old kicking.new space.old space.new meter.old
+        meter.new }
 {
     for pass in 0..MENDING_PASSES {
         if !lacks_nurses(base.case, &space.floor) {

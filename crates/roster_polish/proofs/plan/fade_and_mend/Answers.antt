@@ -1,10 +1,10 @@
-use Rattle.roster_polish.proofs.Steps.{room_left, spent_both}
+use Rattle.roster_polish.proofs.Fading.{faded_then}
+use Rattle.roster_polish.proofs.Steps.{room_left}
 use Rattle.roster_polish.proofs.plan.fade_and_mend.Goals as goal
 
 pub mend_rows-requires-clause-room : goal.mend_rows-requires-clause-room
 mend_rows-requires-clause-room c =
-    room_left c.args.base.now.case.now c.args.meter.now c.args.kicking.now.searches.left c.fade_rows.new.meter c.fade_rows.new.kicking.searches.left 18446744073709551615 c.fade_rows.ensures.spends c.requires.room
+    room_left c.args.base.now.case.now c.args.meter.now c.args.kicking.now.searches.left c.fade_rows.new.meter c.fade_rows.new.kicking.searches.left 18446744073709551615 c.fade_rows.ensures.faded.spends c.requires.room
 
-pub returns-clause-spends : goal.returns-clause-spends
-returns-clause-spends c =
-    spent_both c.args.base.now.case.now c.args.meter.now c.args.kicking.now.searches.left c.fade_rows.new.meter c.fade_rows.new.kicking.searches.left c.mend_rows.new.meter c.mend_rows.new.kicking.searches.left c.fade_rows.ensures.spends c.mend_rows.ensures.spends
+pub returns : goal.returns
+returns c = record { faded = faded_then c.fade_rows.ensures.faded c.mend_rows.ensures.faded }

@@ -11,16 +11,17 @@ of_either p one other it (inl same) of_one of_other = subst p (sym same) of_one
 of_either p one other it (inr same) of_one of_other = subst p (sym same) of_other
 
 pub put_rows-requires : goal.put_rows-requires
-put_rows-requires c = same_days c.args.base.now.case.now c.fade_and_mend.new.space.faded c.fade_and_mend.new.space.kept c.fade_and_mend.ensures.fits.faded c.fade_and_mend.ensures.fits.kept
+put_rows-requires c = same_days c.args.base.now.case.now c.fade_and_mend.new.space.faded c.fade_and_mend.new.space.kept c.fade_and_mend.ensures.faded.fits.faded c.fade_and_mend.ensures.faded.fits.kept
 
 pub loop-fades_before-preserved : goal.loop-fades_before-preserved
 loop-fades_before-preserved c =
     let k = c.args.base.now.case.now in
     let l = c.loop-fades_before in
     let told = c.fade_and_mend in
+    let faded = told.ensures.faded in
     let stay : Rows → Type 0 = FrozenDaysStay k c.args.base.now.from c.args.base.now.given.now in
     record {
-      kept = of_either stay c.fade_and_mend.new.space.kept c.fade_and_mend.new.space.faded c.keep_if_nearer-least.new.space.kept c.keep_if_nearer-least.ensures.either (subst stay (sym told.ensures.kept) l.invariant.kept) told.ensures.frozen;
-      spends = spent_both k c.args.meter.now c.args.kicking.now.searches.left l.meter l.kicking.searches.left told.new.meter told.new.kicking.searches.left l.invariant.spends told.ensures.spends;
+      kept = of_either stay c.fade_and_mend.new.space.kept c.fade_and_mend.new.space.faded c.keep_if_nearer-least.new.space.kept c.keep_if_nearer-least.ensures.either (subst stay (sym faded.kept) l.invariant.kept) faded.frozen;
+      spends = spent_both k c.args.meter.now c.args.kicking.now.searches.left l.meter l.kicking.searches.left told.new.meter told.new.kicking.searches.left l.invariant.spends faded.spends;
       fits = c.keep_if_nearer-least.ensures.fits;
     }
