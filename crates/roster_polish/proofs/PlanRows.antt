@@ -1,12 +1,10 @@
 -- Where no breach is unmendable, each nurse has a row: as it is given on the frozen days, and off after.
-use Rattle.std.proofs.Common.{◌≡◌, ◌∙◌, ◌+◌, ◌-◌, ◌*◌, ◌/◌, ◌<◌, ◌≤◌, ◌++◌, ◌==◌, ◌||◌, ◌⊎◌, ◌&&◌, ℕ, Bool, List, true, false, not, inl, inr, ap, ap₂, arith, refl, sym, [], length, nat_lt, take, replicate, None, Option, Some, if◌then◌else◌}
-use Rattle.std.specs.Prelude.{min}
+use Rattle.std.proofs.Common.{◌≡◌, ◌∙◌, ◌-◌, ◌/◌, ◌<◌, ◌≤◌, ◌++◌, ◌==◌, ◌||◌, ◌⊎◌, ◌&&◌, ℕ, Bool, List, true, false, not, inl, inr, ap, ap₂, arith, refl, sym, [], length, take, replicate, None, Option, Some, if◌then◌else◌}
 use Rattle.std.specs.List.{list_all}
-use Rattle.std.proofs.lemmas.Bool.{and_from, and_parts, cases_lt, eq-eqb, eqb-true, le-ltb}
+use Rattle.std.proofs.lemmas.Bool.{and_from, and_parts, cases_lt, eq-eqb, le-ltb}
 use Rattle.std.proofs.lemmas.List.{get_or-append_right, get_or-replicate, get_or-take, get_or_append_left, length-append, length-replicate, length-take-le}
 use Rattle.std.proofs.lemmas.List.Elements.{All-append, All-replicate, All-take}
 use Rattle.std.proofs.lemmas.List.Sums.{AllPass-from_list_all, list_all-from_AllPass}
-use Rattle.roster_instance.specs.declared.choice.Choice.{Choice}
 use Rattle.roster_instance.specs.declared.choice.Choice.TheVariants.{Off}
 use Rattle.roster_instance.specs.declared.choice.Shift.{Shift}
 use Rattle.roster_instance.specs.Choices.{days_of, same_choice, shift_of}
@@ -15,14 +13,14 @@ use Rattle.roster_instance.specs.Days.{shift_on}
 use Rattle.roster_instance.specs.Faults.{is_none_of}
 use Rattle.roster_instance.specs.Meaning.{Meaning, day_count, forbids, last_shift, nurse_at, nurse_count, past_of}
 use Rattle.roster_instance.specs.Rosters.{Row, Rows, choice_on, days_of_nurse, fits_case, is_choice_of, is_row_of, row_of}
-use Rattle.roster_rules.specs.AllowedRows.{is_frozen, keeps_frozen_day, keeps_frozen_days}
+use Rattle.roster_rules.specs.AllowedRows.{keeps_frozen_day, keeps_frozen_days}
 use Rattle.roster_rules.specs.HardRules.{absence_fault, absences_before, breaks_succession, is_able, is_able_on, is_here, is_here_on, keeps_absences, keeps_skills, keeps_successions, skill_faults, succession_fault, skill_fault, successions_before}
 use Rattle.roster_rules.proofs.CountLemmas.{shift_of_day}
 use Rattle.roster_instance.proofs.RosterFacts.{row-length, row_fits}
 use Rattle.roster_laws.proofs.Allowed.{present_stays}
 use Rattle.roster_laws.proofs.Below.{all_elim, all_true}
 use Rattle.roster_laws.proofs.Keeps.{none_below, none_of_both, none_where_not, not_not}
-use Rattle.roster_bound.specs.Worths.{HasRow, HaveRows, can_work}
+use Rattle.roster_bound.specs.Worths.{HaveRows, can_work}
 use Rattle.roster_polish.specs.Plans.{frozen_count, unmendable}
 
 -- to be off may follow each shift

@@ -1,4 +1,4 @@
-use Rattle.std.proofs.Common.{◌≡◌, ◌∙◌, ◌&&◌, ◌==◌, Bool, List, ap, arith, false, not, sym, true}
+use Rattle.std.proofs.Common.{◌∙◌, ◌==◌, List, ap, arith, sym}
 use Rattle.std.specs.List.{list_any}
 use Rattle.std.proofs.lemmas.List.{length-set}
 use Rattle.roster_instance.specs.declared.choice.Skill.{Skill}

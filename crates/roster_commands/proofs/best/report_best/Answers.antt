@@ -10,7 +10,6 @@ use Rattle.roster_instance.specs.Meaning.{Meaning}
 use Rattle.roster_instance.specs.Names.{find_name}
 use Rattle.roster_commands.specs.Answer.{IsUnheld, Output, StopsOutput, best_report, with_best}
 use Rattle.roster_commands.specs.Lines.{best_log}
-use Rattle.roster_commands.specs.declared.fault.Fault.TheVariants as fault
 use Rattle.roster_commands.proofs.AnswerLemmas.{unheld_ends, unheld_log, written_ends, written_log}
 use Rattle.roster_commands.proofs.BestLemmas.{known, numbered}
 use Rattle.roster_commands.proofs.best.report_best.Goals as goal

@@ -1,4 +1,4 @@
-use Rattle.std.proofs.Common.{◌≡◌, ◌∙◌, ◌-◌, ◌<◌, ℕ, suc, zero, ap, arith, get_or, length, refl, subst}
+use Rattle.std.proofs.Common.{◌≡◌, ◌∙◌, ◌-◌, ◌<◌, ℕ, suc, zero, arith, get_or, length, refl}
 use Rattle.std.proofs.lemmas.List.Elements.{All-get_or}
 use Rattle.roster_instance.specs.Meaning.{nurse_count}
 use Rattle.roster_polish.proofs.Steps.{room_left, has_room, spent, spent_both}

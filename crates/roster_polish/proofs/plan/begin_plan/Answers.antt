@@ -1,6 +1,5 @@
-use Rattle.std.proofs.Common.{◌≡◌, ◌*◌, ◌≤◌, arith}
+use Rattle.std.proofs.Common.{◌*◌, ◌≤◌, arith}
 use Rattle.std.proofs.lemmas.Nat.{mul-le}
-use Rattle.roster_instance.specs.Meaning.{nurse_count}
 use Rattle.roster_polish.proofs.Keeping.{same_days}
 use Rattle.roster_polish.proofs.Steps.{rounds_room, rounds_spent}
 use Rattle.roster_polish.proofs.plan.begin_plan.Goals as goal

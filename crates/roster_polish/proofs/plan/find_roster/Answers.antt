@@ -1,4 +1,4 @@
-use Rattle.std.proofs.Common.{◌∙◌, ◌≤◌, Option, ap, arith, is_some, not, sym}
+use Rattle.std.proofs.Common.{◌∙◌, Option, ap, arith, is_some, not, sym}
 use Rattle.roster_rules.specs.declared.fault.HardFault.{HardFault}
 use Rattle.std.proofs.lemmas.Bool.{true≢false}
 use Rattle.roster_polish.proofs.FadeRows.{kept_is_none}
