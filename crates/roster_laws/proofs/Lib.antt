@@ -14,3 +14,4 @@ pub mod GreatestLemmas
 pub mod Kept
 pub mod InOrder
 pub mod Frozen
+mod NobodyAbsent

@@ -5,3 +5,4 @@ pub mod FrozenDays
 pub mod Greatest
 pub mod RowOrder
 pub mod Settled
+pub mod Absences

@@ -4,15 +4,18 @@
 //! What a row costs, and whether it keeps the hard rules in the place of a nurse's, is defined in `specs/OneRow.antt`, by
 //! what a day's staffing lacks (`specs/Staffing.antt`); what the log of a run tells in `specs/Logs.antt`; that frozen
 //! days stay in `specs/FrozenDays.antt`; the greatest sizes
-//! of a case in `specs/Greatest.antt`; the order of rows in `specs/RowOrder.antt`.
+//! of a case in `specs/Greatest.antt`; the order of rows in `specs/RowOrder.antt`; bundles without absences in
+//! `specs/Absences.antt`.
 #![tactic(auto)]
 
+mod absences;
 mod bounds;
 mod improver;
 mod replaced;
 mod rows;
 mod sizes;
 
+pub use absences::absences_are_none;
 pub use bounds::penalties_are_low;
 pub use improver::{
     changes_are_few, frozen_days_stay, frozen_weeks_stay, last_round_tells, log_ends_with_the_run,
