@@ -19,7 +19,8 @@ use Rattle.roster_state.proofs.ShiftLaw.{shifts_by_two}
 use Rattle.roster_floors.specs.declared.floor_day.FloorDay.{FloorDay}
 use Rattle.roster_floors.specs.declared.off.AfterOff.{AfterOff}
 use Rattle.roster_floors.specs.Floors.{rated}
-use Rattle.roster_floors.specs.Lines.{IsAfterOff, IsEntry, IsOffFloor, IsUnder, UnderCell, apart_of, begun_place, cell_place, line_place, longer, next_at, offer_on, rest_ends, rest_goes_on, state_of, work_goes_on, HasWay, IsAfterShift, IsUnderWays, IsWayOn, way_at, work_ends}
+use Rattle.roster_floors.specs.Lines.{IsAfterOff, IsEntry, IsOffFloor, IsUnder, UnderCell, apart_of, begun_place, cell_place, line_place, next_at, offer_on, rest_ends, rest_goes_on, state_of, work_goes_on, HasWay, IsAfterShift, IsUnderWays, IsWayOn, way_at, work_ends}
+use Rattle.roster_state.specs.FloorLines.{longer}
 use Rattle.std.proofs.lemmas.Bool.{cases_eq}
 use Rattle.roster_floors.specs.declared.shift.AfterShift.{AfterShift}
 use Rattle.roster_floors.proofs.Places.{begun_moved, of_day}

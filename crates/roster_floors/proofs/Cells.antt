@@ -8,13 +8,6 @@ use Rattle.roster_offers.proofs.PartLaws.{part_before, part_inside, part_length}
 use Rattle.std.proofs.Common.{⊎_elim, ◌∙◌, ◌≤◌, ◌*◌, ◌-◌, ◌≡◌, ◌≢◌, ◌+◌, ◌<◌, ℕ, List, arith, below_more, get_or, get_or-set_other, get_or-set_same, length, set, subst, sym}
 use Rattle.std.proofs.lemmas.List.{get_or_past}
 
-module _ {X : Type 0} (none : X) (P : ℕ → X → Type 0) (xs : List X) (place : ℕ) (x : X) (inside : place < length xs) where
-  pub each_more : ((k : ℕ) → k < place → P k (get_or xs k none)) → P place x → (k : ℕ) → k < place + 1 → P k (get_or (set xs place x) k none)
-  each_more below here =
-      below_more (λ k. P k (get_or (set xs place x) k none)) place
-      (λ k l. let other : k ≢ place = omega arith in subst (P k) (sym (get_or-set_other xs place k x none other)) (below k l))
-      (subst (P place) (sym (get_or-set_same xs place x none inside)) here)
-
 -- a part of a list is written anew, of as many cells
 module _ (cells part : List ℕ) (first width : ℕ) (long : length part ≡ width) (inside : first + width ≤ length cells) where
   pub put_length : length (put_mid first width cells part) ≡ length cells

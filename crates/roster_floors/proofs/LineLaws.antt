@@ -6,13 +6,12 @@ use Rattle.roster_instance.specs.Meaning.{run_of_shift}
 use Rattle.roster_instance.specs.RunLaw.{day_violations}
 use Rattle.roster_instance.specs.Sizes.{cap}
 use Rattle.roster_state.specs.Codes.{shift_digit}
+use Rattle.roster_state.specs.FloorLines.{IsUnderLeave, IsUnderStay, longer}
 use Rattle.roster_floors.specs.declared.floor_day.FloorDay.{FloorDay}
-use Rattle.roster_floors.specs.declared.line.LineCosts.{LineCosts}
+use Rattle.roster_state.specs.declared.line.LineCosts.{LineCosts}
 use Rattle.roster_floors.specs.declared.shift.AfterShift.{AfterShift}
-use Rattle.roster_floors.specs.Bounds.{most_floor}
-use Rattle.roster_floors.specs.Lines.{IsAfterShift, IsUnder, IsUnderLeave, IsUnderStay, IsUnderWays, UnderLine, line_place, longer, next_at, offer_on, state_of, work_ends, work_goes_on}
+use Rattle.roster_floors.specs.Lines.{IsAfterShift, IsUnder, IsUnderWays, UnderLine, line_place, next_at, offer_on, state_of, work_ends, work_goes_on}
 use Rattle.roster_floors.proofs.After.{under_shift}
-use Rattle.roster_floors.proofs.Cells.{each_more}
 use Rattle.roster_floors.proofs.Places.{cap_within, of_day}
 
 -- a shift by its number
@@ -38,22 +37,3 @@ module _ (day : FloorDay) (after : AfterShift) (follows : IsAfterShift day after
       let more = ap (λ (x : Limits). day_violations x q true) run_is in
       subst (λ (t : Option Shift). IsUnder day (state_of t run q a w) (slice_index_or here q 0) offer) (same_shift after.last last is)
       (under_shift day run q a w offer.price after follows costs.leave (slice_index_or here q 0) off ways (omega (arith, leaves q l, missed)) (omega (arith, stays q l, stay, more, cell, to_cell)) offer.choice of_case.choice (follows.ways.each k m))
-
--- ---- a line's cells
-
--- the first cells of a line are set
-pub record AreCells (costs : LineCosts) (after : List ℕ) (place : ℕ) (here : List ℕ) : Type 0 where
-  pub leaves : (q : ℕ) → q < place → IsUnderLeave costs q (slice_index_or here q 0)
-  pub stays : (q : ℕ) → q < place → IsUnderStay costs after q (slice_index_or here q 0)
-  pub low : (q : ℕ) → q < place → slice_index_or here q 0 ≤ most_floor
-
-pub cell_more : (costs : LineCosts) (after : List ℕ) (place : ℕ) (here : List ℕ) (floor : ℕ) → place < length here → AreCells costs after place here → IsUnderLeave costs place floor → IsUnderStay costs after place floor → floor ≤ most_floor → AreCells costs after (place + 1) (set here place floor)
-cell_more costs after place here floor inside known leaves stays low = record {
-  leaves = each_more 0 (IsUnderLeave costs) here place floor inside known.leaves leaves;
-  stays = each_more 0 (IsUnderStay costs after) here place floor inside known.stays stays;
-  low = each_more 0 (λ q x. x ≤ most_floor) here place floor inside known.low low;
-}
-
--- a run of a day or more misses what it is short of
-pub missed_from : (limits : Limits) (q missing : ℕ) → 1 ≤ q → missing ≡ limits.least - q → missing ≡ day_violations limits q false
-missed_from limits q missing some is = rw (lt-ltb 0 q (omega (arith, some))) is

@@ -14,7 +14,8 @@ use Rattle.roster_state.proofs.CodeLemmas.{fits-all}
 use Rattle.roster_state.proofs.RangeLemmas.{next_fits}
 use Rattle.roster_floors.specs.declared.floor_day.FloorDay.{FloorDay}
 use Rattle.roster_floors.specs.Floors.{floor_count, floor_place}
-use Rattle.roster_floors.specs.Lines.{begun_place, cell_place, line_place, longer, nothing, offer_on}
+use Rattle.roster_floors.specs.Lines.{begun_place, cell_place, line_place, nothing, offer_on}
+use Rattle.roster_state.specs.FloorLines.{longer}
 
 -- a place is below the product of the sizes
 pub place_below : (lasts runs shift_runs digit run q : ℕ) → digit < lasts → run < runs → q < shift_runs → (digit * runs + run) * shift_runs + q < lasts * (runs * shift_runs)

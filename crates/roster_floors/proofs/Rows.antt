@@ -4,7 +4,7 @@ use Rattle.std.proofs.Common.{◌≡◌, ◌∙◌, ◌+◌, ◌-◌, ◌*◌, �
 use Rattle.std.proofs.lemmas.List.Edits.{length-between}
 use Rattle.std.specs.List.{between}
 use Rattle.roster_floors.specs.declared.floor_day.FloorDay.{FloorDay}
-use Rattle.roster_floors.specs.Bounds.{most_floor}
+use Rattle.roster_state.specs.FloorLines.{most_floor}
 use Rattle.roster_floors.specs.Lines.{AreSet, steps_of}
 use Rattle.roster_floors.proofs.Cells.{all_low, low_more, row_inside, rows_length, rows_more}
 

@@ -16,14 +16,13 @@ use Rattle.roster_offers.specs.declared.offer.Offer.{Offer}
 use Rattle.roster_state.specs.Codes.{Sizes, fits_sizes, shift_digit, sizes_of}
 use Rattle.roster_state.specs.Step.{next_of}
 use Rattle.roster_floors.specs.declared.floor_day.FloorDay.{FloorDay}
-use Rattle.roster_floors.specs.declared.line.LineCosts.{LineCosts}
 use Rattle.roster_floors.specs.declared.off.AfterOff.{AfterOff}
 use Rattle.roster_floors.specs.declared.rates.Rates.{Rates}
 use Rattle.roster_floors.specs.declared.shift.AfterShift.{AfterShift}
 use Rattle.roster_floors.specs.declared.ways.Onward.{Onward}
 use Rattle.roster_floors.specs.declared.ways.Way.{Way}
 use Rattle.roster_floors.specs.declared.ways.Ways.{Ways}
-use Rattle.roster_floors.specs.Bounds.{AreLow, most_leave}
+use Rattle.roster_state.specs.FloorLines.{AreLow, longer, most_leave}
 use Rattle.roster_floors.specs.Floors.{rated}
 
 -- ---- places
@@ -125,20 +124,6 @@ rest_ends day run = free_run_weight * day_violations day.rules.free run false
 -- what it costs with one day more
 abbrev pub rest_goes_on : FloorDay → (run : ℕ) → ℕ
 rest_goes_on day run = free_run_weight * day_violations day.rules.free run true
-
--- a run of working days, or of days off, with one day more
-abbrev pub longer : (run : ℕ) → Limits → ℕ
-longer run limits = min (run + 1) (cap limits)
-
--- ---- a line's cells
-
--- a number is no more than what leaving a shift costs after a run of it
-abbrev pub IsUnderLeave : LineCosts → (q floor : ℕ) → Type 0
-IsUnderLeave costs q floor = floor ≤ costs.leave + shift_run_weight * day_violations costs.run q false
-
--- a number is no more than what staying costs after a run of a shift, with the floor after it, of a line
-abbrev pub IsUnderStay : LineCosts → (after : List ℕ) → (q floor : ℕ) → Type 0
-IsUnderStay costs after q floor = floor ≤ costs.stay + shift_run_weight * day_violations costs.run q true + slice_index_or after (longer q costs.run) 0
 
 -- ---- the ways on from a last shift
 

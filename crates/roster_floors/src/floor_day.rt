@@ -4,7 +4,7 @@ ghost use Rattle.std.specs.Prelude.{◌≡◌, ◌*◌, ◌≤◌, All, length};
 ghost use Rattle.roster_instance.specs.Meaning.{contract_of};
 ghost use Rattle.roster_offers.specs.Lists.{IsOfferOf};
 ghost use Rattle.roster_state.specs.Codes.{sizes_of};
-ghost use Rattle.roster_floors.specs.Bounds.{AreLow};
+ghost use Rattle.roster_state.specs.FloorLines.{AreLow};
 ghost use Rattle.roster_floors.specs.Floors.{AreSmallRates};
 ghost use Rattle.roster_floors.specs.Once.{AreSmallRates-prop, OfCase-prop};
 

@@ -9,7 +9,6 @@ mod day;
 mod floor_day;
 mod laws;
 mod least;
-mod line;
 mod off;
 mod rates;
 mod set;

@@ -4,16 +4,15 @@ ghost use Rattle.std.specs.Prelude.{◌≡◌, ◌+◌, ◌*◌, ◌<◌, ◌≤
 ghost use Rattle.roster_bundle.specs.Limits.{greatest_u64};
 ghost use Rattle.roster_instance.specs.Meaning.{shift_count};
 ghost use Rattle.roster_offers.specs.Lists.{IsOfferOf};
-ghost use Rattle.roster_floors.specs.Bounds.{most_floor, most_leave};
+ghost use Rattle.roster_state.specs.FloorLines.{most_floor, most_leave};
 ghost use Rattle.roster_floors.specs.Lines.{AreSet, IsAfterOff, IsEntryAt, IsOffFloor, UnderLines, entry_cost, steps_of};
 
 use crate::floor_day::FloorDay;
-use crate::line::set_all;
 use crate::ways::{MOST_LEAVE, apart, way_to};
 use roster_offers::Offer;
 use roster_rules::Shift;
 use roster_rules::weights::{FREE_RUN, WORKING_RUN};
-use roster_state::Meter;
+use roster_state::{Meter, fill_line};
 
 /// What follows a day off: the least that a shift costs that begins, with the floor after it, and the least that another day off costs.
 #[derive(Clone, Copy)]
@@ -46,8 +45,7 @@ fn set_off(day: &FloorDay<'_, '_>, floor: u32, here: &mut [u32], meter: &mut Met
     ensures all { (q : ℕ) → q < length here.new → slice_index_or here.new q 0 ≡ floor }
     ensures set { AreSet day.now here.old here.new meter.old meter.new }
 {
-    meter.add(here.len() as u64 * day.offers.len() as u64);
-    set_all(floor, here);
+    fill_line(floor, day.offers.len(), here, meter);
 }
 
 /// What follows a day off on a day.

@@ -6,14 +6,14 @@ ghost use Rattle.roster_instance.specs.Limits.{most_days};
 ghost use Rattle.roster_instance.specs.Meaning.{day_count, nurse_count};
 ghost use Rattle.roster_offers.specs.Lists.{AreOffers, offers_on};
 ghost use Rattle.roster_state.specs.Codes.{sizes_of};
-ghost use Rattle.roster_floors.specs.Bounds.{AreKeptFrom, AreLow, AreLowFrom};
+ghost use Rattle.roster_floors.specs.Bounds.{AreKeptFrom, AreLowFrom};
+ghost use Rattle.roster_state.specs.FloorLines.{AreLow};
 ghost use Rattle.roster_floors.specs.Floors.{AreFloorsOf, AreSmallRates, LieUnder, floor_count, search_cells, search_steps};
 ghost use Rattle.roster_floors.specs.Lines.{IsFloorDayOf};
 ghost use Rattle.roster_floors.specs.Once.{AreSmallRates-prop, HasOffers, HasOffers-prop};
 
 use crate::day::set_day;
 use crate::floor_day::FloorDay;
-use crate::line::set_all;
 use crate::rates::Rates;
 use roster_offers::RowSearch;
 use roster_rules::Case;
@@ -60,7 +60,7 @@ pub fn set_floors(
     }
     let end = days as usize * count;
     // After the last day nothing is to come.
-    set_all(0, &mut floors[end..end + count]);
+    floors[end..end + count].fill(0);
     let setting = Setting {
         search: *search,
         rates,

@@ -3,16 +3,15 @@
 ghost use Rattle.std.specs.Prelude.{◌≡◌, ◌+◌, ◌*◌, ◌<◌, ◌≤◌, length};
 ghost use Rattle.roster_bundle.specs.Limits.{greatest_u64};
 ghost use Rattle.roster_instance.specs.Meaning.{run_of_shift, shift_count};
-ghost use Rattle.roster_floors.specs.Bounds.{most_floor, most_leave};
+ghost use Rattle.roster_state.specs.FloorLines.{most_floor, most_leave};
 ghost use Rattle.roster_floors.specs.Lines.{AreOnward, AreSet, IsAfterShift, IsLeave, IsUnderWays, UnderLine, UnderLines, steps_of, work_ends, work_goes_on};
 
 use crate::floor_day::FloorDay;
-use crate::line::{LineCosts, set_all, set_line};
 use crate::ways::{MOST_LEAVE, Onward, Ways, least_way, ways_after};
 use roster_offers::MOST_OFFERS;
 use roster_rules::Shift;
 use roster_rules::weights::{FREE_RUN, WORKING_RUN};
-use roster_state::Meter;
+use roster_state::{LineCosts, Meter, fill_line, set_line};
 
 /// What follows a last shift: the ways on, and what a day off costs with the floor after it.
 #[derive(Clone, Copy)]
@@ -84,19 +83,19 @@ fn set_run(
     ensures under { UnderLine day.now (after.now.last.0 + 1) run here.new }
     ensures set { AreSet day.now here.old here.new meter.old meter.new }
 {
-    // Each floor of the line by each offer of the day, also where no row comes to the line: a surplus.
-    meter.add(here.len() as u64 * day.offers.len() as u64);
+    let offers = day.offers.len();
     let most = day.rules.working.cap() as usize;
     // After a worked day the run has a day at least, and it goes no further than its cap. No row comes to the other lines, unless a
     // history has it so: 0 lies under everything.
     if (run == 0 && 0 < most) || most < run {
-        set_all(0, here);
+        fill_line(0, offers, here, meter);
         return;
     }
     let costs = run_costs(day, after, run);
     let to = (run + 1).min(most);
     let first = ((after.last.0 as usize + 1) * day.runs + to) * day.shift_runs;
-    set_line(costs, &day.next[first..first + day.shift_runs], here);
+    let next = &day.next[first..first + day.shift_runs];
+    set_line(costs, offers, next, here, meter);
 }
 
 /// What the line of a run of working days takes.

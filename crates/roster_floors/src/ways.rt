@@ -5,7 +5,7 @@ ghost use Rattle.roster_instance.specs.Choices.{shift_of};
 ghost use Rattle.roster_instance.specs.Meaning.{shift_count};
 ghost use Rattle.roster_rules.specs.DayLaw.{splits_more, weekends_more};
 ghost use Rattle.roster_offers.specs.Lists.{IsOfferOf, most_price};
-ghost use Rattle.roster_floors.specs.Bounds.{AreLow, most_leave};
+ghost use Rattle.roster_state.specs.FloorLines.{AreLow, most_leave};
 ghost use Rattle.roster_floors.specs.Lines.{AreOnward, AreOpen, AreWays, IsLeastWay, IsOnward, IsOpenWay, IsWayAt, IsWayOf, apart_of, way_at, way_cost};
 
 use crate::floor_day::FloorDay;

@@ -1,6 +1,7 @@
 -- How much a search counts, one part after another.
 use Rattle.std.proofs.Common.{◌≡◌, ◌∙◌, ◌+◌, ◌-◌, ◌*◌, ◌<◌, ◌≤◌, ◌⊎◌, ℕ, List, ap, arith, inl, inr, length, subst}
 use Rattle.std.specs.List.{All}
+use Rattle.std.proofs.lemmas.Nat.{mul-le}
 use Rattle.roster_instance.specs.Meaning.{Meaning, day_count}
 use Rattle.roster_rules.proofs.RunSums.{sum_same}
 use Rattle.roster_state.specs.declared.area.Area.{Area}
@@ -10,31 +11,46 @@ use Rattle.roster_search.specs.Counts.{states_on}
 use Rattle.roster_search.specs.Search.{areas_on, search_day, standing_steps, steps_on}
 use Rattle.roster_search.specs.Tables.{LeadsOn}
 use Rattle.roster_floors.specs.Floors.{floor_count, floor_steps}
-use Rattle.roster_partial.specs.Counts.{CountsSearch, CountsSets}
+use Rattle.roster_partial.specs.Counts.{CountsPartial, CountsSearch, CountsSets}
+use Rattle.roster_partial.specs.Rates.{most_offers}
 
 module _ (c : Meaning) (n : ℕ) (offers : ℕ → List Offer) where
-  -- partial rows alone
-  pub no_set : (before after : ℕ) → before ≤ after → CountsSets c n offers 0 before after
-  no_set before after more = record { sets = 0; rows = after - before; few = omega arith; counted = omega (arith, more) }
+  -- the steps of a row that is followed
+  abbrev row : ℕ
+  row = most_offers * day_count c
+
+  -- nothing
+  pub no_set : (now : ℕ) → CountsSets c n offers 0 0 now now
+  no_set now = record { sets = 0; followed = 0; few = omega arith; brief = omega arith; counted = omega arith }
+
+  -- a row that is followed
+  pub one_row : (before after : ℕ) → (before ≤ after) × (after ≤ before + row) → CountsSets c n offers 0 1 before after
+  one_row before after more = record { sets = 0; followed = after - before; few = omega arith; brief = omega (arith, more.1); counted = omega (arith, more.0) }
 
   -- floors once
-  pub one_set : (before after : ℕ) → after ≡ before + floor_steps c n offers → CountsSets c n offers 1 before after
-  one_set before after is = record { sets = 1; rows = 0; few = omega arith; counted = omega (arith, is) }
+  pub one_set : (before after : ℕ) → after ≡ before + floor_steps c n offers → CountsSets c n offers 1 0 before after
+  one_set before after is = record { sets = 1; followed = 0; few = omega arith; brief = omega arith; counted = omega (arith, is) }
 
   -- one part after another
-  pub sets_more : (first second before between after : ℕ) → CountsSets c n offers first before between → CountsSets c n offers second between after → CountsSets c n offers (first + second) before after
-  sets_more first second before between after one more =
+  pub sets_more : {first second rows others before between after : ℕ} → CountsSets c n offers first rows before between → CountsSets c n offers second others between after → CountsSets c n offers (first + second) (rows + others) before after
+  sets_more {rows = rows} {others = others} one more =
       let size = floor_steps c n offers in
       let all : (one.sets + more.sets) * size ≡ one.sets * size + more.sets * size = omega arith in
-      record { sets = one.sets + more.sets; rows = one.rows + more.rows; few = omega (arith, one.few, more.few); counted = omega (arith, one.counted, more.counted, all) }
+      let both : (rows + others) * row ≡ rows * row + others * row = omega arith in
+      record { sets = one.sets + more.sets; followed = one.followed + more.followed; few = omega (arith, one.few, more.few); brief = omega (arith, one.brief, more.brief, both); counted = omega (arith, one.counted, more.counted, all) }
 
   -- no more than more
-  pub sets_within : (few most before after : ℕ) → few ≤ most → CountsSets c n offers few before after → CountsSets c n offers most before after
-  sets_within few most before after less is = record { sets = is.sets; rows = is.rows; few = omega (arith, is.few, less); counted = is.counted }
+  pub sets_within : {few most rows others before after : ℕ} → few ≤ most → rows ≤ others → CountsSets c n offers few rows before after → CountsSets c n offers most others before after
+  sets_within {rows = rows} {others = others} less fewer is =
+      record { sets = is.sets; followed = is.followed; few = omega (arith, is.few, less); brief = omega (arith, is.brief, mul-le rows row others row fewer (omega arith)); counted = is.counted }
 
   -- none is taken back
-  pub sets_from : (most before after : ℕ) → CountsSets c n offers most before after → before ≤ after
-  sets_from most before after is = omega (arith, is.counted)
+  pub partial_from : (before after : ℕ) → CountsPartial c n offers before after → before ≤ after
+  partial_from before after is = omega (arith, is.floors.counted, is.from)
+
+  -- where nothing was begun
+  pub no_partial : (now : ℕ) → CountsPartial c n offers now now
+  no_partial now = record { floored = now; floors = sets_within (omega arith) (omega arith) (no_set now); from = omega arith; rows = omega arith }
 
 -- ---- offers that agree on each day
 
@@ -60,10 +76,16 @@ module _ (c : Meaning) (n : ℕ) (f g : ℕ → List Offer) (same : (day : ℕ) 
     };
     between = counts.between;
     partial = record {
-      sets = counts.partial.sets;
+      floored = counts.partial.floored;
+      floors = record {
+        sets = counts.partial.floors.sets;
+        followed = counts.partial.floors.followed;
+        few = counts.partial.floors.few;
+        brief = counts.partial.floors.brief;
+        counted = counts.partial.floors.counted ∙ ap (λ m. before + counts.partial.floors.sets * m + counts.partial.floors.followed) same_floors;
+      };
+      from = counts.partial.from;
       rows = counts.partial.rows;
-      few = counts.partial.few;
-      counted = counts.partial.counted ∙ ap (λ m. before + counts.partial.sets * m + counts.partial.rows) same_floors;
     };
     left = omega (arith, counts.left, same_states counts.areas);
     states = states_go counts.areas counts.between after counts.states;

@@ -4,7 +4,7 @@ ghost use Rattle.std.specs.Prelude.{◌≡◌, ◌+◌, ◌*◌, ◌<◌, ◌≤
 ghost use Rattle.roster_offers.specs.Offers.{choices_of};
 ghost use Rattle.roster_offers.specs.Lists.{AreOffers, IsFound, no_row};
 ghost use Rattle.roster_state.specs.Codes.{shift_digit};
-ghost use Rattle.roster_partial.specs.Rates.{FitsNurse};
+ghost use Rattle.roster_partial.specs.Rates.{FitsNurse, most_offers};
 ghost use Rattle.roster_partial.specs.Rows.{AreKept, IsEntryOf, IsLinked, best_of, count_in, entry_numbered, rows_in, within};
 ghost use Rattle.roster_partial.specs.Searches.{HasCells, AreOfDay, IsFull, best_of_last, best_in, best_of_day, days_in, days_on, offered, offers_of_last};
 ghost use Rattle.roster_partial.specs.declared.all_days.Within.TheVariants.{Dearer, Found, Full};
@@ -29,7 +29,7 @@ pub enum Within {
 }
 
 /// Searches the best row by the partial rows within a limit. If one is found, `row` begins with its choices, one for each day. The meter
-/// counts each partial row that is taken over an offer: to no more than `most`.
+/// counts each partial row that is taken over an offer, each that is held over each offer once at most: to no more than `most`.
 pub fn row_within(
     limited: &LimitedSearch<'_>,
     most: u64,
@@ -50,6 +50,7 @@ pub fn row_within(
     ensures each_day { (cost : ℕ) → result ≡ Found cost →
         meter.old + days_in limited.now.floors.search ≤ meter.new }
     ensures counted { (meter.old ≤ meter.new) × (meter.new ≤ most) }
+    ensures brief { meter.new ≤ meter.old + most_offers * limited.now.most }
     ensures length { length row.new ≡ length row.old }
 {
     clear_rows(rows);
@@ -105,6 +106,7 @@ fn add_days(
     ensures each_day { IfSome result (λ first. first < length (rows_in rows.new) →
         meter.old + days_in limited.now.floors.search ≤ meter.new) }
     ensures counted { (meter.old ≤ meter.new) × (meter.new ≤ most) }
+    ensures brief { meter.new ≤ meter.old + most_offers * limited.now.most }
     ensures full { IsNone result → IsFull limited.now.most most rows.new meter.new }
 {
     let search = &limited.floors.search;

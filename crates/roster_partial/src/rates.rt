@@ -6,7 +6,7 @@ ghost use Rattle.roster_instance.specs.Meaning.{day_count};
 ghost use Rattle.roster_offers.specs.Lists.{offers_on};
 ghost use Rattle.roster_floors.specs.Floors.{AreSmallRates, search_steps};
 ghost use Rattle.roster_floors.specs.Least.{AreReady};
-ghost use Rattle.roster_partial.specs.Counts.{CountsPartial, CountsSets};
+ghost use Rattle.roster_partial.specs.Counts.{CountsSets, most_sets};
 ghost use Rattle.roster_partial.specs.Rates.{AreSetAt, FitsNurse, IsTried, NoRoom, most_offers, row_steps, trial_steps};
 
 use crate::limited::Bounded;
@@ -71,8 +71,8 @@ pub fn set_best_floors(
 ) -> Option<BestFloors>
     requires room { meter.old ≤ bounded.now.most }
     ensures set { IfSome result (λ best. AreSetAt bounded.now.search best.rates floors.new) }
-    ensures counted { CountsPartial bounded.now.search.case.now bounded.now.search.nurse
-        (offers_on bounded.now.search.offers.now) meter.old meter.new }
+    ensures counted { CountsSets bounded.now.search.case.now bounded.now.search.nurse
+        (offers_on bounded.now.search.offers.now) most_sets most_sets meter.old meter.new }
     ensures most { meter.new ≤ bounded.now.most }
     ensures none { IsNone result →
         NoRoom bounded.now.search floors.old (bounded.now.most - meter.old) }
@@ -233,7 +233,7 @@ fn try_rates(
     requires room { meter.old + search_steps bounded.now.search ≤ bounded.now.most }
     ensures tried { IsTried bounded.now.search floors.new result }
     ensures counted { CountsSets bounded.now.search.case.now bounded.now.search.nurse
-        (offers_on bounded.now.search.offers.now) plan.trials meter.old meter.new }
+        (offers_on bounded.now.search.offers.now) plan.trials plan.trials meter.old meter.new }
     ensures most { meter.new + search_steps bounded.now.search ≤ bounded.now.most }
 {
     let each = steps_of_trial(bounded);
@@ -269,7 +269,7 @@ fn try_more(
     requires room { meter.old + trial_steps bounded.now.search ≤ greatest_u64 }
     ensures tried { IsTried bounded.now.search floors.new result }
     ensures counted { CountsSets bounded.now.search.case.now bounded.now.search.nurse
-        (offers_on bounded.now.search.offers.now) 1 meter.old meter.new }
+        (offers_on bounded.now.search.offers.now) 1 1 meter.old meter.new }
     ensures few { meter.new ≤ meter.old + trial_steps bounded.now.search }
 {
     set_floors(&bounded.search, rates, floors, meter);

@@ -1,13 +1,13 @@
 //! The search over a table of offers, by partial rows first.
 
-ghost use Rattle.std.specs.Prelude.{◌≡◌, ◌+◌, ◌-◌, ◌/◌, ◌<◌, ◌≤◌, ℕ, IfSome, IsSome, None, length, min, take};
+ghost use Rattle.std.specs.Prelude.{◌≡◌, ◌+◌, ◌-◌, ◌*◌, ◌/◌, ◌<◌, ◌≤◌, ℕ, IfSome, IsSome, None, length, min, take};
 ghost use Rattle.roster_bundle.specs.Limits.{greatest_u64};
 ghost use Rattle.roster_instance.specs.Meaning.{nurse_count};
 ghost use Rattle.roster_laws.specs.Greatest.{extension_count};
 ghost use Rattle.roster_offers.specs.Lists.{AreOffers, IsFound, no_row};
 ghost use Rattle.roster_search.specs.Search.{HasTables};
 ghost use Rattle.roster_partial.specs.Counts.{CountsPartial, CountsSearch};
-ghost use Rattle.roster_partial.specs.Rates.{AreSetAt};
+ghost use Rattle.roster_partial.specs.Rates.{AreSetAt, most_offers};
 ghost use Rattle.roster_partial.specs.Rows.{most_rows, within};
 ghost use Rattle.roster_partial.specs.Searches.{IsFull, best_in, days_in, offered};
 ghost use Rattle.roster_partial.specs.declared.all_days.Within.TheVariants.{Dearer, Found, Full};
@@ -171,7 +171,7 @@ fn search_partial(
     let best = set_best_floors(bounded, guess, floors, meter)?;
     let mut limit = best.low.saturating_add(first_gap(guess));
     let mut more = 10;
-    'limits: for _ in 0..MOST_LIMITS {
+    'limits: for _tried in 0..MOST_LIMITS {
         let attempt = Attempt {
             search: RowSearch {
                 case,
@@ -245,6 +245,7 @@ fn search_within(
     ensures each_day { (cost : ℕ) → result ≡ Found cost →
         meter.old + days_in attempt.now.search ≤ meter.new }
     ensures counted { (meter.old ≤ meter.new) × (meter.new ≤ attempt.now.most) }
+    ensures brief { meter.new ≤ meter.old + most_offers * most_rows }
     ensures length { length row.new ≡ length row.old }
 {
     let RowSearch { case, nurse, .. } = attempt.search;

@@ -21,8 +21,8 @@ use std::marker::Model;
 use thiserror::Error;
 
 /// What a search for a best row writes into: the tables of labels, the pointers, and one row, which grow with the case; and beside them,
-/// of one size for each case, 115 kB: the offers of a nurse (29 kB), the areas of the days (53 kB), hints (28 kB) and room for a stretch
-/// (5 kB). Floors and partial rows stand in the cells of the tables. One workspace serves all nurses of a case, one after another.
+/// of one size for each case, 111 kB: the offers of a nurse (29 kB), the areas of the days (53 kB), hints (28 kB) and room for a stretch
+/// (1 kB). Floors and partial rows stand in the cells of the tables. One workspace serves all nurses of a case, one after another.
 pub struct Workspace {
     offers: DayOffers,
     space: SearchSpace,

@@ -3,6 +3,7 @@ pub mod CellLaws
 pub mod BlockLaws
 pub mod ReadLaws
 pub mod PartLaws
+pub mod RowLaws
 pub mod HalfLaws
 pub mod StandLaws
 pub mod GroupLaws

@@ -1,5 +1,5 @@
 -- A stretch: the places of blocks that stand one after another, by one offer more.
-use Rattle.std.proofs.Common.{◌≡◌, ◌∙◌, ◌+◌, ◌-◌, ◌*◌, ◌%◌, ◌^◌, ◌<◌, ◌≤◌, ◌⊎◌, ℕ, Bool, inl, inr, true, false, ap, arith, refl, subst, sym, List, length, min, nat_lt, if◌then◌else◌, slice_index_or, take, Option, Some, None}
+use Rattle.std.proofs.Common.{◌≡◌, ◌∙◌, ◌+◌, ◌-◌, ◌*◌, ◌%◌, ◌^◌, ◌<◌, ◌≤◌, ◌⊎◌, ℕ, Bool, inl, inr, true, false, ap, arith, below_more, refl, subst, sym, List, length, min, nat_lt, if◌then◌else◌, slice_index_or, take, Option, Some, None}
 use Rattle.std.proofs.Math.Nat.{mod-eq_of_lt}
 use Rattle.std.proofs.Math.Path.{transport}
 use Rattle.std.proofs.lemmas.Bool.{cases_lt}
@@ -22,7 +22,10 @@ use Rattle.roster_offers.specs.Lists.{no_row}
 use Rattle.roster_offers.proofs.ListLaws.{no_offer}
 use Rattle.roster_search.specs.declared.day.OpenDay.{OpenDay}
 use Rattle.roster_search.specs.Days.{areas_next}
-use Rattle.roster_search.specs.OpenDays.{AreLabelsBy, AreRefusedBy, AreTables, IsStretchOf, KeepBeside, KeepsRest, LeastFrom, PlacesKept, RunCells, StandsBy, StandsOn, StretchCells, best_with, most_places, onward_of, places_of, the_day}
+use Rattle.roster_search.specs.Halves.{IsWritten}
+use Rattle.roster_search.specs.OpenDays.{AreLabelsBy, AreRefusedBy, AreTables, IsStretchOf, KeepBeside, KeepsRest, LeastFrom, PlacesKept, RunCells, StandsBy, StandsOn, StretchCells, best_with, most_places, onward_of, places_of, shape_of, the_day}
+use Rattle.roster_search.specs.Rows.{AreRowsIn, BetweenRowsKept, RowCells}
+use Rattle.roster_search.specs.declared.rows.RowShape.{RowShape}
 use Rattle.roster_search.specs.Tables.{AreOfLeast, IsOfferOf, LeadsOn, Stands, label_of}
 use Rattle.roster_search.proofs.CountLaws.{Goes}
 use Rattle.roster_search.proofs.GroupLaws.{as_place, like_code, like_place, like_weekends}
@@ -140,35 +143,35 @@ module _ {day : OpenDay} {stretch : Stretch} {place first dearer : ℕ} (by : Ar
     label_is : min candidate no_row ≡ label_of (best_with day (stretch_state stretch.block stretch.from i b) (slice_index_or day.offers.now place by.offer))
     label_is = by.labels i b in_rows in_width ∙ ap (λ x. label_of (best_with day (stretch_state stretch.block stretch.from i b) x)) (sym by.read)
 
-  pub stretch_lowered : ((j : ℕ) → j < count → slice_index_or labels_new j 0 ≡ min (slice_index_or labels j 0) (raised others dearer j))
-      → ((j : ℕ) → j < count → slice_index_or numbers_new j 0 ≡ pointer_by (slice_index_or labels j 0) (raised others dearer j) (slice_index_or numbers j 0) place)
+  pub stretch_lowered : RowCells (shape_of day stretch) (λ j label. label ≡ min (slice_index_or labels j 0) (raised others dearer j)) labels_new
+      → RowCells (shape_of day stretch) (λ j number. number ≡ pointer_by (slice_index_or labels j 0) (raised others dearer j) (slice_index_or numbers j 0) place) numbers_new
       → RunCells day stretch (take (place + 1) day.offers.now) labels_new numbers_new
   stretch_lowered lowered pointed i b in_rows in_width =
       let j = j_at i b in_rows in_width in
       let in_count = there i b in_rows in_width in
       let other = other_is i b in_rows in_width in
-      let label = lowered j in_count ∙ ap (λ k. min (slice_index_or labels j 0) k) other in
-      let number = pointed j in_count ∙ ap (λ k. if nat_lt k (slice_index_or labels j 0) then place else slice_index_or numbers j 0) other in
+      let label = lowered i b in_rows in_width ∙ ap (λ k. min (slice_index_or labels j 0) k) other in
+      let number = pointed i b in_rows in_width ∙ ap (λ k. if nat_lt k (slice_index_or labels j 0) then place else slice_index_or numbers j 0) other in
       transport (λ q. AreOfLeast (best_with day (stretch_state stretch.block stretch.from i b)) (take (place + 1) day.offers.now) (sym label q) (sym number q))
       (place_lowered (best_with day (stretch_state stretch.block stretch.from i b)) day.offers.now place inside by.offer (slice_index_or labels j 0) (slice_index_or numbers j 0) (old i b in_rows in_width) (candidate i b in_rows in_width) (label_is i b in_rows in_width))
 
-  pub stretch_set : ((j : ℕ) → j < count → slice_index_or labels j 0 ≡ no_row) → ((j : ℕ) → j < count → slice_index_or labels_new j 0 ≡ min (raised others dearer j) no_row) → ((j : ℕ) → j < count → slice_index_or numbers_new j 0 ≡ place)
+  pub stretch_set : ((j : ℕ) → j < count → slice_index_or labels j 0 ≡ no_row) → RowCells (shape_of day stretch) (λ j label. label ≡ min (raised others dearer j) no_row) labels_new → RowCells (shape_of day stretch) (λ j number. number ≡ place) numbers_new
       → RunCells day stretch (take (place + 1) day.offers.now) labels_new numbers_new
   stretch_set none set numbered i b in_rows in_width =
       let j = j_at i b in_rows in_width in
       let in_count = there i b in_rows in_width in
-      let label = set j in_count ∙ ap (λ k. min k no_row) (other_is i b in_rows in_width) in
-      transport (λ q. AreOfLeast (best_with day (stretch_state stretch.block stretch.from i b)) (take (place + 1) day.offers.now) (sym label q) (sym (numbered j in_count) q))
+      let label = set i b in_rows in_width ∙ ap (λ k. min k no_row) (other_is i b in_rows in_width) in
+      transport (λ q. AreOfLeast (best_with day (stretch_state stretch.block stretch.from i b)) (take (place + 1) day.offers.now) (sym label q) (sym (numbered i b in_rows in_width) q))
       (place_set (best_with day (stretch_state stretch.block stretch.from i b)) day.offers.now place inside by.offer (slice_index_or labels j 0) (slice_index_or numbers j 0) (old i b in_rows in_width) (none j in_count) (candidate i b in_rows in_width) (label_is i b in_rows in_width))
 
 -- ---- the numbers stay small
 
-pub small_pointed : (labels candidates : ℕ → ℕ) (long place : ℕ) (old new : List ℕ) → place < 16 → ((j : ℕ) → j < long → slice_index_or old j 0 < 16) → ((j : ℕ) → j < long → slice_index_or new j 0 ≡ pointer_by (labels j) (candidates j) (slice_index_or old j 0) place) → (j : ℕ) → j < long → slice_index_or new j 0 < 16
-small_pointed labels candidates long place old new few small pointed j there = subst (λ k. k < 16) (sym (pointed j there)) (go (nat_lt (candidates j) (labels j)))
+pub small_pointed : (label candidate old new place : ℕ) → place < 16 → old < 16 → new ≡ pointer_by label candidate old place → new < 16
+small_pointed label candidate old new place few small pointed = subst (λ k. k < 16) (sym pointed) (go (nat_lt candidate label))
   where
-    go : (b : Bool) → (if b then place else slice_index_or old j 0) < 16
+    go : (b : Bool) → (if b then place else old) < 16
     go true = few
-    go false = small j there
+    go false = small
 
 -- ---- where a stretch stands
 
@@ -190,24 +193,23 @@ rows_within z s first rows fits some few =
 pub in_rows-end : (rows side i a : ℕ) → i < rows → a < side → i * side + a < rows * side
 in_rows-end rows side i a in_rows inside = omega (arith, mul-le (i + 1) side rows side (omega (arith, in_rows)) (omega arith), inside)
 
--- its cells, where they stand in two tables: all at once, with what stands between them
+-- its cells, where they stand in two tables
 module _ (day : OpenDay) (stretch : Stretch) (block numbers labels pointers : List ℕ) where
   abbrev code_at : ℕ
   code_at = code_of day.days.ranges stretch.block
 
-  pub stretch_moved : ((j : ℕ) → j < places_of day stretch → slice_index_or labels (code_at + stretch.from + j) 0 ≡ slice_index_or block j 0) → ((j : ℕ) → j < places_of day stretch → slice_index_or pointers (day.first + code_at + stretch.from + j) 0 ≡ slice_index_or numbers j 0)
+  pub stretch_moved : ((i b : ℕ) → i < stretch.rows → b < stretch.end - stretch.from → slice_index_or labels (code_at + stretch.from + (i * day.days.ranges.assignments + b)) 0 ≡ slice_index_or block (i * day.days.ranges.assignments + b) 0)
+      → ((i b : ℕ) → i < stretch.rows → b < stretch.end - stretch.from → slice_index_or pointers (day.first + code_at + stretch.from + (i * day.days.ranges.assignments + b)) 0 ≡ slice_index_or numbers (i * day.days.ranges.assignments + b) 0)
       → RunCells day stretch day.offers.now block numbers → StretchCells day stretch labels pointers
   stretch_moved same_label same_number old i a in_rows low high =
       let side = day.days.ranges.assignments in
       let b = a - stretch.from in
-      let j = i * side + b in
       let in_width : b < stretch.end - stretch.from = omega (arith, low, high) in
-      let below = in_stretch stretch.rows (stretch.end - stretch.from) side i b in_rows in_width in
       let place : stretch.from + b ≡ a = omega (arith, low) in
-      let at_code : code_at + stretch.from + j ≡ code_at + (i * side + a) = omega (arith, low) in
-      let at_first : day.first + code_at + stretch.from + j ≡ day.first + code_at + (i * side + a) = omega (arith, low) in
-      let label = sym (same_label j below) ∙ ap (λ k. slice_index_or labels k 0) at_code in
-      let number = sym (same_number j below) ∙ ap (λ k. slice_index_or pointers k 0) at_first in
+      let at_code : code_at + stretch.from + (i * side + b) ≡ code_at + (i * side + a) = omega (arith, low) in
+      let at_first : day.first + code_at + stretch.from + (i * side + b) ≡ day.first + code_at + (i * side + a) = omega (arith, low) in
+      let label = sym (same_label i b in_rows in_width) ∙ ap (λ k. slice_index_or labels k 0) at_code in
+      let number = sym (same_number i b in_rows in_width) ∙ ap (λ k. slice_index_or pointers k 0) at_first in
       transport (λ q. LeastFrom day (with_weekends stretch.block (stretch.block.weekends + i)) day.offers.now (place q) (label q) (number q)) (old i b in_rows in_width)
 
 -- ---- a stretch is within the tables, and within the room for it
@@ -232,6 +234,10 @@ module _ {day : OpenDay} {stretch : Stretch} (good : IsStretchOf day stretch) wh
   pub in_table : {first side long : ℕ} → first ≡ code_of day.days.ranges stretch.block → side ≡ day.days.ranges.assignments → product day.days.ranges ≤ long → first + stretch.from + ((stretch.rows - 1) * side + (stretch.end - stretch.from)) ≤ long
   in_table first is room = omega (arith, first, count_is is, count_within, rows_in_table, room)
 
+  -- its rows, in a list that begins with its first place
+  pub rows_of : {long : ℕ} → long ≡ places_of day stretch → AreRowsIn (shape_of day stretch) long
+  rows_of is = record { apart = omega (arith, good.assignments); inside = omega (arith, is) }
+
   -- a part of its places
   pub part_of : (from end : ℕ) → stretch.from ≤ from → from < end → end ≤ stretch.end → IsStretchOf day (record stretch { from = from; end = end })
   part_of from end low some high = record {
@@ -255,6 +261,10 @@ row_in_count rows width side row in_rows = omega (arith, mul-le row side (rows -
 pub row_end : (rows side from end row : ℕ) → row < rows → from < end → end ≤ side → from + row * side + (end - from) ≤ rows * side
 row_end rows side from end row in_rows some whole = omega (arith, in_rows-end rows side row (end - 1) in_rows (omega (arith, some, whole)), some)
 
+-- what stands between rows stays, once more
+pub between_then : {shape rows : RowShape} → shape ≡ rows → (old cells new : List ℕ) → BetweenRowsKept shape cells new → BetweenRowsKept rows old cells → BetweenRowsKept rows old new
+between_then is old cells new later same i b wide inside = (transport (λ q. BetweenRowsKept (is q) cells new) later) i b wide inside ∙ same i b wide inside
+
 -- a row of a stretch is within its places, and within the table
 module _ {day : OpenDay} {stretch : Stretch} (good : IsStretchOf day stretch) {row side : ℕ} (in_rows : row < stretch.rows) (is : side ≡ day.days.ranges.assignments) where
   pub row_is : row * side ≡ row * day.days.ranges.assignments
@@ -273,12 +283,17 @@ module _ (side from end code row : ℕ) (old new : List ℕ) (whole : end ≤ si
   pub row_before : (i a : ℕ) → i < row → a < end → slice_index_or new (code + (i * side + a)) 0 ≡ slice_index_or old (code + (i * side + a)) 0
   row_before i a before inside = others.before (code + (i * side + a)) (omega (arith, in_rows-end row side i a before (omega (arith, inside, whole))))
 
-  pub row_kept : (i a : ℕ) → a < from → from < end → slice_index_or new (code + (i * side + a)) 0 ≡ slice_index_or old (code + (i * side + a)) 0
-  row_kept i a inside some = go (cases_lt row i)
+  pub row_kept : (i a : ℕ) → a < side → (a < from) ⊎ (end ≤ a) → from < end → slice_index_or new (code + (i * side + a)) 0 ≡ slice_index_or old (code + (i * side + a)) 0
+  row_kept i a inside beside some = go (cases_lt row i) (cases_lt i row) beside
     where
-      go : (row < i) ⊎ (i ≤ row) → slice_index_or new (code + (i * side + a)) 0 ≡ slice_index_or old (code + (i * side + a)) 0
-      go (inl after) = others.after (code + (i * side + a)) (omega (arith, mul-le (row + 1) side i side (omega (arith, after)) (omega arith), whole, some))
-      go (inr before) = others.before (code + (i * side + a)) (omega (arith, mul-le i side row side before (omega arith), inside))
+      same : Type 0
+      same = slice_index_or new (code + (i * side + a)) 0 ≡ slice_index_or old (code + (i * side + a)) 0
+
+      go : (row < i) ⊎ (i ≤ row) → (i < row) ⊎ (row ≤ i) → (a < from) ⊎ (end ≤ a) → same
+      go (inl after) _ _ = others.after (code + (i * side + a)) (omega (arith, mul-le (row + 1) side i side (omega (arith, after)) (omega arith), whole, some))
+      go (inr from_row) (inl before) _ = others.before (code + (i * side + a)) (omega (arith, mul-le (i + 1) side row side (omega (arith, before)) (omega arith), inside))
+      go (inr from_row) (inr to_row) (inl before) = others.before (code + (i * side + a)) (omega (arith, mul-le i side row side from_row (omega arith), before))
+      go (inr from_row) (inr to_row) (inr after) = others.after (code + (i * side + a)) (omega (arith, mul-le row side i side to_row (omega arith), after, some))
 
   pub row_outside : (rows : ℕ) → row < rows → from < end → length new ≡ length old → KeepsRest code (rows * side) old new
   row_outside rows in_rows some same = record {
@@ -289,55 +304,40 @@ module _ (side from end code row : ℕ) (old new : List ℕ) (whole : end ≤ si
     length_stays = same;
   }
 
--- a row more of a stretch, whose rows so far are put in their places
-module _ (day : OpenDay) (stretch : Stretch) (row : ℕ) (block numbers labels_old pointers_old labels pointers : List ℕ) (whole : stretch.end ≤ day.days.ranges.assignments) (in_rows : row < stretch.rows) where
-  abbrev size : ℕ
-  size = day.days.ranges.assignments
+-- a row more of numbers that are put in their places
+module _ (side from end code row : ℕ) (numbers old new : List ℕ) (whole : end ≤ side) (some : from < end) (others : SameOutside (code + from + row * side) (code + from + row * side + (end - from)) old new) (here : (b : ℕ) → b < end - from → slice_index_or new (code + from + (row * side + b)) 0 ≡ slice_index_or numbers (row * side + b) 0) where
+  pub numbers_more : ((i b : ℕ) → i < row → b < end - from → slice_index_or old (code + from + (i * side + b)) 0 ≡ slice_index_or numbers (i * side + b) 0) → (i b : ℕ) → i < row + 1 → b < end - from → slice_index_or new (code + from + (i * side + b)) 0 ≡ slice_index_or numbers (i * side + b) 0
+  numbers_more below i b before inside =
+      below_more (λ i. (b : ℕ) → b < end - from → slice_index_or new (code + from + (i * side + b)) 0 ≡ slice_index_or numbers (i * side + b) 0) row
+      (λ i before b inside. others.before (code + from + (i * side + b)) (omega (arith, mul-le (i + 1) side row side (omega (arith, before)) (omega arith), inside, whole, some)) ∙ below i b before inside) here i before b inside
 
-  abbrev wide_row : ℕ
-  wide_row = stretch.end - stretch.from
+-- ---- a list that is written into another one, in which what stands between rows is the old one
 
-  abbrev code : ℕ
-  code = code_of day.days.ranges stretch.block
+module _ (side from end code : ℕ) (whole : end ≤ side) (some : from < end) (block_old block old new : List ℕ) (written : IsWritten (code + from) block old new) (read : (j : ℕ) → j < length block → slice_index_or block_old j 0 ≡ slice_index_or old (code + from + j) 0)
+    (between : (i b : ℕ) → end - from ≤ b → b < side → slice_index_or block (i * side + b) 0 ≡ slice_index_or block_old (i * side + b) 0) where
+  between_kept : (i b : ℕ) → end - from ≤ b → b < side → slice_index_or new (code + from + (i * side + b)) 0 ≡ slice_index_or old (code + from + (i * side + b)) 0
+  between_kept i b wide inside = go (cases_lt (i * side + b) (length block))
+    where
+      go : (i * side + b < length block) ⊎ (length block ≤ i * side + b) → slice_index_or new (code + from + (i * side + b)) 0 ≡ slice_index_or old (code + from + (i * side + b)) 0
+      go (inl within) = written.inside (i * side + b) within ∙ between i b wide inside ∙ read (i * side + b) within
+      go (inr past) = written.others.after (code + from + (i * side + b)) (omega (arith, past))
 
-  abbrev first : ℕ
-  first = day.first + code_of day.days.ranges stretch.block
+  pub list_kept : (i a : ℕ) → a < side → (a < from) ⊎ (end ≤ a) → slice_index_or new (code + (i * side + a)) 0 ≡ slice_index_or old (code + (i * side + a)) 0
+  list_kept i a inside beside = go beside (cases_lt 0 i)
+    where
+      same : Type 0
+      same = slice_index_or new (code + (i * side + a)) 0 ≡ slice_index_or old (code + (i * side + a)) 0
 
-  module _ (run : RunCells day stretch day.offers.now block numbers)
-      (other_labels : SameOutside (code + stretch.from + row * size) (code + stretch.from + row * size + wide_row) labels_old labels)
-      (other_pointers : SameOutside (first + stretch.from + row * size) (first + stretch.from + row * size + wide_row) pointers_old pointers)
-      (same_label : (b : ℕ) → b < wide_row → slice_index_or labels (code + stretch.from + row * size + b) 0 ≡ slice_index_or block (row * size + b) 0)
-      (same_number : (b : ℕ) → b < wide_row → slice_index_or pointers (first + stretch.from + row * size + b) 0 ≡ slice_index_or numbers (row * size + b) 0)
-      (old : StretchCells day (record stretch { rows = row }) labels_old pointers_old) where
-    module _ (i a : ℕ) (low : stretch.from ≤ a) (high : a < stretch.end) where
-      abbrev least_at : ℕ → ℕ → Type 0
-      least_at l p = LeastFrom day (with_weekends stretch.block (stretch.block.weekends + i)) day.offers.now a l p
+      at_place : (k : ℕ) → code + from + k ≡ code + (i * side + a) → slice_index_or new (code + from + k) 0 ≡ slice_index_or old (code + from + k) 0 → same
+      at_place k is kept = subst (λ m. slice_index_or new m 0 ≡ slice_index_or old m 0) is kept
 
-      cell_before : i < row → least_at (slice_index_or labels (code + (i * size + a)) 0) (slice_index_or pointers (first + (i * size + a)) 0)
-      cell_before before =
-          let label = sym (row_before size stretch.from stretch.end code row labels_old labels whole other_labels i a before high) in
-          let number = sym (row_before size stretch.from stretch.end first row pointers_old pointers whole other_pointers i a before high) in
-          transport (λ q. least_at (label q) (number q)) (old i a before low high)
-
-      cell_here : i ≡ row → least_at (slice_index_or labels (code + (i * size + a)) 0) (slice_index_or pointers (first + (i * size + a)) 0)
-      cell_here is =
-          let b = a - stretch.from in
-          let in_width : b < wide_row = omega (arith, low, high) in
-          let place : stretch.from + b ≡ a = omega (arith, low) in
-          let row_is : i * size ≡ row * size = ap (λ k. k * size) is in
-          let back : i * size + b ≡ row * size + b = omega (arith, row_is) in
-          let at_label : code + stretch.from + row * size + b ≡ code + (i * size + a) = omega (arith, row_is, low) in
-          let at_pointer : first + stretch.from + row * size + b ≡ first + (i * size + a) = omega (arith, row_is, low) in
-          let label = ap (λ k. slice_index_or block k 0) back ∙ sym (same_label b in_width) ∙ ap (λ k. slice_index_or labels k 0) at_label in
-          let number = ap (λ k. slice_index_or numbers k 0) back ∙ sym (same_number b in_width) ∙ ap (λ k. slice_index_or pointers k 0) at_pointer in
-          transport (λ q. LeastFrom day (with_weekends stretch.block (stretch.block.weekends + i)) day.offers.now (place q) (label q) (number q)) (run i b (omega (arith, is, in_rows)) in_width)
-
-      cell_now : i < row + 1 → (i < row) ⊎ (row ≤ i) → least_at (slice_index_or labels (code + (i * size + a)) 0) (slice_index_or pointers (first + (i * size + a)) 0)
-      cell_now below (inl before) = cell_before before
-      cell_now below (inr from_row) = cell_here (omega (arith, below, from_row))
-
-    pub row_more : StretchCells day (record stretch { rows = row + 1 }) labels pointers
-    row_more i a below low high = cell_now i a low high below (cases_lt i row)
+      go : (a < from) ⊎ (end ≤ a) → (0 < i) ⊎ (i ≤ 0) → same
+      go (inr after) _ = at_place (i * side + (a - from)) (omega (arith, after, some)) (between_kept i (a - from) (omega (arith, after)) (omega (arith, inside)))
+      go (inl before) (inl later) =
+          at_place ((i - 1) * side + (side + a - from)) (omega (arith, one_row_less i side later, before, whole, some)) (between_kept (i - 1) (side + a - from) (omega (arith, whole, some)) (omega (arith, before, whole, some)))
+      go (inl before) (inr first) =
+          let none : i * side ≡ 0 = let zero : i ≡ 0 = omega (arith, first) in ap (λ k. k * side) zero ∙ omega arith in
+          written.others.before (code + (i * side + a)) (omega (arith, none, before))
 
 -- ---- places beside those that are labelled
 
@@ -348,7 +348,7 @@ module _ (day : OpenDay) (stretch : Stretch) (middle end : ℕ) (labels_old poin
   abbrev part_code : ℕ
   part_code = code_of day.days.ranges stretch.block
 
-  module _ (same_label : PlacesKept day part part_code labels_old labels) (same_number : PlacesKept day part (day.first + part_code) pointers_old pointers) (new : StretchCells day part labels pointers) where
+  module _ (whole : middle ≤ day.days.ranges.assignments) (same_label : PlacesKept day part part_code labels_old labels) (same_number : PlacesKept day part (day.first + part_code) pointers_old pointers) (new : StretchCells day part labels pointers) where
     pub places_more : StretchCells day (record stretch { end = end }) labels pointers
     places_more i a in_rows low high = go (cases_lt a middle)
       where
@@ -356,12 +356,19 @@ module _ (day : OpenDay) (stretch : Stretch) (middle end : ℕ) (labels_old poin
             → LeastFrom day (with_weekends stretch.block (stretch.block.weekends + i)) day.offers.now a (slice_index_or labels (part_code + (i * day.days.ranges.assignments + a)) 0) (slice_index_or pointers (day.first + part_code + (i * day.days.ranges.assignments + a)) 0)
         go (inr there) = new i a in_rows there high
         go (inl before) =
-            let label = sym (same_label i a in_rows before) in
-            let number = sym (same_number i a in_rows before) in
+            let inside : a < day.days.ranges.assignments = omega (arith, before, whole) in
+            let label = sym (same_label i a in_rows inside (inl before)) in
+            let number = sym (same_number i a in_rows inside (inl before)) in
             transport (λ q. LeastFrom day (with_weekends stretch.block (stretch.block.weekends + i)) day.offers.now a (label q) (number q)) (old i a in_rows low before)
 
+-- what stands beside them stays, too
+pub kept_more : (day : OpenDay) (stretch : Stretch) (middle end first : ℕ) → stretch.from ≤ middle → middle ≤ end → (old cells new : List ℕ)
+    → PlacesKept day (record stretch { end = middle }) first old cells → PlacesKept day (record stretch { from = middle; end = end }) first cells new → PlacesKept day (record stretch { end = end }) first old new
+kept_more day stretch middle end first low high old cells new same later i a in_rows inside (inl before) = later i a in_rows inside (inl (omega (arith, before, low))) ∙ same i a in_rows inside (inl before)
+kept_more day stretch middle end first low high old cells new same later i a in_rows inside (inr after) = later i a in_rows inside (inr after) ∙ same i a in_rows inside (inr (omega (arith, after, high)))
+
 -- so many for each place and each offer, up to a place and from it on
-pub places_counted : (long rows from middle end : ℕ) → from < middle → middle < end → long * (rows * (middle - from)) + long * (rows * (end - middle)) ≡ long * (rows * (end - from))
+pub places_counted : (long rows from middle end : ℕ) → from ≤ middle → middle < end → long * (rows * (middle - from)) + long * (rows * (end - middle)) ≡ long * (rows * (end - from))
 places_counted long rows from middle end low high =
     let sum : (middle - from) + (end - middle) ≡ end - from = omega (arith, low, high) in
     omega arith ∙ ap (λ k. long * (rows * k)) sum

@@ -4,3 +4,4 @@ pub mod Halves
 pub mod Search
 pub mod Days
 pub mod OpenDays
+pub mod Rows

@@ -1,5 +1,5 @@
 -- The tables of a day that is still to be labelled, and of a stretch of its states (our own).
-use Rattle.std.specs.Prelude.{◌≡◌, ◌+◌, ◌-◌, ◌*◌, ◌<◌, ◌≤◌, ℕ, true, is_some, List, length, min, replicate, slice_index_or, take}
+use Rattle.std.specs.Prelude.{◌≡◌, ◌+◌, ◌-◌, ◌*◌, ◌<◌, ◌≤◌, ◌⊎◌, ℕ, true, is_some, List, length, min, replicate, slice_index_or, take}
 use Rattle.roster_instance.specs.Meaning.{contract_of}
 use Rattle.roster_rules.specs.DayLaw.{weekends_more}
 use Rattle.roster_rules.specs.Prefix.{Summary}
@@ -15,8 +15,10 @@ use Rattle.roster_offers.specs.Cheapest.{Priced}
 use Rattle.roster_search.specs.declared.day.OpenDay.{OpenDay}
 use Rattle.roster_search.specs.declared.days.SearchDays.{SearchDays}
 use Rattle.roster_search.specs.declared.labels.StretchDay.{StretchDay}
+use Rattle.roster_search.specs.declared.rows.RowShape.{RowShape}
 use Rattle.roster_search.specs.Counts.{states_on, states_with}
 use Rattle.roster_search.specs.Days.{best_next, day_of}
+use Rattle.roster_search.specs.Rows.{RowCells}
 use Rattle.roster_search.specs.Search.{areas_on}
 use Rattle.roster_search.specs.Tables.{AreOfLeast, BestOnward, LabelsOf, PointersOf, SearchDay, Stands, StandsLike, best_by, best_on, label_of}
 use Rattle.roster_offers.specs.Lists.{no_row, offers_on}
@@ -125,11 +127,16 @@ RowsAlike day rows =
 abbrev pub AllAlike : OpenDay → Stretch → Type 0
 AllAlike day stretch = IsAlike day.days.case.now day.days.nurse day.day stretch.block stretch.rows stretch.from stretch.end
 
--- the rules are the nurse's, and what a worked day brings is what it brings to its first state
+-- its rows, in a list that begins with its first place
+abbrev pub shape_of : OpenDay → Stretch → RowShape
+shape_of day stretch = record { rows = stretch.rows; width = stretch.end - stretch.from; side = day.days.ranges.assignments }
+
+-- the rules are the nurse's, its rows are told, and what a worked day brings is what it brings to its first state
 pub record IsStretchDay (day : OpenDay) (from : StretchDay) : Type 0 where
   pub rules : from.rules ≡ contract_of day.days.case.now day.days.nurse
   pub of_day : IsStretchOf day from.stretch
   pub alike : AllAlike day from.stretch
+  pub shape : from.shape ≡ shape_of day from.stretch
   pub worked : IsWorkedDay day.days.case.now day.days.nurse day.day (with_assignments from.stretch.block from.stretch.from) from.worked
 
 -- how many states it has, and how many steps it takes
@@ -177,14 +184,14 @@ pub record KeepLengths (labels_old labels numbers_old numbers : List ℕ) : Type
   pub of_labels : length labels ≡ length labels_old
   pub of_numbers : length numbers ≡ length numbers_old
 
--- so many numbers are such that half a byte holds them
-abbrev pub AreHalfBytes : ℕ → List ℕ → Type 0
-AreHalfBytes count numbers = (a : ℕ) → a < count → slice_index_or numbers a 0 < 16
+-- the numbers of its rows are such that half a byte holds each
+abbrev pub AreHalfBytes : OpenDay → Stretch → List ℕ → Type 0
+AreHalfBytes day stretch numbers = RowCells (shape_of day stretch) (λ j number. number < 16) numbers
 
 -- the labels and the numbers of a stretch by so many offers
 pub record IsLowered (day : OpenDay) (stretch : Stretch) (count : ℕ) (labels numbers : List ℕ) : Type 0 where
   pub cells : RunCells day stretch (take count day.offers.now) labels numbers
-  pub small : AreHalfBytes (length numbers) numbers
+  pub small : AreHalfBytes day stretch numbers
 
 -- none of so many offers is allowed there: no row goes on by them
 abbrev pub NoneYet : OpenDay → Stretch → (count long : ℕ) → Type 0
@@ -197,17 +204,23 @@ StretchCells day stretch labels pointers =
     (slice_index_or labels (code_of day.days.ranges stretch.block + (i * day.days.ranges.assignments + a)) 0)
     (slice_index_or pointers (day.first + code_of day.days.ranges stretch.block + (i * day.days.ranges.assignments + a)) 0)
 
--- in its rows the places before its first one are the old ones
+-- in its rows the places before its first one and after its last are the old ones
 abbrev pub PlacesKept : OpenDay → Stretch → ℕ → (old new : List ℕ) → Type 0
 PlacesKept day stretch first old new =
-    (i a : ℕ) → i < stretch.rows → a < stretch.from → slice_index_or new (first + (i * day.days.ranges.assignments + a)) 0 ≡ slice_index_or old (first + (i * day.days.ranges.assignments + a)) 0
+    (i a : ℕ) → i < stretch.rows → a < day.days.ranges.assignments → (a < stretch.from) ⊎ (stretch.end ≤ a) → slice_index_or new (first + (i * day.days.ranges.assignments + a)) 0 ≡ slice_index_or old (first + (i * day.days.ranges.assignments + a)) 0
 
 -- the tables stay but for its rows
 abbrev pub KeepBeside : OpenDay → Stretch → (labels_old labels pointers_old pointers : List ℕ) → Type 0
 KeepBeside day stretch labels_old labels pointers_old pointers =
     KeepTables day (code_of day.days.ranges stretch.block) (stretch.rows * day.days.ranges.assignments) labels_old labels pointers_old pointers
 
--- it is put in its place, and what stands before it in its rows stays
+-- its numbers are put in the places of its pointers, and nothing else is
+pub record ArePointersPut (day : OpenDay) (stretch : Stretch) (numbers old new : List ℕ) : Type 0 where
+  pub inside : (i b : ℕ) → i < stretch.rows → b < stretch.end - stretch.from → slice_index_or new (day.first + code_of day.days.ranges stretch.block + stretch.from + (i * day.days.ranges.assignments + b)) 0 ≡ slice_index_or numbers (i * day.days.ranges.assignments + b) 0
+  pub kept : PlacesKept day stretch (day.first + code_of day.days.ranges stretch.block) old new
+  pub beside : KeepsRest (day.first + code_of day.days.ranges stretch.block) (stretch.rows * day.days.ranges.assignments) old new
+
+-- it is put in its place, and nothing else is: what stands between its rows stays
 pub record IsPut (day : OpenDay) (stretch : Stretch) (labels_old labels pointers_old pointers : List ℕ) : Type 0 where
   pub least : StretchCells day stretch labels pointers
   pub labels_kept : PlacesKept day stretch (code_of day.days.ranges stretch.block) labels_old labels

@@ -5,15 +5,15 @@ ghost use Rattle.roster_bundle.specs.Limits.{greatest_u64};
 ghost use Rattle.roster_instance.specs.Limits.{most_shifts};
 ghost use Rattle.roster_state.specs.Areas.{area_at};
 ghost use Rattle.roster_state.specs.Codes.{code_of, fits_sizes, product};
-ghost use Rattle.roster_search.specs.Halves.{IsWritten};
 ghost use Rattle.roster_search.specs.Days.{BlockLabels, EndLabels};
-ghost use Rattle.roster_search.specs.OpenDays.{AllAlike, AreLabelsBy, AreRefusedBy, AreHalfBytes, AreTables, HaveLength, HaveRoom, IsGroupOf, IsLowered, IsPut, IsStretchDay, IsStretchOf, KeepBeside, KeepLengths, KeepTables, KeepsRest, NoneYet, RowsAlike, RunCells, StandsBy, StandsOn, StretchCells, day_steps, group_places, group_steps, most_places, places_of, states_of, stretch_steps};
+ghost use Rattle.roster_search.specs.OpenDays.{AllAlike, AreLabelsBy, ArePointersPut, AreRefusedBy, AreHalfBytes, AreTables, HaveLength, HaveRoom, IsGroupOf, IsLowered, IsPut, IsStretchDay, IsStretchOf, KeepBeside, KeepLengths, KeepTables, KeepsRest, NoneYet, RowsAlike, RunCells, StandsBy, StandsOn, StretchCells, day_steps, group_places, group_steps, most_places, places_of, shape_of, states_of, stretch_steps};
+ghost use Rattle.roster_search.specs.Rows.{BetweenRowsKept};
 ghost use Rattle.roster_search.specs.Tables.{Stands, StandsLike};
 
 use crate::day::OpenDay;
 use crate::days::SearchDays;
 use crate::pointers::Pointers;
-use roster_lanes::{lower_all, set_all};
+use crate::rows::{RowShape, clear_rows, lower_rows, set_rows};
 use roster_rules::ContractRules;
 use roster_state::{AREAS, Area, Block, Meter, NurseDays, Stretch, WorkedDay, end_cost};
 
@@ -110,10 +110,9 @@ pub fn label_day(
 /// The greatest number of places of a block, and of a stretch with what stands between its rows, `most_places` of the tables.
 const MOST_PLACES: usize = 1000;
 
-/// Where the labels and the numbers of a stretch are reckoned. What it holds before is never read, so that one serves all days.
+/// Where the numbers of a stretch are reckoned. What it holds before is never read, so that one serves all days.
 #[derive(Drop)]
 pub struct StretchRoom {
-    labels: [u32; MOST_PLACES],
     numbers: [u8; MOST_PLACES],
 }
 
@@ -121,7 +120,6 @@ impl StretchRoom {
     /// Room for any stretch.
     pub fn new() -> StretchRoom {
         StretchRoom {
-            labels: [0; MOST_PLACES],
             numbers: [0; MOST_PLACES],
         }
     }
@@ -196,7 +194,8 @@ fn rows_with_room(rows: u32, side: u32) -> u32
     1
 }
 
-/// The labels and the pointers of rows of places, where a day takes the rows alike.
+/// The labels and the pointers of rows of places, where a day takes the rows alike: of as many of their places at once as it takes alike.
+/// What stands between the rows stays. For each offer the meter counts the cells of the rows that are set or lowered.
 fn label_rows(
     day: &OpenDay<'_, '_>,
     rows: &Stretch,
@@ -209,26 +208,21 @@ fn label_rows(
     requires alike { RowsAlike day.now rows.now }
     requires tables { HaveRoom day.now labels.old pointers.old }
     requires room { meter.old + stretch_steps day.now rows.now ≤ greatest_u64 }
-    ensures least { StretchCells day.now rows.now labels.new pointers.new }
-    ensures beside { KeepBeside day.now rows.now labels.old labels.new pointers.old pointers.new }
+    ensures put { IsPut day.now rows.now labels.old labels.new pointers.old pointers.new }
     ensures counted { meter.new ≡ meter.old + stretch_steps day.now rows.now }
 {
     let (case, nurse) = (day.days.case, day.days.nurse);
-    let end = rows.alike_end(case, nurse);
-    let first = Stretch { end, ..*rows };
-    label_stretch(day, &first, labels, pointers, &mut room.numbers, meter);
-    let mut from = end;
+    let mut from = rows.from;
     while from < rows.end {
         let left = Stretch { from, ..*rows };
-        let to = left.alike_end(case, nurse);
-        let part = Stretch { end: to, ..left };
-        label_apart(day, &part, labels, pointers, room, meter);
-        from = to;
+        let end = left.alike_end(case, nurse);
+        let part = Stretch { end, ..left };
+        label_stretch(day, &part, labels, pointers, &mut room.numbers, meter);
+        from = end;
     }
 }
 
-/// The labels and the pointers of a stretch from which a day is alike: they are lowered all at once in their places, with what stands
-/// between its rows.
+/// The labels and the pointers of a stretch from which a day is alike. What stands between its rows stays.
 fn label_stretch(
     day: &OpenDay<'_, '_>,
     stretch: &Stretch,
@@ -242,9 +236,7 @@ fn label_stretch(
     requires tables { HaveRoom day.now labels.old pointers.old }
     requires numbers_room { most_places ≤ length numbers.old }
     requires room { meter.old + stretch_steps day.now stretch.now ≤ greatest_u64 }
-    ensures least { StretchCells day.now stretch.now labels.new pointers.new }
-    ensures beside { KeepBeside day.now stretch.now labels.old labels.new pointers.old
-        pointers.new }
+    ensures put { IsPut day.now stretch.now labels.old labels.new pointers.old pointers.new }
     ensures numbers { length numbers.new ≡ length numbers.old }
     ensures counted { meter.new ≡ meter.old + stretch_steps day.now stretch.now }
 {
@@ -260,103 +252,38 @@ fn label_stretch(
         numbers,
         meter,
     );
-    pointers.set_run(day.first as usize + code, numbers);
+    put_numbers(day, stretch, numbers, pointers);
 }
 
-/// The same, but what stands between the rows stays as it is: they are lowered apart, and each row is then put in its place.
-fn label_apart(
+/// Puts the numbers of a stretch in the places of its pointers, row by row.
+fn put_numbers(
     day: &OpenDay<'_, '_>,
     stretch: &Stretch,
-    labels: &mut [u32],
-    pointers: &mut Pointers,
-    room: &mut StretchRoom,
-    meter: &mut Meter,
-)
-    requires stretch { IsStretchOf day.now stretch.now }
-    requires alike { AllAlike day.now stretch.now }
-    requires tables { HaveRoom day.now labels.old pointers.old }
-    requires room { meter.old + stretch_steps day.now stretch.now ≤ greatest_u64 }
-    ensures put { IsPut day.now stretch.now labels.old labels.new pointers.old pointers.new }
-    ensures counted { meter.new ≡ meter.old + stretch_steps day.now stretch.now }
-{
-    let StretchRoom {
-        labels: apart,
-        numbers,
-    } = room;
-    label_room(day, stretch, apart, numbers, meter);
-    put_rows(day, stretch, apart, numbers, labels, pointers);
-}
-
-/// The labels and the numbers of a stretch, in lists that are long enough for any.
-fn label_room(
-    day: &OpenDay<'_, '_>,
-    stretch: &Stretch,
-    apart: &mut [u32],
-    numbers: &mut [u8],
-    meter: &mut Meter,
-)
-    requires stretch { IsStretchOf day.now stretch.now }
-    requires alike { AllAlike day.now stretch.now }
-    requires apart_room { most_places ≤ length apart.old }
-    requires numbers_room { most_places ≤ length numbers.old }
-    requires room { meter.old + stretch_steps day.now stretch.now ≤ greatest_u64 }
-    ensures least { RunCells day.now stretch.now day.now.offers.now apart.new numbers.new }
-    ensures small { AreHalfBytes (places_of day.now stretch.now) numbers.new }
-    ensures lengths { KeepLengths apart.old apart.new numbers.old numbers.new }
-    ensures counted { meter.new ≡ meter.old + stretch_steps day.now stretch.now }
-{
-    let between = (stretch.rows - 1) * day.days.ranges.assignments();
-    let count = (between + (stretch.end - stretch.from)) as usize;
-    label_run(
-        day,
-        stretch,
-        &mut apart[..count],
-        &mut numbers[..count],
-        meter,
-    );
-}
-
-/// Puts the labels and the numbers of a stretch in their places, row by row; what stands between the rows stays.
-fn put_rows(
-    day: &OpenDay<'_, '_>,
-    stretch: &Stretch,
-    apart: &[u32],
     numbers: &[u8],
-    labels: &mut [u32],
     pointers: &mut Pointers,
 )
     requires stretch { IsStretchOf day.now stretch.now }
-    requires least { RunCells day.now stretch.now day.now.offers.now apart.now numbers.now }
-    requires small { AreHalfBytes (places_of day.now stretch.now) numbers.now }
-    requires apart_room { most_places ≤ length apart.now }
-    requires numbers_room { most_places ≤ length numbers.now }
-    requires tables { HaveRoom day.now labels.old pointers.old }
-    ensures put { IsPut day.now stretch.now labels.old labels.new pointers.old pointers.new }
+    requires numbers { length numbers.now ≡ places_of day.now stretch.now }
+    requires small { AreHalfBytes day.now stretch.now numbers.now }
+    requires room { day.now.first + product day.now.days.ranges ≤ length pointers.old }
+    ensures put { ArePointersPut day.now stretch.now numbers.now pointers.old pointers.new }
 {
     let ranges = &day.days.ranges;
     let side = ranges.assignments() as usize;
     let width = (stretch.end - stretch.from) as usize;
     let code = stretch.block.first(ranges) as usize + stretch.from as usize;
-    for row in 0..stretch.rows as usize {
+    'rows: for row in 0..stretch.rows as usize {
         let at = row * side;
-        put_run(labels, code + at, &apart[at..at + width]);
         pointers.set_run(day.first as usize + code + at, &numbers[at..at + width]);
     }
 }
 
-/// Puts labels in consecutive places; the others stay.
-fn put_run(labels: &mut [u32], first: usize, run: &[u32])
-    requires { first + length run.now ≤ length labels.old }
-    ensures { IsWritten first run.now labels.old labels.new }
-{
-    labels[first..first + run.len()].copy_from_slice(run);
-}
-
-/// A stretch from which a day is taken by one offer after another: the nurse's rules, and what a worked day brings to the first state,
-/// whatever the shift.
+/// A stretch from which a day is taken by one offer after another: its rows, the nurse's rules, and what a worked day brings to the first
+/// state, whatever the shift.
 #[derive(Clone, Copy)]
 struct StretchDay {
     stretch: Stretch,
+    shape: RowShape,
     rules: ContractRules,
     worked: WorkedDay,
 }
@@ -374,7 +301,8 @@ fn label_run(
     requires lengths { HaveLength day.now stretch.now labels.old numbers.old }
     requires room { meter.old + stretch_steps day.now stretch.now ≤ greatest_u64 }
     ensures least { RunCells day.now stretch.now day.now.offers.now labels.new numbers.new }
-    ensures small { AreHalfBytes (length numbers.new) numbers.new }
+    ensures small { AreHalfBytes day.now stretch.now numbers.new }
+    ensures between { BetweenRowsKept (shape_of day.now stretch.now) labels.old labels.new }
     ensures lengths { KeepLengths labels.old labels.new numbers.old numbers.new }
     ensures counted { meter.new ≡ meter.old + stretch_steps day.now stretch.now }
 {
@@ -387,6 +315,7 @@ fn label_run(
     let days = NurseDays { case, nurse, rules };
     let from = StretchDay {
         stretch: *stretch,
+        shape: row_shape(day, stretch),
         rules,
         worked: days.worked_stretch(day.day, stretch),
     };
@@ -399,8 +328,20 @@ fn label_run(
         }
     }
     if !is_set {
-        labels.fill(NO_ROW);
-        numbers.fill(0);
+        clear_rows(from.shape, labels, numbers);
+    }
+}
+
+/// The rows of a stretch.
+#[inline(always)]
+fn row_shape(day: &OpenDay<'_, '_>, stretch: &Stretch) -> RowShape
+    requires { stretch.now.from < stretch.now.end }
+    ensures { result ≡ shape_of day.now stretch.now }
+{
+    RowShape {
+        rows: stretch.rows as usize,
+        width: (stretch.end - stretch.from) as usize,
+        side: day.days.ranges.assignments() as usize,
     }
 }
 
@@ -454,6 +395,7 @@ fn set_run(
         IsLowered day.now from.now.stretch (place + 1) labels.new numbers.new }
     ensures none { result ≡ false →
         NoneYet day.now from.now.stretch (place + 1) (length labels.new) }
+    ensures between { BetweenRowsKept from.now.shape labels.old labels.new }
     ensures lengths { KeepLengths labels.old labels.new numbers.old numbers.new }
     ensures counted { meter.new ≡ meter.old + states_of from.now.stretch }
 {
@@ -461,8 +403,7 @@ fn set_run(
         return false;
     };
     let others = &day.later[by.0..by.0 + labels.len()];
-    set_all(labels, others, by.1, NO_ROW);
-    numbers.fill(place as u8);
+    set_rows(from.shape, labels, numbers, others, by.1, place as u8);
     true
 }
 
@@ -482,11 +423,12 @@ fn lower_run(
     requires least { IsLowered day.now from.now.stretch place labels.old numbers.old }
     requires room { meter.old + states_of from.now.stretch ≤ greatest_u64 }
     ensures least { IsLowered day.now from.now.stretch (place + 1) labels.new numbers.new }
+    ensures between { BetweenRowsKept from.now.shape labels.old labels.new }
     ensures lengths { KeepLengths labels.old labels.new numbers.old numbers.new }
     ensures counted { meter.new ≡ meter.old + states_of from.now.stretch }
 {
     if let Some(by) = labels_by(day, from, place, meter) {
         let others = &day.later[by.0..by.0 + labels.len()];
-        lower_all(labels, numbers, others, by.1, place as u8);
+        lower_rows(from.shape, labels, numbers, others, by.1, place as u8);
     }
 }

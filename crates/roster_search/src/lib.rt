@@ -12,6 +12,7 @@ mod days;
 mod labels;
 mod pointers;
 mod read;
+mod rows;
 mod search;
 mod stand;
 mod steps;

@@ -12,3 +12,4 @@ pub mod TriedDays
 pub mod Standing
 pub mod StretchLaw
 pub mod WorkedLaw
+pub mod FloorLines

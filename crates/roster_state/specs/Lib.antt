@@ -2,6 +2,7 @@ pub mod Step
 pub mod Areas
 pub mod Blocks
 pub mod Codes
+pub mod FloorLines
 pub mod Room
 pub mod Standing
 pub mod Stretches

@@ -4,6 +4,7 @@
 mod area;
 mod block;
 mod days;
+mod line;
 mod look;
 mod meter;
 mod ranges;
@@ -17,6 +18,7 @@ mod worked;
 pub use area::{AREAS, Area, NOWHERE, Span, areas_of, widen};
 pub use block::{Block, BlockStep};
 pub use days::NurseDays;
+pub use line::{LineCosts, fill_line, set_line};
 pub use look::is_forbidden;
 pub use meter::Meter;
 pub use ranges::Ranges;

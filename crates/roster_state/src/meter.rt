@@ -61,8 +61,8 @@ impl Meter {
         self.count += 1;
     }
 
-    /// Counts so many extensions. It is for those that no call of this crate makes, as those of the cells of a line of floors.
-    pub fn add(&mut self, more: u64)
+    /// Counts so many extensions. What is counted is counted by the call that makes it: a step, a stretch, a line of floors.
+    pub(crate) fn add(&mut self, more: u64)
         requires { self.old + more ≤ greatest_u64 }
         ensures { self.new ≡ self.old + more }
     {

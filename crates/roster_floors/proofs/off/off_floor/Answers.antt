@@ -1,5 +1,6 @@
 use Rattle.std.proofs.Common.{◌≡◌, ap, arith}
-use Rattle.roster_floors.specs.Lines.{longer, next_at}
+use Rattle.roster_floors.specs.Lines.{next_at}
+use Rattle.roster_state.specs.FloorLines.{longer}
 use Rattle.roster_floors.proofs.Places.{rest_inside, rest_place}
 use Rattle.roster_floors.proofs.off.off_floor.Goals as goal
 

@@ -1,7 +1,7 @@
 use Rattle.std.proofs.Common.{◌≡◌, ◌+◌, ◌*◌, ◌≤◌, arith, length, subst, sym, take}
 use Rattle.std.proofs.lemmas.List.{places}
 use Rattle.roster_offers.specs.Lists.{offers_on}
-use Rattle.roster_floors.specs.Bounds.{most_floor}
+use Rattle.roster_state.specs.FloorLines.{most_floor}
 use Rattle.roster_floors.proofs.DayLaws.{day_set, set_next, set_part}
 use Rattle.roster_floors.proofs.set.set_before.Goals as goal
 

@@ -1,5 +1,5 @@
 use borrow.Rule.Slice.PartMut.{put_mid}
-use Rattle.std.proofs.Common.{◌≡◌, ◌∙◌, ◌+◌, ◌-◌, ◌*◌, ◌<◌, ◌≤◌, ℕ, ap, arith, get_or, length, subst, sym, ⊎_elim}
+use Rattle.std.proofs.Common.{◌≡◌, ◌∙◌, ◌+◌, ◌-◌, ◌*◌, ◌<◌, ◌≤◌, ℕ, ap, arith, get_or, length, refl, subst, sym, ⊎_elim}
 use Rattle.std.proofs.Math.Path.{transport}
 use Rattle.std.proofs.lemmas.Bool.{cases_lt}
 use Rattle.std.proofs.lemmas.List.Edits.{length-between}
@@ -7,7 +7,7 @@ use Rattle.std.proofs.lemmas.Nat.{mul-le}
 use Rattle.roster_instance.specs.Counting.{sum_below}
 use Rattle.roster_offers.specs.Lists.{offers_on}
 use Rattle.roster_state.specs.Codes.{sizes_of}
-use Rattle.roster_floors.specs.Bounds.{most_floor}
+use Rattle.roster_state.specs.FloorLines.{most_floor}
 use Rattle.roster_floors.specs.Floors.{LieUnder, floor_count}
 use Rattle.roster_floors.proofs.Cells.{put_inside, put_length}
 use Rattle.roster_floors.proofs.DayLaws.{all_days, one_before, one_day_more, set_kept}
@@ -17,13 +17,13 @@ pub loop-day-init : goal.loop-day-init
 loop-day-init c =
     let search = c.args.search.now in
     let old = c.args.floors.now in
-    let part = c.set_all.new.here in
+    let part = c.fill.new.self in
     let count = c.floor_count-count.result in
     let first = c.days-days.result * count in
     let width = first + count - first in
     let inside : first + width ≤ length old = omega (arith, c.if-floors-days.false) in
-    let long : length part ≡ width = c.set_all.ensures.length ∙ length-between old first (first + count) (omega (arith, inside)) in
-    let none : (k : ℕ) → k < count → get_or (put_mid first width old part) (first + k) 0 ≡ 0 = λ k l. put_inside old part first width long inside k (omega (arith, l)) ∙ c.set_all.ensures.all k (omega (arith, l, long)) in
+    let long : length part ≡ width = c.fill.auto.self ∙ length-between old first (first + count) (omega (arith, inside)) in
+    let none : (k : ℕ) → k < count → get_or (put_mid first width old part) (first + k) 0 ≡ 0 = λ k l. put_inside old part first width long inside k (omega (arith, l)) ∙ c.fill.ensures.clones k 0 (omega (arith, l, long)) refl in
     record {
       set = λ d from below. absurd (omega (arith, from, below, c.days-days.ensures.count));
       end = none;

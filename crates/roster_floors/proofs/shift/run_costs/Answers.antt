@@ -1,5 +1,6 @@
 use Rattle.std.proofs.Common.{◌≡◌, ◌*◌, ap, arith}
-use Rattle.roster_floors.specs.Lines.{longer, way_cost}
+use Rattle.roster_floors.specs.Lines.{way_cost}
+use Rattle.roster_state.specs.FloorLines.{longer}
 use Rattle.roster_floors.proofs.Places.{work_within}
 use Rattle.roster_floors.proofs.shift.run_costs.Goals as goal
 

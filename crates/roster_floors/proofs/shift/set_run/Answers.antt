@@ -2,8 +2,8 @@ use Rattle.std.proofs.Common.{◌≡◌, ◌∙◌, ◌+◌, ◌*◌, ap, arith}
 use Rattle.std.proofs.lemmas.List.Edits.{get_or-between, length-between}
 use Rattle.std.specs.List.{between}
 use Rattle.roster_instance.specs.Sizes.{cap}
-use Rattle.roster_floors.specs.Bounds.{most_floor}
-use Rattle.roster_floors.specs.Lines.{longer, next_at}
+use Rattle.roster_state.specs.FloorLines.{longer, most_floor}
+use Rattle.roster_floors.specs.Lines.{next_at}
 use Rattle.roster_floors.proofs.Cells.{part_low}
 use Rattle.roster_floors.proofs.LineLaws.{line_under}
 use Rattle.roster_floors.proofs.Places.{cap_within, line_is, line_room, line_small}
@@ -12,14 +12,14 @@ use Rattle.roster_floors.proofs.shift.set_run.Goals as goal
 pub overflow_mul-first-2 : goal.overflow_mul-first-2
 overflow_mul-first-2 c = omega (arith, line_small c.args.day.now c.args.after.now.last c.requires.after.known c.args.run c.min-to.result (omega (arith, c.min-to.ensures, c.cap-most.ensures)))
 
-pub overflow_add-first-3 : goal.overflow_add-first-3
-overflow_add-first-3 c = omega (arith, line_small c.args.day.now c.args.after.now.last c.requires.after.known c.args.run c.min-to.result (omega (arith, c.min-to.ensures, c.cap-most.ensures)))
+pub overflow_add-next : goal.overflow_add-next
+overflow_add-next c = omega (arith, line_small c.args.day.now c.args.after.now.last c.requires.after.known c.args.run c.min-to.result (omega (arith, c.min-to.ensures, c.cap-most.ensures)))
 
 pub offset_bounds-day-first : goal.offset_bounds-day-first
 offset_bounds-day-first c = omega (arith, line_small c.args.day.now c.args.after.now.last c.requires.after.known c.args.run c.min-to.result (omega (arith, c.min-to.ensures, c.cap-most.ensures)))
 
-pub slice_bounds-set_line-end : goal.slice_bounds-set_line-end
-slice_bounds-set_line-end c = line_room c.args.day.now c.args.after.now.last c.requires.after.known c.args.run c.min-to.result (omega (arith, c.min-to.ensures, c.cap-most.ensures))
+pub slice_bounds-next-end : goal.slice_bounds-next-end
+slice_bounds-next-end c = line_room c.args.day.now c.args.after.now.last c.requires.after.known c.args.run c.min-to.result (omega (arith, c.min-to.ensures, c.cap-most.ensures))
 
 pub set_line-requires-clause-room : goal.set_line-requires-clause-room
 set_line-requires-clause-room c =
@@ -46,6 +46,6 @@ returns-clause-under c =
     let to : c.min-to.result ≡ longer c.args.run day.rules.working = omega (arith, c.min-to.ensures, c.cap-most.ensures) in
     let at = line_is day last c.requires.after.known c.args.run c.min-to.result to in
     line_under day c.args.after.now c.requires.after c.args.run c.run_costs-costs.result costs.run costs.off costs.others costs.stay (between first (first + day.shift_runs) day.next.now) c.set_line.new.here
-    (λ q l. c.set_line.ensures.leaves q (omega (arith, l, c.set_line.ensures.length, c.requires.room)))
-    (λ q l. c.set_line.ensures.stays q (omega (arith, l, c.set_line.ensures.length, c.requires.room)))
+    (λ q l. c.set_line.ensures.leaves q (omega (arith, l, c.set_line.ensures.counted.length_stays, c.requires.room)))
+    (λ q l. c.set_line.ensures.stays q (omega (arith, l, c.set_line.ensures.counted.length_stays, c.requires.room)))
     (λ q l. get_or-between day.next.now first (first + day.shift_runs) q 0 (omega (arith, l)) ∙ ap (λ m. next_at day (m + q)) at)

@@ -1,5 +1,5 @@
 use Rattle.std.proofs.Common.{◌<◌, ◌≤◌, ℕ}
-use Rattle.roster_floors.specs.Bounds.{most_leave}
+use Rattle.roster_state.specs.FloorLines.{most_leave}
 use Rattle.roster_floors.specs.Lines.{IsLeastWay, way_cost}
 use Rattle.roster_floors.proofs.ways.least_way.Given as goal
 

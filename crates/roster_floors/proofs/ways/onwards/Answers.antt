@@ -3,7 +3,7 @@ use Rattle.std.proofs.lemmas.List.{length-set}
 use Rattle.roster_instance.specs.Choices.{shift_of}
 use Rattle.roster_floors.specs.Lines.{IsOnward, IsOpenWay, no_onward, offer_on}
 use Rattle.roster_floors.specs.declared.ways.Onward.{Onward}
-use Rattle.roster_floors.proofs.Cells.{each_more}
+use Rattle.roster_state.proofs.FloorLines.{each_more}
 use Rattle.roster_floors.proofs.WayLaws.{each_set, onward_open}
 use Rattle.roster_floors.proofs.ways.onwards.Goals as goal
 

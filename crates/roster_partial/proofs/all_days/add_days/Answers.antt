@@ -2,7 +2,8 @@ use Rattle.std.proofs.Common.{◌≡◌, ◌∙◌, ◌+◌, ◌-◌, ◌*◌, �
 use Rattle.std.proofs.lemmas.Bool.{cases_lt}
 use Rattle.std.proofs.lemmas.Nat.{mul-le}
 use Rattle.roster_offers.proofs.ListLaws.{offers_read}
-use Rattle.roster_partial.specs.Rows.{most_rows, rows_in}
+use Rattle.roster_partial.specs.Rates.{most_offers}
+use Rattle.roster_partial.specs.Rows.{count_in, most_rows, rows_in}
 use Rattle.roster_partial.specs.Searches.{AreOfDay, best_of_day, days_in, offered}
 use Rattle.roster_partial.proofs.RowCells.{rows_counted}
 use Rattle.roster_partial.proofs.all_days.add_days.Goals as goal
@@ -17,6 +18,10 @@ offers c =
 -- the steps of the day, as they are reckoned
 steps : (c : After-len-offers) → (c.row_count-end.result - c.loop-day.first) * c.len-offers.result ≡ (c.row_count-end.result - c.loop-day.first) * length (offered c.args.limited.now.floors.search c.loop-day.day)
 steps c = ap (λ n. (c.row_count-end.result - c.loop-day.first) * n) (offers c)
+
+-- they are no more than those of as many rows by as many offers as a day may have
+brief_steps : (c : After-len-offers) → (c.row_count-end.result - c.loop-day.first) * length (offered c.args.limited.now.floors.search c.loop-day.day) ≤ (c.row_count-end.result - c.loop-day.first) * most_offers
+brief_steps c = omega (arith, steps c, mul-le (c.row_count-end.result - c.loop-day.first) c.len-offers.result (c.row_count-end.result - c.loop-day.first) 9 (omega arith) c.len-offers.ensures.fits)
 
 pub overflow_sub-steps : goal.overflow_sub-steps
 overflow_sub-steps c = omega (arith, c.loop-day.invariant.rows.inside, rows_counted c.loop-day.rows c.row_count-end.result c.row_count-end.ensures)
@@ -49,6 +54,7 @@ loop-day-preserved c =
         | inl some ↦ omega (arith, more, c.add_day.ensures.each, i.each_day (omega (arith, some, long)))
         | inr none ↦ let empty : end - c.loop-day.first ≡ 0 = omega (arith, none) in omega (arith, more, c.add_day.ensures.each, c.add_day.ensures.counted, ap (λ n. n * length (offered limited.floors.search day)) empty)
       ];
+      brief = omega (arith, brief_steps of, c.add_day.ensures.counted, i.brief, i.rows.inside, long);
       counted = (omega (arith, c.add_day.ensures.each, c.add_day.ensures.rows.inside, i.counted.0), omega (arith, steps of, c.add_day.ensures.counted, c.if-steps-most.false, c.count.ensures, i.counted.1));
     }
 
@@ -71,6 +77,22 @@ returns-then-steps-most-clause-full c = λ _.
 pub returns-then-not-add_day-clause-counted : goal.returns-then-not-add_day-clause-counted
 returns-then-not-add_day-clause-counted c =
     (omega (arith, c.add_day.ensures.each, c.add_day.ensures.rows.inside, c.loop-day.invariant.counted.0), omega (arith, steps (goal.at.returns-then-not-add_day-clause-counted c).After-len-offers, c.add_day.ensures.counted, c.if-steps-most.false, c.count.ensures, c.loop-day.invariant.counted.1))
+
+pub returns-then-not-add_day-clause-brief : goal.returns-then-not-add_day-clause-brief
+returns-then-not-add_day-clause-brief c =
+    let i = c.loop-day.invariant in
+    let long = rows_counted c.loop-day.rows c.row_count-end.result c.row_count-end.ensures in
+    omega (arith, brief_steps (goal.at.returns-then-not-add_day-clause-brief c).After-len-offers, c.add_day.ensures.counted, i.brief, i.rows.inside, long, c.row_count-end.ensures, i.rows.held.within)
+
+pub returns-then-steps-most-clause-brief : goal.returns-then-steps-most-clause-brief
+returns-then-steps-most-clause-brief c =
+    let i = c.loop-day.invariant in
+    omega (arith, i.brief, i.rows.inside, rows_counted c.loop-day.rows c.row_count-end.result c.row_count-end.ensures, c.row_count-end.ensures, i.rows.held.within)
+
+pub returns-clause-brief : goal.returns-clause-brief
+returns-clause-brief c =
+    let i = c.loop-day.invariant in
+    omega (arith, i.brief, i.rows.inside, rows_counted c.loop-day.rows (count_in c.loop-day.rows) refl, i.rows.held.within)
 
 pub returns-then-not-add_day-clause-full : goal.returns-then-not-add_day-clause-full
 returns-then-not-add_day-clause-full c = λ _. inl (c.add_day.ensures.full c.if-not-add_day.true)

@@ -45,6 +45,7 @@ returns-in_default c = record {
   dearer = λ e. absurd cc;
   each_day = λ cost e. absurd cc;
   counted = c.add_days.ensures.counted;
+  brief = c.add_days.ensures.brief;
   length = refl;
 }
 
@@ -62,6 +63,7 @@ returns-in_default-least_at_end c = record {
   dearer = λ _. sym (all_rows (goal.at.returns-in_default-least_at_end c).In-Some) ∙ c.in_default-least_at_end.ensures.best;
   each_day = λ cost e. absurd cc;
   counted = c.add_days.ensures.counted;
+  brief = c.add_days.ensures.brief;
   length = refl;
 }
 
@@ -86,5 +88,6 @@ returns c =
       dearer = λ e. absurd cc;
       each_day = λ cost is. c.in-Some.ensures.each_day (omega (arith, there.0, there.1, rows_counted rows (count_in rows) refl));
       counted = c.add_days.ensures.counted;
+      brief = c.add_days.ensures.brief;
       length = c.read_row.ensures.length;
     }

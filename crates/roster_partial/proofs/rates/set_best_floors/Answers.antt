@@ -3,14 +3,14 @@ use Rattle.roster_offers.specs.Lists.{offers_on}
 use Rattle.roster_floors.specs.declared.rates.Rates.{Rates}
 use Rattle.roster_partial.specs.Counts.{CountsSets, most_sets}
 use Rattle.roster_partial.specs.Rates.{AreSetAt}
-use Rattle.roster_partial.proofs.CountLaws.{no_set, one_set, sets_more, sets_within}
+use Rattle.roster_partial.proofs.CountLaws.{no_set, one_row, one_set, sets_more, sets_within}
 use Rattle.roster_partial.proofs.rates.set_best_floors.Goals as goal
 use Rattle.roster_partial.proofs.rates.set_best_floors.Goals.{then-not-are_same, else-not-are_same}
 
 pub returns-then-floors-floor_cells-clause-counted : goal.returns-then-floors-floor_cells-clause-counted
 returns-then-floors-floor_cells-clause-counted c =
     let search = c.args.bounded.now.search in
-    sets_within search.case.now search.nurse (offers_on search.offers.now) 0 most_sets c.args.meter.now c.args.meter.now (omega arith) (no_set search.case.now search.nurse (offers_on search.offers.now) c.args.meter.now c.args.meter.now (omega arith))
+    sets_within search.case.now search.nurse (offers_on search.offers.now) (omega arith) (omega arith) (no_set search.case.now search.nurse (offers_on search.offers.now) c.args.meter.now)
 
 pub returns-clause-set : goal.returns-clause-set
 returns-clause-set c =
@@ -36,16 +36,15 @@ returns-clause-counted c =
     let set = c.set_floors.new.meter in
     let followed = c.trial-first.new.meter in
     let tried = c.try_rates-last.new.meter in
-    let trials = c.plan_by-plan.result.trials in
     let inside = c.set_floors.ensures.room.1 (omega (arith, c.if-floors-floor_cells.false, c.floor_cells.ensures)) in
-    let first = sets_more k n offers 0 1 start planned set (no_set k n offers start planned c.plan_by-plan.ensures.counted.0) (one_set k n offers planned set (c.set_floors.ensures.counted inside)) in
-    let followed_is = sets_more k n offers 1 0 start set followed first (no_set k n offers set followed c.trial-first.ensures.counted.0) in
-    let more = sets_more k n offers 1 trials start followed tried followed_is c.try_rates-last.ensures.counted in
+    let first = sets_more k n offers (one_row k n offers start planned c.plan_by-plan.ensures.counted) (one_set k n offers planned set (c.set_floors.ensures.counted inside)) in
+    let followed_is = sets_more k n offers first (one_row k n offers set followed c.trial-first.ensures.counted) in
+    let more = sets_more k n offers followed_is c.try_rates-last.ensures.counted in
     elim c.if-not-are_same.branch [
       | then-not-are_same w ↦
           let again = w.set_floors-then-not-are_same.new.meter in
-          let all = sets_more k n offers (1 + trials) 1 start tried again more (one_set k n offers tried again (w.set_floors-then-not-are_same.ensures.counted (w.set_floors-then-not-are_same.ensures.room.1 c.try_rates-last.ensures.tried.set.inside))) in
-          subst (λ (m : ℕ). CountsSets k n offers most_sets start m) (sym w.meter-is) (sets_within k n offers (1 + trials + 1) most_sets start again (omega (arith, c.plan_by-plan.ensures.trials)) all)
+          let all = sets_more k n offers more (one_set k n offers tried again (w.set_floors-then-not-are_same.ensures.counted (w.set_floors-then-not-are_same.ensures.room.1 c.try_rates-last.ensures.tried.set.inside))) in
+          subst (λ (m : ℕ). CountsSets k n offers most_sets most_sets start m) (sym w.meter-is) (sets_within k n offers (omega (arith, c.plan_by-plan.ensures.trials)) (omega (arith, c.plan_by-plan.ensures.trials)) all)
       | else-not-are_same w ↦
-          subst (λ (m : ℕ). CountsSets k n offers most_sets start m) (sym w.meter-is) (sets_within k n offers (1 + trials) most_sets start tried (omega (arith, c.plan_by-plan.ensures.trials)) more)
+          subst (λ (m : ℕ). CountsSets k n offers most_sets most_sets start m) (sym w.meter-is) (sets_within k n offers (omega (arith, c.plan_by-plan.ensures.trials)) (omega (arith, c.plan_by-plan.ensures.trials)) more)
     ]

@@ -1,6 +1,6 @@
 use Rattle.std.proofs.Common.{arith}
 use Rattle.roster_offers.specs.Lists.{offers_on}
-use Rattle.roster_partial.proofs.CountLaws.{no_set, sets_more}
+use Rattle.roster_partial.proofs.CountLaws.{no_set, sets_more, sets_within}
 use Rattle.roster_partial.proofs.rates.try_rates.Goals as goal
 
 pub trials-init : goal.trials-init
@@ -8,7 +8,7 @@ trials-init c =
     let search = c.args.bounded.now.search in
     record {
       tried = c.requires.tried;
-      counted = no_set search.case.now search.nurse (offers_on search.offers.now) c.args.meter.now c.args.meter.now (omega arith);
+      counted = no_set search.case.now search.nurse (offers_on search.offers.now) c.args.meter.now;
       most = c.requires.room;
     }
 
@@ -19,6 +19,11 @@ trials-preserved c =
     let i = c.trials.invariant in
     record {
       tried = c.try_more-tried.ensures.tried;
-      counted = sets_more search.case.now search.nurse offers c.trials._trial 1 c.args.meter.now c.trials.meter c.try_more-tried.new.meter i.counted c.try_more-tried.ensures.counted;
+      counted = sets_more search.case.now search.nurse offers i.counted c.try_more-tried.ensures.counted;
       most = omega (arith, c.try_more-tried.ensures.few, c.if-bounded-count.false, c.count.ensures, c.steps_of_trial-each.ensures.steps);
     }
+
+pub returns-then-is_done-clause-counted : goal.returns-then-is_done-clause-counted
+returns-then-is_done-clause-counted c =
+    let search = c.args.bounded.now.search in
+    sets_within search.case.now search.nurse (offers_on search.offers.now) (omega (arith, c.trials-test.true)) (omega (arith, c.trials-test.true)) c.trials.invariant.counted

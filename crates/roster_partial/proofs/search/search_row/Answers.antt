@@ -1,8 +1,8 @@
 use Rattle.std.proofs.Common.{arith, inl, inr, refl, subst, sym, ℕ}
 use Rattle.roster_offers.specs.Lists.{offers_on}
 use Rattle.roster_search.specs.Search.{standing_steps}
-use Rattle.roster_partial.specs.Counts.{CountsPartial, most_sets}
-use Rattle.roster_partial.proofs.CountLaws.{no_set, sets_within}
+use Rattle.roster_partial.specs.Counts.{CountsPartial}
+use Rattle.roster_partial.proofs.CountLaws.{no_partial}
 use Rattle.roster_partial.proofs.search.search_row.Goals as goal
 use Rattle.roster_partial.proofs.search.search_row.Goals.{then-begins+in_default, else-begins}
 
@@ -38,7 +38,7 @@ returns-clause-standing c =
       between = c.if-begins.meter;
       partial = elim c.if-begins.branch [
         | then-begins+in_default w ↦ subst (λ (m : ℕ). CountsPartial k n offers c.args.meter.now m) (sym w.meter-is) w.search_in_tables.ensures.counted
-        | else-begins w ↦ subst (λ (m : ℕ). CountsPartial k n offers c.args.meter.now m) (sym w.meter-is) (sets_within k n offers 0 most_sets c.args.meter.now c.args.meter.now (omega arith) (no_set k n offers c.args.meter.now c.args.meter.now (omega arith)))
+        | else-begins w ↦ subst (λ (m : ℕ). CountsPartial k n offers c.args.meter.now m) (sym w.meter-is) (no_partial k n offers c.args.meter.now)
       ];
       left = elim c.if-begins.branch [
         | then-begins+in_default w ↦ omega (arith, w.meter-is, w.search_in_tables.ensures.most, w.count.ensures, w.most_steps.ensures.count, c.steps_at_most-steps.ensures.all, c.steps_at_most-steps.ensures.within)

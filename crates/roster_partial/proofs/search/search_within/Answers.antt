@@ -1,4 +1,4 @@
-use Rattle.std.proofs.Common.{◌≡◌, ◌+◌, ◌≤◌, None, subst, take, ℕ}
+use Rattle.std.proofs.Common.{◌≡◌, ◌+◌, ◌≤◌, None, arith, subst, take, ℕ}
 use Rattle.roster_offers.specs.Lists.{IsFound}
 use Rattle.roster_offers.specs.declared.lists.RowSearch.{RowSearch}
 use Rattle.roster_partial.specs.declared.all_days.Within.TheVariants.{Dearer, Found, Full}
@@ -16,5 +16,6 @@ returns c =
       dearer = subst (λ (s : RowSearch). c.row_within.result ≡ Dearer → within c.args.attempt.now.limit (best_in s) ≡ None) c.of.ensures.search c.row_within.ensures.dearer;
       each_day = subst (λ (s : RowSearch). (cost : ℕ) → c.row_within.result ≡ Found cost → c.args.meter.now + days_in s ≤ c.row_within.new.meter) c.of.ensures.search c.row_within.ensures.each_day;
       counted = c.row_within.ensures.counted;
+      brief = omega (arith, c.row_within.ensures.brief, c.min.ensures);
       length = c.row_within.ensures.length;
     }

@@ -158,8 +158,8 @@ loop-weekends-preserved c =
     record {
       begun = omega (arith, old.begun);
       inside = few;
-      least = group_more day group from end c.below-first.result.0 w rows places c.loop-weekends.labels c.loop-weekends.pointers c.label_rows.new.labels c.label_rows.new.pointers old.least c.with_weekends-block.result is code_is e.beside e.least;
-      beside = tables_then old.beside (tables_wider e.beside (code_of z group) (z.weekends * z.assignments) (omega (arith, code_is)) (omega (arith, code_is, within)));
+      least = group_more day group from end c.below-first.result.0 w rows places c.loop-weekends.labels c.loop-weekends.pointers c.label_rows.new.labels c.label_rows.new.pointers old.least c.with_weekends-block.result is code_is e.put.beside e.put.least;
+      beside = tables_then old.beside (tables_wider e.put.beside (code_of z group) (z.weekends * z.assignments) (omega (arith, code_is)) (omega (arith, code_is, within)));
       counted = omega (arith, old.counted, e.counted, rows_counted (length day.offers.now) c.below-first.result.0 w rows (end - from) old.begun);
     }
 

@@ -4,10 +4,11 @@ use Rattle.std.proofs.lemmas.List.{get_or-replicate, take_all}
 use Rattle.roster_state.specs.Stretches.{stretch_state}
 use Rattle.roster_offers.specs.Lists.{no_row}
 use Rattle.roster_search.specs.OpenDays.{RunCells, best_with, states_of}
+use Rattle.roster_search.specs.Rows.{AreRowsIn, RowCells}
 use Rattle.roster_search.specs.Tables.{AreOfLeast}
 use Rattle.roster_search.proofs.CellLaws.{room_for_more}
 use Rattle.roster_search.proofs.LabelLaws.{least_of_none}
-use Rattle.roster_search.proofs.StretchLaws.{in_stretch}
+use Rattle.roster_search.proofs.StretchLaws.{between_then, count_short, in_stretch, rows_of}
 use Rattle.roster_search.proofs.labels.label_run.Goals.{then-is_set, else-is_set}
 use Rattle.roster_search.proofs.labels.label_run.Goals as goal
 
@@ -31,6 +32,7 @@ loop-place-init c =
           let j = i * day.days.ranges.assignments + b in
           let there : j < count = omega (arith, in_stretch stretch.rows (stretch.end - stretch.from) day.days.ranges.assignments i b in_rows in_width, c.requires.lengths.labels_length) in
           transport (λ q. AreOfLeast by [] (sym (get_or-replicate count j no_row 0 there) q) (sym (get_or-replicate count j 0 0 there) q)) (least_of_none by);
+      between = λ i b wide inside. refl;
       lengths = record { of_labels = refl; of_numbers = refl };
       counted = omega arith;
     }
@@ -45,6 +47,7 @@ loop-place-preserved c =
           rw (w.labels-is, w.numbers-is, w.meter-is, is_set) record {
             least = λ is. e.least;
             none = λ is. absurd cc;
+            between = between_then c.row_shape.ensures c.args.labels.now c.loop-place.labels w.lower_run.new.labels e.between old.between;
             lengths = record { of_labels = e.lengths.of_labels ∙ old.lengths.of_labels; of_numbers = e.lengths.of_numbers ∙ old.lengths.of_numbers };
             counted = omega (arith, e.counted, old.counted);
           }
@@ -53,6 +56,7 @@ loop-place-preserved c =
           rw (w.labels-is, w.numbers-is, w.meter-is, w.is_set-is) record {
             least = e.least;
             none = e.none;
+            between = between_then c.row_shape.ensures c.args.labels.now c.loop-place.labels w.set_run-is_set.new.labels e.between old.between;
             lengths = record { of_labels = e.lengths.of_labels ∙ old.lengths.of_labels; of_numbers = e.lengths.of_numbers ∙ old.lengths.of_numbers };
             counted = omega (arith, e.counted, old.counted);
           }
@@ -60,24 +64,47 @@ loop-place-preserved c =
 
 -- ---- no offer is allowed
 
+pub clear_rows-requires-clause-rows : goal.clear_rows-requires-clause-rows
+clear_rows-requires-clause-rows c = transport (λ q. AreRowsIn (sym c.row_shape.ensures q) (length c.loop-place.labels)) (rows_of c.requires.stretch (c.loop-place.invariant.lengths.of_labels ∙ c.requires.lengths.labels_length))
+
+pub clear_rows-requires-clause-short : goal.clear_rows-requires-clause-short
+clear_rows-requires-clause-short c = omega (arith, count_short c.requires.stretch, c.loop-place.invariant.lengths.of_labels, c.requires.lengths.labels_length)
+
+pub clear_rows-requires-clause-numbers : goal.clear_rows-requires-clause-numbers
+clear_rows-requires-clause-numbers c =
+    let long = c.loop-place.invariant.lengths in
+    long.of_numbers ∙ c.requires.lengths.numbers_length ∙ sym (long.of_labels ∙ c.requires.lengths.labels_length)
+
 pub returns-then-not-is_set-clause-least : goal.returns-then-not-is_set-clause-least
 returns-then-not-is_set-clause-least c i b in_rows in_width =
     let day = c.args.day.now in
     let stretch = c.args.stretch.now in
     let old = c.loop-place.invariant in
+    let shape = c.row_shape.ensures in
     let count = length c.loop-place.labels in
     let j = i * day.days.ranges.assignments + b in
     let below = in_stretch stretch.rows (stretch.end - stretch.from) day.days.ranges.assignments i b in_rows in_width in
     let there : j < count = omega (arith, below, old.lengths.of_labels, c.requires.lengths.labels_length) in
-    let in_numbers : j < length c.loop-place.numbers = omega (arith, below, old.lengths.of_numbers, c.requires.lengths.numbers_length) in
-    let label = get_or-replicate count j no_row 0 there ∙ sym (c.fill.ensures.clones j 0 there refl) in
-    let number = get_or-replicate count j 0 0 there ∙ sym (c.fill-then-not-is_set.ensures.clones j 0 in_numbers refl) in
+    let cleared = transport (λ q. RowCells (shape q) (λ j label. label ≡ no_row) c.clear_rows.new.labels) c.clear_rows.ensures.labels in
+    let zeros = transport (λ q. RowCells (shape q) (λ j number. number ≡ 0) c.clear_rows.new.numbers) c.clear_rows.ensures.numbers in
+    let label = get_or-replicate count j no_row 0 there ∙ sym (cleared i b in_rows in_width) in
+    let number = get_or-replicate count j 0 0 there ∙ sym (zeros i b in_rows in_width) in
     let all = take_all c.loop-place.place day.offers.now (omega (arith, c.loop-place-test.false)) in
     transport (λ q. AreOfLeast (best_with day (stretch_state stretch.block stretch.from i b)) (all q) (label q) (number q)) (old.none c.if-not-is_set.true i b in_rows in_width)
 
 pub returns-then-not-is_set-clause-small : goal.returns-then-not-is_set-clause-small
-returns-then-not-is_set-clause-small c a below =
-    subst (λ k. k < 16) (sym (c.fill-then-not-is_set.ensures.clones a 0 (omega (arith, below, c.fill-then-not-is_set.auto.self)) refl)) (omega arith)
+returns-then-not-is_set-clause-small c i b in_rows in_width =
+    let zeros = transport (λ q. RowCells (c.row_shape.ensures q) (λ j number. number ≡ 0) c.clear_rows.new.numbers) c.clear_rows.ensures.numbers in
+    subst (λ k. k < 16) (sym (zeros i b in_rows in_width)) (omega arith)
+
+pub returns-then-not-is_set-clause-between : goal.returns-then-not-is_set-clause-between
+returns-then-not-is_set-clause-between c = between_then c.row_shape.ensures c.args.labels.now c.loop-place.labels c.clear_rows.new.labels c.clear_rows.ensures.between c.loop-place.invariant.between
+
+pub returns-then-not-is_set-clause-lengths : goal.returns-then-not-is_set-clause-lengths
+returns-then-not-is_set-clause-lengths c =
+    let old = c.loop-place.invariant.lengths in
+    let new = c.clear_rows.ensures.lengths in
+    record { of_labels = new.of_labels ∙ old.of_labels; of_numbers = new.of_numbers ∙ old.of_numbers }
 
 -- ---- some is
 
@@ -85,6 +112,9 @@ pub returns-else-not-is_set-clause-least : goal.returns-else-not-is_set-clause-l
 returns-else-not-is_set-clause-least c =
     let all = take_all c.loop-place.place c.args.day.now.offers.now (omega (arith, c.loop-place-test.false)) in
     transport (λ q. RunCells c.args.day.now c.args.stretch.now (all q) c.loop-place.labels c.loop-place.numbers) (c.loop-place.invariant.least c.if-not-is_set.false).cells
+
+pub returns-else-not-is_set-clause-small : goal.returns-else-not-is_set-clause-small
+returns-else-not-is_set-clause-small c = (c.loop-place.invariant.least c.if-not-is_set.false).small
 
 -- ---- how many were counted
 

@@ -1,12 +1,12 @@
-use Rattle.std.proofs.Common.{ℕ, ◌≡◌, ◌∙◌, ◌-◌, ◌*◌, ◌+◌, ap, arith, get_or, length, sym}
+use Rattle.std.proofs.Common.{ℕ, ◌≡◌, ◌∙◌, ◌-◌, ◌*◌, ◌+◌, ◌<◌, ap, arith, get_or, length, sym}
 use Rattle.std.proofs.lemmas.List.{length-take-le}
-use Rattle.std.proofs.lemmas.List.Edits.{length-between}
+use Rattle.std.proofs.lemmas.List.Edits.{get_or-between, length-between}
 use borrow.Rule.Slice.PartMut.{put_mid}
 use Rattle.roster_state.specs.Codes.{code_of}
 use Rattle.roster_search.specs.Halves.{IsWritten}
 use Rattle.roster_search.proofs.CellLaws.{outside_wider}
 use Rattle.roster_search.proofs.PartLaws.{front_length, part_put}
-use Rattle.roster_search.proofs.StretchLaws.{count_is, count_within, in_room, in_table, rows_in_table, stretch_moved}
+use Rattle.roster_search.proofs.StretchLaws.{count_is, count_within, in_room, in_stretch, in_table, list_kept, stretch_moved}
 use Rattle.roster_search.proofs.labels.label_stretch.Goals as goal
 use Rattle.roster_search.proofs.labels.label_stretch.Goals.{After-label_run}
 
@@ -54,34 +54,39 @@ labelled c =
       put = part_put code long c.args.labels.now c.label_run.new.labels labels room;
     }
 
-pub set_run-requires-clause-within : goal.set_run-requires-clause-within
-set_run-requires-clause-within c =
-    let long = labelled (goal.at.set_run-requires-clause-within c).After-label_run in
-    omega (arith, long.numbers, count_is c.requires.stretch c.assignments.ensures.assignments, c.first.ensures.first, c.requires.tables.pointers_room, count_within c.requires.stretch, rows_in_table c.requires.stretch)
+pub put_numbers-requires-clause-numbers : goal.put_numbers-requires-clause-numbers
+put_numbers-requires-clause-numbers c = (labelled (goal.at.put_numbers-requires-clause-numbers c).After-label_run).numbers ∙ count_is c.requires.stretch c.assignments.ensures.assignments
 
-pub returns-clause-least : goal.returns-clause-least
-returns-clause-least c =
+pub returns-clause-put : goal.returns-clause-put
+returns-clause-put c =
     let day = c.args.day.now in
     let stretch = c.args.stretch.now in
-    let done = labelled (goal.at.returns-clause-least c).After-label_run in
-    let is = count_is c.requires.stretch c.assignments.ensures.assignments in
+    let good = c.requires.stretch in
+    let side = day.days.ranges.assignments in
+    let done = labelled (goal.at.returns-clause-put c).After-label_run in
+    let is = count_is good c.assignments.ensures.assignments in
+    let code_is = c.first.ensures.first in
     let code = c.first.result + stretch.from in
     let long = (stretch.rows - 1) * c.assignments.result + (stretch.end - stretch.from) in
-    let at_code : code_of day.days.ranges stretch.block + stretch.from ≡ c.first.result + stretch.from = omega (arith, c.first.ensures.first) in
-    let at_first : day.first + code_of day.days.ranges stretch.block + stretch.from ≡ day.first + (c.first.result + stretch.from) = omega (arith, c.first.ensures.first) in
-    stretch_moved day stretch c.label_run.new.labels c.label_run.new.numbers _ c.set_run.new.self
-    (λ j below. ap (λ k. get_or (put_mid code (code + long - code) c.args.labels.now c.label_run.new.labels) (k + j) 0) at_code ∙ done.put.inside j (omega (arith, below, done.labels, is)))
-    (λ j below. ap (λ k. get_or c.set_run.new.self (k + j) 0) at_first ∙ c.set_run.ensures.inside j (omega (arith, below, done.numbers, is))) c.label_run.ensures.least
-
-pub returns-clause-beside : goal.returns-clause-beside
-returns-clause-beside c =
-    let done = labelled (goal.at.returns-clause-beside c).After-label_run in
-    let good = c.requires.stretch in
-    let is = count_is good c.assignments.ensures.assignments in
-    let first = c.first.ensures.first in
+    let put = c.put_numbers.ensures.put in
+    let labels : ℕ → ℕ = λ k. get_or (put_mid code (code + long - code) c.args.labels.now c.label_run.new.labels) k 0 in
+    let kept = list_kept side stretch.from stretch.end c.first.result good.assignments good.some_places _ c.label_run.new.labels c.args.labels.now _ done.put
+    (λ j below. get_or-between c.args.labels.now code (code + long) j 0 (omega (arith, below, done.labels))) c.label_run.ensures.between in
     record {
-      of_labels = record { others = outside_wider _ _ _ _ _ _ (omega (arith, first)) (omega (arith, first, done.labels, count_within good, is)) done.put.others; length_stays = done.put.length_stays };
-      of_pointers = record { others = outside_wider _ _ _ _ _ _ (omega (arith, first)) (omega (arith, first, done.numbers, count_within good, is)) c.set_run.ensures.others; length_stays = c.set_run.ensures.length };
+      least = stretch_moved day stretch c.label_run.new.labels c.label_run.new.numbers _ c.put_numbers.new.pointers
+          (λ i b in_rows in_width.
+              let below = in_stretch stretch.rows (stretch.end - stretch.from) side i b in_rows in_width in
+              let there : code_of day.days.ranges stretch.block + stretch.from + (i * side + b) ≡ code + (i * side + b) = omega (arith, code_is) in
+              ap labels there ∙ done.put.inside (i * side + b) (omega (arith, below, done.labels, is)))
+          put.inside c.label_run.ensures.least;
+      labels_kept = λ i a in_rows inside beside.
+          let there : code_of day.days.ranges stretch.block + (i * side + a) ≡ c.first.result + (i * side + a) = omega (arith, code_is) in
+          ap labels there ∙ kept i a inside beside ∙ ap (λ k. get_or c.args.labels.now k 0) (sym there);
+      pointers_kept = put.kept;
+      beside = record {
+        of_labels = record { others = outside_wider _ _ _ _ _ _ (omega (arith, code_is)) (omega (arith, code_is, done.labels, count_within good, is)) done.put.others; length_stays = done.put.length_stays };
+        of_pointers = put.beside;
+      };
     }
 
 pub returns-clause-numbers : goal.returns-clause-numbers

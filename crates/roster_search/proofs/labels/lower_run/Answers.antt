@@ -1,10 +1,23 @@
-use Rattle.std.proofs.Common.{◌+◌, ◌-◌, ◌≡◌, ◌∙◌, arith, length, refl, sym}
+use Rattle.std.proofs.Common.{◌+◌, ◌-◌, ◌≡◌, ◌∙◌, arith, length, min, refl, slice_index_or, sym}
+use Rattle.std.proofs.Math.Path.{transport}
 use Rattle.std.proofs.lemmas.List.Edits.{get_or-between, length-between}
-use Rattle.roster_search.proofs.StretchLaws.{run_refused, small_pointed, stretch_lowered}
+use Rattle.std.specs.List.{between}
+use Rattle.roster_lanes.specs.Lanes.{pointer_by, raised}
+use Rattle.roster_search.specs.Rows.{AreRowsIn, RowCells}
+use Rattle.roster_search.proofs.StretchLaws.{count_short, rows_of, run_refused, small_pointed, stretch_lowered}
 use Rattle.roster_search.proofs.labels.lower_run.Goals as goal
 
-pub lower_all-requires-clause-others : goal.lower_all-requires-clause-others
-lower_all-requires-clause-others c =
+pub lower_rows-requires-clause-rows : goal.lower_rows-requires-clause-rows
+lower_rows-requires-clause-rows c = transport (λ q. AreRowsIn (sym c.requires.from.shape q) (length c.args.labels.now)) (rows_of c.requires.from.of_day c.requires.lengths.labels_length)
+
+pub lower_rows-requires-clause-short : goal.lower_rows-requires-clause-short
+lower_rows-requires-clause-short c = omega (arith, count_short c.requires.from.of_day, c.requires.lengths.labels_length)
+
+pub lower_rows-requires-clause-numbers : goal.lower_rows-requires-clause-numbers
+lower_rows-requires-clause-numbers c = c.requires.lengths.numbers_length ∙ sym c.requires.lengths.labels_length
+
+pub lower_rows-requires-clause-others : goal.lower_rows-requires-clause-others
+lower_rows-requires-clause-others c =
     let first = c.in-Some.by.0 in
     let count = length c.args.labels.now in
     let width : first + count - first ≡ count = omega arith in
@@ -15,13 +28,16 @@ returns-in-Some-clause-least c =
     let first = c.in-Some.by.0 in
     let count = length c.args.labels.now in
     let old = c.requires.least in
-    let same : length c.args.numbers.now ≡ count = c.requires.lengths.numbers_length ∙ sym c.requires.lengths.labels_length in
+    let shape = c.requires.from.shape in
+    let others = between first (first + count) c.args.day.now.later.now in
+    let more = c.in-Some.by.1 in
+    let labels = transport (λ q. RowCells (shape q) (λ j label. label ≡ min (slice_index_or c.args.labels.now j 0) (raised others more j)) c.lower_rows.new.labels) c.lower_rows.ensures.labels in
+    let numbers = transport (λ q. RowCells (shape q) (λ j number. number ≡ pointer_by (slice_index_or c.args.labels.now j 0) (raised others more j) (slice_index_or c.args.numbers.now j 0) c.args.place) c.lower_rows.new.numbers) c.lower_rows.ensures.numbers in
     record {
-      cells = stretch_lowered c.in-Some.ensures.by c.requires.place c.args.labels.now c.args.numbers.now _ c.lower_all.new.labels c.lower_all.new.pointers old.cells count c.requires.lengths.labels_length
+      cells = stretch_lowered c.in-Some.ensures.by c.requires.place c.args.labels.now c.args.numbers.now others c.lower_rows.new.labels c.lower_rows.new.numbers old.cells count c.requires.lengths.labels_length
           (λ j below. get_or-between c.args.day.now.later.now first (first + count) j 0 (omega (arith, below)))
-          c.lower_all.ensures.labels c.lower_all.ensures.pointers;
-      small = λ a below. small_pointed _ _ count c.args.place c.args.numbers.now c.lower_all.new.pointers (omega (arith, c.args.day.now.ready.few, c.requires.place))
-          (λ j there. old.small j (omega (arith, there, same))) c.lower_all.ensures.pointers a (omega (arith, below, c.lower_all.ensures.lengths.1, same));
+          labels numbers;
+      small = λ i b in_rows in_width. small_pointed _ _ _ _ c.args.place (omega (arith, c.args.day.now.ready.few, c.requires.place)) (old.small i b in_rows in_width) (numbers i b in_rows in_width);
     }
 
 -- ---- where the offer is not allowed

@@ -1,12 +1,25 @@
-use Rattle.std.proofs.Common.{◌+◌, ◌-◌, ◌≡◌, ◌∙◌, ◌<◌, arith, length, refl, replicate, subst, sym}
+use Rattle.std.proofs.Common.{◌+◌, ◌-◌, ◌≡◌, ◌∙◌, ◌<◌, arith, length, min, refl, replicate, subst, sym}
+use Rattle.std.proofs.Math.Path.{transport}
 use Rattle.std.proofs.lemmas.List.{get_or-replicate}
 use Rattle.std.proofs.lemmas.List.Edits.{get_or-between, length-between}
+use Rattle.std.specs.List.{between}
+use Rattle.roster_lanes.specs.Lanes.{raised}
 use Rattle.roster_offers.specs.Lists.{no_row}
-use Rattle.roster_search.proofs.StretchLaws.{run_refused, stretch_set}
+use Rattle.roster_search.specs.Rows.{AreRowsIn, RowCells}
+use Rattle.roster_search.proofs.StretchLaws.{count_short, rows_of, run_refused, stretch_set}
 use Rattle.roster_search.proofs.labels.set_run.Goals as goal
 
-pub set_all-requires : goal.set_all-requires
-set_all-requires c =
+pub set_rows-requires-clause-rows : goal.set_rows-requires-clause-rows
+set_rows-requires-clause-rows c = transport (λ q. AreRowsIn (sym c.requires.from.shape q) (length c.args.labels.now)) (rows_of c.requires.from.of_day c.requires.lengths.labels_length)
+
+pub set_rows-requires-clause-short : goal.set_rows-requires-clause-short
+set_rows-requires-clause-short c = omega (arith, count_short c.requires.from.of_day, c.requires.lengths.labels_length)
+
+pub set_rows-requires-clause-numbers : goal.set_rows-requires-clause-numbers
+set_rows-requires-clause-numbers c = c.requires.lengths.numbers_length ∙ sym c.requires.lengths.labels_length
+
+pub set_rows-requires-clause-others : goal.set_rows-requires-clause-others
+set_rows-requires-clause-others c =
     let first = c.in-Some.by.0 in
     let count = length c.args.labels.now in
     let width : first + count - first ≡ count = omega arith in
@@ -16,13 +29,16 @@ pub returns-clause-least : goal.returns-clause-least
 returns-clause-least c _ =
     let first = c.in-Some.by.0 in
     let count = length c.args.labels.now in
+    let shape = c.requires.from.shape in
+    let others = between first (first + count) c.args.day.now.later.now in
+    let numbers = transport (λ q. RowCells (shape q) (λ j number. number ≡ c.args.place) c.set_rows.new.numbers) c.set_rows.ensures.numbers in
+    let labels = transport (λ q. RowCells (shape q) (λ j label. label ≡ min (raised others c.in-Some.by.1 j) no_row) c.set_rows.new.labels) c.set_rows.ensures.labels in
     record {
-      cells = stretch_set c.in-Some.ensures.by c.requires.place (replicate count no_row) (replicate count 0) _ c.set_all.new.labels c.fill.new.self c.requires.none count c.requires.lengths.labels_length
+      cells = stretch_set c.in-Some.ensures.by c.requires.place (replicate count no_row) (replicate count 0) others c.set_rows.new.labels c.set_rows.new.numbers c.requires.none count c.requires.lengths.labels_length
           (λ j below. get_or-between c.args.day.now.later.now first (first + count) j 0 (omega (arith, below)))
           (λ j below. get_or-replicate count j no_row 0 below)
-          c.set_all.ensures.labels
-          (λ j below. c.fill.ensures.clones j 0 (omega (arith, below, c.requires.lengths.labels_length, c.requires.lengths.numbers_length)) refl);
-      small = λ a below. subst (λ k. k < 16) (sym (c.fill.ensures.clones a 0 (omega (arith, below, c.fill.auto.self)) refl)) (omega (arith, c.args.day.now.ready.few, c.requires.place));
+          labels numbers;
+      small = λ i b in_rows in_width. subst (λ k. k < 16) (sym (numbers i b in_rows in_width)) (omega (arith, c.args.day.now.ready.few, c.requires.place));
     }
 
 -- ---- where the offer is not allowed

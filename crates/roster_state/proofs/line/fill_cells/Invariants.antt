@@ -1,5 +1,5 @@
 use Rattle.std.proofs.Common.{◌≡◌, ◌<◌, ℕ, slice_index_or}
-use Rattle.roster_floors.proofs.line.set_all.Given as goal
+use Rattle.roster_state.proofs.line.fill_cells.Given as goal
 
 abbrev pub invariant-loop-place : goal.invariant-loop-place
 invariant-loop-place l = (q : ℕ) → q < l.place → slice_index_or l.here q 0 ≡ l.floor

@@ -1,5 +1,5 @@
-use Rattle.roster_floors.proofs.LineLaws.{AreCells}
-use Rattle.roster_floors.proofs.line.set_line.Given as goal
+use Rattle.roster_state.proofs.FloorLines.{AreCells}
+use Rattle.roster_state.proofs.line.set_cells.Given as goal
 
 abbrev pub invariant-open : goal.invariant-open
 invariant-open l = AreCells l.fn.costs l.after l.place l.here

@@ -3,10 +3,10 @@ use Rattle.std.proofs.Common.{ℕ, ◌≡◌, ◌+◌, ◌≤◌, ◌<◌, ap, a
 use Rattle.roster_instance.specs.Counting.{one_if}
 use Rattle.roster_instance.specs.RunLaw.{day_violations}
 use Rattle.roster_instance.specs.Sizes.{cap}
-use Rattle.roster_floors.specs.Lines.{IsUnderStay}
-use Rattle.roster_floors.proofs.LineLaws.{cell_more, missed_from}
-use Rattle.roster_floors.proofs.line.set_line.Goals as goal
-use Rattle.roster_floors.proofs.line.set_line.Goals.{then-count-cap, else-count-cap}
+use Rattle.roster_state.specs.FloorLines.{IsUnderStay}
+use Rattle.roster_state.proofs.FloorLines.{cell_more, missed_from}
+use Rattle.roster_state.proofs.line.set_cells.Goals as goal
+use Rattle.roster_state.proofs.line.set_cells.Goals.{then-count-cap, else-count-cap}
 
 pub open-preserved : goal.open-preserved
 open-preserved c =
