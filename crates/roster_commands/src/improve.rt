@@ -8,7 +8,7 @@ use crate::fault::Fault;
 use crate::held::hold;
 use crate::reading::Instance;
 use crate::weeks::show_weeks;
-use roster_rounds::{LogFault, RunSpace, improve_unless_known, rounds_have_room};
+use roster_rounds::{LogFault, RunSpace, improve, rounds_have_room};
 use roster_state::Meter;
 use roster_text::Watch;
 use std::alloc::Global;
@@ -34,11 +34,11 @@ pub(crate) fn report_improve<'a, Out: Write, Log: Write>(
 {
     let mut meter = Meter::new(&mut instance.case);
     let mut held = hold(alloc, source, instance)?;
-    let Ok(mut space) = RunSpace::for_case(alloc, held.case()) else {
+    let Ok(mut workspace) = RunSpace::for_case(alloc, held.case()) else {
         return Err(Fault::Memory);
     };
     rounds_have_room(held.case(), rounds);
-    match improve_unless_known(&mut held, rounds, from, &mut space, &mut meter, log) {
+    match improve(&mut held, rounds, from, &mut workspace, &mut meter, log) {
         Ok(_) => show_weeks(held.case(), held.roster(), output),
         Err(LogFault::LogFailed { .. }) => Err(Fault::Log),
     }

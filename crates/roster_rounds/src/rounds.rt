@@ -7,14 +7,11 @@ ghost use Rattle.roster_rules.specs.AllowedRows.{best_row};
 ghost use Rattle.roster_rules.specs.Improver.{round_log};
 ghost use Rattle.roster_laws.specs.FrozenDays.{FrozenDaysStay};
 ghost use Rattle.roster_laws.specs.Greatest.{extensions_in, greatest_extension_count};
-ghost use Rattle.roster_partial.specs.Workspaces.{SameRoom, fits_space};
-ghost use Rattle.roster_rounds.specs.Spaces.{fits_run};
+ghost use Rattle.roster_partial.specs.Workspaces.{SameRoom};
 ghost use Rattle.roster_rounds.specs.RunLogs.{BreaksAmong, LogStops, Ran, RoundMade};
 
 use crate::outcome::Outcome;
-use crate::space::RunSpace;
 use crate::steps::Steps;
-use roster_best::Workspace;
 use roster_case::Held;
 use roster_log::{LogFault, log_change, log_round, log_word};
 use roster_state::Meter;
@@ -24,18 +21,21 @@ use std::io::Write;
 /// Makes rounds until one changes nothing, or as many as are given. A round is a step for each nurse, in the order of the case. The
 /// days of the weeks before week `from` stay as they are. Each line of the log goes out as it is made.
 ///
+/// With a `Workspace` each step is a search. A `RunSpace` takes less time: a nurse whose last search in the run tells that no row is
+/// cheaper isn't searched again.
+///
 /// # Errors
 ///
 /// The log failed. The roster is the one to which the first line that didn't wholly go out belongs.
-pub fn improve<W: Write>(
+pub fn improve<W: Write, S: Steps>(
     held: &mut Held,
     rounds: u16,
     from: u16,
-    workspace: &mut Workspace,
+    workspace: &mut S,
     meter: &mut Meter,
     log: &mut Watch<W>,
 ) -> Result<Outcome, LogFault>
-    requires fits { fits_space held.old.case workspace.old ≡ true }
+    requires fits { S.fits held.old.case workspace.old ≡ true }
     requires room { meter.old + extensions_in held.old.case rounds ≤ greatest_u64 }
     ensures case { held.new.case ≡ held.old.case }
     ensures ok { IfOk result (Ran W.contents held.old.case (best_row held.old.case from) rounds
@@ -44,43 +44,14 @@ pub fn improve<W: Write>(
         rounds held.old.roster held.new.roster log.old log.new) }
     ensures frozen { FrozenDaysStay held.old.case from held.old.roster held.new.roster }
     ensures counted { meter.new ≤ meter.old + extensions_in held.old.case rounds }
-    ensures same_room { SameRoom workspace.old workspace.new }
-    ensures fits { fits_space held.old.case workspace.new ≡ true }
+    ensures same_room { SameRoom (S.space workspace.old) (S.space workspace.new) }
+    ensures fits { S.fits held.old.case workspace.new ≡ true }
 {
+    workspace.begin();
     make_rounds(held, rounds, from, workspace, meter, log)
 }
 
-/// The run of `improve` in less time: a nurse whose last search tells that no row is cheaper isn't searched again. What the space knew
-/// before the run is forgotten.
-///
-/// # Errors
-///
-/// The log failed, as in `improve`.
-pub fn improve_unless_known<W: Write>(
-    held: &mut Held,
-    rounds: u16,
-    from: u16,
-    space: &mut RunSpace,
-    meter: &mut Meter,
-    log: &mut Watch<W>,
-) -> Result<Outcome, LogFault>
-    requires fits { fits_run held.old.case space.old ≡ true }
-    requires room { meter.old + extensions_in held.old.case rounds ≤ greatest_u64 }
-    ensures case { held.new.case ≡ held.old.case }
-    ensures ok { IfOk result (Ran W.contents held.old.case (best_row held.old.case from) rounds
-        held.old.roster held.new.roster log.old log.new) }
-    ensures err { IfErr result (LogStops W.contents held.old.case (best_row held.old.case from)
-        rounds held.old.roster held.new.roster log.old log.new) }
-    ensures frozen { FrozenDaysStay held.old.case from held.old.roster held.new.roster }
-    ensures counted { meter.new ≤ meter.old + extensions_in held.old.case rounds }
-    ensures same_room { SameRoom space.old.workspace space.new.workspace }
-    ensures fits { fits_run held.old.case space.new ≡ true }
-{
-    space.last.forget();
-    make_rounds(held, rounds, from, space, meter, log)
-}
-
-/// A run by such steps.
+/// A run by steps that are ready.
 fn make_rounds<W: Write, S: Steps>(
     held: &mut Held,
     rounds: u16,

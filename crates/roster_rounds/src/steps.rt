@@ -1,6 +1,6 @@
 //! What makes the steps of a run.
 
-ghost use Rattle.std.specs.Prelude.{◌≡◌, ◌+◌, ◌<◌, ◌≤◌, true, not};
+ghost use Rattle.std.specs.Prelude.{◌≡◌, ◌+◌, ◌<◌, ◌≤◌, Bool, true, not};
 ghost use Rattle.roster_bundle.specs.Limits.{greatest_u64};
 ghost use Rattle.roster_instance.specs.Meaning.{Meaning, nurse_count};
 ghost use Rattle.roster_rules.specs.AllowedRows.{best_row};
@@ -10,6 +10,7 @@ ghost use Rattle.roster_laws.specs.FrozenDays.{FrozenDaysStay};
 ghost use Rattle.roster_laws.specs.Greatest.{extension_count};
 ghost use Rattle.roster_partial.specs.Workspaces.{SameRoom, Space, fits_space};
 ghost use Rattle.roster_best.specs.Known.{IsKnown};
+ghost use Rattle.roster_rounds.specs.Spaces.{fits_run};
 
 use crate::nurse::{step, step_unless_known};
 use crate::outcome::Step;
@@ -18,13 +19,21 @@ use roster_best::Workspace;
 use roster_case::Held;
 use roster_state::Meter;
 
-/// What makes the steps of a run, for one nurse after another.
-pub(crate) trait Steps {
-    /// It has room for the searches of a case, and what it tells of earlier ones is so.
+/// What makes the steps of a run, for one nurse after another: a `Workspace` by a search each, a `RunSpace` by fewer.
+pub trait Steps {
+    /// It has room for the runs over a case.
+    ghost fits: { Meaning → Self → Bool };
+
+    /// It has that room, and what it tells of the searches so far is so.
     ghost IsReady: { Meaning → Self → Type 0 };
 
     /// The workspace of its searches.
     ghost space: { Self → Space };
+
+    /// Begins a run: what earlier searches told is forgotten.
+    fn begin(&mut self)
+        ensures ready { (c : Meaning) → fits c self.old ≡ true → IsReady c self.new }
+        ensures same_room { SameRoom (space self.old) (space self.new) };
 
     /// Puts the nurse's best row in where it is strictly cheaper, as `crate::step` does.
     fn step(&mut self, held: &mut Held, nurse: usize, from: u16, meter: &mut Meter) -> Step
@@ -40,13 +49,22 @@ pub(crate) trait Steps {
         ensures counted { meter.new ≤ meter.old + extension_count held.old.case nurse }
         ensures same_room { SameRoom (space self.old) (space self.new) }
         ensures ready { IsReady held.old.case self.new };
+
+    /// What is ready has room.
+    ghost ready_fits: { (c : Meaning) (s : Self) → IsReady c s → fits c s ≡ true };
 }
 
 /// A search at each step.
 impl Steps for Workspace {
+    ghost fits = { λ c w. fits_space c w };
+
     ghost IsReady = { λ c w. fits_space c w ≡ true };
 
     ghost space = { λ w. w };
+
+    ghost ready_fits = { λ c w fits. fits };
+
+    fn begin(&mut self) {}
 
     fn step(&mut self, held: &mut Held, nurse: usize, from: u16, meter: &mut Meter) -> Step {
         step(held, nurse, from, self, meter)
@@ -55,9 +73,17 @@ impl Steps for Workspace {
 
 /// A search where the nurse's last one doesn't tell that no row is cheaper.
 impl Steps for RunSpace {
-    ghost IsReady = { λ c s. (fits_space c s.workspace ≡ true) × IsKnown c s.last };
+    ghost fits = { λ c s. fits_run c s };
+
+    ghost IsReady = { λ c s. (fits_run c s ≡ true) × IsKnown c s.last };
 
     ghost space = { λ s. s.workspace };
+
+    ghost ready_fits = { λ c s ready. ready.0 };
+
+    fn begin(&mut self) {
+        self.last.forget();
+    }
 
     fn step(&mut self, held: &mut Held, nurse: usize, from: u16, meter: &mut Meter) -> Step {
         step_unless_known(

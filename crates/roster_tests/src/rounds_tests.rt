@@ -1,6 +1,13 @@
 //! A step and runs of the improver.
 
+ghost use Rattle.std.specs.Prelude.{◌≡◌, ◌+◌, ◌≤◌, true, IfErr, IfOk};
+ghost use Rattle.roster_bundle.specs.Limits.{greatest_u64};
+ghost use Rattle.roster_rules.specs.AllowedRows.{best_row};
+ghost use Rattle.roster_laws.specs.FrozenDays.{FrozenDaysStay};
+ghost use Rattle.roster_laws.specs.Greatest.{extensions_in};
+ghost use Rattle.roster_partial.specs.Workspaces.{SameRoom, fits_space};
 ghost use Rattle.roster_best.specs.Known.{IsKnown};
+ghost use Rattle.roster_rounds.specs.RunLogs.{LogStops, Ran};
 
 use crate::best_tests::{ready, row_of};
 use crate::texts::{RUN_LOG, fill};
@@ -8,13 +15,37 @@ use roster_best::{LastSearches, Workspace, most_steps};
 use roster_case::Held;
 use roster_devices::{AtEnd, CallCounter, ShortWriter};
 use roster_rounds::{
-    LogFault, Outcome, RunSpace, Step, improve, improve_unless_known, most_extensions, step,
-    step_unless_known,
+    LogFault, Outcome, RunSpace, Step, improve, most_extensions, step, step_unless_known,
 };
 use roster_state::Meter;
 use roster_text::Watch;
 use std::alloc::Global;
+use std::io::Write;
 use std::test::Fail;
+
+/// A run with a workspace. What `improve` says for whatever makes its steps is this for a workspace, word for word.
+fn improve_in<W: Write>(
+    held: &mut Held,
+    rounds: u16,
+    from: u16,
+    workspace: &mut Workspace,
+    meter: &mut Meter,
+    log: &mut Watch<W>,
+) -> Result<Outcome, LogFault>
+    requires fits { fits_space held.old.case workspace.old ≡ true }
+    requires room { meter.old + extensions_in held.old.case rounds ≤ greatest_u64 }
+    ensures case { held.new.case ≡ held.old.case }
+    ensures ok { IfOk result (Ran W.contents held.old.case (best_row held.old.case from) rounds
+        held.old.roster held.new.roster log.old log.new) }
+    ensures err { IfErr result (LogStops W.contents held.old.case (best_row held.old.case from)
+        rounds held.old.roster held.new.roster log.old log.new) }
+    ensures frozen { FrozenDaysStay held.old.case from held.old.roster held.new.roster }
+    ensures counted { meter.new ≤ meter.old + extensions_in held.old.case rounds }
+    ensures same_room { SameRoom workspace.old workspace.new }
+    ensures fits { fits_space held.old.case workspace.new ≡ true }
+{
+    improve(held, rounds, from, workspace, meter, log)
+}
 
 #[test]
 fn steps_and_a_run(rt: HostRuntime) -> Result<(), Fail> {
@@ -45,7 +76,7 @@ fn steps_and_a_run(rt: HostRuntime) -> Result<(), Fail> {
     }
     let mut room = [0; 80];
     let mut log = Watch::new(ShortWriter::new(&mut room, AtEnd::Fail));
-    let ended = improve(&mut held, 3, 0, &mut workspace, &mut meter, &mut log);
+    let ended = improve_in(&mut held, 3, 0, &mut workspace, &mut meter, &mut log);
     let wanted = Outcome {
         settled: true,
         rounds: 3,
@@ -67,7 +98,7 @@ fn run(alloc: Global, log: &mut Log<'_>) -> Result<Left, Fail> {
     if !workspace.fits(held.case()) || meter.room() < most_extensions(held.case(), 100) {
         return Err(Fail::new("no room"));
     }
-    let ended = improve(&mut held, 100, 0, &mut workspace, &mut meter, log);
+    let ended = improve_in(&mut held, 100, 0, &mut workspace, &mut meter, log);
     Ok((held, meter, ended))
 }
 
@@ -80,7 +111,7 @@ fn run_unless_known(alloc: Global, log: &mut Log<'_>) -> Result<Left, Fail> {
     if meter.room() < most_extensions(held.case(), 100) {
         return Err(Fail::new("no room"));
     }
-    let ended = improve_unless_known(&mut held, 100, 0, &mut space, &mut meter, log);
+    let ended = improve(&mut held, 100, 0, &mut space, &mut meter, log);
     Ok((held, meter, ended))
 }
 
@@ -95,7 +126,7 @@ fn writes_of_a_log(rt: HostRuntime) -> Result<(), Fail> {
         return Err(Fail::new("no room"));
     }
     let mut log = Watch::new(CallCounter::new(Vec::new(rt.alloc()), 0));
-    let ended = improve(&mut held, 100, 0, &mut workspace, &mut meter, &mut log);
+    let ended = improve_in(&mut held, 100, 0, &mut workspace, &mut meter, &mut log);
     assert!(rt; ended.is_ok());
     let counter = log.into_inner();
     assert!(rt; counter.device.as_slice() == RUN_LOG.as_bytes());

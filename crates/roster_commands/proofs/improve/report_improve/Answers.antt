@@ -38,26 +38,26 @@ returns-in_default-clause-ends g c =
 pub returns-in_default-clause-logged : goal.returns-in_default-clause-logged
 returns-in_default-clause-logged g c = refl
 
-pub returns-in-Ok-improve_unless_known-clause-ends : goal.returns-in-Ok-improve_unless_known-clause-ends
-returns-in-Ok-improve_unless_known-clause-ends g c =
+pub returns-in-Ok-improve-clause-ends : goal.returns-in-Ok-improve-clause-ends
+returns-in-Ok-improve-clause-ends g c =
     let output : Output g.row.Out.Denot = record { contents = g.Out.Write.contents; before = c.args.output.now; after = c.show_weeks.new.output } in
     let of_case : Meaning → HeldRoster = λ m. record { case = m; roster = c.args.instance.roster } in
     let held = c.in_ok-held.ensures.held ∙ ap of_case c.new-meter.ensures.same in
     let kept = subst (λ (m : Meaning). hard_faults m c.args.instance.roster ≡ []) c.new-meter.ensures.same c.in_ok-held.ensures.kept in
-    let ran = subst (λ (h : HeldRoster). Ran g.Log.Write.contents h.case (best_row h.case c.args.from) c.args.rounds h.roster c.improve_unless_known.new.held.roster c.args.log.now c.improve_unless_known.new.log c.in-Ok-improve_unless_known.field-0) held c.in-Ok-improve_unless_known.ensures.ok in
-    let text_is = ap₂ weeks_text (c.case-in-Ok-improve_unless_known.ensures ∙ c.improve_unless_known.ensures.case ∙ ap (λ (h : HeldRoster). h.case) held) (c.roster.ensures.roster ∙ ran.roster_is) in
+    let ran = subst (λ (h : HeldRoster). Ran g.Log.Write.contents h.case (best_row h.case c.args.from) c.args.rounds h.roster c.improve.new.held.roster c.args.log.now c.improve.new.log c.in-Ok-improve.field-0) held c.in-Ok-improve.ensures.ok in
+    let text_is = ap₂ weeks_text (c.case-in-Ok-improve.ensures ∙ c.improve.ensures.case ∙ ap (λ (h : HeldRoster). h.case) held) (c.roster.ensures.roster ∙ ran.roster_is) in
     let shown = c.show_weeks.result in
     let ok = subst (λ text. OnOk shown (Writes g.Out.Write.contents c.args.output.now c.show_weeks.new.output text)) text_is c.show_weeks.ensures.ok in
     let err = subst (λ text. IfErr shown (StopsOutput g.Out.Write.contents c.args.output.now c.show_weeks.new.output text)) text_is c.show_weeks.ensures.err in
     written_ends output (improve_report c.args.rounds c.args.from c.args.instance.case c.args.instance.roster) c.args.source.now c.args.instance.bundle shown (record { kept = kept; found = refl; known = refl }) ok err
 
-pub returns-in-Ok-improve_unless_known-clause-logged : goal.returns-in-Ok-improve_unless_known-clause-logged
-returns-in-Ok-improve_unless_known-clause-logged g c =
+pub returns-in-Ok-improve-clause-logged : goal.returns-in-Ok-improve-clause-logged
+returns-in-Ok-improve-clause-logged g c =
     let output : Output g.row.Out.Denot = record { contents = g.Out.Write.contents; before = c.args.output.now; after = c.show_weeks.new.output } in
-    let log : Output g.row.Log.Denot = record { contents = g.Log.Write.contents; before = c.args.log.now; after = c.improve_unless_known.new.log } in
+    let log : Output g.row.Log.Denot = record { contents = g.Log.Write.contents; before = c.args.log.now; after = c.improve.new.log } in
     let of_case : Meaning → HeldRoster = λ m. record { case = m; roster = c.args.instance.roster } in
     let held = c.in_ok-held.ensures.held ∙ ap of_case c.new-meter.ensures.same in
-    let writes = subst (λ (h : HeldRoster). Writes g.Log.Write.contents c.args.log.now c.improve_unless_known.new.log (run_log h.case c.args.rounds c.args.from h.roster)) held c.in-Ok-improve_unless_known.ensures.ok.writes in
+    let writes = subst (λ (h : HeldRoster). Writes g.Log.Write.contents c.args.log.now c.improve.new.log (run_log h.case c.args.rounds c.args.from h.roster)) held c.in-Ok-improve.ensures.ok.writes in
     written_log output log (improve_report c.args.rounds c.args.from c.args.instance.case c.args.instance.roster).log _ c.show_weeks.result writes c.show_weeks.ensures.err
 
 pub returns-clause-ends : goal.returns-clause-ends
@@ -70,4 +70,4 @@ returns-clause-logged g c =
     let of_case : Meaning → HeldRoster = λ m. record { case = m; roster = c.args.instance.roster } in
     let held = c.in_ok-held.ensures.held ∙ ap of_case c.new-meter.ensures.same in
     let told = c.in-Err-LogFailed.ensures.err in
-    subst (λ (h : HeldRoster). Stops g.Log.Write.contents c.args.log.now c.improve_unless_known.new.log (run_log h.case c.args.rounds c.args.from h.roster)) held (record { sent = told.sent; stops = told.stops.stops })
+    subst (λ (h : HeldRoster). Stops g.Log.Write.contents c.args.log.now c.improve.new.log (run_log h.case c.args.rounds c.args.from h.roster)) held (record { sent = told.sent; stops = told.stops.stops })
