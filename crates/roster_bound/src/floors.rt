@@ -190,6 +190,7 @@ pub fn row_floor(terms: &Terms<'_>, nurse: usize, rows: &mut RowSpace, meter: &m
     ensures row { floor_row terms.now.case.now terms.now.from terms.now.given.now
         (worths_of terms.now.worths.now) terms.now.free nurse ≡ Some rows.new.workspace.row }
     ensures rows { FitsRows terms.now.case.now rows.new }
+    ensures each_day { meter.old + day_count terms.now.case.now ≤ meter.new }
     ensures counted { meter.new ≤ meter.old + extension_count terms.now.case.now nurse }
 {
     let case = terms.case;
@@ -220,6 +221,8 @@ pub(crate) fn find_rows(terms: &Terms<'_>, rows: &mut RowSpace, meter: &mut Mete
     requires room { meter.old + nurse_count terms.now.case.now * greatest_extension_count
         terms.now.case.now ≤ greatest_u64 }
     ensures rows { FitsRows terms.now.case.now rows.new }
+    ensures made { meter.old + nurse_count terms.now.case.now * day_count terms.now.case.now
+        ≤ meter.new }
     ensures counted { meter.new ≤ meter.old + nurse_count terms.now.case.now
         * greatest_extension_count terms.now.case.now }
 {

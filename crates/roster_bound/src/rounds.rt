@@ -3,7 +3,7 @@
 ghost use Rattle.std.specs.Prelude.{◌≡◌, ◌+◌, ◌*◌, ◌<◌, ◌≤◌, IfErr, IfOk};
 ghost use Rattle.roster_bundle.specs.Limits.{greatest_u64};
 ghost use Rattle.roster_instance.specs.Levels.{levelled};
-ghost use Rattle.roster_instance.specs.Meaning.{nurse_count};
+ghost use Rattle.roster_instance.specs.Meaning.{day_count, nurse_count};
 ghost use Rattle.roster_rules.specs.Penalties.{penalty};
 ghost use Rattle.roster_laws.specs.Greatest.{extensions_in, greatest_extension_count};
 ghost use Rattle.roster_bound.specs.Floors.{FloorLogStops, RaisesFloor};
@@ -24,8 +24,8 @@ use std::io::Write;
 
 /// Raises a floor under every roster of a case that keeps the hard rules and agrees with the held one on the days before week `from`:
 /// so many rounds, each by other worths and pays. The log gets the penalty of the held roster, and then each round in which the floor
-/// rose, as it comes. The answer is the greatest floor, 0 where there was no round: the bound of a round, and no less than the first
-/// round's. It takes no memory.
+/// rose, as it comes. The answer is the last of these floors, 0 where there was no round: the bound of a round, and no less than the
+/// first round's. It takes no memory.
 ///
 /// # Errors
 ///
@@ -66,8 +66,8 @@ pub fn raise_floor<W: Write>(
     Ok(best)
 }
 
-/// Improves the worths of a workspace by so many rounds, as `raise_floor` does, but over the case as it is, and tells no floor. It takes
-/// no memory.
+/// Improves the worths of a workspace by so many rounds, as `raise_floor` does, but over the case as it is, and tells no floor. It makes
+/// a search for each nurse in each round, of which each counts a step for each day at least. It takes no memory.
 pub fn improve_worths(
     base: &Base<'_>,
     rounds: u16,
@@ -77,6 +77,8 @@ pub fn improve_worths(
     requires each { HaveRows base.now.case.now base.now.from base.now.given.now }
     requires fits { FitsFloor base.now.case.now workspace.old }
     requires room { meter.old + extensions_in base.now.case.now rounds ≤ greatest_u64 }
+    ensures made { meter.old + rounds * (nurse_count base.now.case.now
+        * day_count base.now.case.now) ≤ meter.new }
     ensures counted { meter.new ≤ meter.old + extensions_in base.now.case.now rounds }
     ensures fits { FitsFloor base.now.case.now workspace.new }
 {
@@ -124,6 +126,8 @@ fn make_rows(base: &Base<'_>, workspace: &mut FloorWorkspace, meter: &mut Meter)
     requires fits { FitsFloor base.now.case.now workspace.old }
     requires room { meter.old + nurse_count base.now.case.now * greatest_extension_count
         base.now.case.now ≤ greatest_u64 }
+    ensures made { meter.old + nurse_count base.now.case.now * day_count base.now.case.now
+        ≤ meter.new }
     ensures counted { meter.new ≤ meter.old + nurse_count base.now.case.now
         * greatest_extension_count base.now.case.now }
     ensures fits { FitsFloor base.now.case.now workspace.new }

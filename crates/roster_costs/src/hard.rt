@@ -33,12 +33,22 @@ pub fn first_hard(case: &Case, roster: &Roster) -> Option<HardFault>
 
 // ---- staffing
 
-#[tactic(auto, using(roster_rules::proofs::HardLemmas::below_more))]
 fn first_understaffed(case: &Case, roster: &Roster) -> Option<HardFault>
     requires { fits_case case.now roster.now ≡ true }
     ensures { result ≡ first_fault (staffing_faults case.now roster.now) }
 {
-    for day in 0..case.days() {
+    first_understaffed_before(case, roster, case.days())
+}
+
+/// The first place with too few nurses on the first so many days, by day, shift and skill.
+#[tactic(auto, using(roster_rules::proofs::HardLemmas::below_more))]
+pub fn first_understaffed_before(case: &Case, roster: &Roster, days: u16) -> Option<HardFault>
+    requires fitting { fits_case case.now roster.now ≡ true }
+    requires days { days ≤ day_count case.now }
+    ensures { result ≡ first_fault (below days (λ d. below (shift_count case.now)
+        (λ s. below (skill_count case.now) (λ k. staffing_fault case.now roster.now d s k)))) }
+{
+    for day in 0..days {
         if let Some(fault) = understaffed_on(case, roster, day) {
             return Some(fault);
         }

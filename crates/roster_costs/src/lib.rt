@@ -14,5 +14,8 @@ mod totals;
 mod weekends;
 
 pub use costing::{costs, costs_with, nurse_cost};
-pub use hard::{first_absent_before, first_hard, first_succession_before, first_unskilled};
+pub use hard::{
+    first_absent_before, first_hard, first_succession_before, first_understaffed_before,
+    first_unskilled,
+};
 pub use staffing::{covers, place, staffing_cost, staffing_cost_of_day};

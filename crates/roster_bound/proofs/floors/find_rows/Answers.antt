@@ -20,5 +20,6 @@ loop-nurse-preserved c =
     let inside : n < nurse_count k = omega (arith, c.loop-nurse-test.true, c.nurses-nurse-end.ensures.count) in
     record {
       rows = c.row_floor.ensures.rows;
+      made = omega (arith, c.loop-nurse.invariant.made, c.row_floor.ensures.each_day);
       counted = counted_more k n c.args.meter.now c.loop-nurse.meter c.loop-nurse.invariant.counted inside c.row_floor.new.meter c.row_floor.ensures.counted;
     }
