@@ -22,8 +22,8 @@ use std::alloc::Global;
 const NOT_OFFERED: u32 = u32::MAX;
 
 /// What the last search for each nurse went over and found: at what price each shift was offered on each day, and what the best row cost.
-/// It tells of some nurses that no row has become cheaper than the present one. For each nurse and day that is 36 bytes, and
-/// for each nurse 8: 5,244,800 bytes at most. One serves all nurses of a case, one after another.
+/// It tells of some nurses that no row has become cheaper than the present one. For each nurse and day that is 36 bytes, and 8 for each
+/// nurse: 5,244,800 bytes at most. One serves all nurses of a case, one after another.
 pub struct LastSearches {
     /// For each nurse and day the price to be off, and the price of each shift.
     pub(crate) prices: Vec<[u32; MOST_OFFERS]>,
