@@ -1,0 +1,14 @@
+//! What a search takes beside what its contract says: how many steps, by tests, and how many bytes that don't grow with the case.
+#![tactic(auto)]
+
+#[cfg(test)]
+mod count_tests;
+#[cfg(test)]
+mod stored;
+#[cfg(test)]
+mod ward;
+
+use roster_best::Workspace;
+
+// A workspace without its four lists, which grow with the case: the two tables, the pointers and a row.
+const _: () = prove!(size_of::<Workspace>() <= 115_120);
