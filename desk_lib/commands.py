@@ -179,6 +179,8 @@ def run_ics(asked: argparse.Namespace, roster: Program) -> int:
         asked.files.insert(0, asked.nurse)
     elif not asked.all and asked.nurse is None:
         raise DeskError("ics: name a nurse, or by --all a folder for the calendars of all nurses", 2)
+    if asked.all and asked.out:
+        raise DeskError("ics: --all names a folder and --out a file; give one of the two", 2)
     [(_, plan)] = both_plans(asked, roster)
     times = dict(calendar_file.times_in(it, plan) for it in asked.time or ())
     calendar = calendar_file.Calendar(plan, asked.start, times, page.now())

@@ -2,8 +2,9 @@
 
 Such a nurse is absent on these days, and has a contract of her own in the texts that the program gets. Her numbers of assignments
 and of weekends are those of her contract in proportion to the days, and the weekends, that she is there; and a run of days off may
-be longer by the longest run of days on which she is gone. What the limits of a contract can't say is left: any other run of days
-off may be as long, and a minimum of working days in a row, a weekend of which she is there for one day, and a wish count as ever.
+be longer by the longest run of days on which she is gone, with those of the history right before it. What the limits of a contract
+can't say is left: any other run of days off may be as long, and a minimum of working days in a row, a weekend of which she is there
+for one day, and a wish count as ever.
 """
 import itertools
 
@@ -14,22 +15,25 @@ from desk_lib.model import Plan
 from desk_lib.texts import Edit
 
 
-def longest_run(days: set[int]) -> int:
-    """The most days one after the other."""
-    runs = itertools.groupby(sorted(days), key=lambda day, count=itertools.count(): day - next(count))
-    return max(len([*run]) for _, run in runs)
+def longest_run(days: set[int], before: int) -> int:
+    """The most days one after the other, where so many more stand before the first day of all."""
+    groups = itertools.groupby(sorted(days), key=lambda day, count=itertools.count(): day - next(count))
+    runs = [[*run] for _, run in groups]
+    return max(len(run) + before * (run[0] == 0) for run in runs)
 
 
 def contract_there(plan: Plan, number: int, days: set[int]) -> Contract:
     """The contract of a nurse for the days that she is there."""
-    contract = plan.case.contracts[plan.case.nurses[number].contract]
+    nurse = plan.case.nurses[number]
+    contract, past = plan.case.contracts[nurse.contract], nurse.history
     there, weeks = plan.days - len(days), range(plan.case.weeks)
+    longest = longest_run(days, past.off if past.last is None else 0)
     # (of a weekend she is there on one day at least)
     weekends = sum(not {7 * week + SATURDAY, 7 * week + SUNDAY} <= days for week in weeks)
     least, greatest = contract.assignments
     return contract._replace(
         assignments=(least * there // plan.days, -(-greatest * there // plan.days)),
-        off=(contract.off.least, min(SMALL, contract.off.greatest + longest_run(days))),
+        off=(contract.off.least, min(SMALL, contract.off.greatest + longest)),
         weekends=-(-contract.weekends * weekends // len(weeks)),
     )
 

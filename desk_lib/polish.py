@@ -55,9 +55,9 @@ class Pace:
     """How much is searched in a second, as slices tell that are made one after the other, each with more searches."""
 
     def __init__(self) -> None:
-        # (searches in a second, the seconds that a run takes besides, and for how long that was looked at)
-        self.speed, self.before, self.seconds = 0.0, 0.0, 0.0
-        self.last = (0, 0.0)
+        # (searches in a second, and the seconds that a run takes besides; how many slices told so, for how long, and the last one)
+        self.speed, self.before = 0.0, 0.0
+        self.count, self.seconds, self.last = 0, 0.0, (0, 0.0)
 
     def learn(self, searches: int, seconds: float) -> None:
         """Takes what a slice took. What it took besides the searches was in the one before, too."""
@@ -66,7 +66,11 @@ class Pace:
             self.speed = (searches - fewer) / (seconds - sooner)
         self.speed = max(self.speed, searches / seconds)
         self.before = max(0.0, seconds - searches / self.speed)
-        self.last, self.seconds = (searches, seconds), self.seconds + seconds
+        self.count, self.seconds, self.last = self.count + 1, self.seconds + seconds, (searches, seconds)
+
+    def is_known(self, left: float) -> bool:
+        """Whether enough was looked at, where so many seconds are left. One slice can't tell what it takes besides."""
+        return self.count > 1 and self.seconds >= max(KNOWN, KNOWN_SHARE * left)
 
     def correct(self, searches: int, seconds: float) -> None:
         """Takes what a whole run took."""
@@ -161,7 +165,7 @@ class Polish:
             return self.course.searches
         turns = max(1, -(-(len(self.course.seeds) - self.begun) // len(os.sched_getaffinity(0))))
         seconds = self.left() / turns
-        if self.pace.seconds < max(KNOWN, KNOWN_SHARE * self.left()) or seconds < WORTHWHILE:
+        if not self.pace.is_known(self.left()) or seconds < WORTHWHILE:
             return 0
         # (a whole run settles the roster first, as the rounds did)
         settling = max(0.0, sum(self.run.round_seconds) - len(self.run.round_seconds) * self.pace.before)

@@ -4,6 +4,7 @@ import datetime
 import io
 import json
 
+from desk_lib.breaches import all_breaches, words_told
 from desk_lib.costs import RULES, Costing
 from desk_lib.model import Plan, changed_days, choice_name, day_place
 from desk_lib.texts import columns, cut, shown
@@ -97,9 +98,10 @@ def costs_of(costing: Costing) -> dict:
 
 
 def json_text(costing: Costing, before: Costing | None) -> str:
-    """What `costs --json` writes: an object with the costs, and with a second roster also those of the first, as `before`."""
+    """What `costs --json` writes: an object with the costs, and with a second roster also those of the first, as `before`, with
+    the hard rules that it breaks."""
     found: dict = {"scenario": shown(costing.case.name), **costs_of(costing)}
     if before:
         found["days_changed"] = changed_days(before.plan.roster, costing.plan.roster)
-        found["before"] = costs_of(before)
+        found["before"] = {**costs_of(before), "breaks": words_told(all_breaches(before.plan))}
     return json.dumps(found, indent=2, ensure_ascii=False)
