@@ -115,10 +115,8 @@ class Parser(argparse.ArgumentParser):
 
 def with_files(parser: argparse.ArgumentParser) -> None:
     """What is of all commands: the files; and, where the command writes any, whether these may be replaced."""
-    writes = parser.get_default("writes")
-    if writes:
-        files = " and ".join(f"--{it}" for it in writes)
-        parser.add_argument("--force", action="store_true", help=f"replace the file of {files}, whatever it is")
+    if parser.get_default("writes"):
+        parser.add_argument("--force", action="store_true", help="replace files that are there, whatever they are")
     files = parser.add_argument_group("the files", "in the program's order, or by four options in any order")
     files.add_argument("files", nargs="*", metavar="FILE", help="scenario, history, week data and solutions, in this order")
     told = {

@@ -108,8 +108,7 @@ class Page:
 <h1>{name or title}</h1>
 <p>{title if name else told}</p>
 {"" if name else f'<nav aria-label="Parts of this page">{self.links()}</nav>'}
-{"" if name or self.wanted.is_notice else self.cards()}
-{"" if name else self.breaches()}
+{"" if name or self.wanted.is_notice else self.cards() + self.breaches()}
 </header>"""
 
     def links(self) -> str:

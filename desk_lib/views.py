@@ -1,7 +1,9 @@
 """Parts of the page beside its tables: who is on by day, one nurse's month, and the changes by nurse."""
+import collections
 import html
 
 from desk_lib.grammar import DAYS
+from desk_lib.model import Choice
 from desk_lib.sheet import Sheet, date_name
 from desk_lib.texts import plural, shown
 
@@ -50,19 +52,22 @@ def day_number(sheet: Sheet, day: int) -> str:
 
 
 def day_card(sheet: Sheet, day: int) -> str:
-    shifts = [shift_on(sheet, day, shift) for shift in range(len(sheet.case.shifts))]
-    told = "".join(it for it in shifts if it) or "<p>Nobody is on.</p>"
+    on = collections.defaultdict(list)
+    for nurse, row in zip(sheet.case.nurses, sheet.rows):
+        on[row[day].choice].append(nurse.name)
+    told = "".join(shift_on(sheet, on, shift) for shift in range(len(sheet.case.shifts))) or "<p>Nobody is on.</p>"
     weekend = " weekend" if day % 7 > 4 else ""
     return f'<article class="day{weekend}" id="day-{day}"><h3>{sheet.day_name(day)}</h3>{told}</article>'
 
 
-def shift_on(sheet: Sheet, day: int, shift: int) -> str:
-    """The nurses of a shift on a day, by skill in the order of the scenario."""
-    case, found = sheet.case, []
-    for skill, name in enumerate(case.skills):
-        for number, nurse in enumerate(case.nurses):
-            if sheet.rows[number][day].choice == (shift, skill):
-                found.append(f"<li>{escaped(nurse.name)} <small>{escaped(name)}</small></li>")
+def shift_on(sheet: Sheet, on: dict[Choice, list[bytes]], shift: int) -> str:
+    """The nurses of a shift, by skill in the order of the scenario, of those who are on; nothing where there are none."""
+    case = sheet.case
+    found = [
+        f"<li>{escaped(nurse)} <small>{escaped(name)}</small></li>"
+        for skill, name in enumerate(case.skills)
+        for nurse in on.get((shift, skill), ())
+    ]
     title = f"<h4>{key(sheet, shift)} {escaped(case.shifts[shift].name)}</h4>"
     return f'{title}<ul>{"".join(found)}</ul>' if found else ""
 
