@@ -78,20 +78,23 @@ class Matching:
         return False
 
     def short(self) -> list[list[At]]:
-        """The groups of places that are short: each with all places from which a nurse could be moved into it."""
-        found: list[list[At]] = []
+        """The groups of places that are short. No place is in two of them."""
+        found: list[set[At]] = []
         for place, needed in self.needed.items():
-            if len(self.at[place]) < needed and not any(place in it for it in found):
-                found.append(self.group(place))
-        return found
+            if len(self.at[place]) < needed:
+                group = self.group(place)
+                # (groups that have a place in common are short of the same nurses)
+                joined = [it for it in found if it & group]
+                found = [it for it in found if it not in joined] + [group.union(*joined)]
+        return sorted(map(sorted, found))
 
-    def group(self, place: At) -> list[At]:
+    def group(self, place: At) -> set[At]:
         """A place, and all places at which those are who could be there or at such a place. No one else can come to these."""
         found = [place]
         for it in found:
             could = {nurse for nurse, places in enumerate(self.able) if it in places}
             found += [other for other, there in self.at.items() if other not in found and could & {*there}]
-        return sorted(found)
+        return {*found}
 
 
 def able_on(plan: Plan, number: int, day: int, first_week: int, needed: dict[At, int]) -> list[At]:
