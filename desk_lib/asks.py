@@ -1,13 +1,15 @@
-"""Absences and pins: a text of the planner's own, and the week data that the desk makes of it.
+"""Absences, pins and needs: a text of the planner's own, and the texts that the desk makes of it.
 
     absent NURSE FROM [TO]      the nurse can't work on these days: a hard rule
+    gone NURSE FROM [TO]        as absent, and she isn't of the ward then: her contract is for the other days alone
     off NURSE FROM [TO]         the nurse asks to be off on these days
     pin NURSE DAY..             on these days the nurse does what the roster says now; a day may be FROM..TO
+    need DAY SHIFT SKILL N      the minimum of this day's shift and skill is N
     start DATE                  week 0 begins on this Monday; from here on days may be dates
 
 A day is the week and the weekday, as 0:Mon. What follows a '#' is a remark. An absence becomes a line of the section ABSENCES.
 A day off is asked for by an off request, and a pin by a wish or an off request: each costs 10 where it isn't met, and a roster
-may well not meet it. So each roster is looked at, and where it fails is told.
+may well not meet it. So each roster is looked at, and where it fails is told. desk_lib/gone.py has the contract of who is gone.
 """
 import collections
 import collections.abc
@@ -16,24 +18,25 @@ import dataclasses
 import datetime
 import typing
 
+from desk_lib import gone
 from desk_lib.findings import nearest
-from desk_lib.grammar import DAYS, Part, Section
+from desk_lib.grammar import DAYS, MOST_OF, Part, Section
 from desk_lib.model import Choice, Plan, Roster, choice_name, day_in, day_place, monday_in
 from desk_lib.program import Program, plan_in
 from desk_lib.replacing import Replacement
-from desk_lib.texts import DeskError, Text, Texts, plural, shown
+from desk_lib.texts import DeskError, Edit, Text, Texts, plural, shown
 
 OFF, ON, ABSENT = b"SHIFT_OFF_REQUESTS", b"SHIFT_ON_REQUESTS", b"ABSENCES"
 FORMS = {
     b"absent": "absent NURSE FROM [TO]",
+    b"gone": "gone NURSE FROM [TO]",
     b"off": "off NURSE FROM [TO]",
     b"pin": "pin NURSE DAY..",
+    b"need": "need DAY SHIFT SKILL N",
     b"start": "start DATE",
 }
-# Those that name a first and a last day.
-SPANS = (b"absent", b"off")
-# What an edit of a text puts in the place of some bytes: from where, how many, and what.
-Edit = tuple[int, int, bytes]
+# Those that name a first and a last day, and those by which the nurse can't work.
+SPANS, AWAY = (b"absent", b"gone", b"off"), ("absent", "gone")
 
 
 @dataclasses.dataclass(frozen=True)
@@ -47,7 +50,7 @@ class Ask:
 
     def remedy(self) -> str:
         """What keeps it."""
-        return "'desk improve --plan' makes a roster that keeps it" if self.kind == "absent" else "change it by hand"
+        return "'desk improve --plan' makes a roster that keeps it" if self.kind in AWAY else "change it by hand"
 
 
 class Asks:
@@ -57,11 +60,18 @@ class Asks:
         self.name, self.plan = text.name, plan
         self.nurses = {nurse.name: number for number, nurse in enumerate(plan.case.nurses)}
         self.of_days: dict[tuple[int, int], tuple[Choice, int]] = {}
+        # (minimums, by the number of the word in the texts, with the line of the ask)
+        self.needs: dict[int, tuple[bytes, int]] = {}
         self.start: datetime.date | None = None
         lines = [it.partition(b"#")[0].split() for it in text.data.splitlines()]
         asks = [self.ask(number, words) for number, words in enumerate(lines, 1) if words]
         self.asks = [it for it in asks if it]
-        self.absences = {(it.nurse, day) for it in self.asks if it.kind == "absent" for day in it.days}
+        self.absences = {(it.nurse, day) for it in self.asks if it.kind in AWAY for day in it.days}
+        self.gone = gone_days(it for it in self.asks if it.kind == "gone")
+        count, most = len(plan.case.contracts) + len(self.gone), MOST_OF[b"CONTRACTS"]
+        if self.gone and count > most:
+            told = f"each nurse who is gone gets a contract of her own, and {count} contracts are more than {most}"
+            raise self.wrong(max(it.line for it in self.asks if it.kind == "gone"), f"{told}; let fewer be gone")
 
     def wrong(self, line: int, told: str) -> DeskError:
         return DeskError(f"{shown(self.name)}:{line}: {told}")
@@ -74,7 +84,10 @@ class Asks:
             return None
         if kind not in FORMS:
             raise self.wrong(line, f"'{shown(kind)}' stands here, and {' or '.join(map(shown, FORMS))} is due")
-        if kind == b"start" or len(rest) < 2 or kind in SPANS and len(rest) > 3:
+        if kind == b"need" and len(rest) == 4:
+            self.need(line, *rest)
+            return None
+        if kind in (b"start", b"need") or len(rest) < 2 or kind in SPANS and len(rest) > 3:
             raise self.wrong(line, f"the form of this line is '{FORMS[kind]}', where a day is as 0:Mon")
         if rest[0] not in self.nurses:
             raise self.wrong(line, f"the scenario has no nurse '{shown(rest[0])}'{nearest(rest[0], self.nurses)}")
@@ -84,12 +97,38 @@ class Asks:
         else:
             ends = [it.partition(b"..") for it in rest[1:]]
             spans = [self.span(line, first, last or first) for first, _, last in ends]
-            days = {day: self.plan.roster[nurse][day] for span in spans for day in span}
+            days = {day: self.kept(line, nurse, day) for span in spans for day in span}
         for day, choice in days.items():
             before = self.of_days.setdefault((nurse, day), (choice, line))
             if before[0] != choice:
                 raise self.wrong(line, f"{day_place(day)} is asked for otherwise in line {before[1]}; take one of them away")
         return Ask(line, shown(kind), nurse, days)
+
+    def need(self, line: int, word: bytes, shift: bytes, skill: bytes, count: bytes) -> None:
+        """Notes the minimum of a day's shift and skill."""
+        week, weekday = divmod(self.day(line, word), 7)
+        if not (count.isdigit() and len(count) <= 3):
+            raise self.wrong(line, f"'{shown(count)}' is no number from 0 to 999")
+        words = self.plan.words.words
+        lines = self.plan.bundle.weeks[week][b"REQUIREMENTS"].lines
+        at = next((first for first, second, _ in lines if words[first] == shift and words[second] == skill), None)
+        if at is None:
+            known = {words[first] + b" " + words[second] for first, second, _ in lines}
+            like = nearest(shift + b" " + skill, known)
+            raise self.wrong(line, f"week {week} has no requirement of '{shown(shift)} {shown(skill)}'{like}")
+        # (after the shift and the skill stand pairs of five words, of which the second is the minimum)
+        before = self.needs.setdefault(at + 2 + 5 * weekday + 1, (count, line))
+        if int(before[0]) != int(count):
+            raise self.wrong(line, f"{day_place(7 * week + weekday)} needs otherwise in line {before[1]}; take one of them away")
+
+    def kept(self, line: int, nurse: int, day: int) -> Choice:
+        """What the roster says that a nurse does on a day. Where nobody works in that week there is no roster to keep."""
+        week = slice(day // 7 * 7, day // 7 * 7 + 7)
+        if not any(any(row[week]) for row in self.plan.roster):
+            name = shown(self.plan.case.nurses[nurse].name)
+            told = f"pin {name} {day_place(day)}: nobody works in this week of the roster given, so nothing can be kept"
+            raise self.wrong(line, f"{told}; give a roster of that week, or take the line away")
+        return self.plan.roster[nurse][day]
 
     def span(self, line: int, first: bytes, last: bytes) -> range:
         days = range(self.day(line, first), self.day(line, last) + 1)
@@ -147,7 +186,21 @@ class Asks:
         """The texts with all that is asked for. It stands in lines that are there, so that the others keep their numbers."""
         weeks = self.plan.bundle.weeks
         edits = [it for week, part in enumerate(weeks) for it in self.edits(part, self.lines(week), b" ")]
-        return Texts([edited(it, start, edits) for it, start in zip(texts.texts, texts.starts)], texts.is_stream)
+        return texts.edited([*edits, *self.need_edits(), *self.contract_edits(b" ")])
+
+    def need_edits(self) -> list[Edit]:
+        words = self.plan.words
+        return [(words.offset(at), len(words.words[at]), count) for at, (count, _) in self.needs.items()]
+
+    def contract_edits(self, end: bytes) -> list[Edit]:
+        """What gives those who are gone contracts of their own, each after `end`."""
+        return gone.edits(self.plan, self.gone, end) if self.gone else []
+
+    def scenario(self, texts: Texts) -> bytes | None:
+        """The scenario with the contracts of those who are gone, where somebody is."""
+        end = self.plan.words.offset(self.plan.bundle.history[b"HISTORY"].at)
+        text = Text("", texts.joined[:end]).edited(0, self.contract_edits(b"\n"))
+        return text.data.rstrip() + b"\n" if self.gone else None
 
     def week_data(self, texts: Texts) -> list[bytes]:
         """The week data with all that is asked for, as texts of their own."""
@@ -155,7 +208,8 @@ class Asks:
         heads = [it[b"WEEK_DATA"].at for it in bundle.weeks] + [bundle.solutions[0][b"SOLUTION"].at]
         for week, part in enumerate(bundle.weeks):
             first, last = (self.plan.words.offset(it) for it in heads[week : week + 2])
-            text = edited(Text("", texts.joined[first:last]), first, self.edits(part, self.lines(week), b"\n"))
+            edits = [*self.edits(part, self.lines(week), b"\n"), *self.need_edits()]
+            text = Text("", texts.joined[first:last]).edited(first, edits)
             found.append(text.data.rstrip() + b"\n")
         return found
 
@@ -172,27 +226,30 @@ class Asks:
                 name = shown(self.plan.case.nurses[ask.nurse].name)
                 found.append(f"{shown(self.name)}:{ask.line}: {ask.kind} {name} isn't kept: {told}; {ask.remedy()}")
         whole = sum(len(it.days) for it in self.asks)
-        return [*found, f"{shown(self.name)}: {whole - count} of {plural(whole, 'day')} as asked for"]
+        return [*found, f"{shown(self.name)}: {whole - count} of {plural(whole, 'day')} as asked for"] if self.asks else []
 
 
-def edited(text: Text, start: int, edits: list[Edit]) -> Text:
-    """A text that begins at this byte, with the edits that are of it."""
-    data = text.data
-    for at, length, new in sorted(edits, reverse=True):
-        if start <= at < start + len(text.data) + (length == 0):
-            data = data[: at - start] + new + data[at - start + length :]
-    return dataclasses.replace(text, data=data)
+def gone_days(asks: collections.abc.Iterable[Ask]) -> dict[int, set[int]]:
+    """The days on which nurses are gone, by the nurse."""
+    found: dict[int, set[int]] = {}
+    for it in asks:
+        found.setdefault(it.nurse, set()).update(it.days)
+    return found
 
 
-def write_weeks(roster: Program, asks: Asks, texts: Texts, names: list[str]) -> None:
-    """Writes the week data with all that is asked for into files of these names, once all of them are read back: by the desk
-    as the case that it passes on, and by the program, which answers the same to both."""
-    plan, data = asks.plan, asks.week_data(texts)
-    first = plan.words.offset(plan.bundle.weeks[0][b"WEEK_DATA"].at)
+def write_weeks(roster: Program, asks: Asks, texts: Texts, names: list[str], scenario_name: str) -> list[str]:
+    """Writes the week data with all that is asked for into files of these names, and the scenario where somebody is gone, once all
+    of them are read back: by the desk as the case that it passes on, and by the program, which answers the same to both. Returns
+    the names of what was written."""
+    plan, scenario = asks.plan, asks.scenario(texts)
+    history, first = (plan.words.offset(it.at) for it in (plan.bundle.history[b"HISTORY"], plan.bundle.weeks[0][b"WEEK_DATA"]))
     solutions = Text("the solutions", texts.joined[plan.solutions_offset() :])
+    files = [*zip(names, asks.week_data(texts)), *([(scenario_name, scenario)] if scenario else [])]
     with contextlib.ExitStack() as stack:
-        new = [stack.enter_context(Replacement(name, it)) for name, it in zip(names, data)]
-        back = Texts([*texts.before(first, []).texts, *(Text(it.name, it.read()) for it in new), solutions])
+        new = [stack.enter_context(Replacement(*it)) for it in files]
+        before = [Text(scenario_name, new[-1].read()), Text("the history", texts.joined[history:first])]
+        before = before if scenario else texts.before(first, []).texts
+        back = Texts([*before, *(Text(it.name, it.read()) for it in new[: len(names)]), solutions])
         passed = asks.added_to(texts)
         answers = (roster.call(["cost"], it.joined) for it in (back, passed))
         if plan_in(back).case != plan_in(passed).case or next(answers) != next(answers):
@@ -200,3 +257,4 @@ def write_weeks(roster: Program, asks: Asks, texts: Texts, names: list[str]) -> 
             raise DeskError(f"{told}. This is a fault of the desk", 3)
         for it in new:
             it.put()
+    return [name for name, _ in files]

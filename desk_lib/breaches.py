@@ -7,7 +7,7 @@ import re
 from reckoning import cover
 
 from desk_lib.model import Plan, choice_name, day_name
-from desk_lib.texts import shown
+from desk_lib.texts import Texts, shown
 
 
 # How the line of a breach begins.
@@ -74,3 +74,32 @@ def absences(plan: Plan) -> collections.abc.Iterator[Breach]:
 
 def all_breaches(plan: Plan) -> list[Breach]:
     return [*minimums(plan), *successions(plan), *skills(plan), *absences(plan)]
+
+
+def words_told(found: list[Breach]) -> list[str]:
+    return [f"{it.line}: {it.more}" for it in found]
+
+
+def without_rules(texts: Texts, plan: Plan) -> Texts:
+    """The texts without minimums, forbidden successions and absences. No cost has a part of these: so the program tells here what
+    a roster costs that breaks them."""
+    words, edits = plan.words, []
+
+    def put(at: int, new: bytes) -> None:
+        edits.append((words.offset(at), len(words.words[at]), new))
+
+    for first, others in plan.bundle.scenario[b"FORBIDDEN_SHIFT_TYPES_SUCCESSIONS"].lines:
+        put(first + 1, b"0")
+        for at in others:
+            put(at, b"")
+    for part in plan.bundle.weeks:
+        for first, *_ in part[b"REQUIREMENTS"].lines:
+            # (after the shift and the skill stand seven pairs of five words, of which the second is the minimum)
+            for day in range(7):
+                put(first + 3 + 5 * day, b"0")
+        if b"ABSENCES" in part:
+            put(part[b"ABSENCES"].at + 2, b"0")
+            for first, _ in part[b"ABSENCES"].lines:
+                put(first, b"")
+                put(first + 1, b"")
+    return texts.edited(edits)

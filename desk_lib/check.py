@@ -2,11 +2,12 @@
 import re
 import typing
 
-from desk_lib import breaches, hidden, names, program
+from desk_lib import breaches, hidden, names, program, shortage
 from desk_lib.asks import Asks
-from desk_lib.findings import Finding
+from desk_lib.doubts import Doubts
+from desk_lib.findings import Finding, of_words
 from desk_lib.grammar import MOST_OF, PARTS, Bundle, Fault, Part, Words, read_bundle
-from desk_lib.model import Plan, plan_of
+from desk_lib.model import NO_SOLUTIONS, Plan, plan_of
 from desk_lib.program import Answer, Program
 from desk_lib.recovery import Recovery
 from desk_lib.texts import DeskError, Texts, plural, shown
@@ -164,12 +165,16 @@ class Places:
     def finding(self, breach: breaches.Breach) -> Finding:
         week, weekday = divmod(breach.day, 7)
         if breach.rule == "H2":
-            shift, skill = breach.of
-            # after the shift and the skill stand seven pairs of five words each
-            first = self.needs[week, self.case.shifts[shift].name, self.case.skills[skill]] + 2 + 5 * weekday
-            return self.at(first, first + 4, f"{breach.line}: {breach.more}")
+            return self.of_need(breach.day, breach.of, f"{breach.line}: {breach.more}")
         first = self.assignments[week, self.case.nurses[breach.of[0]].name, weekday] + (3 if breach.rule == "H4" else 2)
         return self.at(first, first, f"{breach.line}: {breach.more}")
+
+    def of_need(self, day: int, place: tuple[int, ...], message: str) -> Finding:
+        """A finding of what a day needs of a shift and skill."""
+        shift, skill = place
+        # after the shift and the skill stand seven pairs of five words each
+        first = self.needs[day // 7, self.case.shifts[shift].name, self.case.skills[skill]] + 2 + 5 * (day % 7)
+        return self.at(first, first + 4, message)
 
     def of_empty(self, weeks: list[int], count: int) -> Finding:
         """The minimums of weeks that have no assignment."""
@@ -181,9 +186,16 @@ class Places:
 
     def at(self, first: int, last: int, message: str) -> Finding:
         """A finding of the words from one to another."""
-        offset = self.words.offset(first)
-        length = self.words.offset(last) + len(self.words.words[last]) - offset
-        return Finding(offset, self.words.texts.place(offset, length), message)
+        return of_words(self.words, first, last, message)
+
+
+def place_of(texts: Texts, line: str) -> str:
+    """A clause for the place of a breach that the program tells by this line, where it is one of H2 to H4 or an absence."""
+    if not breaches.BREACH.match(line):
+        return ""
+    plan = program.plan_in(texts)
+    told = next(it for it in breaches.all_breaches(plan) if it.line == line)
+    return f" ({Places(plan).finding(told).place})"
 
 
 def failed(plan: Plan, asks: Asks | None, end: int) -> list[Finding]:
@@ -191,33 +203,56 @@ def failed(plan: Plan, asks: Asks | None, end: int) -> list[Finding]:
     return [Finding(end, None, it) for it in (asks.failed(plan.roster)[:-1] if asks else [])]
 
 
-def check(roster: Program, texts: Texts, asks_of: typing.Callable[[Plan], Asks | None]) -> tuple[list[str], int]:
-    """What is told of the texts, and of what else is asked for, and the status."""
-    answer, more = roster.call(["cost"], texts.joined), ""
+AsksOf = typing.Callable[[Plan], Asks | None]
+
+
+def check(roster: Program, texts: Texts, asks_of: AsksOf) -> tuple[list[str], int]:
+    """What is told of the texts, and of what else is asked for, and the status. Warnings alone are no fault."""
+    is_rosterless = texts.texts[-1].kind == NO_SOLUTIONS
+    command = "show" if is_rosterless else "cost"
+    answer, more = roster.call([command], texts.joined), ""
+    warnings: list[Finding] = []
     line = answer.last() if answer.status else "nothing"
     if answer.status not in (0, 1):
-        raise DeskError(f"'roster cost' says: {line}", answer.status)
+        raise DeskError(f"'roster {command}' says: {line}", answer.status)
     if answer.status and not breaches.BREACH.match(line):
         found = refused_text(texts, line)
     else:
         plan = program.plan_in(texts)
-        told = breaches.all_breaches(plan)
-        first = told[0].line if told else "nothing"
-        if first != line:
-            raise DeskError(f"'roster cost' says '{line}', and the desk '{first}'; this is a fault of the desk", 3)
-        misplaced = out_of_place(plan.words, plan.bundle.solutions)
-        found = misplaced + breach_findings(plan, told) + failed(plan, asks_of(plan), len(texts.joined))
-        more = PLAN if told and not misplaced and all(it.rule != "H4" for it in told) else ""
-    lines = [line for it in found for line in it.lines()]
-    return [*lines, summary(texts, answer, len(found)) + more], answer.status or int(bool(found))
+        found, more = of_shortages(plan, texts, asks_of) if is_rosterless else of_roster(plan, texts, asks_of, line)
+        warnings = Doubts(plan, texts).findings()
+    lines = [line for it in [*found, *warnings] for line in it.lines()]
+    counts = plural(len(found), "fault") if found else "nothing is wrong"
+    counts += f", {plural(len(warnings), 'warning')}" if warnings else ""
+    return [*lines, summary(texts, answer, counts) + more], answer.status or int(bool(found))
 
 
-def summary(texts: Texts, answer: Answer, count: int) -> str:
+def of_roster(plan: Plan, texts: Texts, asks_of: AsksOf, line: str) -> tuple[list[Finding], str]:
+    """What is wrong with a roster of which the program tells no other fault than this first breach, and what can be done."""
+    told = breaches.all_breaches(plan)
+    first = told[0].line if told else "nothing"
+    if first != line:
+        raise DeskError(f"'roster cost' says '{line}', and the desk '{first}'; this is a fault of the desk", 3)
+    misplaced = out_of_place(plan.words, plan.bundle.solutions)
+    found = misplaced + breach_findings(plan, told) + failed(plan, asks_of(plan), len(texts.joined))
+    return found, PLAN if told and not misplaced and all(it.rule != "H4" for it in told) else ""
+
+
+def of_shortages(plan: Plan, texts: Texts, asks_of: AsksOf) -> tuple[list[Finding], str]:
+    """The days that no roster can staff, each at the minimum that is to be lowered first, and what comes next."""
+    wanted, places = asks_of(plan), Places(plan)
+    asked = program.plan_in(wanted.added_to(texts)) if wanted else plan
+    found = [places.of_need(it.day, it.met[0][0], it.line(plan.case)) for it in shortage.shortages(asked, 0)]
+    return found, "" if found else "; there is no roster yet, and 'desk improve --plan' can make one"
+
+
+def summary(texts: Texts, answer: Answer, counts: str) -> str:
     """The last line: how much is wrong, and what the program says by itself."""
-    files = plural(len(texts.texts), "file")
+    files = plural(sum(it.kind != NO_SOLUTIONS for it in texts.texts), "file")
     if answer.status:
-        said = f"'roster cost' says: {program.located(answer.last(), texts)}"
+        said = f"; 'roster cost' says: {program.located(answer.last(), texts)}"
+    elif texts.texts[-1].kind == NO_SOLUTIONS:
+        said = ""
     else:
-        said = f"'roster cost' takes them: {answer.output.decode().splitlines()[-1]}"
-    faults = plural(count, "fault") if count else "nothing is wrong"
-    return f"{files}, {faults}; {said}"
+        said = f"; 'roster cost' takes them: {answer.output.decode().splitlines()[-1]}"
+    return f"{files}, {counts}{said}"

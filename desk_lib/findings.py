@@ -4,6 +4,7 @@ import dataclasses
 import difflib
 import functools
 
+from desk_lib.grammar import Words
 from desk_lib.texts import Place, shown
 
 
@@ -24,6 +25,13 @@ class Finding:
 
     def line_key(self) -> tuple[str, int] | None:
         return (self.place.file, self.place.line) if self.place else None
+
+
+def of_words(words: Words, first: int, last: int, message: str) -> Finding:
+    """A finding of the words from one to another, by their numbers."""
+    offset = words.offset(first)
+    length = words.offset(last) + len(words.words[last]) - offset
+    return Finding(offset, words.texts.place(offset, length), message)
 
 
 @functools.lru_cache(maxsize=10_000)

@@ -45,7 +45,8 @@ class Grid:
             for cover in sheet.covers(at, week)
         ]
         ranges = [span(cover) for week in sheet.weeks for at in sheet.places() for cover in sheet.covers(at, week)]
-        self.day = 1 + max([2 + with_skills, *map(len, numbers), *map(len, ranges)])
+        marks = 1 + bool(sheet.broken)
+        self.day = 1 + max([1 + marks + with_skills, *map(len, numbers), *map(len, ranges)])
         self.at_once = max(1, (columns - NAME) // (GAP + 7 * self.day))
 
     def lines(self) -> list[str]:
@@ -54,7 +55,8 @@ class Grid:
             weeks = self.sheet.weeks[first : first + self.at_once]
             covers = self.covers(weeks)
             lines += [*self.heads(weeks), *self.nurses(weeks), "", *covers, *[""] * bool(covers)]
-        return lines + self.legend()
+        told = self.sheet.told_breaches()
+        return lines + self.legend() + [*[""] * bool(told), *told]
 
     def line(self, name: str, weeks: list[list[str]]) -> str:
         """A line of cells, each as wide as a day."""
@@ -79,7 +81,7 @@ class Grid:
     def cell(self, cell: Cell) -> str:
         """The shift's letter, that of the skill where it is asked for, and a mark."""
         mark = ("*" if cell.is_changed else "") + ("!" if cell.breaks_request or cell.misses_wish else "")
-        mark = "#" if len(mark) == 2 else mark
+        mark = "!!" if cell.broken else "#" if len(mark) == 2 else mark
         if cell.choice is None:
             return self.padded(("x" if cell.is_absent else ".") + mark, CHANGED if cell.is_changed else "")
         shift, skill = cell.choice
@@ -110,7 +112,8 @@ class Grid:
         if self.with_skills:
             lines.append("  ".join(f"{letter} {shown(it)}" for letter, it in zip(sheet.skill_letters, sheet.case.skills)))
         changed = f" ({plural(sheet.changed(), 'day')})" if sheet.is_compared else ""
-        lines.append(f"after a day: * changed{changed}, ! a request that isn't met, # both")
+        broken = ", !! a broken hard rule" if sheet.broken else ""
+        lines.append(f"after a day: * changed{changed}, ! a request that isn't met, # both{broken}")
         if sheet.places():
             lines.append(
                 "by shift and skill: how many are there (- below the optimum, ! below the minimum), then minimum-optimum"

@@ -45,7 +45,10 @@ KINDS = {
     b"<": "XML or HTML",
     b"{": "JSON",
     b"[": "JSON",
+    b"\x7fELF": "a program",
 }
+# The first cell of the CSV that the desk writes, and how the second begins, which names a day.
+TABLE = re.compile(rb'"?nurse"?[,;\t]"?(week |\d{4}-)')
 
 
 def is_utf8(data: bytes) -> bool:
@@ -54,6 +57,13 @@ def is_utf8(data: bytes) -> bool:
         return True
     except UnicodeDecodeError:
         return False
+
+
+def is_utf16(data: bytes) -> bool:
+    """Whether the file has a mark of UTF-16, or zeros in the place of every other byte."""
+    halves = [data[at::2] for at in (0, 1)]
+    least, most = sorted(half.count(0) / max(1, len(half)) for half in halves)
+    return data.startswith(UTF16_MARKS) or least < 0.05 and most > 0.5
 
 
 def whole_file(text: Text) -> str:
@@ -66,8 +76,12 @@ def whole_file(text: Text) -> str:
     kind = next((told for it, told in KINDS.items() if begin.startswith(it)), "")
     if kind:
         return f"the file is {kind}; give it as plain text, whose words docs/COMMANDS.md has under 'The input'"
-    if text.data.startswith(UTF16_MARKS) or text.data.count(b"\0") * 4 > len(text.data):
+    if TABLE.match(begin):
+        return "the file is a table as 'desk csv' writes it; give the roster as 'desk split' and 'improve' write it"
+    if is_utf16(text.data):
         return f"the file is UTF-16, of two bytes a letter; {SAVE_AS}"
+    if text.data.count(b"\0") * 4 > len(text.data):
+        return "the file is no text: many of its bytes are 00; give it as plain text"
     return ""
 
 

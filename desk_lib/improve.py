@@ -8,14 +8,18 @@ import typing
 
 from desk_lib.breaches import BREACH, all_breaches
 from desk_lib.model import changed_days
-from desk_lib.program import Answer, Program, costs_by, plan_in, refusal
+from desk_lib.program import Answer, Program, Running, costs_by, plan_in, refusal
 from desk_lib.replacing import Replacement, bytes_of, keep_beside, read_back
 from desk_lib.signals import Interrupted, held_back, within_time
 from desk_lib.texts import DeskError, Text, Texts, plural, shown
 
 
-# How many searches `plan` is given one after the other where the time alone says how many.
+# How many searches `plan` is given one after the other, up to the number or the time that is given. Where neither is, the program
+# takes so many.
 TRIES = [1_000 * 4**it for it in range(7)]
+UNSAID = 20_000
+# The part of the time that is given which a floor is looked for, beside the search.
+FLOOR_SHARE = 0.2
 
 
 class Progress:
@@ -28,7 +32,10 @@ class Progress:
             self.log = open(log, "wb") if log else None
         except OSError as why:
             raise self.failed(why) from None
-        self.floor: int | None = None
+        # (the floor, and the run of `bound` that looks for it beside the search)
+        self.known: int | None = None
+        self.beside: Running | None = None
+        self.is_floor_wanted = False
         self.began, self.last, self.is_shown = time.monotonic(), b"", False
 
     def line(self, line: bytes) -> None:
@@ -47,17 +54,37 @@ class Progress:
     def failed(self, why: OSError) -> DeskError:
         return DeskError(f"{shown(self.name)}: write failed: {why.strerror}; give another name for the log", 3)
 
-    def close(self) -> None:
+    def close(self, ending: list[str]) -> None:
+        """Ends what goes on beside, and the file of the log, with these lines."""
+        if self.beside:
+            self.beside.close()
+            self.beside = None
         with contextlib.suppress(OSError):
             if self.log:
+                self.log.write("".join(f"{it}\n" for it in ending).encode())
                 self.log.close()
 
     def know_floor(self, floor: int) -> None:
-        self.floor = floor
+        self.known = floor
+
+    def seek_floor(self, running: Running) -> None:
+        """This run of `bound` looks for a floor beside the search."""
+        self.beside, self.is_floor_wanted = running, True
+
+    @property
+    def floor(self) -> int | None:
+        """The floor, as far as it is known by now."""
+        for line in self.beside.lines_there() if self.beside else ():
+            if line.startswith(b"round "):
+                self.known = number_of(line)
+        return self.known
 
     def above_floor(self, total: int) -> str:
-        """A clause for the floor, where it is known."""
-        return "" if self.floor is None else f", {total - self.floor} above the floor {self.floor}"
+        """A clause for the floor, where one is looked for."""
+        floor = self.floor
+        if floor is None:
+            return ", no floor was found in the time for it" if self.is_floor_wanted and not self.beside else ""
+        return f", {total - floor} above the floor {floor}"
 
     def show(self, what: str, total: int, more: str = "") -> None:
         """The line that changes."""
@@ -78,7 +105,7 @@ class Progress:
         """Leaves the line that changes as it is. What the run came to follows on a terminal, and where a floor is known."""
         if self.is_terminal:
             sys.stderr.write("\n" * self.is_shown + f"{told}\n" * bool(told))
-        elif told and self.floor is not None:
+        elif told and (self.known is not None or self.is_floor_wanted):
             sys.stderr.write(f"desk: {told}\n")
         sys.stderr.flush()
 
@@ -96,6 +123,8 @@ class Run:
         self.given, self.end, self.total, self.saved = self.texts(), b"", 0, ""
         # (what `polish` begins with; and what is told where nothing was put into the file)
         self.begun, self.lacking = self.given, "no round was over"
+        # (how much was searched by runs of `polish` and `plan` that are over, and how long each round took)
+        self.searches, self.round_seconds = 0, []
         # what can't be replaced is told before the first round
         with Replacement(out, b""):
             pass
@@ -153,6 +182,25 @@ class Run:
         """What the file has, where a roster was put there."""
         return f"{shown(self.out)} has the roster {self.told()}" if self.saved else ""
 
+    def ending(self, seeds: list[int]) -> list[str]:
+        """How the run was made: the last lines of the file of the log. Those of a search are there where there was one."""
+        floor, found = self.progress.floor, [f"time {time.monotonic() - self.progress.began:.1f}"]
+        found += [f"searches {self.searches}"] if self.searches else []
+        found += [f"floor {floor}"] if floor is not None else []
+        if self.searches:
+            found.append(f"seed {seeds[0]}" + (f"-{seeds[-1]}" if seeds[1:] else ""))
+        return [*found, f"version {self.roster.version()}"]
+
+    # ---- a floor
+
+    def seek_floor(self, seconds: int | None) -> None:
+        """Asks for a floor: where a time is given, beside the search, for a part of it; else before that."""
+        words = ["bound", *self.first_week]
+        if seconds is None:
+            self.progress.know_floor(floor_of(self.roster, self.texts(), self.first_week, self.progress))
+        else:
+            self.progress.seek_floor(self.roster.start(words, self.texts().joined, seconds=FLOOR_SHARE * seconds))
+
     # ---- rounds
 
     def rounds(self, count: int, end: float | None) -> None:
@@ -170,9 +218,11 @@ class Run:
 
     def round(self, number: int, count: int) -> None:
         """Makes one round, or none."""
+        began = time.monotonic()
         answer = self.roster.ask(
             ["improve", "--rounds", str(count), *self.first_week], self.texts(), lambda it: self.tell(it, number)
         )
+        self.round_seconds.append(time.monotonic() - began)
         self.save(answer.output, number_of(answer.log[-1]), f"round {number}" if count else "no round")
         self.end = answer.log[-1]
 
@@ -182,7 +232,8 @@ class Run:
         """Begins with a roster that keeps the hard rules, whatever the one that was given breaks. Where neither a number of
         searches nor a time is given, the program says how many."""
         self.lacking, found = "no roster was found", []
-        counts = TRIES if searches is None and end is not None else [searches]
+        # (what few searches find is kept the sooner)
+        counts = TRIES if searches is None and end is not None else [it for it in TRIES if it < (searches or 0)] + [searches]
         within_time(end, lambda: found.extend(self.planned(counts, seed)))
         if not found:
             raise DeskError("the time is over, and no roster that keeps the hard rules was found; give more, or need less")
@@ -200,6 +251,7 @@ class Run:
             of_searches = [] if searches is None else ["--searches", str(searches)]
             words = ["plan", "--seed", str(seed), *of_searches, *self.first_week]
             answer = self.roster.call(words, self.given.joined)
+            self.searches += UNSAID if searches is None else searches
             if answer.status == 0:
                 return [answer]
             if answer.status != 1 or self.stays(answer.last()):
@@ -244,8 +296,8 @@ def floor_of(roster: Program, texts: Texts, first_week: list[str], progress: Pro
     return number_of(next(it for it in output.splitlines() if it.startswith(b"bound ")))
 
 
-def finish(run: Run, work: typing.Callable[[], None]) -> None:
-    """Does the work. What ends it early leaves the last whole round in the file, and says so."""
+def finish(run: Run, seeds: list[int], work: typing.Callable[[], None]) -> None:
+    """Does the work, by these seeds. What ends it early leaves the last whole round in the file, and says so."""
     try:
         work()
         run.look_again()
@@ -258,5 +310,5 @@ def finish(run: Run, work: typing.Callable[[], None]) -> None:
         run.progress.end()
         raise DeskError("; ".join(filter(None, [str(why), run.has()])), why.status) from None
     finally:
-        run.progress.close()
+        run.progress.close(run.ending(seeds) if run.progress.last else [])
     run.progress.end(f"{shown(run.out)}: {shown(run.progress.last)}{run.progress.above_floor(run.total)}, {run.changes()}")

@@ -5,10 +5,13 @@ import re
 
 from reckoning import Case, History, Limits, Nurse, Shift
 
-from desk_lib.grammar import ANY, DAY_OF, DAYS, Bundle, Part, Words
-from desk_lib.texts import DeskError, plural, shown
+from desk_lib.grammar import ANY, DAY_OF, DAYS, Bundle, Cursor, Fault, Part, Words, read_part
+from desk_lib.texts import DeskError, Text, Texts, plural, shown
 
 DAY = re.compile(rb"(\d{1,3}):([A-Za-z]+)")
+
+# In the place of a file, and of an option: solutions in which nobody works.
+NO_SOLUTIONS = "no solutions"
 
 # A row has for each day the shift and the skill, or None; a roster has a row for each nurse.
 Choice = tuple[int, int] | None
@@ -189,3 +192,21 @@ def solutions_of(case: Case, roster: Roster) -> bytes:
         ]
         texts.append(b"SOLUTION\n%d %s\n\nASSIGNMENTS = %d\n%s" % (week, case.name, len(lines), b"".join(lines)))
     return b"\n".join(texts)
+
+
+def with_no_solutions(texts: Texts) -> Texts:
+    """The texts with solutions in which nobody works, where they end after the week data. Else as they are: the program tells
+    what is wrong with them."""
+    cursor = Cursor(Words(texts).words)
+    try:
+        part = read_part(cursor, "scenario")
+        read_part(cursor, "history", part[b"NURSES"].count)
+        for _ in range(part[b"WEEKS"].count):
+            read_part(cursor, "week data")
+    except Fault:
+        return texts
+    if cursor.peek() is not None or not part[b"WEEKS"].count:
+        return texts
+    name = cursor.words[part[b"SCENARIO"].lines[0][0]]
+    empty = b"\n".join(b"SOLUTION\n%d %s\n\nASSIGNMENTS = 0\n" % (it, name) for it in range(part[b"WEEKS"].count))
+    return texts.before(len(texts.joined), [Text(NO_SOLUTIONS, empty, NO_SOLUTIONS)])

@@ -1,13 +1,17 @@
-"""What a command writes, held apart from what it reads: no file that is read is written."""
+"""What a command writes, held apart from what it reads and from what is no work of the desk's: neither is lost."""
 import collections.abc
 import os
 import stat
 
+from desk_lib.grammar import WORD
+from desk_lib.plot import is_log_line
 from desk_lib.texts import DeskError, shown
 
 # What a file is, as `--out`, and its name.
 Named = tuple[str, str | int]
 Identity = tuple[int, int] | str | None
+# So much of a file, in bytes, tells what it is.
+BEGIN = 4096
 
 
 def identity(file: str | int) -> Identity:
@@ -30,3 +34,58 @@ def refuse_inputs(written: collections.abc.Iterable[Named], read: list[Named]) -
             told = f"{named}: {shown(str(file))} is {same} as well, and would be lost; nothing was done"
             raise DeskError(f"{told}. Give {named} another name", 2)
         known.append((f"the file of {named}", own))
+
+
+def begins(begin: bytes, word: bytes) -> bool:
+    """Whether this is the first word of a file that begins so."""
+    return (WORD.match(begin.lstrip()) or [b""])[0] == word
+
+
+def is_roster(begin: bytes) -> bool:
+    """Whether it has solutions, and no scenario before them."""
+    return begins(begin, b"SOLUTION")
+
+
+def is_history(begin: bytes) -> bool:
+    return begins(begin, b"HISTORY")
+
+
+def is_page(begin: bytes) -> bool:
+    return begin.startswith(b"<!doctype html>") and (b'content="desk"' in begin or b"<title>Roster " in begin)
+
+
+def is_table(begin: bytes) -> bool:
+    return begin.startswith(b"nurse,")
+
+
+def is_log(begin: bytes) -> bool:
+    return is_log_line(begin.split(b"\n")[0])
+
+
+def is_calendar(begin: bytes) -> bool:
+    return begin.startswith(b"BEGIN:VCALENDAR")
+
+
+# What a file of the desk's own is, and how it is known.
+OWN = {
+    "roster": is_roster,
+    "page": is_page,
+    "table of the desk": is_table,
+    "log of the desk": is_log,
+    "calendar": is_calendar,
+    "history": is_history,
+}
+
+
+def refuse_unrelated(named: str, name: str, kind: str) -> None:
+    """Refuses to replace a file that is neither of this kind nor empty. What can't be read is told when it is written."""
+    try:
+        if not os.path.isfile(name):
+            return
+        with open(name, "rb") as file:
+            begin = file.read(BEGIN)
+    except (OSError, ValueError):
+        return
+    if begin.strip() and not OWN[kind](begin):
+        told = f"{named}: {shown(name)} is there and is no {kind}; nothing was done"
+        raise DeskError(f"{told}. Give {named} another name, or --force to replace it", 2)

@@ -1,7 +1,9 @@
 """The command `page`: a roster as one HTML file, which needs nothing from elsewhere."""
 import collections
-import html
+import dataclasses
+import datetime
 import os
+import time
 
 from reckoning import SATURDAY, SUNDAY
 
@@ -10,7 +12,8 @@ from desk_lib.grammar import DAYS
 from desk_lib.model import Choice
 from desk_lib.plot import Plot, Point
 from desk_lib.sheet import Cover, Sheet, date_name
-from desk_lib.texts import plural, shown
+from desk_lib.texts import plural
+from desk_lib.views import by_day, changes, escaped, month
 
 # Weeks side by side in one table.
 AT_ONCE = 4
@@ -30,9 +33,21 @@ optimum. <span class="key low">1−</span> is fewer than the optimum, which cost
 <span class="key bad">0!</span> is fewer than the minimum, which no roster may be.</p>"""
 
 
-def escaped(name: bytes | str) -> str:
-    """A name as it can stand anywhere in the page."""
-    return html.escape(shown(name))
+@dataclasses.dataclass(frozen=True)
+class Wanted:
+    """What a page is to be: its title; for the wall, without penalties and requests; the month of one nurse alone; and by which
+    version of the program it was made."""
+
+    title: str
+    version: str
+    is_notice: bool = False
+    nurse: int | None = None
+
+
+def now() -> datetime.datetime:
+    """The time at which something is made, in UTC; SOURCE_DATE_EPOCH, in seconds from 1970 on, names another."""
+    told = os.environ.get("SOURCE_DATE_EPOCH", "")
+    return datetime.datetime.fromtimestamp(int(told) if told.isdigit() else time.time(), datetime.timezone.utc)
 
 
 def style() -> str:
@@ -56,39 +71,59 @@ def number_cell(now: int, before: int | None) -> str:
 class Page:
     """The page of a sheet."""
 
-    def __init__(self, sheet: Sheet, before: Costing | None, log: list[Point], floor: int | None):
+    def __init__(self, sheet: Sheet, before: Costing | None, log: list[Point], floor: int | None, wanted: Wanted):
         self.sheet, self.case, self.costing, self.before = sheet, sheet.case, sheet.costing, before
-        self.log, self.floor = log, floor
+        self.log, self.floor, self.wanted = log, floor, wanted
 
     def text(self) -> str:
-        parts = [self.head(), "<main>", self.grid(), self.totals(), self.costs(), self.staffing(), self.plot(), "</main>"]
-        parts.append(self.foot())
+        parts = [self.head(), "<main>", *self.parts(), "</main>", self.foot()]
         return "\n".join(it for it in parts if it) + "\n"
+
+    def parts(self) -> list[str]:
+        """What stands between the head and the foot."""
+        if self.wanted.nurse is not None:
+            return [month(self.sheet, self.wanted.nurse)]
+        found = [self.grid(), changes(self.sheet), by_day(self.sheet)]
+        return found if self.wanted.is_notice else [*found, self.totals(), self.costs(), self.staffing(), self.plot()]
 
     # ---- above
 
     def head(self) -> str:
-        name, case = escaped(self.case.name), self.case
-        links = [("grid", "Grid"), ("totals", "Totals"), ("nurses", "Costs by nurse"), ("staffing", "Staffing")]
-        links += [("log", "The run")] if self.log else []
-        nav = "".join(f'<a href="#{at}">{told}</a>' for at, told in links)
+        title, case, nurse = escaped(self.wanted.title), self.case, self.wanted.nurse
         frozen = f", weeks before {self.sheet.first_week} frozen" if self.sheet.first_week else ""
+        told = f"{plural(case.weeks, 'week')}, {plural(len(case.nurses), 'nurse')}{frozen}{self.told_changes()}"
+        name = "" if nurse is None else escaped(case.nurses[nurse].name)
         return f"""<!doctype html>
 <html lang="en">
 <head>
 <meta charset="utf-8">
 <meta name="viewport" content="width=device-width, initial-scale=1">
-<title>Roster {name}</title>
+<meta name="generator" content="desk">
+<title>{f"{name}: " if name else ""}{title}</title>
 <style>
 {style()}</style>
 </head>
 <body>
 <header>
-<h1>Roster {name}</h1>
-<p>{plural(case.weeks, 'week')}, {plural(len(case.nurses), 'nurse')}{frozen}{self.told_changes()}</p>
-<nav aria-label="Parts of this page">{nav}</nav>
-{self.cards()}
+<h1>{name or title}</h1>
+<p>{title if name else told}</p>
+{"" if name else f'<nav aria-label="Parts of this page">{self.links()}</nav>'}
+{"" if name or self.wanted.is_notice else self.cards() + self.breaches()}
 </header>"""
+
+    def links(self) -> str:
+        """The parts of the page, by links to them."""
+        links = [("grid", "Grid"), *[("changes", "Changes")] * bool(self.sheet.changes()), ("days", "Who is on")]
+        if not self.wanted.is_notice:
+            links += [("totals", "Totals"), ("nurses", "Costs by nurse"), ("staffing", "Staffing")]
+            links += [("log", "The run")] if self.log else []
+        return "".join(f'<a href="#{at}">{told}</a>' for at, told in links)
+
+    def breaches(self) -> str:
+        """The hard rules that are broken, in words."""
+        head, *lines = map(escaped, self.sheet.told_breaches() or [""])
+        items = "".join(f"<li>{it}</li>" for it in lines)
+        return f'<div class="broken"><b>{head}</b><ul>{items}</ul></div>' if lines else ""
 
     def told_changes(self) -> str:
         if not self.before:
@@ -115,7 +150,9 @@ class Page:
         blocks = [
             self.block(self.sheet.weeks[first : first + AT_ONCE]) for first in range(0, len(self.sheet.weeks), AT_ONCE)
         ]
-        return "\n".join(['<section id="grid">', "<h2>Grid</h2>", self.legend(), ABOUT_COVER, *blocks, "</section>"])
+        about = "" if self.wanted.is_notice else ABOUT_COVER
+        parts = ['<section id="grid">', "<h2>Grid</h2>", self.legend(), about, *blocks, "</section>"]
+        return "\n".join(it for it in parts if it)
 
     def legend(self) -> str:
         sheet = self.sheet
@@ -131,7 +168,10 @@ class Page:
         if self.before:
             first = sheet.shift_letters[0]
             items.append(f'<span class="key changed">‹{first}</span>changed, it was {first} before')
-        items.append('<span class="key request">!</span>a request that isn’t met')
+        if not self.wanted.is_notice:
+            items.append('<span class="key request">!</span>a request that isn’t met')
+        if sheet.broken:
+            items.append('<span class="key bad">!!</span>a broken hard rule')
         if sheet.first_week:
             items.append('<span class="key frozen"></span>frozen week')
         return f'<ul class="legend">{"".join(f"<li>{it}</li>" for it in items)}</ul>'
@@ -147,11 +187,15 @@ class Page:
             f'<thead><tr><th></th>{heads}</tr><tr><th scope="col">nurse</th>{days}</tr></thead>',
             '<tbody class="nurses">',
             *(self.nurse(number, weeks) for number in range(len(self.case.nurses))),
-            '</tbody><tbody class="cover">',
-            *(self.cover(at, weeks) for at in self.sheet.places()),
-            "</tbody></table></div>",
+            "</tbody>",
+            "" if self.wanted.is_notice else self.covers(weeks),
+            "</table></div>",
         ]
-        return "\n".join(lines)
+        return "\n".join(it for it in lines if it)
+
+    def covers(self, weeks: range) -> str:
+        rows = "\n".join(self.cover(at, weeks) for at in self.sheet.places())
+        return f'<tbody class="cover">\n{rows}\n</tbody>'
 
     def week_name(self, week: int) -> str:
         date = self.sheet.date(7 * week)
@@ -178,15 +222,16 @@ class Page:
         """A day: the shift's letter and the skill's, below it what it was and whether a request isn't met. Its title has all
         of it in words."""
         cell = self.sheet.rows[number][day]
-        is_wrong = cell.breaks_request or cell.misses_wish
+        is_wrong = (cell.breaks_request or cell.misses_wish) and not self.wanted.is_notice
         classes = ["cell", "off" if cell.choice is None else f"s{cell.choice[0]}"]
-        classes += ["changed"] * cell.is_changed + ["request"] * is_wrong
-        below = (f"‹{self.letter(cell.before)}" if cell.is_changed else "") + (" !" if is_wrong else "")
+        classes += ["changed"] * cell.is_changed + ["request"] * is_wrong + ["breach"] * bool(cell.broken)
+        mark = " !!" if cell.broken else " !" if is_wrong else ""
+        below = (f"‹{self.letter(cell.before)}" if cell.is_changed else "") + mark
         skill = f"<i>{self.sheet.skill_letters[cell.choice[1]]}</i>" if cell.choice else ""
         small = f"<small>{below.strip()}</small>" if below else ""
-        title = escaped(self.sheet.told(number, day))
+        title = escaped(self.sheet.told(number, day, self.wanted.is_notice))
         letter = "×" if cell.is_absent and not cell.choice else self.letter(cell.choice)
-        return f'<span class="{" ".join(classes)}" role="img" title="{title}">{letter}{skill}{small}</span>'
+        return f'<span class="{" ".join(classes)}" role="img" tabindex="-1" title="{title}">{letter}{skill}{small}</span>'
 
     def letter(self, choice: Choice) -> str:
         return "·" if choice is None else self.sheet.shift_letters[choice[0]]
@@ -205,7 +250,7 @@ class Page:
             return ""
         title = escaped(self.sheet.told_cover(at, day, cover))
         told = f"{cover.have}{cover.mark().replace('-', '−')}<small>{cover.least}–{cover.optimum}</small>"
-        return f'<span role="img" title="{title}">{told}</span>'
+        return f'<span role="img" tabindex="-1" title="{title}">{told}</span>'
 
     # ---- numbers
 
@@ -290,7 +335,10 @@ class Page:
         )
 
     def foot(self) -> str:
-        return """<footer>Made by desk. Each total is that of the program roster; the costs by nurse add up to it.</footer>
+        made = f"Made by desk on {date_name(now().astimezone().date())}, with {escaped(self.wanted.version)}."
+        has_totals = not self.wanted.is_notice and self.wanted.nurse is None
+        told = " Each total is that of the program roster; the costs by nurse add up to it." if has_totals else ""
+        return f"""<footer>{made}{told}</footer>
 </body>
 </html>"""
 

@@ -7,9 +7,10 @@ from desk_lib.texts import DeskError, shown
 WIDTH, HEIGHT, LEFT, RIGHT, TOP, BOTTOM = 720, 260, 56, 78, 24, 36
 # So far apart are texts beside each other, and below each other.
 BESIDE, BELOW = 22, 15
-LINE = re.compile(rb"(start|missing|round|settled|stopped|fade|kick|slice|seed|\d+)(?: (.*))? (\d+)", re.S)
-# What lines tell that isn't what the roster costs: how many nurses the minimums miss, and what a run by another seed comes to.
-OTHERS = (b"missing", b"seed")
+LINE = re.compile(rb"(start|round|settled|stopped|fade|kick|slice|\d+)(?: (.*))? (\d+)", re.S)
+# Lines that don't tell what the roster costs: how many nurses the minimums miss, what a run by another seed comes to, and at the
+# end of the file of --log how the run was made.
+OTHER = re.compile(rb"(missing|seed|time|searches|floor|version) \S.*", re.S)
 
 
 @dataclasses.dataclass(frozen=True)
@@ -20,20 +21,24 @@ class Point:
     total: int
 
 
+def is_log_line(line: bytes) -> bool:
+    """Whether a line may stand in a log."""
+    return bool(LINE.fullmatch(line) or OTHER.fullmatch(line))
+
+
 def points_in(log: bytes, name: str) -> list[Point]:
     """The lines of a log. Those of other programs' messages are refused."""
     found = []
     for number, line in enumerate(log.splitlines(), 1):
         told = LINE.fullmatch(line)
-        if not told and line.startswith((b"desk: ", b"roster: ")):
+        if OTHER.fullmatch(line) or not told and line.startswith((b"desk: ", b"roster: ")):
             continue
         if not told:
             raise DeskError(
                 f"{shown(name)}:{number}: no line of a log: '{shown(line[:40])}'; --log wants what improve wrote on standard"
                 " error"
             )
-        if told[1] not in OTHERS:
-            found.append(Point(told[1].decode(), int(told[3])))
+        found.append(Point(told[1].decode(), int(told[3])))
     if not found:
         raise DeskError(f"{shown(name)}: the log is empty; --log wants what improve wrote on standard error")
     return found

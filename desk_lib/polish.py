@@ -19,9 +19,9 @@ MOST_SEARCHES, SEEDS = 10_000_000, 2**32
 # Of slices: searches of the first, seconds of a further one, how much longer it may be than the one before, and how it gives
 # way to whole runs where there are too few processors. Their seeds are far from those of whole runs.
 FIRST, SECONDS, GROWTH, NICENESS, SEED_AWAY = 100, 3.0, 4, 10, 2**31
-# Where the time is given: how much of it a whole run is made for, from how many seconds on one is begun, and how long slices go
-# on before it is known how much is searched in a second.
-SHARE, WORTHWHILE, KNOWN = 0.7, 2.0, 0.1
+# Where the time is given: how much of it a whole run is made for, from how many seconds on one is begun; and for how many seconds,
+# and how much of the time that is left, slices go on before it is known how much is searched in a second.
+SHARE, WORTHWHILE, KNOWN, KNOWN_SHARE = 0.8, 2.0, 0.1, 0.03
 
 
 @dataclasses.dataclass(frozen=True)
@@ -51,6 +51,36 @@ class Job:
         return max(0.001, time.monotonic() - self.began)
 
 
+class Pace:
+    """How much is searched in a second, as slices tell that are made one after the other, each with more searches."""
+
+    def __init__(self) -> None:
+        # (searches in a second, and the seconds that a run takes besides; how many slices told so, for how long, and the last one)
+        self.speed, self.before = 0.0, 0.0
+        self.count, self.seconds, self.last = 0, 0.0, (0, 0.0)
+
+    def learn(self, searches: int, seconds: float) -> None:
+        """Takes what a slice took. What it took besides the searches was in the one before, too."""
+        fewer, sooner = self.last
+        if sooner and searches > fewer and seconds > sooner:
+            self.speed = (searches - fewer) / (seconds - sooner)
+        self.speed = max(self.speed, searches / seconds)
+        self.before = max(0.0, seconds - searches / self.speed)
+        self.count, self.seconds, self.last = self.count + 1, self.seconds + seconds, (searches, seconds)
+
+    def is_known(self, left: float) -> bool:
+        """Whether enough was looked at, where so many seconds are left. One slice can't tell what it takes besides."""
+        return self.count > 1 and self.seconds >= max(KNOWN, KNOWN_SHARE * left)
+
+    def correct(self, searches: int, seconds: float) -> None:
+        """Takes what a whole run took."""
+        self.speed = searches / max(0.001, seconds - self.before)
+
+    def searches_in(self, seconds: float) -> int:
+        """How many searches a run of so many seconds has."""
+        return int(self.speed * max(0.0, seconds - self.before))
+
+
 class Polish:
     """Whole runs and slices, which go on together."""
 
@@ -58,8 +88,7 @@ class Polish:
         self.run, self.course = run, course
         self.least, self.word = run.total, b"settled"
         self.begun, self.slices = 0, 0
-        # (how much is searched in a second, as far as it is known, and how long that was looked at)
-        self.speed, self.seconds = 0.0, 0.0
+        self.pace = Pace()
         self.ended: list[tuple[int, int, Answer]] = []
         self.jobs = selectors.DefaultSelector()
 
@@ -136,9 +165,11 @@ class Polish:
             return self.course.searches
         turns = max(1, -(-(len(self.course.seeds) - self.begun) // len(os.sched_getaffinity(0))))
         seconds = self.left() / turns
-        if self.seconds < KNOWN or seconds < WORTHWHILE:
+        if not self.pace.is_known(self.left()) or seconds < WORTHWHILE:
             return 0
-        return max(1, min(MOST_SEARCHES, int(SHARE * seconds * self.speed)))
+        # (a whole run settles the roster first, as the rounds did)
+        settling = max(0.0, sum(self.run.round_seconds) - len(self.run.round_seconds) * self.pace.before)
+        return max(1, min(MOST_SEARCHES, self.pace.searches_in(SHARE * seconds - settling)))
 
     # ---- what comes
 
@@ -151,6 +182,7 @@ class Polish:
             self.jobs.unregister(job.running.ran.stderr)
             with contextlib.closing(job.running):
                 answer = job.running.taken(job.texts)
+            self.run.searches += job.searches
             if job.is_slice:
                 self.take_slice(job, answer)
             else:
@@ -162,13 +194,14 @@ class Polish:
             self.keep(answer, f"slice {job.number} of polish")
             self.tell(b"slice %d %d" % (job.number, total))
         if not self.begun:
-            # (short ones tell too little of it, and those beside whole runs are slower)
-            self.speed, self.seconds = max(self.speed, job.searches / took), self.seconds + took
+            # (those beside whole runs are slower)
+            self.pace.learn(job.searches, took)
         grown = min(GROWTH * job.searches, int(SECONDS * job.searches / took), MOST_SEARCHES)
         self.start_slice(self.course.slice_ or max(1, grown))
 
     def take_whole(self, job: Job, answer: Answer) -> None:
-        total, self.speed = number_of(answer.log[-1]), job.searches / job.seconds()
+        total = number_of(answer.log[-1])
+        self.pace.correct(job.searches, job.seconds())
         self.ended.append((total, job.number, answer))
         if len(self.course.seeds) > 1 or self.is_open():
             self.run.progress.line(b"seed %d %d" % (job.seed, total))

@@ -3,6 +3,7 @@ import ctypes
 import dataclasses
 import os
 import re
+import select
 import signal
 import subprocess
 import sys
@@ -40,10 +41,10 @@ class Running:
     """The program at work. Used by `with`, it doesn't go on afterwards.
 
     The text and the output lie in memory. The program has a process group of its own: Ctrl-C is the desk's alone; and it ends
-    with the desk, however that ends.
+    with the desk, however that ends, or after so many seconds.
     """
 
-    def __init__(self, path: str, words: list[str], text: bytes, niceness: int = 0):
+    def __init__(self, path: str, words: list[str], text: bytes, niceness: int = 0, seconds: float = 0):
         self.words, self.log, self.rest, self.is_over = words, [], b"", False
         self.output, desk = open(os.memfd_create("output"), "w+b"), os.getpid()
         with open(os.memfd_create("input"), "w+b") as given:
@@ -51,7 +52,7 @@ class Running:
             given.seek(0)
             how = {"stdin": given, "stdout": self.output, "stderr": subprocess.PIPE, "bufsize": 0}
             try:
-                self.ran = subprocess.Popen([path, *words], preexec_fn=lambda: tie_to(desk, niceness), **how)
+                self.ran = subprocess.Popen([path, *words], preexec_fn=lambda: tie_to(desk, niceness, seconds), **how)
             except OSError as why:
                 raise DeskError(f"{shown(path)} can't be run: {why.strerror}; --roster names the program", 3) from None
 
@@ -78,6 +79,14 @@ class Running:
         self.log += lines
         return lines
 
+    def lines_there(self) -> list[bytes]:
+        """As `lines`, and waits for none. What has no line end is left out: the program may have been ended within it."""
+        found = []
+        while not self.is_over and select.select([self.ran.stderr], [], [], 0)[0]:
+            lines = self.lines()
+            found += [] if self.is_over else lines
+        return found
+
     def answer(self) -> Answer:
         """What the program answered, once it is over."""
         status = self.ran.wait()
@@ -102,14 +111,17 @@ def refusal(words: str, answer: Answer, texts: Texts) -> DeskError:
     return DeskError(told, answer.status)
 
 
-def tie_to(desk: int, niceness: int) -> None:
-    """In the new process, before it is the program: it is to end with the desk, and to be as nice as it is to be."""
+def tie_to(desk: int, niceness: int, seconds: float) -> None:
+    """In the new process, before it is the program: it is to end with the desk, and after some seconds where there are any; and
+    to be as nice as it is to be."""
     LIBC.prctl(SET_DEATH_SIGNAL, signal.SIGKILL)
     if os.getppid() != desk:
         os._exit(1)
     # (with a session of its own it would be as nice as any)
     os.setpgid(0, 0)
     os.nice(niceness)
+    # (the alarm stays with the process when it becomes the program, and ends that)
+    signal.setitimer(signal.ITIMER_REAL, seconds)
 
 
 class Program:
@@ -118,8 +130,11 @@ class Program:
     def __init__(self, path: str):
         self.path = path
 
-    def start(self, words: list[str], text: bytes, niceness: int = 0) -> Running:
-        return Running(self.path, words, text, niceness)
+    def start(self, words: list[str], text: bytes, niceness: int = 0, seconds: float = 0) -> Running:
+        return Running(self.path, words, text, niceness, seconds)
+
+    def version(self) -> str:
+        return shown(self.call(["--version"], b"").output.rstrip())
 
     def call(self, words: list[str], text: bytes) -> Answer:
         """Runs a command over the text."""

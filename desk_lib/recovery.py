@@ -281,7 +281,8 @@ class Recovery:
         scenario = self.of_kind("scenario")
         weeks = scenario[0].sections.get(b"WEEKS") if scenario else None
         data, solutions = self.of_kind("week data"), self.of_kind("solution")
-        if weeks and not len(data) == len(solutions) == weeks.count:
+        # (without any solutions the texts are those of a roster to come)
+        if weeks and (len(data) != weeks.count or solutions and len(solutions) != weeks.count):
             told = f"WEEKS says {weeks.count}, and there are {len(data)} week data and {len(solutions)} solutions"
             self.tell(weeks.at + 2, f"{told}{self.lacking_weeks(weeks.count, solutions)}")
 

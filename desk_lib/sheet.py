@@ -2,9 +2,10 @@
 import dataclasses
 import datetime
 
+from desk_lib.breaches import all_breaches, words_told
 from desk_lib.costs import Costing
 from desk_lib.model import Choice, Roster, choice_name, day_place
-from desk_lib.texts import shown
+from desk_lib.texts import plural, shown
 
 SPARE = "0123456789"
 MONTHS = "Jan Feb Mar Apr May Jun Jul Aug Sep Oct Nov Dec".split()
@@ -16,8 +17,8 @@ def date_name(date: datetime.date) -> str:
 
 @dataclasses.dataclass(frozen=True)
 class Cell:
-    """A day of a nurse: the choice, whether it is another than before, what of the requests it doesn't meet, and whether the nurse
-    is absent."""
+    """A day of a nurse: the choice, whether it is another than before, what of the requests it doesn't meet, whether the nurse
+    is absent, and in words the hard rules that it breaks."""
 
     choice: Choice
     before: Choice
@@ -25,6 +26,7 @@ class Cell:
     breaks_request: bool
     misses_wish: bool
     is_absent: bool
+    broken: tuple[str, ...] = ()
 
 
 @dataclasses.dataclass(frozen=True)
@@ -56,6 +58,14 @@ class Sheet:
     def __init__(self, costing: Costing, before: Roster | None, first_week: int, start: datetime.date | None = None):
         self.costing, self.case, self.start = costing, costing.case, start
         self.weeks, self.first_week, self.is_compared = range(self.case.weeks), first_week, before is not None
+        # (what the roster breaks; and what the other one breaks, where there is one)
+        self.breaches = all_breaches(costing.plan)
+        self.breaches_before = all_breaches(dataclasses.replace(costing.plan, roster=before)) if before else []
+        self.broken: dict[tuple[int, int], tuple[str, ...]] = {}
+        for it in self.breaches:
+            if it.rule != "H2":
+                at = it.of[0], it.day
+                self.broken[at] = *self.broken.get(at, ()), it.more
         self.shift_letters = letters([it.name for it in self.case.shifts])
         self.skill_letters = [it.lower() for it in letters(self.case.skills)]
         self.rows = [
@@ -70,7 +80,8 @@ class Sheet:
         row = self.costing.plan.roster[number]
         old = before[number][day] if before else row[day]
         asked, missed = self.costing.breaks_request(number, day, row), self.costing.misses_wish(number, day, row)
-        return Cell(row[day], old, old != row[day], asked, missed, (number, day) in self.case.absences)
+        is_absent, broken = (number, day) in self.case.absences, self.broken.get((number, day), ())
+        return Cell(row[day], old, old != row[day], asked, missed, is_absent, broken)
 
     def date(self, day: int) -> datetime.date | None:
         return self.start + datetime.timedelta(day) if self.start else None
@@ -80,13 +91,31 @@ class Sheet:
         date = self.date(day)
         return day_place(day) + (f", {date_name(date)}" if date else "")
 
-    def told(self, number: int, day: int) -> str:
+    def told(self, number: int, day: int, without_requests: bool = False) -> str:
         """A day of a nurse in words."""
         cell, is_frozen = self.rows[number][day], day // 7 < self.first_week
         parts = [f"{shown(self.case.nurses[number].name)}, {self.day_name(day)}: {choice_name(self.case, cell.choice)}"]
         parts += [f"before: {choice_name(self.case, cell.before)}"] if cell.is_changed else []
-        parts += ["an off request isn't met"] * cell.breaks_request + ["a wish isn't met"] * cell.misses_wish
-        return "; ".join(parts + ["absent"] * cell.is_absent + ["frozen"] * is_frozen)
+        if not without_requests:
+            parts += ["an off request isn't met"] * cell.breaks_request + ["a wish isn't met"] * cell.misses_wish
+        return "; ".join([*parts, *["absent"] * cell.is_absent, *cell.broken, *["frozen"] * is_frozen])
+
+    def told_breaches(self) -> list[str]:
+        """What the roster breaks, or the one before, a line for each, below a line that says how many."""
+        for found, which in (self.breaches, "This roster"), (self.breaches_before, "The first roster"):
+            if found:
+                return [f"{which} breaks {plural(len(found), 'hard rule')}:", *words_told(found)]
+        return []
+
+    def changes(self) -> list[tuple[int, list[int]]]:
+        """The nurses who have another row than before, each with the days that are other."""
+        days = [[day for day, cell in enumerate(row) if cell.is_changed] for row in self.rows]
+        return [(number, it) for number, it in enumerate(days) if it]
+
+    def told_change(self, number: int, day: int) -> tuple[str, str, str]:
+        """A day that changed in words: the day, what was, and what is."""
+        cell = self.rows[number][day]
+        return self.day_name(day), choice_name(self.case, cell.before), choice_name(self.case, cell.choice)
 
     def told_cover(self, at: tuple[int, int], day: int, cover: "Cover") -> str:
         """The cover of a day in words."""

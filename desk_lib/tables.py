@@ -2,7 +2,9 @@
 import csv
 import datetime
 import io
+import json
 
+from desk_lib.breaches import all_breaches, words_told
 from desk_lib.costs import RULES, Costing
 from desk_lib.model import Plan, changed_days, choice_name, day_place
 from desk_lib.texts import columns, cut, shown
@@ -79,3 +81,27 @@ def csv_text(plan: Plan, start: datetime.date | None) -> str:
     for nurse, row in zip(plan.case.nurses, plan.roster):
         table.writerow([shown(nurse.name), *(choice_name(plan.case, it) if it else "" for it in row)])
     return text.getvalue()
+
+
+def costs_of(costing: Costing) -> dict:
+    """The costs of a roster by rule, by nurse, and by shift and skill."""
+    case, plan = costing.case, costing.plan
+    nurses = [
+        {"name": shown(nurse.name), "contract": shown(plan.contract_name(nurse.contract)), **costs, "sum": sum(costs.values())}
+        for nurse, costs in zip(case.nurses, costing.of_nurses)
+    ]
+    places = [
+        {"shift": shown(case.shifts[shift].name), "skill": shown(case.skills[skill]), "S1": cost}
+        for (shift, skill), cost in costing.of_places.items()
+    ]
+    return {**costing.totals_by_rule(), "nurses": nurses, "places": places}
+
+
+def json_text(costing: Costing, before: Costing | None) -> str:
+    """What `costs --json` writes: an object with the costs, and with a second roster also those of the first, as `before`, with
+    the hard rules that it breaks."""
+    found: dict = {"scenario": shown(costing.case.name), **costs_of(costing)}
+    if before:
+        found["days_changed"] = changed_days(before.plan.roster, costing.plan.roster)
+        found["before"] = {**costs_of(before), "breaks": words_told(all_breaches(before.plan))}
+    return json.dumps(found, indent=2, ensure_ascii=False)

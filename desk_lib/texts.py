@@ -10,6 +10,8 @@ KINDS = {"sce": "scenario", "his": "history", "weeks": "week data", "sols": "sol
 
 # So many bytes of a line are kept before a word and after it.
 AROUND = 400
+# What an edit of a text puts in the place of some bytes: from where, how many, and what.
+Edit = tuple[int, int, bytes]
 
 
 class DeskError(Exception):
@@ -57,6 +59,14 @@ class Text:
     name: str
     data: bytes
     kind: str = ""
+
+    def edited(self, start: int, edits: list[Edit]) -> "Text":
+        """The text, which begins at this byte of all texts, with those of the edits that are of it."""
+        data = self.data
+        for at, length, new in sorted(edits, reverse=True):
+            if start <= at < start + len(self.data) + (length == 0):
+                data = data[: at - start] + new + data[at - start + length :]
+        return dataclasses.replace(self, data=data)
 
 
 @dataclasses.dataclass(frozen=True)
@@ -107,6 +117,10 @@ class Texts:
                 if start < offset
             ]
         return Texts(kept + more)
+
+    def edited(self, edits: list[Edit]) -> "Texts":
+        """The texts with edits, whose bytes are those of the joined text."""
+        return Texts([it.edited(start, edits) for it, start in zip(self.texts, self.starts)], self.is_stream)
 
     def index(self, offset: int) -> int:
         """The number of the file in which a byte stands; the last one's at the end."""
