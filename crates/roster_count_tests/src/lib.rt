@@ -11,4 +11,4 @@ mod ward;
 use roster_best::Workspace;
 
 // A workspace without its four lists, which grow with the case: the two tables, the pointers and a row.
-const _: () = prove!(size_of::<Workspace>() <= 115_120);
+const _: () = prove!(size_of::<Workspace>() <= 111_120);
