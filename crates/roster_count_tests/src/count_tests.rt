@@ -1,7 +1,7 @@
 //! How many steps searches take. A contract says how many at most, and a search that gives all to the tables keeps to that too. So each
 //! is held to what it took when that was stored, and a tenth more.
 
-use crate::stored::{LIKE_STEPS, WARD_STEPS, YEAR_STEPS};
+use crate::stored::{LAST_WEEK_STEPS, LIKE_STEPS, WARD_STEPS, YEAR_STEPS};
 use crate::ward::WARD_TEXT;
 use roster_best::{Workspace, best_row, most_steps};
 use roster_case::{Case, Held, Roster};
@@ -30,10 +30,11 @@ fn ready(alloc: Global, source: &[u8]) -> Result<Ready, Fail> {
     }
 }
 
-/// How many steps a nurse's search takes. Her best row is put in.
+/// How many steps a nurse's search takes from a week on. Her best row is put in.
 fn search(
     held: &mut Held,
     nurse: usize,
+    from: u16,
     workspace: &mut Workspace,
     meter: &mut Meter,
 ) -> Result<u64, Fail> {
@@ -43,18 +44,22 @@ fn search(
         return Err(Fail::new("no room"));
     }
     let before = meter.count();
-    best_row(held, nurse, 0, workspace, meter);
+    best_row(held, nurse, from, workspace, meter);
     held.replace_row(nurse, workspace.row());
     Ok(meter.count() - before)
 }
 
-/// How many steps the searches of a text's nurses take, one after another, in two rounds.
-fn steps_of<const N: usize>(alloc: Global, source: &[u8]) -> Result<[[u64; N]; 2], Fail> {
+/// How many steps the searches of a text's nurses take from a week on, one after another, in two rounds.
+fn steps_of<const N: usize>(
+    alloc: Global,
+    source: &[u8],
+    from: u16,
+) -> Result<[[u64; N]; 2], Fail> {
     let (mut held, mut workspace, mut meter) = ready(alloc, source)?;
     let mut steps = [[0; N]; 2];
     for round in 0..2_usize {
         for nurse in 0..N {
-            steps[round][nurse] = search(&mut held, nurse, &mut workspace, &mut meter)?;
+            steps[round][nurse] = search(&mut held, nurse, from, &mut workspace, &mut meter)?;
         }
     }
     Ok(steps)
@@ -75,9 +80,18 @@ fn above<const N: usize>(steps: &[[u64; N]; 2], stored: &[[u64; N]; 2]) -> Optio
 
 #[test]
 fn steps_of_the_ward(rt: HostRuntime) -> Result<(), Fail> {
-    let steps = steps_of::<12>(rt.alloc(), WARD_TEXT.as_bytes())?;
+    let steps = steps_of::<12>(rt.alloc(), WARD_TEXT.as_bytes(), 0)?;
     let above = above(&steps, &WARD_STEPS);
     assert!(rt; above.is_none(), "{above:?} WARD_STEPS {steps:?}");
+    Ok(())
+}
+
+/// Few states stand where most weeks are frozen, so that the tables search at once.
+#[test]
+fn steps_in_the_last_week(rt: HostRuntime) -> Result<(), Fail> {
+    let steps = steps_of::<12>(rt.alloc(), WARD_TEXT.as_bytes(), 3)?;
+    let above = above(&steps, &LAST_WEEK_STEPS);
+    assert!(rt; above.is_none(), "{above:?} LAST_WEEK_STEPS {steps:?}");
     Ok(())
 }
 
@@ -90,7 +104,7 @@ fn steps_of_thirty_nurses(rt: HostRuntime) -> Result<(), Fail> {
         seed: 1,
     };
     let text = size.bundle(rt.alloc(), 0)?;
-    let steps = steps_of::<30>(rt.alloc(), &text)?;
+    let steps = steps_of::<30>(rt.alloc(), &text, 0)?;
     let above = above(&steps, &LIKE_STEPS);
     assert!(rt; above.is_none(), "{above:?} LIKE_STEPS {steps:?}");
     Ok(())
@@ -105,7 +119,7 @@ fn steps_over_a_year(rt: HostRuntime) -> Result<(), Fail> {
         seed: 1,
     };
     let text = size.bundle(rt.alloc(), 0)?;
-    let steps = steps_of::<12>(rt.alloc(), &text)?;
+    let steps = steps_of::<12>(rt.alloc(), &text, 0)?;
     let above = above(&steps, &YEAR_STEPS);
     assert!(rt; above.is_none(), "{above:?} YEAR_STEPS {steps:?}");
     Ok(())
