@@ -222,17 +222,17 @@ silent_log output log p source b (Some fault.Output) none e same = rw none same
 silent_log output log p source b (Some fault.Log) none e same = absurd (true≢false (sym e.ends.1 ∙ ap is_some none))
 
 -- a roster that is not held
-pub unheld_ends : {W : Type 0} (output : Output W) (p : Report) (source : Text) (b : Bundle) (f : Fault) → p.is_held ≡ true → IsUnheld source b p.broken f → Untouched output
-    → Ends output p source b (Some f)
-unheld_ends output p source b (fault.Text f) held h same = absurd h
-unheld_ends output p source b (fault.Case f nurse) held h same = absurd h
-unheld_ends output p source b (fault.Hard f names) held h same = record { ends = h; left = same }
-unheld_ends output p source b (fault.Unfound f names) held h same = absurd h
-unheld_ends output p source b (fault.Nurse name) held h same = absurd h
-unheld_ends output p source b fault.Memory held h same = record { ends = (h, held); left = same }
-unheld_ends output p source b fault.Workspace held h same = absurd h
-unheld_ends output p source b fault.Output held h same = absurd h
-unheld_ends output p source b fault.Log held h same = absurd h
+pub unheld_ends : {W : Type 0} (output : Output W) (p : Report) (source : Text) (b : Bundle) (f : Fault) → p.is_held ≡ true → p.unfound ≡ [] → p.unknown ≡ None → IsUnheld source b p.broken f
+    → Untouched output → Ends output p source b (Some f)
+unheld_ends output p source b (fault.Text f) held found known h same = absurd h
+unheld_ends output p source b (fault.Case f nurse) held found known h same = absurd h
+unheld_ends output p source b (fault.Hard f names) held found known h same = record { ends = h; left = same }
+unheld_ends output p source b (fault.Unfound f names) held found known h same = absurd h
+unheld_ends output p source b (fault.Nurse name) held found known h same = absurd h
+unheld_ends output p source b fault.Memory held found known h same = record { ends = (record { kept = h; found = found; known = known }, held); left = same }
+unheld_ends output p source b fault.Workspace held found known h same = absurd h
+unheld_ends output p source b fault.Output held found known h same = absurd h
+unheld_ends output p source b fault.Log held found known h same = absurd h
 
 -- and so the log is as it was
 pub unheld_log : {L : Type 0} (log : Output L) (told : Option Text) (source : Text) (b : Bundle) (broken : List HardFault) (f : Fault) → IsUnheld source b broken f → Untouched log

@@ -24,3 +24,7 @@ module _ (c : Meaning) (name : Text) (n : ℕ) (found : Some n ≡ find_name c.n
 
   pub numbered : n ≡ number_of c name
   numbered = ap (λ (o : Option ℕ). unwrap_or o 0) found
+
+-- and a name that it doesn't have
+pub unknown : (c : Meaning) (name : Text) → find_name c.nurse_names name ≡ None → unknown_in c name ≡ Some name
+unknown c name none = ap (λ (o : Option ℕ). if is_some o then None else Some name) none

@@ -26,9 +26,15 @@ module _ (rounds from : ℕ) (c : Meaning) (r : Rows) where
         record {
           report = bound_report some.0 c r;
           is = of_floors rounds from c r some.0 some.1;
-          ends = unheld_ends output (bound_report some.0 c r) source b f refl h o;
+          ends = unheld_ends output (bound_report some.0 c r) source b f refl refl refl h o;
           logged = unheld_log log (Some (floor_text c r some.0)) source b (hard_faults c r) f h l;
         }
+
+    -- there is no memory for what floors are found in
+    pub bound_roomless : hard_faults c r ≡ [] → Untouched output → Untouched log → Reports output log (IsBoundReport rounds from c r) source b (Some fault.Workspace)
+    bound_roomless kept o l =
+        let some = some_log c from r rounds in
+        record { report = bound_report some.0 c r; is = of_floors rounds from c r some.0 some.1; ends = record { ends = (kept, refl, refl); left = o }; logged = l }
 
     -- the log failed inside the floors
     pub bound_stops : (f : LogFault) → hard_faults c r ≡ [] → FloorLogStops log.contents c from r rounds log.before log.after f → Untouched output

@@ -36,8 +36,8 @@ module _ (searches from : ℕ) (alone : Bool) (c : Meaning) (r : Rows) {W L : Ty
 
   module _ (mendable : unmendable c from r ≡ []) where
     -- there is no memory for the search
-    pub plan_roomless : Untouched output → Untouched log → Reports output log (IsPlanReport searches from alone c r) source b (Some fault.Memory)
-    plan_roomless o l = record { report = unplanned from r c r; is = no_plan searches from alone c r r (λ e. e) (stays_self c from r); ends = record { ends = (mendable, refl); left = o }; logged = l }
+    pub plan_roomless : Untouched output → Untouched log → Reports output log (IsPlanReport searches from alone c r) source b (Some fault.Workspace)
+    plan_roomless o l = record { report = unplanned from r c r; is = no_plan searches from alone c r r (λ e. e) (stays_self c from r); ends = record { ends = (mendable, refl, refl); left = o }; logged = l }
 
     module _ (nearest : Rows) (fits : fits_case c r ≡ true → fits_case c nearest ≡ true) (stays : FrozenDaysStay c from r nearest) where
       -- the nearest roster is not held
@@ -47,7 +47,12 @@ module _ (searches from : ℕ) (alone : Bool) (c : Meaning) (r : Rows) {W L : Ty
       plan_unfound (fault.Hard f names) h o l = absurd h
       plan_unfound (fault.Unfound f names) h o l = record { report = unplanned from nearest c r; is = no_plan searches from alone c r nearest fits stays; ends = record { ends = (mendable, h); left = o }; logged = l }
       plan_unfound (fault.Nurse name) h o l = absurd h
-      plan_unfound fault.Memory h o l = record { report = unplanned from nearest c r; is = no_plan searches from alone c r nearest fits stays; ends = record { ends = (mendable, refl); left = o }; logged = l }
+      plan_unfound fault.Memory h o l = record {
+        report = unplanned from nearest c r;
+        is = no_plan searches from alone c r nearest fits stays;
+        ends = record { ends = (record { kept = mendable; found = h; known = refl }, refl); left = o };
+        logged = l;
+      }
       plan_unfound fault.Workspace h o l = absurd h
       plan_unfound fault.Output h o l = absurd h
       plan_unfound fault.Log h o l = absurd h

@@ -45,9 +45,13 @@ module _ (searches from : ℕ) (alone : Bool) (c : Meaning) (r : Rows) where
     polish_unheld f h o l = record {
       report = kickless from c r;
       is = no_kick searches from alone c r;
-      ends = unheld_ends output (kickless from c r) source b f refl h o;
+      ends = unheld_ends output (kickless from c r) source b f refl refl refl h o;
       logged = unheld_log log (Some (unkicked_text c from (penalty c r) r)) source b (hard_faults c r) f h l;
     }
+
+    -- there is no memory for the run
+    pub polish_roomless : hard_faults c r ≡ [] → Untouched output → Untouched log → Reports output log (IsPolishReport searches from alone c r) source b (Some fault.Workspace)
+    polish_roomless kept o l = record { report = kickless from c r; is = no_kick searches from alone c r; ends = record { ends = (kept, refl, refl); left = o }; logged = l }
 
     -- the log failed inside the run
     pub polish_stops : (few : ℕ) → few ≤ searches → (after : Rows) (f : LogFault) → hard_faults c r ≡ [] → PolishLogStops log.contents c from r (penalty c r) few alone after log.before log.after f → Untouched output

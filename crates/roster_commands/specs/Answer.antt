@@ -299,8 +299,8 @@ IsOutcomeOf p bytes b (Some fault.Log) = IsAllowed p × (is_some p.log ≡ true)
 IsOutcomeOf p bytes b (Some (fault.Hard f names)) = IsFirstBreach bytes b p.broken (fault.Hard f names)
 IsOutcomeOf p bytes b (Some (fault.Unfound f names)) = (p.broken ≡ []) × IsFirstBreach bytes b p.unfound (fault.Hard f names)
 IsOutcomeOf p bytes b (Some (fault.Nurse name)) = (p.broken ≡ []) × (p.unknown ≡ Some name.now)
-IsOutcomeOf p bytes b (Some fault.Memory) = (p.broken ≡ []) × (p.is_held ≡ true)
-IsOutcomeOf p bytes b (Some fault.Workspace) = IsAllowed p × (p.is_held ≡ true)
+IsOutcomeOf p bytes b (Some fault.Memory) = IsAllowed p × (p.is_held ≡ true)
+IsOutcomeOf p bytes b (Some fault.Workspace) = (p.broken ≡ []) × (p.unknown ≡ None) × (p.is_held ≡ true)
 IsOutcomeOf p bytes b (Some (fault.Text f)) = ⊥
 IsOutcomeOf p bytes b (Some (fault.Case f nurse)) = ⊥
 

@@ -15,7 +15,8 @@ use crate::held::hold;
 use crate::reading::Instance;
 use crate::weeks::show_weeks;
 use roster_best::{Workspace, best_row};
-use roster_case::Held;
+use roster_case::{Held, first_hard};
+use roster_reports::names_of;
 use roster_rounds::search_has_room;
 use roster_state::Meter;
 use roster_text::{Piece, Watch, WriteFault, write_pieces};
@@ -23,7 +24,7 @@ use std::alloc::Global;
 use std::io::Write;
 
 /// Writes the weeks of an instance with the best row of the nurse of this name from a week on put in, also where it isn't cheaper.
-/// What the roster costs before and with it goes to the log first.
+/// What the roster costs before and with it goes to the log first. No memory is asked for before it is known whose row it is.
 pub(crate) fn report_best<'a, Out: Write, Log: Write>(
     alloc: Global,
     name: &'a [u8],
@@ -40,11 +41,14 @@ pub(crate) fn report_best<'a, Out: Write, Log: Write>(
     ensures logged { LeavesLog (output_of Log.contents log.old log.new)
         (best_report name.now from instance.case instance.roster).log (outcome_of result) }
 {
-    let mut meter = Meter::new(&mut instance.case);
-    let mut held = hold(alloc, source, instance)?;
-    let Some(nurse) = held.case().find_nurse(name) else {
+    let Some(nurse) = instance.case.find_nurse(name) else {
+        if let Some(fault) = first_hard(&instance.case, &instance.roster) {
+            return Err(Fault::Hard(fault, names_of(source, &instance.bundle, fault)));
+        }
         return Err(Fault::Nurse(name));
     };
+    let mut meter = Meter::new(&mut instance.case);
+    let mut held = hold(alloc, source, instance)?;
     let Ok(mut workspace) = Workspace::for_case(alloc, held.case()) else {
         return Err(Fault::Workspace);
     };

@@ -38,7 +38,7 @@ pub(crate) fn report_bound<'a, Out: Write, Log: Write>(
     let mut meter = Meter::new(&mut instance.case);
     let held = hold(alloc, source, instance)?;
     let Ok(mut floor) = Floor::of(alloc, held) else {
-        return Err(Fault::Memory);
+        return Err(Fault::Workspace);
     };
     rounds_have_room(floor.held.case(), rounds);
     let workspace = &mut floor.workspace;

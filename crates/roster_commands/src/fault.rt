@@ -18,9 +18,9 @@ pub(crate) enum Fault<'a> {
     Unfound(HardFault, BreachNames<'a>),
     /// The case has no nurse of this name, for whom the command is.
     Nurse(&'a [u8]),
-    /// A growth was refused for what a command keeps of a roster that it holds, or for its rounds.
+    /// A growth was refused for what a command keeps of a roster that it holds. Nothing else is refused.
     Memory,
-    /// A growth was refused for the search of a nurse's row, once it is known whose.
+    /// A growth was refused for the workspace of its searches. Nothing is refused that can be told before these.
     Workspace,
     /// The output failed.
     Output,

@@ -35,7 +35,7 @@ pub(crate) fn report_improve<'a, Out: Write, Log: Write>(
     let mut meter = Meter::new(&mut instance.case);
     let mut held = hold(alloc, source, instance)?;
     let Ok(mut workspace) = RunSpace::for_case(alloc, held.case()) else {
-        return Err(Fault::Memory);
+        return Err(Fault::Workspace);
     };
     rounds_have_room(held.case(), rounds);
     match improve(&mut held, rounds, from, &mut workspace, &mut meter, log) {

@@ -42,7 +42,7 @@ pub(crate) fn report_plan<'a, Out: Write, Log: Write>(
     }
     let mut meter = Meter::new(case);
     let Ok(mut space) = PolishSpace::for_roster(alloc, case, roster) else {
-        return Err(Fault::Memory);
+        return Err(Fault::Workspace);
     };
     let course = within_room(course);
     searches_have_room(case, course.searches);

@@ -33,7 +33,7 @@ pub(crate) fn report_polish<'a, Out: Write, Log: Write>(
     let mut meter = Meter::new(&mut instance.case);
     let mut held = hold(alloc, source, instance)?;
     let Ok(mut space) = PolishSpace::for_held(alloc, &held) else {
-        return Err(Fault::Memory);
+        return Err(Fault::Workspace);
     };
     let course = within_room(course);
     searches_have_room(held.case(), course.searches);

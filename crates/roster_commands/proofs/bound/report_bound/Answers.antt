@@ -9,7 +9,7 @@ use Rattle.roster_bound.specs.Floors.{FloorLogStops, RaisesFloor}
 use Rattle.roster_commands.specs.Answer.{IsUnheld, Output}
 use Rattle.roster_reports.specs.Lines.{bound_text}
 use Rattle.roster_commands.specs.declared.fault.Fault.TheVariants as fault
-use Rattle.roster_commands.proofs.BoundLemmas.{bound_ends, bound_stops, bound_unheld}
+use Rattle.roster_commands.proofs.BoundLemmas.{bound_ends, bound_roomless, bound_stops, bound_unheld}
 use Rattle.roster_commands.proofs.bound.report_bound.Goals as goal
 
 pub returns-in_err-held : goal.returns-in_err-held
@@ -23,7 +23,7 @@ pub returns-in_default : goal.returns-in_default
 returns-in_default g c =
     let output : Output g.row.Out.Denot = record { contents = g.Out.Write.contents; before = c.args.output.now; after = c.args.output.now } in
     let log : Output g.row.Log.Denot = record { contents = g.Log.Write.contents; before = c.args.log.now; after = c.args.log.now } in
-    bound_unheld c.args.rounds c.args.from c.args.instance.case c.args.instance.roster output log c.args.source.now c.args.instance.bundle fault.Memory (subst (λ (m : Meaning). hard_faults m c.args.instance.roster ≡ []) c.new-meter.ensures.same c.in_ok-held.ensures.kept) refl refl
+    bound_roomless c.args.rounds c.args.from c.args.instance.case c.args.instance.roster output log c.args.source.now c.args.instance.bundle (subst (λ (m : Meaning). hard_faults m c.args.instance.roster ≡ []) c.new-meter.ensures.same c.in_ok-held.ensures.kept) refl refl
 
 pub returns-in_err-write_bound-in-Ok-raise_floor : goal.returns-in_err-write_bound-in-Ok-raise_floor
 returns-in_err-write_bound-in-Ok-raise_floor g c =

@@ -9,7 +9,6 @@ use Rattle.roster_rules.specs.AllowedRows.{best_row}
 use Rattle.roster_instance.specs.Meaning.{Meaning}
 use Rattle.roster_rounds.specs.RunLogs.{Ran}
 use Rattle.roster_commands.specs.Answer.{IsUnheld, Output, StopsOutput, improve_report, run_log}
-use Rattle.roster_commands.specs.declared.fault.Fault.TheVariants as fault
 use Rattle.roster_commands.proofs.AnswerLemmas.{unheld_ends, unheld_log, written_ends, written_log}
 use Rattle.roster_commands.proofs.improve.report_improve.Goals as goal
 
@@ -19,7 +18,7 @@ returns-in_err-held-clause-ends g c =
     let f = c.in_err-held.field-0.0 in
     let unheld = subst (λ (m : Meaning). IsUnheld c.args.source.now c.args.instance.bundle (hard_faults m c.args.instance.roster) f) c.new-meter.ensures.same c.in_err-held.ensures.unheld in
     let p = err_from_is_err_and c.from_residual.result c.from_residual.ensures.1 in
-    rw (p.1, p.2) (unheld_ends output (improve_report c.args.rounds c.args.from c.args.instance.case c.args.instance.roster) c.args.source.now c.args.instance.bundle f refl unheld refl)
+    rw (p.1, p.2) (unheld_ends output (improve_report c.args.rounds c.args.from c.args.instance.case c.args.instance.roster) c.args.source.now c.args.instance.bundle f refl refl refl unheld refl)
 
 pub returns-in_err-held-clause-logged : goal.returns-in_err-held-clause-logged
 returns-in_err-held-clause-logged g c =
@@ -31,9 +30,8 @@ returns-in_err-held-clause-logged g c =
 
 pub returns-in_default-clause-ends : goal.returns-in_default-clause-ends
 returns-in_default-clause-ends g c =
-    let output : Output g.row.Out.Denot = record { contents = g.Out.Write.contents; before = c.args.output.now; after = c.args.output.now } in
     let kept = subst (λ (m : Meaning). hard_faults m c.args.instance.roster ≡ []) c.new-meter.ensures.same c.in_ok-held.ensures.kept in
-    unheld_ends output (improve_report c.args.rounds c.args.from c.args.instance.case c.args.instance.roster) c.args.source.now c.args.instance.bundle fault.Memory refl kept refl
+    record { ends = (kept, refl, refl); left = refl }
 
 pub returns-in_default-clause-logged : goal.returns-in_default-clause-logged
 returns-in_default-clause-logged g c = refl

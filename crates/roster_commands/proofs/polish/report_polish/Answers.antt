@@ -10,8 +10,7 @@ use Rattle.roster_instance.specs.Meaning.{Meaning}
 use Rattle.roster_polish.specs.Polished.{PolishLogStops, Polishes, most_searches}
 use Rattle.roster_polish.specs.declared.run.Course.{Course}
 use Rattle.roster_commands.specs.Answer.{IsUnheld, Output, StopsOutput}
-use Rattle.roster_commands.specs.declared.fault.Fault.TheVariants as fault
-use Rattle.roster_commands.proofs.PolishLemmas.{polish_ends, polish_stops, polish_unheld}
+use Rattle.roster_commands.proofs.PolishLemmas.{polish_ends, polish_roomless, polish_stops, polish_unheld}
 use Rattle.roster_commands.proofs.polish.report_polish.Goals as goal
 
 pub returns-in_err-held : goal.returns-in_err-held
@@ -25,7 +24,7 @@ pub returns-in_default : goal.returns-in_default
 returns-in_default g c =
     let output : Output g.row.Out.Denot = record { contents = g.Out.Write.contents; before = c.args.output.now; after = c.args.output.now } in
     let log : Output g.row.Log.Denot = record { contents = g.Log.Write.contents; before = c.args.log.now; after = c.args.log.now } in
-    polish_unheld c.args.course.now.searches c.args.course.now.from c.args.course.now.kicks c.args.instance.case c.args.instance.roster output log c.args.source.now c.args.instance.bundle fault.Memory (subst (λ (m : Meaning). hard_faults m c.args.instance.roster ≡ []) c.new-meter.ensures.same c.in_ok-held.ensures.kept) refl refl
+    polish_roomless c.args.course.now.searches c.args.course.now.from c.args.course.now.kicks c.args.instance.case c.args.instance.roster output log c.args.source.now c.args.instance.bundle (subst (λ (m : Meaning). hard_faults m c.args.instance.roster ≡ []) c.new-meter.ensures.same c.in_ok-held.ensures.kept) refl refl
 
 pub returns-in-Ok-polish : goal.returns-in-Ok-polish
 returns-in-Ok-polish g c =
