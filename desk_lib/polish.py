@@ -198,7 +198,7 @@ class Polish:
                 self.take_whole(job, answer)
 
     def take_slice(self, job: Job, answer: Answer) -> None:
-        total, took = number_of(answer.log[-1]), job.seconds()
+        total, took = number_of(answer.end()), job.seconds()
         if total < self.run.total:
             self.keep(answer, f"slice {job.number} of polish")
             self.tell(b"slice %d %d" % (job.number, total))
@@ -209,7 +209,7 @@ class Polish:
         self.start_slice(self.course.slice_ or max(1, grown))
 
     def take_whole(self, job: Job, answer: Answer) -> None:
-        total = number_of(answer.log[-1])
+        total = number_of(answer.end())
         self.pace.correct(job.searches, job.seconds())
         self.ended.append((total, job.number, answer))
         if len(self.course.seeds) > 1 or self.is_open():
@@ -219,8 +219,8 @@ class Polish:
 
     def keep(self, answer: Answer, what: str) -> None:
         if answer.output != self.run.solutions:
-            self.run.save(answer.output, number_of(answer.log[-1]), what)
-        self.word = answer.log[-1].split(b" ")[0]
+            self.run.save(answer.output, number_of(answer.end()), what)
+        self.word = answer.end().split(b" ")[0]
 
     def keep_first(self) -> None:
         """Of equally dear rosters of whole runs the first stays, whichever was over first."""
