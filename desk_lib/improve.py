@@ -223,8 +223,8 @@ class Run:
             ["improve", "--rounds", str(count), *self.first_week], self.texts(), lambda it: self.tell(it, number)
         )
         self.round_seconds.append(time.monotonic() - began)
-        self.save(answer.output, number_of(answer.log[-1]), f"round {number}" if count else "no round")
-        self.end = answer.log[-1]
+        self.save(answer.output, number_of(answer.end()), f"round {number}" if count else "no round")
+        self.end = answer.end()
 
     # ---- a roster of `plan`
 
@@ -240,8 +240,8 @@ class Run:
         for line in found[0].log[:-1]:
             # (the first has no penalty)
             self.progress.line(line.replace(b"start ", b"missing "))
-        self.save(found[0].output, number_of(found[0].log[-1]), "plan")
-        self.end, self.begun = found[0].log[-1], self.texts()
+        self.save(found[0].output, number_of(found[0].end()), "plan")
+        self.end, self.begun = found[0].end(), self.texts()
         self.progress.line(self.end)
 
     def planned(self, counts: collections.abc.Sequence[int | None], seed: int) -> list[Answer]:

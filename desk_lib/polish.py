@@ -19,9 +19,12 @@ MOST_SEARCHES, SEEDS = 10_000_000, 2**32
 # Of slices: searches of the first, seconds of a further one, how much longer it may be than the one before, and how it gives
 # way to whole runs where there are too few processors. Their seeds are far from those of whole runs.
 FIRST, SECONDS, GROWTH, NICENESS, SEED_AWAY = 100, 3.0, 4, 10, 2**31
-# Where the time is given: how much of it a whole run is made for, from how many seconds on one is begun; and for how many seconds,
-# and how much of the time that is left, slices go on before it is known how much is searched in a second.
-SHARE, WORTHWHILE, KNOWN, KNOWN_SHARE = 0.8, 2.0, 0.1, 0.03
+# Where the time is given: how much of what is left the first whole run is made for, which tells how fast such runs are, and each
+# after it; and from how many seconds on one is begun. A run that doesn't end is lost, and a machine may slow down.
+FIRST_SHARE, SHARE, WORTHWHILE = 0.5, 0.75, 2.0
+# For how many seconds, and how much of the time that is left, a slice goes on that tells how much is searched in a second; and how much
+# faster it may go without what a slice takes besides.
+KNOWN, KNOWN_SHARE, MOST_FASTER = 0.1, 0.02, 1.3
 
 
 @dataclasses.dataclass(frozen=True)
@@ -52,29 +55,31 @@ class Job:
 
 
 class Pace:
-    """How much is searched in a second, as slices tell that are made one after the other, each with more searches."""
+    """How much is searched in a second, as slices tell that are made one after the other, each with more searches, and then whole
+    runs."""
 
     def __init__(self) -> None:
-        # (searches in a second, and the seconds that a run takes besides; how many slices told so, for how long, and the last one)
+        # (searches in a second, and the seconds that a run takes besides; the seconds of the first slice, and the last slice)
         self.speed, self.before = 0.0, 0.0
-        self.count, self.seconds, self.last = 0, 0.0, (0, 0.0)
+        self.first, self.last = 0.0, (0, 0.0)
 
     def learn(self, searches: int, seconds: float) -> None:
-        """Takes what a slice took. What it took besides the searches was in the one before, too."""
+        """Takes what a slice took. What it took besides the searches was in the one before, too. On a machine that is at work for
+        others both may be far off: so the speed is held to that of the whole slice."""
         fewer, sooner = self.last
+        sure = self.speed = searches / seconds
         if sooner and searches > fewer and seconds > sooner:
-            self.speed = (searches - fewer) / (seconds - sooner)
-        self.speed = max(self.speed, searches / seconds)
-        self.before = max(0.0, seconds - searches / self.speed)
-        self.count, self.seconds, self.last = self.count + 1, self.seconds + seconds, (searches, seconds)
+            self.speed = max(sure, min(MOST_FASTER * sure, (searches - fewer) / (seconds - sooner)))
+        self.before = seconds - searches / self.speed
+        self.first, self.last = self.first or seconds, (searches, seconds)
 
     def is_known(self, left: float) -> bool:
-        """Whether enough was looked at, where so many seconds are left. One slice can't tell what it takes besides."""
-        return self.count > 1 and self.seconds >= max(KNOWN, KNOWN_SHARE * left)
+        """Whether the last slice was long enough to tell, beside the first one and the seconds that are left."""
+        return self.last[1] >= max(KNOWN, KNOWN_SHARE * left, 2 * self.first)
 
     def correct(self, searches: int, seconds: float) -> None:
-        """Takes what a whole run took."""
-        self.speed = searches / max(0.001, seconds - self.before)
+        """Takes what a whole run took. A longer one has as many searches in a second, or more."""
+        self.speed, self.before = searches / seconds, 0.0
 
     def searches_in(self, seconds: float) -> int:
         """How many searches a run of so many seconds has."""
@@ -152,6 +157,10 @@ class Polish:
             self.start(self.begun, seed, searches, False)
         return bool(self.whole_runs())
 
+    def share(self) -> float:
+        """How much of what is left the next whole run is made for. Several seeds have a run each, all of them equally long."""
+        return FIRST_SHARE if len(self.course.seeds) == 1 and not self.begun else SHARE
+
     def next_seed(self) -> int | None:
         """The seed of the next whole run. Where the time says how much is searched, each run after these has the next one."""
         seeds = self.course.seeds
@@ -169,7 +178,7 @@ class Polish:
             return 0
         # (a whole run settles the roster first, as the rounds did)
         settling = max(0.0, sum(self.run.round_seconds) - len(self.run.round_seconds) * self.pace.before)
-        return max(1, min(MOST_SEARCHES, self.pace.searches_in(SHARE * seconds - settling)))
+        return max(1, min(MOST_SEARCHES, self.pace.searches_in(self.share() * seconds - settling)))
 
     # ---- what comes
 
@@ -189,7 +198,7 @@ class Polish:
                 self.take_whole(job, answer)
 
     def take_slice(self, job: Job, answer: Answer) -> None:
-        total, took = number_of(answer.log[-1]), job.seconds()
+        total, took = number_of(answer.end()), job.seconds()
         if total < self.run.total:
             self.keep(answer, f"slice {job.number} of polish")
             self.tell(b"slice %d %d" % (job.number, total))
@@ -200,7 +209,7 @@ class Polish:
         self.start_slice(self.course.slice_ or max(1, grown))
 
     def take_whole(self, job: Job, answer: Answer) -> None:
-        total = number_of(answer.log[-1])
+        total = number_of(answer.end())
         self.pace.correct(job.searches, job.seconds())
         self.ended.append((total, job.number, answer))
         if len(self.course.seeds) > 1 or self.is_open():
@@ -210,8 +219,8 @@ class Polish:
 
     def keep(self, answer: Answer, what: str) -> None:
         if answer.output != self.run.solutions:
-            self.run.save(answer.output, number_of(answer.log[-1]), what)
-        self.word = answer.log[-1].split(b" ")[0]
+            self.run.save(answer.output, number_of(answer.end()), what)
+        self.word = answer.end().split(b" ")[0]
 
     def keep_first(self) -> None:
         """Of equally dear rosters of whole runs the first stays, whichever was over first."""

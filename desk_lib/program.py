@@ -30,6 +30,12 @@ class Answer:
     output: bytes
     log: list[bytes]
 
+    def end(self) -> bytes:
+        """The last line of the log of a run."""
+        if not self.log:
+            raise DeskError("the program ended a run and told nothing of it; --roster names the program roster", 3)
+        return self.log[-1]
+
     def last(self) -> str:
         return shown(self.log[-1]) if self.log else f"status {self.status}"
 
