@@ -33,7 +33,7 @@ another program than the one of this repository. The status is that of roster: 0
 --asks names a text of lines such as 'absent Ann 0:Mon 1:Sun' (she can't work on these days), 'off Ann 2:Sat 2:Sun'
 (she asks to be off) and 'pin Ann 0:Mon 0:Wed..0:Fri' (she does what the roster says now); after a line such as
 'start 2026-11-02' days may be dates. An absence is a hard rule: a roster in which Ann works then is refused, and
-'improve --plan' makes another. The others become off requests and wishes of 10 points each. All of it is in the week
+'improve --plan' looks for another. The others become off requests and wishes of 10 points each. All of it is in the week
 data that 'weeks' writes and in all totals. Where a roster fails it is told."""
 
 IMPROVE = """
@@ -47,7 +47,7 @@ else writes the file meanwhile, that stays, and the roster is kept beside it. Ho
 penalty, and can't be kept small by it; it is told at the end, and by 'costs --with'.
 
 With --plan the roster given may break minimums, successions and absences on days that may change, and --sols may be
-left out: then nobody works yet. In the place of the rounds 'roster plan' makes a roster that keeps the hard rules,
+left out: then nobody works yet. In the place of the rounds 'roster plan' looks for a roster that keeps the hard rules,
 with as many searches as --polish says, or as --seconds leaves time for. The log's line 'missing M' tells how many
 nurses the minimums miss before, absent ones aside. --polish and --seconds go on from that roster."""
 
@@ -122,7 +122,7 @@ def texts_of(asked: argparse.Namespace) -> Texts:
     is_new = lacking == ["--sols"] and getattr(asked, "plan", False)
     if lacking and not is_new:
         told = f"without {' and without '.join(lacking)}: --sce, --his, --weeks and --sols name all files together"
-        first = "; roster needs a roster to begin with, which 'improve --plan' makes" if "--sols" in lacking else ""
+        first = "; roster needs a roster to begin with, for which 'improve --plan' looks" if "--sols" in lacking else ""
         raise DeskError(f"{told}{first}", 2)
     for kind in ("sce", "his"):
         if len(by_kind[kind]) > 1:
