@@ -50,7 +50,7 @@ class Ask:
 
     def remedy(self) -> str:
         """What keeps it."""
-        return "'desk improve --plan' makes a roster that keeps it" if self.kind in AWAY else "change it by hand"
+        return "'desk improve --plan' looks for a roster that keeps it" if self.kind in AWAY else "change it by hand"
 
 
 class Asks:

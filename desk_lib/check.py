@@ -14,7 +14,7 @@ from desk_lib.texts import DeskError, Texts, plural, shown
 
 OUT_OF_LIMITS = "count out of limits"
 # What is said where nothing but what `plan` mends is broken.
-PLAN = "; 'desk improve --plan' can make a roster that keeps the hard rules"
+PLAN = "; 'desk improve --plan' looks for a roster that keeps the hard rules"
 
 
 def out_of_place(words: Words, parts: list[Part]) -> list[Finding]:

@@ -27,7 +27,7 @@ another program than the one of this repository. The status is that of roster: 0
 (nor has she a contract then), 'off Ann 2:Sat 2:Sun' (she asks to be off), 'pin Ann 0:Mon 0:Wed..0:Fri' (she does what
 the roster says now) and 'need 2:Thu Night Trainee 1' (that day's minimum is 1); after a line such as
 'start 2026-11-02' days may be dates. An absence is a hard rule: a roster in which Ann works then is refused, and
-'improve --plan' makes another. 'off' and 'pin' become off requests and wishes of 10 points each. All of it is in the
+'improve --plan' looks for another. 'off' and 'pin' become off requests and wishes of 10 points each. All of it is in the
 week data that 'weeks' writes and in all totals. Where a roster fails it is told."""
 
 IMPROVE = """
@@ -41,7 +41,7 @@ else writes the file meanwhile, that stays, and the roster is kept beside it. Ho
 penalty, and can't be kept small by it; it is told at the end, and by 'costs --with'.
 
 With --plan the roster given may break minimums, successions and absences on days that may change, and --sols may be
-left out: then nobody works yet. In the place of the rounds 'roster plan' makes a roster that keeps the hard rules,
+left out: then nobody works yet. In the place of the rounds 'roster plan' looks for a roster that keeps the hard rules,
 with few searches and then with ever more, up to those that --polish says or as --seconds leaves time for. The log's
 line 'missing M' tells how many nurses the minimums miss before, absent ones aside. --polish and --seconds go on from
 that roster. Days that no roster can staff are told before it is looked for, with the minimums to lower.

@@ -6,7 +6,6 @@ import sys
 import time
 import typing
 
-from desk_lib.breaches import BREACH, all_breaches
 from desk_lib.model import changed_days
 from desk_lib.program import Answer, Program, Running, costs_by, plan_in, refusal
 from desk_lib.replacing import Replacement, bytes_of, keep_beside, read_back
@@ -20,6 +19,9 @@ TRIES = [1_000 * 4**it for it in range(7)]
 UNSAID = 20_000
 # The part of the time that is given which a floor is looked for, beside the search.
 FLOOR_SHARE = 0.2
+
+# How the line of `plan` begins where more searches may find a roster.
+NOT_FOUND = "not found: "
 
 
 class Progress:
@@ -254,17 +256,10 @@ class Run:
             self.searches += UNSAID if searches is None else searches
             if answer.status == 0:
                 return [answer]
-            if answer.status != 1 or self.stays(answer.last()):
+            if answer.status != 1 or not answer.last().startswith(NOT_FOUND):
                 raise refusal("plan", answer, self.given)
-        told = f"no roster that keeps the hard rules was found, and the nearest has '{answer.last()}'"
+        told = f"no roster that keeps the hard rules was found, and the nearest has '{answer.last().removeprefix(NOT_FOUND)}'"
         raise DeskError(f"{told}; give more searches by --polish, more --seconds, or need less")
-
-    def stays(self, line: str) -> bool:
-        """Whether a line isn't that of a breach, or a breach stays whatever is planned: on a frozen day, or of a skill."""
-        if not BREACH.match(line):
-            return True
-        days = 7 * int(self.first_week[-1]) if self.first_week else 0
-        return any(it.rule == "H4" or it.day < days for it in all_breaches(plan_in(self.given)))
 
     def tell(self, line: bytes, number: int) -> None:
         """Passes on a line of a round's log, with the number of that round."""

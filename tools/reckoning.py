@@ -176,8 +176,9 @@ def lacking(case, roster):
 
 
 def unplannable(case, roster, first_week):
-    """What 'plan' can't mend: missing skills, and then what rows break before a week. In the order in which it is told."""
-    found = list(breaches_of_rows(case, roster))
+    """What 'plan' can't mend: missing skills, and then what rows break before a week, and minimums missed there. In the order in which
+    it is told."""
+    found = [*breaches_of_rows(case, roster), *missed_minimums(case, roster)]
     frozen = [it for it in found if it.rule != "H4" and it.day // 7 < first_week]
     return [it for it in found if it.rule == "H4"] + frozen
 

@@ -1,5 +1,5 @@
 -- Which fault a failing reader or writer gives, and what a bundle means.
-use Rattle.std.proofs.Common.{◌≡◌, ◌∙◌, ◌∷◌, [], ◌<◌, ℕ, Err, List, Option, None, Some, Result, Ok, ap, length, lit<, refl, subst, sym, true≢false, is_some, false, true, Bool}
+use Rattle.std.proofs.Common.{◌≡◌, ◌∙◌, ◌∷◌, [], ◌<◌, ℕ, arith, Err, List, Option, None, Some, Result, Ok, ap, length, lit<, refl, subst, sym, true≢false, is_some, false, true, Bool}
 use Rattle.std.specs.Prelude.{Contains, IfErr, IfSome, IsErrOf, OnOk, string_bytes}
 use Rattle.std.proofs.lemmas.List.{length-map}
 use Rattle.roster_text.specs.Grammar.{Spells}
@@ -30,9 +30,8 @@ use Rattle.roster_instance.specs.Rosters.{Rows, fits_case}
 use Rattle.roster_case.specs.Shown.{weeks_text}
 use Rattle.roster_bound.proofs.FloorLogs.{some_log}
 use Rattle.roster_rules.specs.Penalties.{penalty}
-use Rattle.roster_laws.specs.FrozenDays.{FrozenDaysStay}
 use Rattle.roster_laws.proofs.Frozen.{stays_self}
-use Rattle.roster_polish.specs.Plans.{missing}
+use Rattle.roster_polish.specs.Plans.{IsPlanned, missing}
 use Rattle.roster_polish.specs.Polished.{first_run}
 use Rattle.roster_polish.proofs.KickLogs.{unkicked, unkicked_text}
 use Rattle.roster_commands.proofs.FloorReports.{of_floors}
@@ -106,15 +105,19 @@ no_kick searches from alone c r = record {
   is = refl;
 }
 
+-- the given roster is one that a plan may leave
+pub planned_self : (c : Meaning) (from : ℕ) (r : Rows) → IsPlanned c from r r
+planned_self c from r = record { kept = λ e. refl; nearer = λ breaks rows. omega arith; stays = stays_self c from r }
+
 -- and one of `plan`, from the nearest roster
 abbrev pub unplanned : (from : ℕ) → Rows → Meaning → Rows → Report
 unplanned from nearest c r = plan_report from nearest (first_run c from nearest).roster (unkicked_text c from (missing c r) nearest) c r
 
-pub no_plan : (searches from : ℕ) (alone : Bool) (c : Meaning) (r nearest : Rows) → (fits_case c r ≡ true → fits_case c nearest ≡ true) → FrozenDaysStay c from r nearest → IsPlanReport searches from alone c r (unplanned from nearest c r)
-no_plan searches from alone c r nearest fits stays = record {
+pub no_plan : (searches from : ℕ) (alone : Bool) (c : Meaning) (r nearest : Rows) → (fits_case c r ≡ true → fits_case c nearest ≡ true) → IsPlanned c from r nearest → IsPlanReport searches from alone c r (unplanned from nearest c r)
+no_plan searches from alone c r nearest fits planned = record {
   nearest = nearest;
   fits = fits;
-  stays = stays;
+  planned = planned;
   settled = (first_run c from nearest).is_settled;
   last = (first_run c from nearest).roster;
   told = unkicked_text c from (missing c r) nearest;
@@ -131,7 +134,7 @@ some_report (command.Best nurse from) c r = (best_report (string_bytes nurse) fr
 some_report (command.Improve rounds from) c r = (improve_report rounds from c r, refl)
 some_report (command.Bound rounds from) c r = let some = some_log c from r rounds in (bound_report some.0 c r, of_floors rounds from c r some.0 some.1)
 some_report (command.Polish searches seed from kicks) c r = (kickless from c r, no_kick searches from kicks c r)
-some_report (command.Plan searches seed from) c r = (unplanned from r c r, no_plan searches from false c r r (λ e. e) (stays_self c from r))
+some_report (command.Plan searches seed from) c r = (unplanned from r c r, no_plan searches from false c r r (λ e. e) (planned_self c from r))
 
 pub refused_reading : {W L : Type 0} (output : Output W) (log : Output L) (command : Command) (source : Text) (f : Fault) → StopsReading source f → Untouched output → Untouched log
     → Answers output log command source (Some f)
@@ -155,18 +158,24 @@ module _ {W L : Type 0} (output : Output W) (log : Output L) (command : Command)
       let roster = says.roster ∙ ap (λ m. rows_of source m i.bundle) says.case in
       subst (λ m. IsReportOf command m (roster_of source i.bundle) p) says.case (subst (λ r. IsReportOf command i.case r p) roster is)
 
+  -- the roster of the bundle fits its case
+  roster_fits : fits_case (meaning_of source i.bundle) (roster_of source i.bundle) ≡ true
+  roster_fits =
+      let roster = says.roster ∙ ap (λ m. rows_of source m i.bundle) says.case in
+      subst (λ m. fits_case m (roster_of source i.bundle) ≡ true) says.case (subst (λ r. fits_case i.case r ≡ true) roster says.fitting)
+
   module _ (p : Report) (is : IsAnswer command source i.bundle p) where
     as_taken : (outcome : CommandEnd) → IsOutcomeOf p source i.bundle outcome → Leaves output p.output outcome → LeavesLog log p.log outcome → Answers output log command source outcome
-    as_taken None h o l = record { bundle = i.bundle; spelled = says.spelled; report = p; is = is; ends = record { taken = says.taken; ends = h }; left = o; logged = l }
+    as_taken None h o l = record { bundle = i.bundle; spelled = says.spelled; report = p; is = is; ends = record { taken = says.taken; fits = roster_fits; ends = h }; left = o; logged = l }
     as_taken (Some (fault.Text f)) h o l = absurd h
     as_taken (Some (fault.Case f nurse)) h o l = absurd h
-    as_taken (Some (fault.Hard f names)) h o l = record { bundle = i.bundle; spelled = says.spelled; report = p; is = is; ends = record { taken = says.taken; ends = h }; left = o; logged = l }
-    as_taken (Some (fault.Unfound f names)) h o l = record { bundle = i.bundle; spelled = says.spelled; report = p; is = is; ends = record { taken = says.taken; ends = h }; left = o; logged = l }
-    as_taken (Some (fault.Nurse name)) h o l = record { bundle = i.bundle; spelled = says.spelled; report = p; is = is; ends = record { taken = says.taken; ends = h }; left = o; logged = l }
-    as_taken (Some fault.Memory) h o l = record { bundle = i.bundle; spelled = says.spelled; report = p; is = is; ends = record { taken = says.taken; ends = h }; left = o; logged = l }
-    as_taken (Some fault.Workspace) h o l = record { bundle = i.bundle; spelled = says.spelled; report = p; is = is; ends = record { taken = says.taken; ends = h }; left = o; logged = l }
-    as_taken (Some fault.Output) h o l = record { bundle = i.bundle; spelled = says.spelled; report = p; is = is; ends = record { taken = says.taken; ends = h }; left = o; logged = l }
-    as_taken (Some fault.Log) h o l = record { bundle = i.bundle; spelled = says.spelled; report = p; is = is; ends = record { taken = says.taken; ends = h }; left = o; logged = l }
+    as_taken (Some (fault.Hard f names)) h o l = record { bundle = i.bundle; spelled = says.spelled; report = p; is = is; ends = record { taken = says.taken; fits = roster_fits; ends = h }; left = o; logged = l }
+    as_taken (Some (fault.Unfound f names)) h o l = record { bundle = i.bundle; spelled = says.spelled; report = p; is = is; ends = record { taken = says.taken; fits = roster_fits; ends = h }; left = o; logged = l }
+    as_taken (Some (fault.Nurse name)) h o l = record { bundle = i.bundle; spelled = says.spelled; report = p; is = is; ends = record { taken = says.taken; fits = roster_fits; ends = h }; left = o; logged = l }
+    as_taken (Some fault.Memory) h o l = record { bundle = i.bundle; spelled = says.spelled; report = p; is = is; ends = record { taken = says.taken; fits = roster_fits; ends = h }; left = o; logged = l }
+    as_taken (Some fault.Workspace) h o l = record { bundle = i.bundle; spelled = says.spelled; report = p; is = is; ends = record { taken = says.taken; fits = roster_fits; ends = h }; left = o; logged = l }
+    as_taken (Some fault.Output) h o l = record { bundle = i.bundle; spelled = says.spelled; report = p; is = is; ends = record { taken = says.taken; fits = roster_fits; ends = h }; left = o; logged = l }
+    as_taken (Some fault.Log) h o l = record { bundle = i.bundle; spelled = says.spelled; report = p; is = is; ends = record { taken = says.taken; fits = roster_fits; ends = h }; left = o; logged = l }
 
   pub answers : (outcome : CommandEnd) → Reports output log (IsReportOf command i.case i.roster) source i.bundle outcome → Answers output log command source outcome
   answers outcome h = as_taken h.report (report_meant h.report h.is) outcome h.ends.ends h.ends.left h.logged

@@ -7,10 +7,8 @@ use Rattle.roster_rules.specs.HardRules.{hard_faults}
 use Rattle.roster_instance.specs.Meaning.{Meaning}
 use Rattle.roster_instance.specs.Rosters.{Rows, fits_case}
 use Rattle.roster_case.specs.Shown.{weeks_text}
-use Rattle.roster_laws.specs.FrozenDays.{FrozenDaysStay}
-use Rattle.roster_laws.proofs.Frozen.{stays_self}
 use Rattle.roster_log.specs.declared.fault.LogFault.{LogFault}
-use Rattle.roster_polish.specs.Plans.{missing, unmendable}
+use Rattle.roster_polish.specs.Plans.{IsPlanned, missing, unmendable}
 use Rattle.roster_polish.specs.Polished.{IsPolishing, PolishLogStops, Polishes}
 use Rattle.roster_polish.specs.declared.run.Polished.{Polished}
 use Rattle.roster_commands.specs.Answer.{IsPlanReport, IsUnfound, Output, Reports, StopsOutput, Untouched, outcome_of, plan_report}
@@ -18,7 +16,7 @@ use Rattle.roster_reports.specs.Lines.{Text}
 use Rattle.roster_commands.specs.Lines.{IsFirstBreach}
 use Rattle.roster_commands.specs.declared.fault.Fault.{Fault}
 use Rattle.roster_commands.specs.declared.fault.Fault.TheVariants as fault
-use Rattle.roster_commands.proofs.AnswerLemmas.{no_plan, unplanned, written_ends, written_log}
+use Rattle.roster_commands.proofs.AnswerLemmas.{no_plan, planned_self, unplanned, written_ends, written_log}
 use Rattle.roster_commands.proofs.PolishLemmas.{more_kicks}
 
 module _ (searches from : ℕ) (alone : Bool) (c : Meaning) (r : Rows) {W L : Type 0} (output : Output W) (log : Output L) (source : Text) (b : Bundle) where
@@ -26,7 +24,7 @@ module _ (searches from : ℕ) (alone : Bool) (c : Meaning) (r : Rows) {W L : Ty
   pub plan_refused : (f : Fault) → IsFirstBreach source b (unmendable c from r) f → Untouched output → Untouched log → Reports output log (IsPlanReport searches from alone c r) source b (Some f)
   plan_refused (fault.Text f) h o l = absurd h
   plan_refused (fault.Case f nurse) h o l = absurd h
-  plan_refused (fault.Hard f names) h o l = record { report = unplanned from r c r; is = no_plan searches from alone c r r (λ e. e) (stays_self c from r); ends = record { ends = h; left = o }; logged = l }
+  plan_refused (fault.Hard f names) h o l = record { report = unplanned from r c r; is = no_plan searches from alone c r r (λ e. e) (planned_self c from r); ends = record { ends = h; left = o }; logged = l }
   plan_refused (fault.Unfound f names) h o l = absurd h
   plan_refused (fault.Nurse name) h o l = absurd h
   plan_refused fault.Memory h o l = absurd h
@@ -37,19 +35,19 @@ module _ (searches from : ℕ) (alone : Bool) (c : Meaning) (r : Rows) {W L : Ty
   module _ (mendable : unmendable c from r ≡ []) where
     -- there is no memory for the search
     pub plan_roomless : Untouched output → Untouched log → Reports output log (IsPlanReport searches from alone c r) source b (Some fault.Workspace)
-    plan_roomless o l = record { report = unplanned from r c r; is = no_plan searches from alone c r r (λ e. e) (stays_self c from r); ends = record { ends = (mendable, refl, refl); left = o }; logged = l }
+    plan_roomless o l = record { report = unplanned from r c r; is = no_plan searches from alone c r r (λ e. e) (planned_self c from r); ends = record { ends = (mendable, refl, refl); left = o }; logged = l }
 
-    module _ (nearest : Rows) (fits : fits_case c r ≡ true → fits_case c nearest ≡ true) (stays : FrozenDaysStay c from r nearest) where
+    module _ (nearest : Rows) (fits : fits_case c r ≡ true → fits_case c nearest ≡ true) (planned : IsPlanned c from r nearest) where
       -- the nearest roster is not held
       pub plan_unfound : (f : Fault) → IsUnfound source b (hard_faults c nearest) f → Untouched output → Untouched log → Reports output log (IsPlanReport searches from alone c r) source b (Some f)
       plan_unfound (fault.Text f) h o l = absurd h
       plan_unfound (fault.Case f nurse) h o l = absurd h
       plan_unfound (fault.Hard f names) h o l = absurd h
-      plan_unfound (fault.Unfound f names) h o l = record { report = unplanned from nearest c r; is = no_plan searches from alone c r nearest fits stays; ends = record { ends = (mendable, h); left = o }; logged = l }
+      plan_unfound (fault.Unfound f names) h o l = record { report = unplanned from nearest c r; is = no_plan searches from alone c r nearest fits planned; ends = record { ends = (mendable, h); left = o }; logged = l }
       plan_unfound (fault.Nurse name) h o l = absurd h
       plan_unfound fault.Memory h o l = record {
         report = unplanned from nearest c r;
-        is = no_plan searches from alone c r nearest fits stays;
+        is = no_plan searches from alone c r nearest fits planned;
         ends = record { ends = (record { kept = mendable; found = h; known = refl }, refl); left = o };
         logged = l;
       }
@@ -59,7 +57,7 @@ module _ (searches from : ℕ) (alone : Bool) (c : Meaning) (r : Rows) {W L : Ty
 
       module _ (kept : hard_faults c nearest ≡ []) (few : ℕ) (fewer : few ≤ searches) where
         of_run : (settled : Bool) (last : Rows) (told : Text) → IsPolishing c from nearest (missing c r) few alone settled last told → IsPlanReport searches from alone c r (plan_report from nearest last told c r)
-        of_run settled last told run = record { nearest = nearest; fits = fits; stays = stays; settled = settled; last = last; told = told; run = λ accepted. more_kicks fewer run; is = refl }
+        of_run settled last told run = record { nearest = nearest; fits = fits; planned = planned; settled = settled; last = last; told = told; run = λ accepted. more_kicks fewer run; is = refl }
 
         -- the log failed inside the run
         pub plan_stops : (after : Rows) (f : LogFault) → PolishLogStops log.contents c from nearest (missing c r) few alone after log.before log.after f → Untouched output

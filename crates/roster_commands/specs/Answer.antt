@@ -28,7 +28,7 @@ use Rattle.roster_laws.specs.FrozenDays.{FrozenDaysStay}
 use Rattle.roster_bound.specs.Floors.{FloorLine, IsFloorLog, floor_text, last_line, no_line}
 use Rattle.roster_bound.specs.Worths.{IsLowerBound}
 use Rattle.roster_rounds.specs.PutIn.{IsAccepted}
-use Rattle.roster_polish.specs.Plans.{missing, unmendable}
+use Rattle.roster_polish.specs.Plans.{IsPlanned, missing, unmendable}
 use Rattle.roster_polish.specs.Polished.{IsPolishing}
 use Rattle.roster_polish.specs.declared.run.Course.{Course}
 use Rattle.roster_reports.specs.Lines.{Text, bound_text, costs_text, nurse_of, sizes_text}
@@ -242,12 +242,12 @@ abbrev pub plan_report : ℕ → Rows → Rows → Text → Meaning → Rows →
 plan_report from nearest last told c r =
     record (plain (weeks_text c last)) { is_held = true; broken = unmendable c from r; unfound = hard_faults c nearest; log = Some told }
 
--- it is of such a run, whose log begins with how many nurses the minimums miss in the given roster: the nearest one has its frozen
--- days; that no roster is nearer isn't said
+-- it is of such a run, whose log begins with how many nurses the minimums miss in the given roster: that one stays where it keeps the
+-- hard rules, and else the nearest is one that a plan made of it; that no other is nearer isn't said
 pub record IsPlanReport (searches from : ℕ) (alone : Bool) (c : Meaning) (r : Rows) (p : Report) : Type 0 where
   pub nearest : Rows
   pub fits : fits_case c r ≡ true → fits_case c nearest ≡ true
-  pub stays : FrozenDaysStay c from r nearest
+  pub planned : IsPlanned c from r nearest
   pub settled : Bool
   pub last : Rows
   pub told : Text
@@ -347,9 +347,10 @@ pub record IsRefusedFor (bytes : Text) (b : Bundle) (f : CaseFault) (nurse : Tex
   pub first : f ≢ Memory → first_fault (all_faults bytes b) ≡ Some f
   pub nurse_is : nurse ≡ nurse_of bytes b f
 
--- its case and its roster are taken, and a command of this report ends so for them
+-- its case and its roster, which fits the case, are taken, and a command of this report ends so for them
 pub record IsTaken (p : Report) (bytes : Text) (b : Bundle) (outcome : CommandEnd) : Type 0 where
   pub taken : all_faults bytes b ≡ []
+  pub fits : fits_case (meaning_of bytes b) (roster_of bytes b) ≡ true
   pub ends : IsOutcomeOf p bytes b outcome
 
 -- how such a command ends for it

@@ -26,7 +26,7 @@ abbrev pub fault_line : Fault → Text
 fault_line (fault.Text f) = text_line f
 fault_line (fault.Case f nurse) = case_line f nurse.now
 fault_line (fault.Hard f names) = hard_line f names
-fault_line (fault.Unfound f names) = hard_line f names
+fault_line (fault.Unfound f names) = codes "not found: " ++ hard_line f names
 fault_line (fault.Nurse name) = codes "unknown nurse " ++ name.now ++ codes "\n"
 fault_line fault.Memory = memory_line
 fault_line fault.Workspace = memory_line

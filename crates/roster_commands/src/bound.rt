@@ -19,8 +19,8 @@ use roster_text::Watch;
 use std::alloc::Global;
 use std::io::Write;
 
-/// Writes what the roster of an instance costs, and the greatest floor that so many rounds find under each roster that keeps the weeks
-/// before a week. The floors go to the log first, line by line as they are found.
+/// Writes what the roster of an instance costs, and the last of the floors that rise in so many rounds, under each roster that keeps the
+/// weeks before a week. The floors go to the log first, line by line as they are found.
 pub(crate) fn report_bound<'a, Out: Write, Log: Write>(
     alloc: Global,
     rounds: u16,

@@ -63,9 +63,8 @@ fn write_line<Log: Write>(fault: Fault<'_>, log: &mut Watch<Log>) -> Result<(), 
     match fault {
         Fault::Text(fault) => write_text_line(fault, log),
         Fault::Case(fault, nurse) => write_case_line(fault, nurse, log),
-        Fault::Hard(fault, names) | Fault::Unfound(fault, names) => {
-            write_hard_line(fault, names, log)
-        }
+        Fault::Hard(fault, names) => write_hard_line(b"", fault, names, log),
+        Fault::Unfound(fault, names) => write_hard_line(b"not found: ", fault, names, log),
         Fault::Nurse(name) => write_pieces(
             log,
             &[

@@ -1,17 +1,36 @@
--- Rows that are faded, and faded further.
-use Rattle.std.proofs.Common.{◌∙◌, ℕ}
+-- Rows that are faded, and faded further, by searches that were made.
+use Rattle.std.proofs.Common.{◌≡◌, ◌∙◌, ◌+◌, ◌-◌, ◌*◌, ◌<◌, ◌≤◌, ℕ, ap, arith, mul_assoc, sym}
+use Rattle.roster_instance.specs.Meaning.{Meaning, day_count, nurse_count}
 use Rattle.roster_bound.specs.declared.offers.Base.{Base}
 use Rattle.roster_polish.specs.declared.kick.Kicking.{Kicking}
 use Rattle.roster_polish.specs.declared.space.PolishSpace.{PolishSpace}
-use Rattle.roster_polish.specs.Fades.{AreFaded}
-use Rattle.roster_polish.proofs.Steps.{spent_both}
+use Rattle.roster_polish.specs.Fades.{AreFaded, AreMade}
+use Rattle.roster_polish.proofs.Steps.{both_of, one_and_rest, spent_both}
+
+-- one search
+pub made_one : (c : Meaning) (meter new left : ℕ) → 0 < left → meter + day_count c ≤ new → AreMade c meter left new (left - 1)
+made_one c meter new left some more =
+    let is : left ≡ left - 1 + 1 = omega (arith, some) in
+    omega (arith, more, ap (λ m. m * day_count c) is, one_and_rest (left - 1) (day_count c))
+
+pub made_both : (c : Meaning) (meter left meter2 left2 meter3 left3 : ℕ) → AreMade c meter left meter2 left2 → AreMade c meter2 left2 meter3 left3 → AreMade c meter left meter3 left3
+made_both c meter left meter2 left2 meter3 left3 first later = omega (arith, first, later)
+
+-- those of rounds over all nurses
+pub made_rounds : (c : Meaning) (rounds searches nurses meter new : ℕ) → nurses ≡ nurse_count c → rounds * nurses ≤ searches → meter + rounds * (nurse_count c * day_count c) ≤ new → AreMade c meter searches new (searches - rounds * nurses)
+made_rounds c rounds searches nurses meter new nurses_are few made =
+    let is : searches ≡ searches - rounds * nurses + rounds * nurses = omega (arith, few) in
+    let so_many : rounds * (nurse_count c * day_count c) ≡ rounds * nurses * day_count c = sym (mul_assoc rounds (nurse_count c) (day_count c)) ∙ ap (λ n. rounds * n * day_count c) (sym nurses_are) in
+    omega (arith, made, so_many, ap (λ m. m * day_count c) is, both_of (searches - rounds * nurses) (rounds * nurses) (day_count c))
 
 pub faded_then : {base : Base} {kicking kicking2 kicking3 : Kicking} {space space2 space3 : PolishSpace} {meter meter2 meter3 : ℕ}
     → AreFaded base kicking kicking2 space space2 meter meter2 → AreFaded base kicking2 kicking3 space2 space3 meter2 meter3 → AreFaded base kicking kicking3 space space3 meter meter3
 faded_then {base} {kicking} {kicking2} {kicking3} {space} {space2} {space3} {meter} {meter2} {meter3} first later = record {
   kept = later.kept ∙ first.kept;
   frozen = later.frozen;
+  passes = later.passes ∙ first.passes;
   from = later.from ∙ first.from;
+  made = made_both base.case.now meter kicking.searches.left meter2 kicking2.searches.left meter3 kicking3.searches.left first.made later.made;
   spends = spent_both base.case.now meter kicking.searches.left meter2 kicking2.searches.left meter3 kicking3.searches.left first.spends later.spends;
   fits = later.fits;
 }

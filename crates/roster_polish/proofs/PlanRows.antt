@@ -15,13 +15,14 @@ use Rattle.roster_instance.specs.Meaning.{Meaning, day_count, forbids, last_shif
 use Rattle.roster_instance.specs.Rosters.{Row, Rows, choice_on, days_of_nurse, fits_case, is_choice_of, is_row_of, row_of}
 use Rattle.roster_rules.specs.AllowedRows.{keeps_frozen_day, keeps_frozen_days}
 use Rattle.roster_rules.specs.HardRules.{absence_fault, absences_before, breaks_succession, is_able, is_able_on, is_here, is_here_on, keeps_absences, keeps_skills, keeps_successions, skill_faults, succession_fault, skill_fault, successions_before}
+use Rattle.roster_rules.specs.declared.fault.HardFault.{HardFault}
 use Rattle.roster_rules.proofs.CountLemmas.{shift_of_day}
 use Rattle.roster_instance.proofs.RosterFacts.{row-length, row_fits}
 use Rattle.roster_laws.proofs.Allowed.{present_stays}
 use Rattle.roster_laws.proofs.Below.{all_elim, all_true}
 use Rattle.roster_laws.proofs.Keeps.{none_below, none_of_both, none_where_not, not_not}
 use Rattle.roster_bound.specs.Worths.{HaveRows, can_work}
-use Rattle.roster_polish.specs.Plans.{frozen_count, unmendable}
+use Rattle.roster_polish.specs.Plans.{frozen_count, minimums_before, unmendable}
 
 -- to be off may follow each shift
 off_follows : (successions : List (Option (List Bool))) (last : Option Shift) → forbids successions last None ≡ false
@@ -32,8 +33,14 @@ module _ (c : Meaning) (from : ℕ) (r : Rows) (fits : fits_case c r ≡ true) (
   abbrev m : ℕ
   m = frozen_count c from
 
+  abbrev of_rows : List HardFault
+  of_rows = skill_faults c r ++ successions_before c r m ++ absences_before c r m
+
+  none_of_rows : is_none_of of_rows ≡ true
+  none_of_rows = (and_parts _ _ (sym (none_of_both of_rows (minimums_before c r m)) ∙ ap is_none_of none)).0
+
   parts : (is_none_of (skill_faults c r ++ successions_before c r m) ≡ true) × (is_none_of (absences_before c r m) ≡ true)
-  parts = and_parts _ _ (sym (none_of_both (skill_faults c r ++ successions_before c r m) (absences_before c r m)) ∙ ap is_none_of none)
+  parts = and_parts _ _ (sym (none_of_both (skill_faults c r ++ successions_before c r m) (absences_before c r m)) ∙ none_of_rows)
 
   two_parts : (is_none_of (skill_faults c r) ≡ true) × (is_none_of (successions_before c r m) ≡ true)
   two_parts = and_parts _ _ (sym (none_of_both (skill_faults c r) (successions_before c r m)) ∙ parts.0)

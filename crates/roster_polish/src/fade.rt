@@ -3,7 +3,7 @@
 ghost use Rattle.std.specs.Prelude.{◌≡◌, ◌+◌, ◌<◌, ◌≤◌, ℕ, All, false, length, true};
 ghost use Rattle.roster_bundle.specs.Limits.{greatest_u64};
 ghost use Rattle.roster_instance.specs.Limits.{most_nurses};
-ghost use Rattle.roster_instance.specs.Meaning.{nurse_count};
+ghost use Rattle.roster_instance.specs.Meaning.{day_count, nurse_count};
 ghost use Rattle.roster_rules.specs.HardRules.{keeps_hard};
 ghost use Rattle.roster_rules.specs.Penalties.{penalty};
 ghost use Rattle.roster_laws.specs.FrozenDays.{FrozenDaysStay};
@@ -91,6 +91,8 @@ pub(crate) fn fade_rows(
     requires room { meter.old + extensions_of base.now.case.now
         kicking.old.searches.left ≤ greatest_u64 }
     ensures keeps { result ≡ true → keeps_hard base.now.case.now space.new.faded ≡ true }
+    ensures fewer { 0 < kicking.old.passes → 0 < kicking.old.searches.left →
+        kicking.new.searches.left < kicking.old.searches.left }
     ensures faded { AreFaded base.now kicking.old kicking.new space.old space.new meter.old
         meter.new }
 {
@@ -147,6 +149,8 @@ pub(crate) fn make_fade_pass(
         space.old.faded }
     requires room { meter.old + extensions_of base.now.case.now
         kicking.old.searches.left ≤ greatest_u64 }
+    ensures fewer { 0 < kicking.old.searches.left →
+        kicking.new.searches.left < kicking.old.searches.left }
     ensures faded { AreFaded base.now kicking.old kicking.new space.old space.new meter.old
         meter.new }
 {
@@ -180,6 +184,7 @@ fn fade_nurse(
     ensures kept { space.new.kept ≡ space.old.kept }
     ensures frozen { FrozenDaysStay base.now.case.now base.now.from base.now.given.now
         space.new.faded }
+    ensures each_day { meter.old + day_count base.now.case.now ≤ meter.new }
     ensures counted { meter.new ≤ meter.old + extension_count base.now.case.now nurse }
     ensures fits { FitsPolish base.now.case.now space.new }
 {

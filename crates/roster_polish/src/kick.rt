@@ -1,6 +1,6 @@
 //! A kick: a few nurses get the best rows by other prices, and the roster is settled again.
 
-ghost use Rattle.std.specs.Prelude.{◌≡◌, ◌+◌, ◌<◌, ◌≤◌, length, false, true};
+ghost use Rattle.std.specs.Prelude.{◌≡◌, ◌+◌, ◌<◌, ◌≤◌, length, false, true, min};
 ghost use Rattle.roster_bundle.specs.Limits.{greatest_u64};
 ghost use Rattle.roster_instance.specs.Meaning.{nurse_count};
 ghost use Rattle.roster_rules.specs.Penalties.{penalty};
@@ -111,6 +111,9 @@ const BY_WORTH: u32 = 2;
 fn draw_kick(weeks: u16, kicking: &mut Kicking) -> Draw
     ensures from { kicking.new.searches.from ≡ kicking.old.searches.from }
     ensures left { kicking.new.searches.left ≡ kicking.old.searches.left }
+    ensures few { result.last ≤ result.first + 4 }
+    ensures open { min kicking.old.searches.from weeks ≤ result.first }
+    ensures within { result.last ≤ weeks }
 {
     let random = &mut kicking.random;
     let frozen = kicking.searches.from.min(weeks);

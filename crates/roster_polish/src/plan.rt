@@ -1,6 +1,6 @@
 //! A first roster: one that keeps the hard rules, from rows that may break them.
 
-ghost use Rattle.std.specs.Prelude.{◌≡◌, ◌+◌, ◌<◌, ◌≤◌, ◌⊎◌, [], true};
+ghost use Rattle.std.specs.Prelude.{◌≡◌, ◌+◌, ◌<◌, ◌≤◌, [], false, true, if◌then◌else◌, min, nat_lt};
 ghost use Rattle.roster_bundle.specs.Limits.{greatest_u64};
 ghost use Rattle.roster_instance.specs.Faults.{first_fault};
 ghost use Rattle.roster_instance.specs.Meaning.{day_count, minimum};
@@ -9,8 +9,8 @@ ghost use Rattle.roster_rules.specs.HardRules.{keeps_hard};
 ghost use Rattle.roster_bound.specs.Worths.{HaveRows};
 ghost use Rattle.roster_laws.specs.FrozenDays.{FrozenDaysStay};
 ghost use Rattle.roster_laws.specs.Staffing.{lacking};
-ghost use Rattle.roster_polish.specs.Fades.{AreFaded};
-ghost use Rattle.roster_polish.specs.Plans.{frozen_count, missing, missing_before, present, unmendable};
+ghost use Rattle.roster_polish.specs.Fades.{AreFaded, AreMade};
+ghost use Rattle.roster_polish.specs.Plans.{IsNoFarther, IsPlanned, frozen_count, keeps_rows, missing, missing_before, present, unmendable};
 ghost use Rattle.roster_polish.specs.Polished.{FitsPolish};
 ghost use Rattle.roster_polish.specs.Settled.{Spends, extensions_of};
 
@@ -22,12 +22,12 @@ use crate::searches::Searches;
 use crate::space::PolishSpace;
 use roster_bound::{Base, Fading, WHOLE, improve_worths, lacks_nurses, raise_missed};
 use roster_case::{Case, Choice, HardFault, Roster, Shift, Skill};
-use roster_costs::{first_absent_before, first_hard, first_succession_before, first_unskilled};
+use roster_costs::{
+    first_absent_before, first_hard, first_succession_before, first_understaffed_before,
+    first_unskilled,
+};
 use roster_rules::choice_on;
 use roster_state::Meter;
-
-/// How many fades are tried at most.
-const MOST_FADES: u32 = 1_000;
 
 /// How many passes the first fade makes. Each later one makes twice as many as that before.
 const FIRST_PASSES: u32 = 30;
@@ -51,7 +51,7 @@ const MOST_ROUNDS: u32 = 30;
 const ROUNDS_PART: u32 = 4;
 
 /// The first breach for which no roster is looked for: a skill that a nurse lacks; or else, of the frozen weeks, a forbidden succession,
-/// or work of an absent nurse.
+/// work of an absent nurse, or a minimum that is missed.
 pub fn first_unmendable(case: &Case, roster: &Roster, from: u16) -> Option<HardFault>
     requires { fits_case case.now roster.now ≡ true }
     ensures { result ≡ first_fault (unmendable case.now from roster.now) }
@@ -61,7 +61,10 @@ pub fn first_unmendable(case: &Case, roster: &Roster, from: u16) -> Option<HardF
         Some(fault) => Some(fault),
         None => match first_succession_before(case, roster, days) {
             Some(fault) => Some(fault),
-            None => first_absent_before(case, roster, days),
+            None => match first_absent_before(case, roster, days) {
+                Some(fault) => Some(fault),
+                None => first_understaffed_before(case, roster, days),
+            },
         },
     }
 }
@@ -128,10 +131,9 @@ fn present(case: &Case, roster: &Roster, day: u16, shift: Shift, skill: Skill) -
     count
 }
 
-/// Looks for a roster that keeps the hard rules: fades the rows, again and again, in twice as many passes, until they do. Where none was
-/// found it leaves, of all that it met, a roster in which the minimums miss the fewest nurses. The days before week `from` stay. Answers
-/// how many searches are left. Where the given roster keeps the hard rules, it stays; so it does where the frozen weeks miss nurses,
-/// since no search mends that. It takes no memory.
+/// Looks for a roster that keeps the hard rules: fades the rows, again and again, in twice as many passes, until they do, or no search
+/// is left. Of the given roster and of those with which its fades end, it then leaves the one in which the minimums miss the fewest
+/// nurses; the given one counts where it breaks minimums alone. Answers how many searches are left. It takes no memory.
 pub fn find_roster(
     case: &Case,
     roster: &mut Roster,
@@ -144,14 +146,18 @@ pub fn find_roster(
     requires fits { FitsPolish case.now space.old }
     requires room { meter.old + extensions_of case.now course.now.searches ≤ greatest_u64 }
     ensures roster { fits_case case.now roster.new ≡ true }
-    ensures kept { keeps_hard case.now roster.old ≡ true → roster.new ≡ roster.old }
-    ensures frozen { FrozenDaysStay case.now course.now.from roster.old roster.new }
+
+    // The given one stays where it keeps the hard rules; else the one that is left is no farther, with its frozen days.
+    ensures planned { IsPlanned case.now course.now.from roster.old roster.new }
+
+    // One that breaks a hard rule is left only where each search was made.
+    ensures given_up { keeps_hard case.now roster.new ≡ false → result ≡ 0 }
+    ensures made { AreMade case.now meter.old course.now.searches meter.new result }
     ensures spends { Spends case.now meter.old course.now.searches meter.new result }
     ensures fits { FitsPolish case.now space.new }
 {
     let all = course.searches;
-    let frozen = missing_before(case, roster, frozen_days(case, course.from));
-    if frozen > 0 || first_hard(case, roster).is_none() {
+    if first_hard(case, roster).is_none() {
         return all;
     }
     mendable_rows_are_had(case, roster, course.from);
@@ -185,6 +191,9 @@ fn begin_plan(
     requires fits { FitsPolish base.now.case.now space.old }
     requires room { meter.old + extensions_of base.now.case.now course.now.searches ≤ greatest_u64 }
     ensures kept { space.new.kept ≡ base.now.given.now }
+    ensures passes { 0 < result.passes }
+    ensures made { AreMade base.now.case.now meter.old course.now.searches meter.new
+        result.searches.left }
     ensures spends { Spends base.now.case.now meter.old course.now.searches meter.new
         result.searches.left }
     ensures fits { FitsPolish base.now.case.now space.new }
@@ -204,7 +213,7 @@ fn begin_plan(
     }
 }
 
-/// Fades the given rows until they keep the hard rules, and keeps those that miss the fewest nurses.
+/// Fades the given rows until they keep the hard rules, or no search is left, and keeps the nearest ones.
 fn fade_until_kept(
     base: &Base<'_>,
     kicking: &mut Kicking,
@@ -214,21 +223,23 @@ fn fade_until_kept(
     requires roster { fits_case base.now.case.now base.now.given.now ≡ true }
     requires each { HaveRows base.now.case.now base.now.from base.now.given.now }
     requires fits { FitsPolish base.now.case.now space.old }
-    requires kept { FrozenDaysStay base.now.case.now base.now.from base.now.given.now
-        space.old.kept }
+    requires kept { space.old.kept ≡ base.now.given.now }
+    requires passes { 0 < kicking.old.passes }
     requires room { meter.old + extensions_of base.now.case.now
         kicking.old.searches.left ≤ greatest_u64 }
-    ensures kept { FrozenDaysStay base.now.case.now base.now.from base.now.given.now
+    ensures nearer { IsNoFarther base.now.case.now base.now.given.now space.new.kept }
+    ensures given_up { keeps_hard base.now.case.now space.new.kept ≡ false →
+        kicking.new.searches.left ≡ 0 }
+    ensures frozen { FrozenDaysStay base.now.case.now base.now.from base.now.given.now
         space.new.kept }
+    ensures made { AreMade base.now.case.now meter.old kicking.old.searches.left meter.new
+        kicking.new.searches.left }
     ensures spends { Spends base.now.case.now meter.old kicking.old.searches.left meter.new
         kicking.new.searches.left }
     ensures fits { FitsPolish base.now.case.now space.new }
 {
-    let mut least = u64::MAX;
-    for fades_before in 0..MOST_FADES {
-        if kicking.searches.left == 0 {
-            return;
-        }
+    let mut least = least_before(base);
+    'fades: while kicking.searches.left > 0 {
         if fade_and_mend(base, kicking, space, meter) {
             space.kept.put_rows(&space.faded);
             return;
@@ -238,8 +249,24 @@ fn fade_until_kept(
     }
 }
 
-/// Fades the given rows, and mends them where they then miss nurses. Says whether they keep the hard rules. The days before week `from`
-/// are as they are given.
+/// How many nurses a nearer roster than the given one misses fewer than: as many as that misses, where it breaks minimums alone.
+fn least_before(base: &Base<'_>) -> u64
+    requires { fits_case base.now.case.now base.now.given.now ≡ true }
+    ensures { keeps_rows base.now.case.now base.now.given.now ≡ true →
+        result ≡ missing base.now.case.now base.now.given.now }
+{
+    let (case, given) = (base.case, base.given);
+    let days = case.days();
+    let follows = first_succession_before(case, given, days).is_none();
+    if follows && first_absent_before(case, given, days).is_none() {
+        missing(case, given)
+    } else {
+        u64::MAX
+    }
+}
+
+/// Fades the given rows, and mends them where they then break a minimum. Says whether they keep the hard rules. At least one search is
+/// made, and the days before week `from` are as they are given.
 fn fade_and_mend(
     base: &Base<'_>,
     kicking: &mut Kicking,
@@ -249,8 +276,12 @@ fn fade_and_mend(
     requires roster { fits_case base.now.case.now base.now.given.now ≡ true }
     requires each { HaveRows base.now.case.now base.now.from base.now.given.now }
     requires fits { FitsPolish base.now.case.now space.old }
+    requires passes { 0 < kicking.old.passes }
+    requires left { 0 < kicking.old.searches.left }
     requires room { meter.old + extensions_of base.now.case.now
         kicking.old.searches.left ≤ greatest_u64 }
+    ensures keeps { result ≡ true → keeps_hard base.now.case.now space.new.faded ≡ true }
+    ensures fewer { kicking.new.searches.left < kicking.old.searches.left }
     ensures faded { AreFaded base.now kicking.old kicking.new space.old space.new meter.old
         meter.new }
 {
@@ -260,8 +291,8 @@ fn fade_and_mend(
     mend_rows(base, kicking, space, meter)
 }
 
-/// Gives the nurses new rows, pass by pass, while a place that misses nurses pays more each time, until none does. Says whether the rows
-/// keep the hard rules then. The days before week `from` are as they are given.
+/// Gives the nurses new rows, pass by pass, while a place that misses nurses pays more each time, until none does or the passes or the
+/// searches end. Says whether the rows keep the hard rules then. The days before week `from` are as they are given.
 fn mend_rows(
     base: &Base<'_>,
     kicking: &mut Kicking,
@@ -274,6 +305,7 @@ fn mend_rows(
         space.old.faded }
     requires room { meter.old + extensions_of base.now.case.now
         kicking.old.searches.left ≤ greatest_u64 }
+    ensures keeps { result ≡ true → keeps_hard base.now.case.now space.new.faded ≡ true }
     ensures faded { AreFaded base.now kicking.old kicking.new space.old space.new meter.old
         meter.new }
 {
@@ -290,7 +322,9 @@ fn mend_rows(
 /// Keeps the faded rows where they miss fewer nurses than the least so far. Answers the least then.
 fn keep_if_nearer(case: &Case, least: u64, space: &mut PolishSpace) -> u64
     requires fits { FitsPolish case.now space.old }
-    ensures either { (space.new.kept ≡ space.old.kept) ⊎ (space.new.kept ≡ space.old.faded) }
+    ensures kept { space.new.kept ≡ (if nat_lt (missing case.now space.old.faded) least
+        then space.old.faded else space.old.kept) }
+    ensures least { result ≡ min least (missing case.now space.old.faded) }
     ensures fits { FitsPolish case.now space.new }
 {
     let missing = missing(case, &space.faded);

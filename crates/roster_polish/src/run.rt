@@ -1,10 +1,11 @@
 //! A run of kicks.
 
-ghost use Rattle.std.specs.Prelude.{◌≡◌, ◌+◌, ◌*◌, ◌<◌, ◌≤◌, true, codes, if◌then◌else◌, IfErr, IfOk};
+ghost use Rattle.std.specs.Prelude.{◌≡◌, ◌+◌, ◌*◌, ◌/◌, ◌<◌, ◌≤◌, false, true, codes, if◌then◌else◌, IfErr, IfOk};
 ghost use Rattle.roster_bundle.specs.Limits.{greatest_u64};
 ghost use Rattle.roster_instance.specs.Limits.{most_nurses};
 ghost use Rattle.roster_laws.specs.FrozenDays.{FrozenDaysStay};
 ghost use Rattle.roster_rules.specs.Penalties.{penalty};
+ghost use Rattle.roster_polish.specs.Fades.{TakesAllBut, spared};
 ghost use Rattle.roster_polish.specs.Polished.{FitsPolish, GivenLogStops, PolishLogStops, Polishes, PolishesGiven, first_searches, settling_searches};
 ghost use Rattle.roster_polish.specs.Settled.{extensions_of};
 
@@ -189,18 +190,23 @@ pub(crate) fn rounds_within(searches: u32, parts: u32, nurses: u32) -> u32
 /// a hundred of all, or for ten passes where that is more. Below a hundred passes it may end below a minimum: then half of all searches
 /// are kept for kicks.
 fn passes_within(course: &Course, left: u32, nurses: u32) -> u32
-    requires { nurses ≤ most_nurses }
-    ensures { course.now.kicks ≡ true → result ≡ 0 }
+    requires some { 0 < nurses }
+    requires few { nurses ≤ most_nurses }
+    ensures fadeless { course.now.kicks ≡ true → result ≡ 0 }
+    ensures long { course.now.kicks ≡ false → 100 * nurses + spared course.now.searches
+        nurses ≤ left → TakesAllBut (spared course.now.searches nurses) left nurses result }
+    ensures short { course.now.kicks ≡ false → left < 100 * nurses + spared course.now.searches
+        nurses → TakesAllBut (course.now.searches / 2) left nurses result }
 {
     if course.kicks {
         return 0;
     }
     let spare = (course.searches / 100 * 3).max(10 * nurses);
-    let passes = left.saturating_sub(spare) / nurses.max(1);
+    let passes = left.saturating_sub(spare) / nurses;
     if passes >= MANY_PASSES {
         return passes;
     }
-    left.saturating_sub(course.searches / 2) / nurses.max(1)
+    left.saturating_sub(course.searches / 2) / nurses
 }
 
 /// So many passes lead from the worths to the true prices without haste.

@@ -8,7 +8,8 @@ use Rattle.roster_rules.specs.Penalties.{total_cost}
 use Rattle.roster_rules.specs.Room.{penalty_room}
 use Rattle.roster_instance.specs.Sizes.{choice_count, state_count}
 use Rattle.roster_rules.specs.declared.penalties.Costs.{Costs}
-use Rattle.roster_reports.specs.Lines.{Text, costs_text, search_line, sizes_line, sizes_text}
+use Rattle.roster_reports.specs.Lines.{Text, costs_text, missing_line, nurse_day_line, search_line, sizes_line, sizes_text}
+use Rattle.roster_reports.specs.declared.names.BreachNames.{BreachNames}
 
 -- what is expected on a line
 pub expected-line : (line what : Text) → codes "line " ++ (line ++ (codes ": expected " ++ (what ++ codes "\n"))) ≡ codes "line " ++ line ++ codes ": expected " ++ what ++ codes "\n"
@@ -22,6 +23,19 @@ missing-line a week b day c shift d skill e have f need end = simp append_assoc
 -- the eight pieces of a line
 pub nurse_day-line : (rule a week b day c nurse end : Text) → rule ++ (a ++ (week ++ (b ++ (day ++ (c ++ (nurse ++ end)))))) ≡ rule ++ a ++ week ++ b ++ day ++ c ++ nurse ++ end
 nurse_day-line rule a week b day c nurse end = simp append_assoc
+
+-- these lines after other words
+pub missing-after : (before : Text) (week : ℕ) (day : Text) (names : BreachNames) (have need : ℕ)
+    → before ++ (codes "H2 week " ++ (decimal week ++ (codes " " ++ (day ++ (codes " " ++ (names.shift.now ++ (codes " " ++ (names.skill.now ++ (codes ": " ++ (decimal have ++ (codes " of " ++ (decimal need ++ codes "\n"))))))))))))
+    ≡ before ++ missing_line week day names have need
+missing-after before week day names have need =
+    ap (λ text. before ++ text)
+    (missing-line (codes "H2 week ") (decimal week) (codes " ") day (codes " ") names.shift.now (codes " ") names.skill.now (codes ": ") (decimal have) (codes " of ") (decimal need) (codes "\n"))
+
+pub nurse_day-after : (before rule : Text) (week : ℕ) (day nurse : Text)
+    → before ++ (rule ++ (codes " week " ++ (decimal week ++ (codes " " ++ (day ++ (codes " " ++ (nurse ++ codes "\n"))))))) ≡ before ++ nurse_day_line rule week day nurse
+nurse_day-after before rule week day nurse =
+    ap (λ text. before ++ text) (nurse_day-line rule (codes " week ") (decimal week) (codes " ") day (codes " ") nurse (codes "\n"))
 
 -- ---- the report of `cost`
 

@@ -76,20 +76,22 @@ pub fn write_case_line<Log: Write>(
             ],
         ),
         CaseFault::H1 { day, .. } => {
-            write_nurse_day(b"H1", day / 7, &weekday_text(day % 7), nurse, log)
+            write_nurse_day(b"", b"H1", Day(day / 7, &weekday_text(day % 7)), nurse, log)
         }
     }
 }
 
-/// Writes the line of a breach of the hard rules, with the names of which it speaks.
-pub fn write_hard_line<Log: Write>(
+/// Writes the line of a breach of the hard rules, with the names of which it speaks, after these words.
+pub fn write_hard_line<'a, Log: Write>(
+    before: &'a [u8],
     fault: HardFault,
-    names: BreachNames<'_>,
+    names: BreachNames<'a>,
     log: &mut Watch<Log>,
 ) -> Result<(), WriteFault>
-    ensures ok { OnOk result (Writes Log.contents log.old log.new (hard_line fault names.entry)) }
+    ensures ok { OnOk result (Writes Log.contents log.old log.new
+        (before.now ++ hard_line fault names.entry)) }
     ensures err { IfErr result (StopsIn Log.contents log.old log.new
-        (hard_line fault names.entry)) }
+        (before.now ++ hard_line fault names.entry)) }
 {
     match fault {
         HardFault::H2 {
@@ -97,40 +99,64 @@ pub fn write_hard_line<Log: Write>(
             have,
             need,
             ..
-        } => write_missing(day / 7, &weekday_text(day % 7), names, have, need, log),
-        HardFault::H3 { day, .. } => {
-            write_nurse_day(b"H3", day / 7, &weekday_text(day % 7), names.nurse, log)
-        }
-        HardFault::H4 { day, .. } => {
-            write_nurse_day(b"H4", day / 7, &weekday_text(day % 7), names.nurse, log)
-        }
-        HardFault::Absent { day, .. } => {
-            write_nurse_day(b"absent", day / 7, &weekday_text(day % 7), names.nurse, log)
-        }
+        } => write_missing(
+            before,
+            Day(day / 7, &weekday_text(day % 7)),
+            names,
+            have,
+            need,
+            log,
+        ),
+        HardFault::H3 { day, .. } => write_nurse_day(
+            before,
+            b"H3",
+            Day(day / 7, &weekday_text(day % 7)),
+            names.nurse,
+            log,
+        ),
+        HardFault::H4 { day, .. } => write_nurse_day(
+            before,
+            b"H4",
+            Day(day / 7, &weekday_text(day % 7)),
+            names.nurse,
+            log,
+        ),
+        HardFault::Absent { day, .. } => write_nurse_day(
+            before,
+            b"absent",
+            Day(day / 7, &weekday_text(day % 7)),
+            names.nurse,
+            log,
+        ),
     }
 }
 
-/// Writes that nurses are missing to a minimum.
+/// A day as lines tell it: its week and its weekday.
+#[derive(Clone, Copy)]
+struct Day<'a>(u16, &'a [u8]);
+
+/// Writes that nurses are missing to a minimum, after these words.
 fn write_missing<'a, Log: Write>(
-    week: u16,
-    weekday: &'a [u8],
+    before: &'a [u8],
+    day: Day<'a>,
     names: BreachNames<'a>,
     have: u16,
     need: u16,
     log: &mut Watch<Log>,
 ) -> Result<(), WriteFault>
-    ensures ok { OnOk result (Writes Log.contents log.old log.new
-        (missing_line week weekday.now names.entry have need)) }
-    ensures err { IfErr result (StopsIn Log.contents log.old log.new
-        (missing_line week weekday.now names.entry have need)) }
+    ensures ok { OnOk result (Writes Log.contents log.old log.new (before.now
+        ++ missing_line day.entry.0 day.entry.1.now names.entry have need)) }
+    ensures err { IfErr result (StopsIn Log.contents log.old log.new (before.now
+        ++ missing_line day.entry.0 day.entry.1.now names.entry have need)) }
 {
     write_pieces(
         log,
         &[
+            Piece::Bytes(before),
             Piece::Bytes(b"H2 week "),
-            Piece::Number(week as u64),
+            Piece::Number(day.0 as u64),
             Piece::Bytes(b" "),
-            Piece::Bytes(weekday),
+            Piece::Bytes(day.1),
             Piece::Bytes(b" "),
             Piece::Bytes(names.shift),
             Piece::Bytes(b" "),
@@ -144,27 +170,28 @@ fn write_missing<'a, Log: Write>(
     )
 }
 
-/// Writes which rule a nurse breaks on a day.
+/// Writes which rule a nurse breaks on a day, after these words.
 fn write_nurse_day<'a, Log: Write>(
+    before: &'a [u8],
     rule: &'a [u8],
-    week: u16,
-    weekday: &'a [u8],
+    day: Day<'a>,
     nurse: &'a [u8],
     log: &mut Watch<Log>,
 ) -> Result<(), WriteFault>
-    ensures ok { OnOk result (Writes Log.contents log.old log.new
-        (nurse_day_line rule.now week weekday.now nurse.now)) }
-    ensures err { IfErr result (StopsIn Log.contents log.old log.new
-        (nurse_day_line rule.now week weekday.now nurse.now)) }
+    ensures ok { OnOk result (Writes Log.contents log.old log.new (before.now
+        ++ nurse_day_line rule.now day.entry.0 day.entry.1.now nurse.now)) }
+    ensures err { IfErr result (StopsIn Log.contents log.old log.new (before.now
+        ++ nurse_day_line rule.now day.entry.0 day.entry.1.now nurse.now)) }
 {
     write_pieces(
         log,
         &[
+            Piece::Bytes(before),
             Piece::Bytes(rule),
             Piece::Bytes(b" week "),
-            Piece::Number(week as u64),
+            Piece::Number(day.0 as u64),
             Piece::Bytes(b" "),
-            Piece::Bytes(weekday),
+            Piece::Bytes(day.1),
             Piece::Bytes(b" "),
             Piece::Bytes(nurse),
             Piece::Bytes(b"\n"),

@@ -26,7 +26,7 @@ pub enum Command {
         from: u16,
     },
     /// Writes a number that no roster costs less than: none that keeps the hard rules and the weeks before week `from` as they stand.
-    /// It is the best that so many rounds find.
+    /// It is the last that rises in so many rounds.
     Bound {
         rounds: u16,
         from: u16,
@@ -40,8 +40,8 @@ pub enum Command {
         from: u16,
         kicks: bool,
     },
-    /// Writes solutions that keep the hard rules, made anew from whatever solutions it was given, and then settled and polished as
-    /// `Polish` does, with those of so many searches that are left. The weeks before week `from` stay as they are.
+    /// Looks for solutions that keep the hard rules, from whatever solutions it was given, and settles and polishes them as `Polish`
+    /// does, with those of so many searches that are left. The weeks before week `from` stay as they are.
     Plan {
         searches: u32,
         seed: u32,

@@ -186,8 +186,7 @@ pub(crate) const SEARCH_COUNT: &str =
 pub(crate) const SEED_NUMBER: &str =
     "What the random numbers of the run begin with, 0 to 4294967295";
 
-pub(crate) const KICKS_ALONE: &str =
-    "Make kicks alone and no fade, so that fewer rows change for what they cost";
+pub(crate) const KICKS_ALONE: &str = "Make kicks alone, and no fade";
 
 pub(crate) const POLISH: &str = "Make the rosters much cheaper, and write them";
 
@@ -217,12 +216,13 @@ end after 1,000,000 rounds, and neither the fade nor a kick stayed.
 
 A search is one for the best row of a nurse. The first settling takes as many as
 it needs, in up to 1,000,000 rounds. After it the run takes at most as many as
---searches allows: up to a quarter of them to find prices, most of the others
-for the fade, and what is left for kicks. With --kicks it is up to a half to find
-prices, and the others for kicks. With --searches 0 there is neither. The same
-texts, --searches, --seed, --kicks and --from give the same rosters. It pays to
-try several seeds. A run that is ended by Ctrl-C leaves no rosters, as they are
-written at its end.
+--searches allows: up to a quarter of them to find prices; of the others nearly
+all for the fade, or about a third where they are too few for a hundred passes
+over all nurses, as 20,000 are from 137 nurses on; and what is left for kicks.
+With --kicks it is up to a half to find prices, and the others for kicks. With
+--searches 0 there is neither. The same texts, --searches, --seed, --kicks and
+--from give the same rosters. It pays to try several seeds. A run that is ended
+by Ctrl-C leaves no rosters, as they are written at its end.
 
 With --from V the weeks 0 to V - 1 are frozen: each nurse's days in them stay as
 they stand. All weeks are read, and count for what the roster costs. Where V is
@@ -241,19 +241,20 @@ Examples:
 The files are read one after another, in the order given. Without a file, the
 texts are read from standard input.";
 
-pub(crate) const PLAN: &str = "Make new rosters that keep the hard rules, and write them";
+pub(crate) const PLAN: &str = "Look for rosters that keep the hard rules, and write them";
 
 pub(crate) const PLAN_HELP: &str =
-    "Makes a roster that keeps the hard rules, from whatever solutions are given.
+    "Looks for a roster that keeps the hard rules, from whatever solutions are given.
 They may be empty, miss minimums, have forbidden successions, or let a nurse
 work on a day of absence, as where weeks aren't planned yet, or a nurse has
 fallen ill. Refused as ever are a second shift on a day, and a skill that the
 nurse lacks.
 
 Where the given roster breaks a hard rule, the run gives all nurses new rows in
-the weeks that may change, whatever is given there, until no minimum is missed.
-Then it settles the roster and polishes it as 'roster polish' does, with the
-searches that are left. The rosters written keep all hard rules.
+the weeks that may change, whatever is given there: fade after fade, until no
+minimum is missed or no search is left. Then it settles the roster and polishes
+it as 'roster polish' does, with the searches that are left. The rosters written
+keep all hard rules.
 
 To standard error goes a log, once such a roster is found:
   start 61     how many nurses the minimums miss in the given roster, where
@@ -261,11 +262,13 @@ To standard error goes a log, once such a roster is found:
   fade 770     from this line on as for 'roster polish'
   kick 85 765
   settled 765  what the rosters written cost
-Where none is found within the searches, nothing is written: one line says which
-hard rule the nearest roster breaks, and the status is 1. It doesn't mean that
-there is none. More searches or another seed may find one.
+Where none is found within the searches, nothing is written, and the status is 1.
+Of the given roster and those with which the fades ended, the nearest misses the
+fewest nurses; one line says which hard rule it breaks first:
+  not found: H2 week 1 Tue Early Nurse: 0 of 1
+It doesn't mean that there is none. More searches or another seed may find one.
 
-A search is one for the best row of a nurse. To make the roster, and then for
+A search is one for the best row of a nurse. To find the roster, and then for
 the fade and the kicks, the run takes at most as many as --searches allows. The
 first settling takes as many as it needs, in up to 1,000,000 rounds. The same
 texts, --searches, --seed and --from give the same rosters. It pays to try
@@ -274,8 +277,8 @@ written at its end.
 
 With --from V the weeks 0 to V - 1 are frozen: each nurse's days in them stay as
 they stand. All weeks are read, and count for what the roster costs. Where V is
-above the last week, all stays. Where a frozen week breaks a hard rule, no
-roster is made.
+above the last week, all stays. Where a frozen week breaks a hard rule, that is
+told, and no roster is looked for.
 
 What isn't promised: that a roster is found where there is one; how cheap the
 rosters get, for which see 'roster bound'; how long the run takes. For its

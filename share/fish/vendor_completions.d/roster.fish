@@ -17,7 +17,7 @@ complete -c roster -n __roster_begins -a best -d 'Put a nurse\'s best row into t
 complete -c roster -n __roster_begins -a improve -d 'Make the rosters cheaper, nurse by nurse, and write them'
 complete -c roster -n __roster_begins -a bound -d 'Write a number that no roster costs less than'
 complete -c roster -n __roster_begins -a polish -d 'Make the rosters much cheaper, and write them'
-complete -c roster -n __roster_begins -a plan -d 'Make new rosters that keep the hard rules, and write them'
+complete -c roster -n __roster_begins -a plan -d 'Look for rosters that keep the hard rules, and write them'
 complete -c roster -n __roster_begins -a help -d 'Print this message or the help of the given subcommand(s)'
 complete -c roster -n __roster_begins -s h -l help -d 'Print help'
 complete -c roster -n __roster_begins -s V -l version -d 'Print version'
@@ -42,7 +42,7 @@ complete -c roster -n '__roster_is bound' -s h -l help -d 'Print help'
 complete -c roster -n '__roster_is polish' -F
 complete -c roster -n '__roster_is polish' -l searches -x -d 'Apart from the first settling the run takes so many searches at most, 0 to 10000000 [default: 20000]'
 complete -c roster -n '__roster_is polish' -l seed -x -d 'What the random numbers of the run begin with, 0 to 4294967295 [default: 1]'
-complete -c roster -n '__roster_is polish' -l kicks -d 'Make kicks alone and no fade, so that fewer rows change for what they cost'
+complete -c roster -n '__roster_is polish' -l kicks -d 'Make kicks alone, and no fade'
 complete -c roster -n '__roster_is polish' -l from -x -d 'The first week that may change, 0 to 52: the weeks before it stay as they stand [default: 0]'
 complete -c roster -n '__roster_is polish' -s h -l help -d 'Print help'
 complete -c roster -n '__roster_is plan' -F

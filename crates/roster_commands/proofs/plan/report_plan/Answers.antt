@@ -8,8 +8,7 @@ use Rattle.roster_rules.specs.HardRules.{hard_faults}
 use Rattle.roster_rules.proofs.HardLemmas.{none_of-none}
 use Rattle.roster_instance.specs.Meaning.{Meaning}
 use Rattle.roster_instance.specs.Rosters.{Rows, fits_case}
-use Rattle.roster_laws.specs.FrozenDays.{FrozenDaysStay}
-use Rattle.roster_polish.specs.Plans.{missing, unmendable}
+use Rattle.roster_polish.specs.Plans.{IsPlanned, missing, unmendable}
 use Rattle.roster_polish.specs.Polished.{PolishLogStops, Polishes}
 use Rattle.roster_polish.specs.declared.run.Course.{Course}
 use Rattle.roster_commands.specs.Answer.{IsUnfound, Output, StopsOutput}
@@ -45,11 +44,11 @@ find_roster-left-requires-clause-mendable g c =
 fits : (g : given.Over) (c : After-find_roster-left g) → fits_case c.args.instance.case c.find_roster-left.new.roster ≡ true
 fits g c = subst (λ (m : Meaning). fits_case m c.find_roster-left.new.roster ≡ true) c.new-meter.ensures.same c.find_roster-left.ensures.roster
 
-stays : (g : given.Over) (c : After-find_roster-left g) → FrozenDaysStay c.args.instance.case c.args.course.now.from c.args.instance.roster c.find_roster-left.new.roster
-stays g c =
+planned : (g : given.Over) (c : After-find_roster-left g) → IsPlanned c.args.instance.case c.args.course.now.from c.args.instance.roster c.find_roster-left.new.roster
+planned g c =
     let given = c.args.instance.roster in
     let nearest = c.find_roster-left.new.roster in
-    subst (λ (x : Course). FrozenDaysStay c.args.instance.case x.from given nearest) c.within_room-course.ensures (subst (λ (m : Meaning). FrozenDaysStay m c.within_room-course.result.from given nearest) c.new-meter.ensures.same c.find_roster-left.ensures.frozen)
+    subst (λ (x : Course). IsPlanned c.args.instance.case x.from given nearest) c.within_room-course.ensures (subst (λ (m : Meaning). IsPlanned m c.within_room-course.result.from given nearest) c.new-meter.ensures.same c.find_roster-left.ensures.planned)
 
 few : (g : given.Over) (c : After-find_roster-left g) → c.find_roster-left.result ≤ c.args.course.now.searches
 few g c = omega (arith, c.find_roster-left.ensures.spends.fewer, ap (λ (x : Course). x.searches) c.within_room-course.ensures)
@@ -63,7 +62,7 @@ returns-in_err-held g c =
     let p = err_from_is_err_and c.from_residual.result c.from_residual.ensures.1 in
     let unfound = subst (λ (m : Meaning). IsUnfound c.args.source.now c.args.instance.bundle (hard_faults m nearest) c.in_err-held.field-0.0) c.new-meter.ensures.same c.in_err-held.ensures.unfound in
     rw (p.1, p.2) (plan_unfound c.args.course.now.searches c.args.course.now.from c.args.course.now.kicks c.args.instance.case c.args.instance.roster output log c.args.source.now c.args.instance.bundle
-    (mendable g at.After-new-meter) nearest (λ e. fits g at.After-find_roster-left) (stays g at.After-find_roster-left) c.in_err-held.field-0.0 unfound refl refl)
+    (mendable g at.After-new-meter) nearest (λ e. fits g at.After-find_roster-left) (planned g at.After-find_roster-left) c.in_err-held.field-0.0 unfound refl refl)
 
 -- ---- the run from there
 
@@ -100,7 +99,7 @@ returns-in-Ok-polish_found g c =
     let writes = subst (λ (m : Meaning). OnOk shown (Writes g.Out.Write.contents c.args.output.now c.show_weeks.new.output (weeks_text m last))) case_is (subst (λ r. OnOk shown (Writes g.Out.Write.contents c.args.output.now c.show_weeks.new.output (weeks_text c.case.result.now r))) c.roster.ensures.roster c.show_weeks.ensures.ok) in
     let stops = subst (λ (m : Meaning). IfErr shown (StopsOutput g.Out.Write.contents c.args.output.now c.show_weeks.new.output (weeks_text m last))) case_is (subst (λ r. IfErr shown (StopsOutput g.Out.Write.contents c.args.output.now c.show_weeks.new.output (weeks_text c.case.result.now r))) c.roster.ensures.roster c.show_weeks.ensures.err) in
     plan_ends c.args.course.now.searches c.args.course.now.from c.args.course.now.kicks c.args.instance.case c.args.instance.roster output log c.args.source.now c.args.instance.bundle
-    (mendable g at.After-new-meter) c.find_roster-left.new.roster (λ e. fits g at.After-find_roster-left) (stays g at.After-find_roster-left) (kept g at.After-polish_found) c.find_roster-left.result (few g at.After-find_roster-left) last told shown polishes writes stops
+    (mendable g at.After-new-meter) c.find_roster-left.new.roster (λ e. fits g at.After-find_roster-left) (planned g at.After-find_roster-left) (kept g at.After-polish_found) c.find_roster-left.result (few g at.After-find_roster-left) last told shown polishes writes stops
 
 pub returns : goal.returns
 returns g c =
@@ -111,4 +110,4 @@ returns g c =
     let f = c.in-Err-LogFailed.field-0 in
     let stops = as_given g at.After-polish_found (λ m from r start alone. PolishLogStops g.Log.Write.contents m from r start c.find_roster-left.result alone last c.args.log.now c.polish_found.new.log f) c.in-Err-LogFailed.ensures.err in
     plan_stops c.args.course.now.searches c.args.course.now.from c.args.course.now.kicks c.args.instance.case c.args.instance.roster output log c.args.source.now c.args.instance.bundle
-    (mendable g at.After-new-meter) c.find_roster-left.new.roster (λ e. fits g at.After-find_roster-left) (stays g at.After-find_roster-left) (kept g at.After-polish_found) c.find_roster-left.result (few g at.After-find_roster-left) last f stops refl
+    (mendable g at.After-new-meter) c.find_roster-left.new.roster (λ e. fits g at.After-find_roster-left) (planned g at.After-find_roster-left) (kept g at.After-polish_found) c.find_roster-left.result (few g at.After-find_roster-left) last f stops refl

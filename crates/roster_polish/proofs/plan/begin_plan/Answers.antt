@@ -1,5 +1,6 @@
 use Rattle.std.proofs.Common.{◌*◌, ◌≤◌, arith}
 use Rattle.std.proofs.lemmas.Nat.{mul-le}
+use Rattle.roster_polish.proofs.Fading.{made_rounds}
 use Rattle.roster_polish.proofs.Keeping.{same_days}
 use Rattle.roster_polish.proofs.Steps.{rounds_room, rounds_spent}
 use Rattle.roster_polish.proofs.plan.begin_plan.Goals as goal
@@ -27,3 +28,8 @@ returns-clause-spends c =
       fewer = omega arith;
       counted = rounds_spent k c.min-rounds.result searches c.nurses-nurses.result c.nurses-nurses.ensures.count within c.args.meter.now c.improve_worths.new.meter c.improve_worths.ensures.counted;
     }
+
+pub returns-clause-made : goal.returns-clause-made
+returns-clause-made c =
+    let within = few (goal.at.returns-clause-made c).After-min-rounds in
+    made_rounds c.args.base.now.case.now c.min-rounds.result c.args.course.now.searches c.nurses-nurses.result c.args.meter.now c.improve_worths.new.meter c.nurses-nurses.ensures.count within c.improve_worths.ensures.made

@@ -1,6 +1,11 @@
-use Rattle.std.proofs.Common.{◌∙◌, Option, ap, arith, is_some, not, sym}
+use Rattle.std.proofs.Common.{◌≡◌, ◌∙◌, ◌≤◌, false, Option, ap, arith, is_some, not, subst, sym, true}
 use Rattle.roster_rules.specs.declared.fault.HardFault.{HardFault}
 use Rattle.std.proofs.lemmas.Bool.{true≢false}
+use Rattle.roster_instance.specs.Rosters.{Rows}
+use Rattle.roster_rules.specs.HardRules.{keeps_hard}
+use Rattle.roster_laws.specs.FrozenDays.{FrozenDaysStay}
+use Rattle.roster_polish.specs.Plans.{missing}
+use Rattle.roster_polish.proofs.Fading.{made_both}
 use Rattle.roster_polish.proofs.FadeRows.{kept_is_none}
 use Rattle.roster_polish.proofs.Keeping.{same_days}
 use Rattle.roster_polish.proofs.plan.find_roster.Goals as goal
@@ -12,7 +17,21 @@ put_rows-requires c = same_days c.args.case.now c.fade_until_kept.new.space.kept
 pub overflow_cast-result : goal.overflow_cast-result
 overflow_cast-result c = omega (arith, c.fade_until_kept.ensures.spends.fewer, c.begin_plan-kicking.ensures.spends.fewer)
 
-pub returns-clause-kept : goal.returns-clause-kept
-returns-clause-kept c keeps =
-    let none = c.first_hard.ensures ∙ kept_is_none c.args.case.now c.args.roster.now keeps in
-    absurd (true≢false (sym (ap not c.if-is_none.false) ∙ sym c.is_none.ensures ∙ ap (λ (o : Option HardFault). is_some o) none))
+pub returns-clause-planned : goal.returns-clause-planned
+returns-clause-planned c =
+    let k = c.args.case.now in
+    let given = c.args.roster.now in
+    let is : c.put_rows.new.self ≡ c.fade_until_kept.new.space.kept = c.put_rows.ensures in
+    record {
+      kept = λ keeps. absurd (true≢false (sym (ap not c.if-is_none.false) ∙ sym c.is_none.ensures ∙ ap (λ (o : Option HardFault). is_some o) (c.first_hard.ensures ∙ kept_is_none k given keeps)));
+      nearer = λ breaks rows. subst (λ (r : Rows). missing k r ≤ missing k given) (sym is) (c.fade_until_kept.ensures.nearer (subst (λ (r : Rows). keeps_hard k r ≡ false) is breaks) rows);
+      stays = subst (FrozenDaysStay k c.args.course.now.from given) (sym is) c.fade_until_kept.ensures.frozen;
+    }
+
+pub returns-clause-given_up : goal.returns-clause-given_up
+returns-clause-given_up c breaks =
+    c.fade_until_kept.ensures.given_up (subst (λ (r : Rows). keeps_hard c.args.case.now r ≡ false) c.put_rows.ensures breaks)
+
+pub returns-clause-made : goal.returns-clause-made
+returns-clause-made c =
+    made_both c.args.case.now c.args.meter.now c.args.course.now.searches c.begin_plan-kicking.new.meter c.begin_plan-kicking.result.searches.left c.fade_until_kept.new.meter c.fade_until_kept.new.kicking.searches.left c.begin_plan-kicking.ensures.made c.fade_until_kept.ensures.made

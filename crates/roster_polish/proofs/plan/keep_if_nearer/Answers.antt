@@ -1,13 +1,10 @@
-use Rattle.std.proofs.Common.{◌≡◌, inr, subst, sym, true}
+use Rattle.std.proofs.Common.{◌≡◌, subst, sym, true}
 use Rattle.roster_instance.specs.Rosters.{Rows, fits_case}
 use Rattle.roster_polish.proofs.Keeping.{same_days}
 use Rattle.roster_polish.proofs.plan.keep_if_nearer.Goals as goal
 
 pub put_rows-requires : goal.put_rows-requires
 put_rows-requires c = same_days c.args.case.now c.args.space.now.faded c.args.space.now.kept c.requires.fits.faded c.requires.fits.kept
-
-pub returns-clause-either : goal.returns-clause-either
-returns-clause-either c = inr c.put_rows.ensures
 
 pub returns-clause-fits : goal.returns-clause-fits
 returns-clause-fits c =

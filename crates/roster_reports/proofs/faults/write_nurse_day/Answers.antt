@@ -1,17 +1,17 @@
-use Rattle.std.proofs.Common.{codes, decimal, subst}
+use Rattle.std.proofs.Common.{subst}
 use Rattle.std.specs.Prelude.{IfErr, OnOk}
 use Rattle.roster_text.specs.Io.{StopsIn, Writes}
-use Rattle.roster_reports.proofs.PieceLemmas.{nurse_day-line}
+use Rattle.roster_reports.proofs.PieceLemmas.{nurse_day-after}
 use Rattle.roster_reports.proofs.faults.write_nurse_day.Goals as goal
 
 pub returns-clause-ok : goal.returns-clause-ok
 returns-clause-ok g c =
     let out = c.write_pieces in
     subst (λ text. OnOk out.result (Writes g.Log.Write.contents c.args.log.now out.new.out text))
-    (nurse_day-line c.args.rule.now (codes " week ") (decimal c.args.week) (codes " ") c.args.weekday.now (codes " ") c.args.nurse.now (codes "\n")) out.ensures.ok
+    (nurse_day-after c.args.before.now c.args.rule.now c.args.day.0 c.args.day.1.now c.args.nurse.now) out.ensures.ok
 
 pub returns-clause-err : goal.returns-clause-err
 returns-clause-err g c =
     let out = c.write_pieces in
     subst (λ text. IfErr out.result (StopsIn g.Log.Write.contents c.args.log.now out.new.out text))
-    (nurse_day-line c.args.rule.now (codes " week ") (decimal c.args.week) (codes " ") c.args.weekday.now (codes " ") c.args.nurse.now (codes "\n")) out.ensures.err
+    (nurse_day-after c.args.before.now c.args.rule.now c.args.day.0 c.args.day.1.now c.args.nurse.now) out.ensures.err
