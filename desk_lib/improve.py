@@ -59,6 +59,7 @@ class Progress:
     def close(self, ending: list[str]) -> None:
         """Ends what goes on beside, and the file of the log, with these lines."""
         if self.beside:
+            self.known = self.floor
             self.beside.close()
             self.beside = None
         with contextlib.suppress(OSError):
@@ -305,5 +306,5 @@ def finish(run: Run, seeds: list[int], work: typing.Callable[[], None]) -> None:
         run.progress.end()
         raise DeskError("; ".join(filter(None, [str(why), run.has()])), why.status) from None
     finally:
-        run.progress.close(run.ending(seeds) if run.progress.last else [])
+        run.progress.close(run.ending(seeds) if run.progress.log and run.progress.last else [])
     run.progress.end(f"{shown(run.out)}: {shown(run.progress.last)}{run.progress.above_floor(run.total)}, {run.changes()}")

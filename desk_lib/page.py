@@ -83,7 +83,7 @@ class Page:
         """What stands between the head and the foot."""
         if self.wanted.nurse is not None:
             return [month(self.sheet, self.wanted.nurse)]
-        found = [self.grid(), changes(self.sheet), by_day(self.sheet)]
+        found = [self.grid(), by_day(self.sheet), changes(self.sheet)]
         return found if self.wanted.is_notice else [*found, self.totals(), self.costs(), self.staffing(), self.plot()]
 
     # ---- above
@@ -113,7 +113,7 @@ class Page:
 
     def links(self) -> str:
         """The parts of the page, by links to them."""
-        links = [("grid", "Grid"), *[("changes", "Changes")] * bool(self.sheet.changes()), ("days", "Who is on")]
+        links = [("grid", "Grid"), ("days", "Who is on"), *[("changes", "Changes")] * bool(self.sheet.changes())]
         if not self.wanted.is_notice:
             links += [("totals", "Totals"), ("nurses", "Costs by nurse"), ("staffing", "Staffing")]
             links += [("log", "The run")] if self.log else []
