@@ -112,7 +112,7 @@ def run_improve(asked: argparse.Namespace, roster: Program) -> int:
     run = run_of(asked, roster, texts, plan)
     seeds = asked.seeds or [1 if asked.seed is None else asked.seed]
     wanted = asks_of(asked, plan)
-    improve.finish(run, seeds, lambda: search(asked, run, seeds, end))
+    improve.finish(run, seeds, lambda: search(asked, run, seeds, end, len(plan.case.nurses)))
     for line in wanted.failed(program.plan_in(run.texts()).roster) if wanted else ():
         program.warn(line)
     return 0
@@ -141,8 +141,8 @@ def run_of(asked: argparse.Namespace, roster: Program, texts: Texts, plan: Plan)
     return run
 
 
-def search(asked: argparse.Namespace, run: improve.Run, seeds: list[int], end: float | None) -> None:
-    """All that `improve` makes, one after the other."""
+def search(asked: argparse.Namespace, run: improve.Run, seeds: list[int], end: float | None, nurses: int) -> None:
+    """All that `improve` makes, one after the other, of so many nurses."""
     if asked.plan:
         run.plan(asked.polish, seeds[0], end)
     if asked.bound:
@@ -150,7 +150,7 @@ def search(asked: argparse.Namespace, run: improve.Run, seeds: list[int], end: f
     if not asked.plan:
         run.rounds(100 if asked.rounds is None else asked.rounds, end)
     if asked.polish is not None or end is not None:
-        polish.go_on(run, polish.Course(asked.polish, seeds, asked.slice, end))
+        polish.go_on(run, polish.Course(asked.polish, seeds, asked.slice, end, nurses))
 
 
 def run_history(asked: argparse.Namespace, roster: Program) -> int:

@@ -21,21 +21,25 @@ MOST_SEARCHES, SEEDS = 10_000_000, 2**32
 FIRST, SECONDS, GROWTH, NICENESS, SEED_AWAY = 100, 3.0, 4, 10, 2**31
 # Where the time is given: how much of what is left the first whole run is made for, which tells how fast such runs are, and each
 # after it; and from how many seconds on one is begun. A run that doesn't end is lost, and a machine may slow down.
-FIRST_SHARE, SHARE, WORTHWHILE = 0.5, 0.75, 2.0
+FIRST_SHARE, SHARE, WORTHWHILE = 0.65, 0.75, 2.0
 # For how many seconds, and how much of the time that is left, a slice goes on that tells how much is searched in a second; and how much
 # faster it may go without what a slice takes besides.
 KNOWN, KNOWN_SHARE, MOST_FASTER = 0.1, 0.02, 1.3
+# How many rounds over all nurses a run makes for its worths at most, and how much of the time of two searches, one for worths and one
+# that isn't, the first takes: between 1.2 and 1.5 on wards of 12 to 120 nurses.
+ROUNDS, OF_WORTHS = 100, 4 / 3
 
 
 @dataclasses.dataclass(frozen=True)
 class Course:
     """How whole runs are made: with how many searches, or as many as the time takes; by which seeds; how many searches a slice
-    has, or as many as take some seconds; and when the time is over."""
+    has, or as many as take some seconds; when the time is over; and how many nurses there are."""
 
     searches: int | None
     seeds: list[int]
     slice_: int | None = None
     end: float | None = None
+    nurses: int = 1
 
 
 @dataclasses.dataclass(eq=False)
@@ -55,35 +59,46 @@ class Job:
 
 
 class Pace:
-    """How much is searched in a second, as slices tell that are made one after the other, each with more searches, and then whole
-    runs."""
+    """How long searches take, as slices tell that are made one after the other, each with more searches, and then whole runs.
 
-    def __init__(self) -> None:
-        # (searches in a second, and the seconds that a run takes besides; the seconds of the first slice, and the last slice)
-        self.speed, self.before = 0.0, 0.0
+    A run begins with rounds over all nurses for its worths, in half of its searches at most. These take longer than the others, so
+    a long run has more searches in a second than a slice."""
+
+    def __init__(self, nurses: int) -> None:
+        # (searches for worths, at most; the seconds of a search in a slice, and what a run takes besides)
+        self.worths, self.each, self.before = ROUNDS * nurses, 0.0, 0.0
+        # (the seconds of the first slice, and the last slice)
         self.first, self.last = 0.0, (0, 0.0)
 
     def learn(self, searches: int, seconds: float) -> None:
         """Takes what a slice took. What it took besides the searches was in the one before, too. On a machine that is at work for
-        others both may be far off: so the speed is held to that of the whole slice."""
+        others both may be far off: so the search is held to that of the whole slice."""
         fewer, sooner = self.last
-        sure = self.speed = searches / seconds
+        sure = self.each = seconds / searches
         if sooner and searches > fewer and seconds > sooner:
-            self.speed = max(sure, min(MOST_FASTER * sure, (searches - fewer) / (seconds - sooner)))
-        self.before = seconds - searches / self.speed
+            self.each = min(sure, max(sure / MOST_FASTER, (seconds - sooner) / (searches - fewer)))
+        self.before = seconds - searches * self.each
         self.first, self.last = self.first or seconds, (searches, seconds)
 
     def is_known(self, left: float) -> bool:
         """Whether the last slice was long enough to tell, beside the first one and the seconds that are left."""
         return self.last[1] >= max(KNOWN, KNOWN_SHARE * left, 2 * self.first)
 
-    def correct(self, searches: int, seconds: float) -> None:
-        """Takes what a whole run took. A longer one has as many searches in a second, or more."""
-        self.speed, self.before = searches / seconds, 0.0
+    def seconds_of(self, searches: int) -> float:
+        """How long a run of so many searches takes."""
+        worths = min(self.worths, searches / 2)
+        return self.before + self.each * (OF_WORTHS * worths + (2 - OF_WORTHS) * (searches - worths))
 
     def searches_in(self, seconds: float) -> int:
         """How many searches a run of so many seconds has."""
-        return int(self.speed * max(0.0, seconds - self.before))
+        searches = (seconds - self.before) / self.each
+        if searches > 2 * self.worths:
+            searches = self.worths + (searches - OF_WORTHS * self.worths) / (2 - OF_WORTHS)
+        return max(0, int(searches))
+
+    def correct(self, searches: int, seconds: float) -> None:
+        """Takes what a whole run took."""
+        self.each *= seconds / self.seconds_of(searches)
 
 
 class Polish:
@@ -93,7 +108,7 @@ class Polish:
         self.run, self.course = run, course
         self.least, self.word = run.total, b"settled"
         self.begun, self.slices = 0, 0
-        self.pace = Pace()
+        self.pace = Pace(course.nurses)
         self.ended: list[tuple[int, int, Answer]] = []
         self.jobs = selectors.DefaultSelector()
 
@@ -210,7 +225,8 @@ class Polish:
 
     def take_whole(self, job: Job, answer: Answer) -> None:
         total = number_of(answer.end())
-        self.pace.correct(job.searches, job.seconds())
+        if self.is_open():
+            self.pace.correct(job.searches, job.seconds())
         self.ended.append((total, job.number, answer))
         if len(self.course.seeds) > 1 or self.is_open():
             self.run.progress.line(b"seed %d %d" % (job.seed, total))
