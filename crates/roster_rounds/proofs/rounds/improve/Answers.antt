@@ -1,9 +1,6 @@
 use Rattle.roster_partial.proofs.WorkspaceLaws.{same_after}
 use Rattle.roster_rounds.proofs.rounds.improve.Goals as goal
 
-pub make_rounds-requires-clause-ready : goal.make_rounds-requires-clause-ready
-make_rounds-requires-clause-ready g c = c.begin.ensures.ready c.args.held.now.case c.requires.fits
-
 pub returns-clause-same_room : goal.returns-clause-same_room
 returns-clause-same_room g c = same_after _ _ _ c.begin.ensures.same_room c.make_rounds.ensures.same_room
 
