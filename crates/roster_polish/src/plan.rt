@@ -1,6 +1,6 @@
 //! A first roster: one that keeps the hard rules, from rows that may break them.
 
-ghost use Rattle.std.specs.Prelude.{◌≡◌, ◌+◌, ◌<◌, ◌≤◌, [], false, true, if◌then◌else◌, min, nat_lt};
+ghost use Rattle.std.specs.Prelude.{◌≡◌, ◌+◌, ◌-◌, ◌*◌, ◌^◌, ◌<◌, ◌≤◌, [], false, true, if◌then◌else◌, min, nat_lt};
 ghost use Rattle.roster_bundle.specs.Limits.{greatest_u64};
 ghost use Rattle.roster_instance.specs.Faults.{first_fault};
 ghost use Rattle.roster_instance.specs.Meaning.{day_count, minimum};
@@ -245,8 +245,15 @@ fn fade_until_kept(
             return;
         }
         least = keep_if_nearer(base.case, least, space);
-        kicking.passes = kicking.passes.saturating_mul(2);
+        kicking.passes = passes_after(kicking.passes);
     }
+}
+
+/// How many passes the fade after one of so many makes: twice as many.
+fn passes_after(passes: u32) -> u32
+    ensures { result ≡ min (2 * passes) (2 ^ 32 - 1) }
+{
+    passes.saturating_mul(2)
 }
 
 /// How many nurses a nearer roster than the given one misses fewer than: as many as that misses, where it breaks minimums alone.

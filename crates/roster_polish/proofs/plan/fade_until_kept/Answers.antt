@@ -48,7 +48,7 @@ fades-preserved c =
     record {
       least = λ rows. (nearer_of rows).0;
       nearer = λ rows. omega (arith, (nearer_of rows).1, ap misses faded.kept, l.invariant.nearer rows);
-      passes = omega (arith, c.saturating_mul-kicking.ensures, faded.passes, l.invariant.passes);
+      passes = omega (arith, c.passes_after-kicking.ensures, faded.passes, l.invariant.passes);
       frozen = of_either stay (nat_lt (misses told.new.space.faded) l.least) told.new.space.faded told.new.space.kept kept.new.space.kept kept.ensures.kept faded.frozen (subst stay (sym faded.kept) l.invariant.frozen);
       made = made_both k c.args.meter.now c.args.kicking.now.searches.left l.meter l.kicking.searches.left told.new.meter told.new.kicking.searches.left l.invariant.made faded.made;
       spends = spent_both k c.args.meter.now c.args.kicking.now.searches.left l.meter l.kicking.searches.left told.new.meter told.new.kicking.searches.left l.invariant.spends faded.spends;
