@@ -236,7 +236,7 @@ module _ {day : OpenDay} {stretch : Stretch} (good : IsStretchOf day stretch) wh
 
   -- its rows, in a list that begins with its first place
   pub rows_of : {long : ℕ} → long ≡ places_of day stretch → AreRowsIn (shape_of day stretch) long
-  rows_of is = record { apart = omega (arith, good.assignments); inside = omega (arith, is) }
+  rows_of is = record { apart = omega (arith, good.assignments); long_is = sym is }
 
   -- a part of its places
   pub part_of : (from end : ℕ) → stretch.from ≤ from → from < end → end ≤ stretch.end → IsStretchOf day (record stretch { from = from; end = end })

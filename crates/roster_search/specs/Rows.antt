@@ -2,10 +2,10 @@
 use Rattle.std.specs.Prelude.{◌≡◌, ◌+◌, ◌-◌, ◌*◌, ◌<◌, ◌≤◌, ℕ, List, slice_index_or}
 use Rattle.roster_search.specs.declared.rows.RowShape.{RowShape}
 
--- no row reaches into the next one, and the last one ends within so many cells
+-- no row reaches into the next one, and the last one ends after so many cells
 pub record AreRowsIn (shape : RowShape) (long : ℕ) : Type 0 where
   pub apart : shape.width ≤ shape.side
-  pub inside : (shape.rows - 1) * shape.side + shape.width ≤ long
+  pub long_is : (shape.rows - 1) * shape.side + shape.width ≡ long
 
 -- each cell of the rows is as it should be at its place
 abbrev pub RowCells : RowShape → (ℕ → ℕ → Type 0) → List ℕ → Type 0

@@ -256,12 +256,7 @@ fn label_stretch(
 }
 
 /// Puts the numbers of a stretch in the places of its pointers, row by row.
-fn put_numbers(
-    day: &OpenDay<'_, '_>,
-    stretch: &Stretch,
-    numbers: &[u8],
-    pointers: &mut Pointers,
-)
+fn put_numbers(day: &OpenDay<'_, '_>, stretch: &Stretch, numbers: &[u8], pointers: &mut Pointers)
     requires stretch { IsStretchOf day.now stretch.now }
     requires numbers { length numbers.now ≡ places_of day.now stretch.now }
     requires small { AreHalfBytes day.now stretch.now numbers.now }
@@ -272,6 +267,11 @@ fn put_numbers(
     let side = ranges.assignments() as usize;
     let width = (stretch.end - stretch.from) as usize;
     let code = stretch.block.first(ranges) as usize + stretch.from as usize;
+    // Rows that touch are one.
+    if width == side {
+        pointers.set_run(day.first as usize + code, numbers);
+        return;
+    }
     'rows: for row in 0..stretch.rows as usize {
         let at = row * side;
         pointers.set_run(day.first as usize + code + at, &numbers[at..at + width]);

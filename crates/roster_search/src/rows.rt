@@ -36,6 +36,12 @@ pub(crate) fn set_rows(
     ensures between { BetweenRowsKept shape labels.old labels.new }
     ensures lengths { KeepLengths labels.old labels.new numbers.old numbers.new }
 {
+    // Rows that touch are one.
+    if shape.width == shape.side {
+        set_all(labels, others, more, NO_ROW);
+        numbers.fill(number);
+        return;
+    }
     'rows: for row in 0..shape.rows {
         let at = row * shape.side;
         let end = at + shape.width;
@@ -64,11 +70,21 @@ pub(crate) fn lower_rows(
     ensures between { BetweenRowsKept shape labels.old labels.new }
     ensures lengths { KeepLengths labels.old labels.new numbers.old numbers.new }
 {
+    if shape.width == shape.side {
+        lower_all(labels, numbers, others, more, number);
+        return;
+    }
     'rows: for row in 0..shape.rows {
         let at = row * shape.side;
         let end = at + shape.width;
         let row_labels = &mut labels[at..end];
-        lower_all(row_labels, &mut numbers[at..end], &others[at..end], more, number);
+        lower_all(
+            row_labels,
+            &mut numbers[at..end],
+            &others[at..end],
+            more,
+            number,
+        );
     }
 }
 

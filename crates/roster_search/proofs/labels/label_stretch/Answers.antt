@@ -75,9 +75,9 @@ returns-clause-put c =
     record {
       least = stretch_moved day stretch c.label_run.new.labels c.label_run.new.numbers _ c.put_numbers.new.pointers
           (λ i b in_rows in_width.
-              let below = in_stretch stretch.rows (stretch.end - stretch.from) side i b in_rows in_width in
-              let there : code_of day.days.ranges stretch.block + stretch.from + (i * side + b) ≡ code + (i * side + b) = omega (arith, code_is) in
-              ap labels there ∙ done.put.inside (i * side + b) (omega (arith, below, done.labels, is)))
+          let below = in_stretch stretch.rows (stretch.end - stretch.from) side i b in_rows in_width in
+          let there : code_of day.days.ranges stretch.block + stretch.from + (i * side + b) ≡ code + (i * side + b) = omega (arith, code_is) in
+          ap labels there ∙ done.put.inside (i * side + b) (omega (arith, below, done.labels, is)))
           put.inside c.label_run.ensures.least;
       labels_kept = λ i a in_rows inside beside.
           let there : code_of day.days.ranges stretch.block + (i * side + a) ≡ c.first.result + (i * side + a) = omega (arith, code_is) in

@@ -1,17 +1,18 @@
-use Rattle.std.proofs.Common.{◌≡◌, ◌∙◌, ◌+◌, ◌-◌, ◌*◌, ◌<◌, ◌≤◌, ℕ, ap, arith, refl, slice_index_or, subst, sym}
+use Rattle.std.proofs.Common.{◌≡◌, ◌∙◌, ◌+◌, ◌-◌, ◌*◌, ◌<◌, ◌≤◌, ℕ, ap, arith, inl, inr, refl, slice_index_or, subst, sym}
 use Rattle.std.proofs.lemmas.List.Edits.{get_or-between, length-between}
 use Rattle.roster_state.specs.Codes.{code_of, product}
 use Rattle.roster_lanes.specs.Lanes.{SameOutside}
 use Rattle.roster_search.proofs.CellLaws.{outside_wider, rest_same, rest_then}
-use Rattle.roster_search.proofs.StretchLaws.{numbers_more, row_in_places, row_in_table, row_is, row_kept, row_outside, row_short}
+use Rattle.roster_search.proofs.RowLaws.{place_at}
+use Rattle.roster_search.proofs.StretchLaws.{count_within, in_stretch, numbers_more, one_row_less, row_in_places, row_in_table, row_is, row_kept, row_outside, row_short, rows_in_table}
 use Rattle.roster_search.proofs.labels.put_numbers.Goals as goal
 use Rattle.roster_search.proofs.labels.put_numbers.Goals.{After-assignments-side}
 
 pub slice_bounds-set_run-end : goal.slice_bounds-set_run-end
 slice_bounds-set_run-end c = omega (arith, row_in_places c.requires.stretch c.rows-test.true c.assignments-side.ensures.assignments, c.requires.numbers)
 
-pub set_run-requires-clause-within : goal.set_run-requires-clause-within
-set_run-requires-clause-within c =
+pub set_run-requires-in-rows-clause-within : goal.set_run-requires-in-rows-clause-within
+set_run-requires-in-rows-clause-within c =
     let good = c.requires.stretch in
     let is = c.assignments-side.ensures.assignments in
     let at = c.rows.row * c.assignments-side.result in
@@ -19,8 +20,8 @@ set_run-requires-clause-within c =
     let inside : c.first.result + c.args.stretch.now.from + at + (c.args.stretch.now.end - c.args.stretch.now.from) ≤ product c.args.day.now.days.ranges = row_in_table good c.rows-test.true is c.first.ensures.first (omega arith) in
     omega (arith, long, inside, c.requires.room, c.rows.invariant.beside.length_stays)
 
-pub set_run-requires-clause-small : goal.set_run-requires-clause-small
-set_run-requires-clause-small c i below =
+pub set_run-requires-in-rows-clause-small : goal.set_run-requires-in-rows-clause-small
+set_run-requires-in-rows-clause-small c i below =
     let good = c.requires.stretch in
     let is = c.assignments-side.ensures.assignments in
     let at = c.rows.row * c.assignments-side.result in
@@ -29,6 +30,47 @@ set_run-requires-clause-small c i below =
     let inside : i < width = omega (arith, below, long) in
     let there = row_is good c.rows-test.true is in
     subst (λ k. k < 16) (sym (get_or-between c.args.numbers.now at (at + width) i 0 (omega (arith, inside)) ∙ ap (λ k. slice_index_or c.args.numbers.now (k + i) 0) there)) (c.requires.small c.rows.row i c.rows-test.true inside)
+
+-- ---- rows that touch
+
+pub set_run-requires-clause-within : goal.set_run-requires-clause-within
+set_run-requires-clause-within c =
+    let good = c.requires.stretch in
+    omega (arith, c.requires.numbers, count_within good, rows_in_table good, c.first.ensures.first, c.requires.room)
+
+pub set_run-requires-clause-small : goal.set_run-requires-clause-small
+set_run-requires-clause-small c j below =
+    let good = c.requires.stretch in
+    let side = c.args.day.now.days.ranges.assignments in
+    let stretch = c.args.stretch.now in
+    let touch : stretch.end - stretch.from ≡ side = omega (arith, c.if-width-side.true, c.assignments-side.ensures.assignments) in
+    let at = place_at stretch.rows side j (omega (arith, touch, good.some_places)) (omega (arith, below, c.requires.numbers, one_row_less stretch.rows side good.some_rows, touch)) in
+    subst (λ k. slice_index_or c.args.numbers.now k 0 < 16) at.is (c.requires.small at.row at.place at.in_rows (omega (arith, at.inside, touch)))
+
+pub returns-then-width-side : goal.returns-then-width-side
+returns-then-width-side c =
+    let day = c.args.day.now in
+    let good = c.requires.stretch in
+    let stretch = c.args.stretch.now in
+    let side = day.days.ranges.assignments in
+    let pointers = c.set_run.new.self in
+    let code_is = c.first.ensures.first in
+    let touch : stretch.end - stretch.from ≡ side = omega (arith, c.if-width-side.true, c.assignments-side.ensures.assignments) in
+    let first : stretch.from ≡ 0 = omega (arith, touch, good.assignments, good.some_places) in
+    record {
+      put = record {
+        inside = λ i b in_rows in_width.
+            let there : day.first + code_of day.days.ranges stretch.block + stretch.from + (i * side + b) ≡ day.first + (c.first.result + stretch.from) + (i * side + b) = omega (arith, code_is) in
+            ap (λ k. slice_index_or pointers k 0) there ∙ c.set_run.ensures.inside (i * side + b) (omega (arith, in_stretch stretch.rows (stretch.end - stretch.from) side i b in_rows in_width, c.requires.numbers));
+        kept = λ i a in_rows inside beside. absurd (elim beside [ inl before ↦ omega (arith, before, first) | inr after ↦ omega (arith, after, inside, touch, first) ]);
+        beside = record {
+          others = outside_wider _ _ _ _ c.args.pointers.now pointers (omega (arith, code_is)) (omega (arith, code_is, c.requires.numbers, count_within good)) c.set_run.ensures.others;
+          length_stays = c.set_run.ensures.length;
+        };
+      };
+    }
+
+-- ---- one row after another
 
 pub rows-init : goal.rows-init
 rows-init c = record {
@@ -53,17 +95,17 @@ rows-preserved c =
     let code = day.first + code_of day.days.ranges stretch.block in
     let code_is = c.first.ensures.first in
     let long = length-between c.args.numbers.now at (at + wide) (omega (arith, row_in_places good in_rows is, c.requires.numbers)) in
-    let pointers = c.set_run.new.self in
+    let pointers = c.set_run-in-rows.new.self in
     let others : SameOutside (code + stretch.from + row * size) (code + stretch.from + row * size + wide) c.rows.pointers pointers =
-    outside_wider _ _ _ _ c.rows.pointers pointers (omega (arith, at_is, code_is)) (omega (arith, at_is, code_is, long)) c.set_run.ensures.others in
+    outside_wider _ _ _ _ c.rows.pointers pointers (omega (arith, at_is, code_is)) (omega (arith, at_is, code_is, long)) c.set_run-in-rows.ensures.others in
     let here : (b : ℕ) → b < wide → slice_index_or pointers (code + stretch.from + (row * size + b)) 0 ≡ slice_index_or c.args.numbers.now (row * size + b) 0 =
     λ b inside.
     let there : code + stretch.from + (row * size + b) ≡ day.first + (c.first.result + stretch.from) + at + b = omega (arith, at_is, code_is) in
-    ap (λ k. slice_index_or pointers k 0) there ∙ c.set_run.ensures.inside b (omega (arith, inside, long)) ∙ get_or-between c.args.numbers.now at (at + wide) b 0 (omega (arith, inside)) ∙ ap (λ k. slice_index_or c.args.numbers.now (k + b) 0) at_is in
+    ap (λ k. slice_index_or pointers k 0) there ∙ c.set_run-in-rows.ensures.inside b (omega (arith, inside, long)) ∙ get_or-between c.args.numbers.now at (at + wide) b 0 (omega (arith, inside)) ∙ ap (λ k. slice_index_or c.args.numbers.now (k + b) 0) at_is in
     record {
       inside = numbers_more size stretch.from stretch.end code row c.args.numbers.now c.rows.pointers pointers good.assignments good.some_places others here old.inside;
       kept = λ i a i_in inside beside. row_kept size stretch.from stretch.end code row c.rows.pointers pointers good.assignments others i a inside beside good.some_places ∙ old.kept i a i_in inside beside;
-      beside = rest_then old.beside (row_outside size stretch.from stretch.end code row c.rows.pointers pointers good.assignments others stretch.rows in_rows good.some_places c.set_run.ensures.length);
+      beside = rest_then old.beside (row_outside size stretch.from stretch.end code row c.rows.pointers pointers good.assignments others stretch.rows in_rows good.some_places c.set_run-in-rows.ensures.length);
     }
 
 -- after the last row
