@@ -21,13 +21,7 @@ pub struct LineCosts {
 
 /// Sets a line by so many offers, where `after` is the line to which staying leads. The meter counts each of its floors by each offer.
 #[inline(always)]
-pub fn set_line(
-    costs: LineCosts,
-    offers: usize,
-    after: &[u32],
-    here: &mut [u32],
-    meter: &mut Meter,
-)
+pub fn set_line(costs: LineCosts, offers: usize, after: &[u32], here: &mut [u32], meter: &mut Meter)
     requires room { cap costs.run < length after.now }
     requires capped { cap costs.run < length here.old }
     requires long { length here.old ≤ 1000 }
