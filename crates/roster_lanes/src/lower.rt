@@ -62,11 +62,9 @@ fn lower_few(labels: &mut [u32], pointers: &mut [u8], others: &[u32], more: u32,
 {
     'places: for i in 0..labels.len() {
         let (label, candidate) = (labels[i], others[i].wrapping_add(more));
-        pointers[i] = if candidate < label {
-            pointer
-        } else {
-            pointers[i]
-        };
+        // Read in any case, so that no branch is needed.
+        let old = pointers[i];
+        pointers[i] = if candidate < label { pointer } else { old };
         labels[i] = label.min(candidate);
     }
 }

@@ -289,6 +289,7 @@ struct StretchDay {
 }
 
 /// The labels of a stretch, and for each place the number of the offer with which the best row begins, by all offers of the day.
+#[inline(never)]
 fn label_run(
     day: &OpenDay<'_, '_>,
     stretch: &Stretch,
