@@ -101,7 +101,7 @@ def texts_of(asked: argparse.Namespace) -> Texts:
     is_new = lacking == ["--sols"] and needs_no_roster(asked)
     if lacking and not is_new:
         told = f"without {' and without '.join(lacking)}: --sce, --his, --weeks and --sols name all files together"
-        first = "; roster needs a roster to begin with, which 'improve --plan' makes" if "--sols" in lacking else ""
+        first = "; roster needs a roster to begin with, for which 'improve --plan' looks" if "--sols" in lacking else ""
         raise DeskError(f"{told}{first}", 2)
     for kind in ("sce", "his"):
         if len(by_kind[kind]) > 1:
