@@ -114,22 +114,6 @@ impl Held {
         &self.roster
     }
 
-    /// The case and the roster, as they are held. It takes the held roster itself: so who is lent one, as a search is, never has its case
-    /// for itself alone, and can make no meter of it.
-    pub fn into_parts(self) -> (Case, Roster)
-        ensures case { result.0 ≡ self.case }
-        ensures roster { result.1 ≡ self.roster }
-        ensures fits { fits_case self.case self.roster ≡ true }
-        ensures keeps { keeps_hard self.case self.roster ≡ true }
-    {
-        let Held {
-            case,
-            roster,
-            counts: _,
-        } = self;
-        (case, roster)
-    }
-
     /// A law: the roster fits the case and keeps the hard rules.
     pub fn keeps_rules(&self)
         ensures fits { fits_case self.now.case self.now.roster ≡ true }

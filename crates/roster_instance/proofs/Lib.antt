@@ -16,4 +16,3 @@ mod CaseLemmas
 mod FitLemmas
 mod SmallLemmas
 mod PastLemmas
-pub mod Levels

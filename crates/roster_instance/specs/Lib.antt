@@ -15,4 +15,3 @@ pub mod Bundles
 pub mod Refusals
 pub mod Building
 pub mod CaseParts
-pub mod Levels

@@ -8,7 +8,6 @@ ghost use Rattle.roster_instance.specs.CaseParts.{case_of, faults_after, HasFewS
 ghost use Rattle.roster_instance.specs.Bundles.{meaning_of, past_meant, week_meant};
 ghost use Rattle.roster_instance.specs.Checking.{IsFirst};
 ghost use Rattle.roster_instance.specs.Faults.{first_fault};
-ghost use Rattle.roster_instance.specs.Levels.{levelled};
 ghost use Rattle.roster_instance.specs.Limits.{most_days, most_nurses, most_shifts, most_skills, most_small, most_states, most_weeks};
 ghost use Rattle.roster_instance.specs.Meaning.{contract_of, day_count, has_off_request, is_absent, last_shift, need, nurse_at, nurse_count, nurse_name, past_of, run_of_shift, shift_count, skill_count, week_count, wishes_of, forbids};
 ghost use Rattle.roster_instance.specs.Names.{find_name};
@@ -19,9 +18,7 @@ ghost use Rattle.roster_instance.specs.Small.{AreSmall, HasSmallNumbers, HasSmal
 use crate::choice::{Shift, Skill};
 use crate::fault::CaseFault;
 use crate::history::past_of;
-use crate::rules::{
-    Border, ContractRules, DayRequests, Limits, Need, Past, level_contracts, level_runs,
-};
+use crate::rules::{Border, ContractRules, DayRequests, Limits, Need, Past};
 use crate::scenario::Scenario;
 use crate::sizes::{contract_of, greatest_cap, state_count};
 use crate::table::Table;
@@ -353,29 +350,6 @@ impl Case {
                 weekends: 0,
             },
         }
-    }
-
-    /// How many days in a row each shift is to be worked, in the order of the shifts.
-    pub fn runs(&self) -> &[Limits]
-        ensures { result.now ≡ self.now.runs }
-    {
-        self.scenario.runs.as_slice()
-    }
-
-    /// What each contract asks for, in the order of the contracts.
-    pub fn contracts(&self) -> &[ContractRules]
-        ensures { result.now ≡ self.now.contracts }
-    {
-        self.scenario.contract_rules.as_slice()
-    }
-
-    /// Changes the rules so that each assignment costs alike: 20 points as one above the greatest total, and 15 as an extra day
-    /// of its shift's run. A search for a nurse then has no more states than before, and most often far fewer.
-    pub fn level(&mut self)
-        ensures { self.new ≡ levelled self.old }
-    {
-        level_contracts(&mut self.scenario.contract_rules);
-        level_runs(&mut self.scenario.runs);
     }
 
     // ---- sizes of the search

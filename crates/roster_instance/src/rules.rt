@@ -1,7 +1,6 @@
 //! The numbers of an instance.
 
-ghost use Rattle.std.specs.Prelude.{◌≡◌, ◌≤◌, false, map, slice_index_or};
-ghost use Rattle.roster_instance.specs.Levels.{level_contract, level_run};
+ghost use Rattle.std.specs.Prelude.{◌≡◌, ◌≤◌, false, slice_index_or};
 ghost use Rattle.roster_instance.specs.Sizes.{cap};
 ghost use Rattle.roster_instance.specs.RunLaw.{day_violations};
 
@@ -95,22 +94,4 @@ pub struct Past {
     pub border: Border,
     pub assignments: u16,
     pub weekends: u16,
-}
-
-/// Each assignment counts as one above the greatest total.
-pub(crate) fn level_contracts(contracts: &mut [ContractRules])
-    ensures { contracts.new ≡ map level_contract contracts.old }
-{
-    for rules in contracts {
-        rules.total = Limits::default();
-    }
-}
-
-/// Each day of a run counts as an extra one.
-pub(crate) fn level_runs(runs: &mut [Limits])
-    ensures { runs.new ≡ map level_run runs.old }
-{
-    for run in runs {
-        run.greatest = 0;
-    }
 }
