@@ -22,7 +22,7 @@ pub struct Fading {
 /// The share where a place pays its worth alone.
 pub const WHOLE: u32 = 1024;
 
-/// How far a worth moves at most, half a point in 256ths.
+/// How far a worth moves at most, half a point.
 const HALF: u32 = PARTS / 2;
 
 /// Counts the rows of a roster at their places, and no others.
@@ -188,7 +188,7 @@ fn pay_place(case: &Case, place: usize, fading: Fading, floor: &FloorWorkspace, 
     pays.put_fine(place, faded_pay(need, nurses, fine, fading));
 }
 
-/// What a place pays, in 256ths of a point: a share of its worth, and the rest of what a nurse more is good for.
+/// What a place pays, in parts of a point: a share of its worth, and the rest of what a nurse more is good for.
 fn faded_pay(need: Need, nurses: u16, fine: u32, fading: Fading) -> u32 {
     let lacking = if nurses < need.optimum { STAFFING } else { 0 };
     let missing = if nurses < need.minimum {
@@ -203,15 +203,15 @@ fn faded_pay(need: Need, nurses: u16, fine: u32, fading: Fading) -> u32 {
 }
 
 impl Worths {
-    /// What a place pays, in 256ths of a point.
-    fn fine_at(&self, place: usize) -> u32
+    /// What a place pays, in parts of a point.
+    pub(crate) fn fine_at(&self, place: usize) -> u32
         requires { place < 64 * self.now.days }
         ensures { result ≤ most_fine }
     {
         self.fine[place]
     }
 
-    /// Lets a place pay so many 256ths of a point, or the most that a place pays.
+    /// Lets a place pay so many parts of a point, or the most that a place pays.
     fn put_fine(&mut self, place: usize, fine: u32)
         requires { place < 64 * self.old.days }
         ensures { self.new.days ≡ self.old.days }
