@@ -40,6 +40,9 @@ for each cheaper roster; it goes to standard error, and on a terminal it is one 
 else writes the file meanwhile, that stays, and the roster is kept beside it. How many days change is no part of the
 penalty, and can't be kept small by it; it is told at the end, and by 'costs --with'.
 
+Where the roster in the file costs what a floor by --bound is, no roster that keeps the hard rules and the frozen weeks
+costs less. It is optimal, and the run ends: no further round is made, and runs of polish that go on are left.
+
 With --plan the roster given may break minimums, successions and absences on days that may change, and --sols may be
 left out: then nobody works yet. In the place of the rounds 'roster plan' looks for a roster that keeps the hard rules,
 with few searches and then with ever more, up to those that --polish says or as --seconds leaves time for. The log's
@@ -187,8 +190,8 @@ def add_improve(commands: typing.Any) -> None:
     parser.add_argument(
         "--bound",
         action="store_true",
-        help="ask 'roster bound' for a floor, and tell how much above it the roster is; with --seconds beside the search, for a"
-        " fifth of that time at most, else first",
+        help="ask 'roster bound' for a floor, and tell how much above it the roster is, or that it is optimal; with --seconds"
+        " beside the search, for a fifth of that time at most, else first",
     )
     with_polish(parser)
     parser.add_argument("--log", metavar="FILE", help="write the log to this file, too; 'page --log' draws it")
@@ -223,6 +226,8 @@ def add_looks(commands: typing.Any) -> None:
     it = command(commands, "costs", does.run_costs, "tells what each nurse costs by rule, and S1 by shift and skill")
     it.add_argument("--json", action="store_true", help="write them as JSON")
     with_other(it, "its costs come after those of the first, as before>after")
+    it.add_argument("--bound", action="store_true", help="ask 'roster bound' for a floor, and tell whether the roster is optimal")
+    with_first_week(it, "with --bound: the floor is of the rosters that keep the weeks before V")
     with_files(it)
     it = command(commands, "grid", does.run_grid, "shows nurses by days on a terminal, and the cover of each day")
     with_other(it, "it is shown, with what changed")
