@@ -19,7 +19,8 @@ they differ. It writes no roster that `roster` didn't write and read back. 'why'
 with what `roster` counts of it."""
 FILES = """\
 The files stand in the program's order (scenario, history, week data, solutions), or are named by --sce, --his,
---weeks and --sols; without a file, standard input is read. --roster PROGRAM, or the variable DESK_ROSTER, names
+--weeks and --sols; without a file, standard input is read. A table of 'desk csv' is taken where all solutions are
+due, also by --with, and as a spreadsheet saves it as CSV. --roster PROGRAM, or the variable DESK_ROSTER, names
 another program than the one of this repository. The status is that of roster: 0 for done, 1 for a refused input,
 2 for a wrong command line, 3 for a failed read or write, and 4 for too little memory.
 

@@ -141,7 +141,7 @@ def run_of(asked: argparse.Namespace, roster: Program, texts: Texts, plan: Plan)
     for it in texts.texts:
         if outputs.identity(it.name) == outputs.identity(asked.out):
             # (it may have changed since it was read)
-            run.there = it.data
+            run.there = it.given
     return run
 
 
