@@ -6,4 +6,3 @@ pub mod RowFloors
 pub mod Counted
 pub mod SameBounds
 pub mod FloorLogs
-mod Levels

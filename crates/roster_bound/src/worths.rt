@@ -72,6 +72,24 @@ impl Worths {
         ((fine + PARTS / 2) / PARTS) as u16
     }
 
+    /// What a place pays, in 256ths of a point; nothing beyond the places of all days.
+    pub(crate) fn fine_or_none(&self, place: usize) -> u32
+        ensures { result ≤ most_fine }
+    {
+        if place < self.fine.len() {
+            self.fine[place]
+        } else {
+            0
+        }
+    }
+
+    /// The same in points, rounded as it is for use.
+    pub(crate) fn points_or_none(&self, place: usize) -> u32
+        ensures { result ≤ most_worth }
+    {
+        (self.fine_or_none(place) + PARTS / 2) / PARTS
+    }
+
     /// Gives each place that asks for nurses the same worth, and none to the others.
     pub(crate) fn set_all(&mut self, case: &Case, worth: u16)
         requires worth { worth ≤ most_worth }

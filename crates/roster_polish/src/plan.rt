@@ -20,7 +20,7 @@ use crate::random::Random;
 use crate::run::{Course, rounds_within};
 use crate::searches::Searches;
 use crate::space::PolishSpace;
-use roster_bound::{Base, Fading, WHOLE, improve_worths, lacks_nurses, raise_missed};
+use roster_bound::{Base, Fading, MOVES, Pace, WHOLE, improve_worths, lacks_nurses, raise_missed};
 use roster_case::{Case, Choice, HardFault, Roster, Shift, Skill};
 use roster_costs::{
     first_absent_before, first_hard, first_succession_before, first_understaffed_before,
@@ -201,7 +201,11 @@ fn begin_plan(
     base.case.keeps_limits();
     let nurses = base.case.nurses() as u32;
     let rounds = rounds_within(course.searches, ROUNDS_PART, nurses).min(MOST_ROUNDS);
-    improve_worths(base, rounds as u16, &mut space.floor, meter);
+    let pace = Pace {
+        rounds: rounds as u16,
+        moves: MOVES,
+    };
+    improve_worths(base, pace, &mut space.floor, meter);
     space.kept.put_rows(base.given);
     Kicking {
         searches: Searches {
