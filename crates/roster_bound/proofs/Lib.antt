@@ -6,3 +6,4 @@ pub mod RowFloors
 pub mod Counted
 pub mod SameBounds
 pub mod FloorLogs
+pub mod SeenLemmas

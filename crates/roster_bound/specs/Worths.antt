@@ -30,7 +30,7 @@ abbrev pub PlaceWorths : Type 0
 PlaceWorths = (day shift skill : ℕ) → ℕ
 
 abbrev pub most_worth : ℕ
-most_worth = 1000
+most_worth = 200000
 
 -- no place pays more than that
 abbrev pub AreWorths : PlaceWorths → Type 0
@@ -47,7 +47,7 @@ earned w d (Work s k) = w d s.0 k.0
 abbrev pub place_cost : Meaning → PlaceWorths → (d s k : ℕ) → ℕ → ℕ
 place_cost c w d s k nurses = staffing_weight * (optimum c d s k - nurses) + w d s k * nurses
 
--- that is at most, by the limits of a case: 1,028,970
+-- that is at most, by the limits of a case: 199,829,970
 abbrev pub most_place : ℕ
 most_place = (staffing_weight + most_worth) * most_small
 

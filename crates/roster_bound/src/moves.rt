@@ -57,7 +57,7 @@ fn wanted(case: &Case, worths: &Worths, day: u16, place: u8) -> u16
 {
     let (shift, skill) = (Shift(place / 8), Skill(place % 8));
     let need = case.need(day, shift, skill);
-    if worths.at(day, shift, skill) as u32 <= STAFFING {
+    if worths.at(day, shift, skill) <= STAFFING {
         need.minimum.max(need.optimum)
     } else {
         need.minimum

@@ -82,7 +82,7 @@ fn offered(terms: &Terms<'_>, nurse: usize, day: u16, choice: Choice, asked: u32
     let able = may_take(terms.case, nurse, day, choice);
     let kept = keeps_frozen_day(terms, nurse, day, choice);
     let pay = earned(terms, day, choice);
-    let price = (MOST_WORTH - pay) as u32 + asked;
+    let price = MOST_WORTH - pay + asked;
     offer_if(able && kept, choice, price)
 }
 
@@ -103,7 +103,7 @@ fn keeps_frozen_day(terms: &Terms<'_>, nurse: usize, day: u16, choice: Choice) -
 }
 
 /// What a nurse earns on a day.
-fn earned(terms: &Terms<'_>, day: u16, choice: Choice) -> u16
+fn earned(terms: &Terms<'_>, day: u16, choice: Choice) -> u32
     requires day { day < day_count terms.now.case.now }
     requires choice { is_choice_of terms.now.case.now choice ≡ true }
     ensures pay { result ≡ earned (worths_of terms.now.worths.now) day choice }

@@ -1,8 +1,10 @@
 //! Rounds of floors.
 
-ghost use Rattle.std.specs.Prelude.{◌≡◌, ◌+◌, ◌*◌, ◌<◌, ◌≤◌, IfErr, IfOk};
+ghost use Rattle.std.specs.Prelude.{◌≡◌, ◌+◌, ◌*◌, ◌<◌, ◌≤◌, IfErr, IfOk, true};
 ghost use Rattle.roster_bundle.specs.Limits.{greatest_u64};
 ghost use Rattle.roster_instance.specs.Meaning.{day_count, nurse_count};
+ghost use Rattle.roster_instance.specs.Rosters.{fits_case};
+ghost use Rattle.roster_rules.specs.HardRules.{keeps_hard};
 ghost use Rattle.roster_rules.specs.Penalties.{penalty};
 ghost use Rattle.roster_laws.specs.Greatest.{extensions_in, greatest_extension_count};
 ghost use Rattle.roster_bound.specs.Floors.{FloorLogStops, RaisesFloor};
@@ -56,6 +58,10 @@ pub fn raise_floor<W: Write>(
         log.old log.new) }
     ensures below { IfOk result (IsLowerBound held.now.case from held.now.roster) }
     ensures within { IfOk result (λ bound. bound ≤ penalty held.now.case held.now.roster) }
+
+    // A round is left out only where the floor is what the roster costs.
+    ensures made { IfOk result (λ bound. bound < penalty held.now.case held.now.roster →
+        meter.old + rounds * (nurse_count held.now.case * day_count held.now.case) ≤ meter.new) }
     ensures counted { meter.new ≤ meter.old + extensions_in held.now.case rounds }
     ensures fits { FitsFloor held.now.case workspace.new }
 {
@@ -65,25 +71,54 @@ pub fn raise_floor<W: Write>(
         given: held.roster(),
         from,
     };
-    rows_are_had(base.case, base.given, from);
+    raise_under(&base, held.total(), rounds, workspace, meter, log)
+}
+
+/// The same under a roster that keeps the hard rules and costs so much.
+fn raise_under<W: Write>(
+    base: &Base<'_>,
+    total: u64,
+    rounds: u16,
+    workspace: &mut FloorWorkspace,
+    meter: &mut Meter,
+    log: &mut Watch<W>,
+) -> Result<u64, LogFault>
+    requires given { fits_case base.now.case.now base.now.given.now ≡ true }
+    requires keeps { keeps_hard base.now.case.now base.now.given.now ≡ true }
+    requires total { total ≡ penalty base.now.case.now base.now.given.now }
+    requires fits { FitsFloor base.now.case.now workspace.old }
+    requires room { meter.old + extensions_in base.now.case.now rounds ≤ greatest_u64 }
+    ensures ok { IfOk result (RaisesFloor W.contents base.now.case.now base.now.from
+        base.now.given.now rounds log.old log.new) }
+    ensures err { IfErr result (FloorLogStops W.contents base.now.case.now base.now.from
+        base.now.given.now rounds log.old log.new) }
+    ensures below { IfOk result (IsLowerBound base.now.case.now base.now.from base.now.given.now) }
+    ensures within { IfOk result (λ bound. bound ≤ total) }
+    ensures made { IfOk result (λ bound. bound < total →
+        meter.old + rounds * (nurse_count base.now.case.now * day_count base.now.case.now)
+        ≤ meter.new) }
+    ensures counted { meter.new ≤ meter.old + extensions_in base.now.case.now rounds }
+    ensures fits { FitsFloor base.now.case.now workspace.new }
+{
+    rows_are_had(base.case, base.given, base.from);
     let pace = Pace {
         rounds,
         moves: MOVES,
     };
-    let total = held.total();
     workspace.begin(base.case);
     let mut best = 0;
     let mut sent = log_word(log, 0, b"start", total)?;
     for rounds_before in 0..rounds {
-        let bound = make_round(&base, workspace, meter);
-        move_worths(base.case, rounds_before, pace, workspace);
-        if bound > best {
-            best = bound;
-            sent = log_round(log, sent, rounds_before + 1, bound)?;
-        }
         if best >= total {
-            break;
+            return Ok(best);
         }
+        let bound = make_round(base, workspace, meter);
+        move_worths(base.case, rounds_before, pace, workspace);
+        if bound <= best {
+            continue;
+        }
+        best = bound;
+        sent = log_round(log, sent, rounds_before + 1, bound)?;
     }
     Ok(best)
 }
@@ -114,10 +149,10 @@ pub fn improve_worths(
 
 /// What each place that asks for nurses pays in the first round: as much as a missing nurse costs. Its floor is good at once, but steps
 /// from there hardly move.
-pub(crate) const FIRST: u16 = 30;
+pub(crate) const FIRST: u32 = 30;
 
 /// What it pays in the second, from which the worths move.
-const SECOND: u16 = 15;
+const SECOND: u32 = 15;
 
 /// The floor by the worths. Each nurse's cheapest row is counted, and kept among those that were seen.
 fn make_round(base: &Base<'_>, workspace: &mut FloorWorkspace, meter: &mut Meter) -> u64

@@ -156,7 +156,7 @@ impl Seen {
     }
 
     /// The row of a nurse that is cheapest by the worths, the first where several are; none where no row of hers is kept.
-    fn cheapest(&self, case: &Case, nurse: usize, worths: &Worths) -> Option<usize>
+    pub(crate) fn cheapest(&self, case: &Case, nurse: usize, worths: &Worths) -> Option<usize>
         requires nurse { nurse < nurse_count case.now }
         requires fits { FitsSeen case.now self.now }
         ensures { IfSome result (λ at. at < length self.now.marks.items) }
@@ -178,7 +178,7 @@ impl Seen {
     }
 
     /// What a row costs by the worths, in 256ths of a point, where the nurse earns less than the most on each day.
-    fn cost_by(&self, case: &Case, at: usize, worths: &Worths) -> u64
+    pub(crate) fn cost_by(&self, case: &Case, at: usize, worths: &Worths) -> u64
         requires fits { FitsSeen case.now self.now }
         requires at { at < length self.now.marks.items }
     {
@@ -222,7 +222,7 @@ fn cost_unpaid(row: &[Choice], found: u64, worths: &Worths) -> u32 {
     let mut cost = found;
     for day in 0..row.len() {
         let place = place_on(row[day], day) as usize;
-        let unpaid = MOST_WORTH as u32 - worths.points_or_none(place);
+        let unpaid = MOST_WORTH - worths.points_or_none(place);
         cost = cost.saturating_sub(unpaid as u64);
     }
     cost.min(u32::MAX as u64) as u32
