@@ -41,7 +41,7 @@ for each cheaper roster; it goes to standard error, and on a terminal it is one 
 else writes the file meanwhile, that stays, and the roster is kept beside it. How many days change is no part of the
 penalty, and can't be kept small by it; it is told at the end, and by 'costs --with'.
 
-Where the roster in the file costs what a floor by --bound is, no roster that keeps the hard rules and the frozen weeks
+Where the roster in the file costs what a floor by --bound is, no roster that keeps the hard rules and the frozen days
 costs less. It is optimal, and the run ends: no further round is made, and runs of polish that go on are left.
 
 With --plan the roster given may break minimums, successions and absences on days that may change, and --sols may be

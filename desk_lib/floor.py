@@ -1,4 +1,4 @@
-"""A floor, as `roster bound` tells it: no roster that keeps the hard rules and the frozen weeks costs less.
+"""A floor, as `roster bound` tells it: no roster that keeps the hard rules and the frozen days costs less.
 
 So a roster that costs just that is optimal, and all commands say so in the words of `optimal`.
 """
@@ -18,7 +18,7 @@ def number_of(line: bytes) -> int:
 
 def optimal(first_week: int) -> str:
     """What is proved of a roster that costs what the floor is."""
-    frozen = " and the frozen weeks" if first_week else ""
+    frozen = " and the frozen days" if first_week else ""
     return f"optimal: no roster that keeps the hard rules{frozen} costs less"
 
 
