@@ -71,7 +71,16 @@ class Sought:
         for line in self.beside.lines_there() if self.beside else ():
             if line.startswith(b"round "):
                 self.known = number_of(line)
+        if self.beside and self.beside.is_over:
+            self.end_beside()
         return self.known
+
+    def end_beside(self) -> None:
+        """Takes what the run beside the search answers, which is over. One that never rose is told there alone."""
+        answer = self.beside.answer()
+        self.known = number_of(answer.output.splitlines()[-1]) if answer.status == 0 else self.known
+        self.beside.close()
+        self.beside = None
 
     def is_met(self, total: int) -> bool:
         """Whether a roster of this cost is optimal, by what is known."""
@@ -95,7 +104,7 @@ class Sought:
 
     def close(self) -> None:
         """Ends what goes on beside the search."""
+        self.known = self.floor
         if self.beside:
-            self.known = self.floor
             self.beside.close()
             self.beside = None
