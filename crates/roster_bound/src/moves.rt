@@ -118,11 +118,6 @@ impl Step {
         }
     }
 
-    /// By how many parts of a point a worth moves at most.
-    pub(crate) fn most_parts(self) -> u32 {
-        self.by(self.most).down
-    }
-
     /// Up and down by so many grains; by one more downwards in coarse steps.
     pub(crate) fn by(self, grains: u32) -> Way {
         if self.is_coarse {

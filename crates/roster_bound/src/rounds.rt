@@ -223,9 +223,8 @@ fn move_once(case: &Case, step: Step, workspace: &mut FloorWorkspace)
         rows,
         worths,
         covers,
-        seen,
+        ..
     } = workspace;
     learn(case, worths, step, &rows.cover, covers);
     worths.follow(covers, step, farthest(covers));
-    seen.move_by(step.most_parts());
 }
