@@ -289,49 +289,29 @@ def place_floor(need, worth):
     return min(30 * max(0, need.greatest - nurses) + worth * nurses for nurses in range(need.least, max(need) + 1))
 
 
-def levelled(case):
-    """The case where each assignment costs alike: as one above the greatest total, and as a day above the most of its shift's run."""
-    contracts = [it._replace(assignments=Limits(0, 0)) for it in case.contracts]
-    return case._replace(contracts=contracts, shifts=[it._replace(limits=Limits(it.limits.least, 0)) for it in case.shifts])
-
-
-def total_with(case, number, row):
-    """The assignments of a nurse with a row, and the history's."""
-    return case.nurses[number].history.assignments + sum(map(bool, row))
-
-
-def first_pay(case, roster, number):
-    """What a nurse is paid for an assignment in the first round: more where the roster's are too few, nothing where they are too many."""
-    limits, total = case.contracts[case.nurses[number].contract].assignments, total_with(case, number, roster[number])
-    return 40 if total < limits.least else 0 if total > limits.greatest else 20
-
-
-def nurse_floor(case, roster, number, worths, pay, first_week=0):
-    """The least that a nurse costs less what her places pay: over all rows with her skills and absences and without a forbidden
-    succession, where each assignment costs alike and is paid for, and over all totals that she can get, which cost what they do less
-    that. On the days before a week she does what the roster says. And the first of the cheapest of these rows."""
-    nurse, days = case.nurses[number], len(days_of(case))
+def nurse_floor(case, roster, number, worths, first_week=0):
+    """The least that a nurse costs less what her places pay, over all rows with her skills and absences and without a forbidden
+    succession. On the days before a week she does what the roster says. And the first of the cheapest of these rows."""
     worth = lambda day, choice: worths[choice][day] if choice in worths else 0
-    price = lambda day, choice: request_cost(case, number, day, choice) - worth(day, choice) - (15 + pay) * bool(choice)
     free = lambda day: choices_of(case, number, day) if day // 7 >= first_week else [roster[number][day]]
-    cost, row = cheapest_row(levelled(case), number, [[(it, price(day, it)) for it in free(day)] for day in days_of(case)])
-    before = nurse.history.assignments
-    totals = range(before, before + days + 1)
-    least = min(total_costs(case.contracts[nurse.contract], it, 0)["S6"] - 20 * it + pay * (it - before) for it in totals)
-    return cost + least, row
+    price = lambda day, choice: request_cost(case, number, day, choice) - worth(day, choice)
+    return cheapest_row(case, number, [[(it, price(day, it)) for it in free(day)] for day in days_of(case)])
 
 
-def floor(case, roster, worths, pays, first_week=0):
+def floor(case, roster, worths, first_week=0):
     """No roster costs less that keeps the hard rules and the days before a week, as each penalty is a multiple of 5: what is paid to
     the nurses is what they get. And the rows by which it is reckoned."""
     places = sum(place_floor(need, worth) for at in case.needs for need, worth in zip(case.needs[at], worths[at]))
-    nurses = [nurse_floor(case, roster, number, worths, pay, first_week) for number, pay in enumerate(pays)]
+    nurses = [nurse_floor(case, roster, number, worths, first_week) for number in range(len(case.nurses))]
     return 5 * -(-max(0, places + sum(least for least, _ in nurses)) // 5), [row for _, row in nurses]
 
 
-# ---- how worths and pays go on from round to round: the program's own affair, told here for its tests. Both are held in 256ths of a
-# point. What is wanted at a place and what is there, and a nurse's assignments that are wanted and those that there are, are sums
-# that fade.
+# ---- how worths go on from round to round: the program's own affair, told here for its tests. They are held in 256ths of a point. What
+# is wanted at a place and what is there are sums that fade.
+
+# How often worths move between two rounds, and how many rows of each nurse are kept.
+MOVES = 20
+KEPT = 64
 
 
 def points(fine):
@@ -357,27 +337,42 @@ def shares(wanted, had, step):
 
 
 def next_worth(fine, wanted, had, share):
-    """More where nurses are wanted, less where there are too many: by 1000 points at most, and by one 256th more downwards."""
-    return min(fine + share, 256_000) if had < wanted else max(0, fine - share - 1) if wanted < had else fine
+    """More where nurses are wanted, less where there are too many, up to 200,000 points."""
+    return min(fine + share, 51_200_000) if had < wanted else max(0, fine - share) if wanted < had else fine
 
 
-def next_pay(fine, wanted, had, share):
-    """More where assignments are wanted, less where there are too many. It halts at 0, 20 and 40 points."""
-    if had < wanted:
-        return min(fine + share, 5120 if fine < 5120 else 10240)
-    return max(fine - share, 5120 if fine > 5120 else 0) if wanted < had else fine
+class Seen:
+    """The rows that were found last for a nurse, each with what it costs her beside what places pay."""
+
+    def __init__(self, case, number):
+        self.case, self.number, self.rows = case, number, []
+
+    def keep(self, turn, row):
+        """Keeps a row: where it is already, or else after the others, or in the place of the one that was found longest ago."""
+        shifts = shifts_of(row)
+        asked = sum(request_cost(self.case, self.number, day, choice) for day, choice in enumerate(row))
+        cost = own_cost(self.case, self.case.nurses[self.number], shifts) + asked
+        known = [it for it, (_, other, _) in enumerate(self.rows) if other == row]
+        if not known and len(self.rows) < KEPT:
+            self.rows.append((turn, row, cost))
+        else:
+            self.rows[known[0] if known else self.rows.index(min(self.rows))] = (turn, row, cost)
+
+    def cheapest(self, worths):
+        """The first of the cheapest of them by these worths."""
+        paid = lambda row: sum(worths[(*choice, day)] for day, choice in enumerate(row) if choice)
+        return min(self.rows, key=lambda it: 256 * it[2] - paid(it[1]))[1]
 
 
 class Moves:
-    """The worths of the places and the pays of the nurses of a run, with what moves them."""
+    """The worths of the places of a run, with what moves them."""
 
-    def __init__(self, case, roster, rounds):
-        self.case, self.rounds, self.made = case, rounds, 0
+    def __init__(self, case, rounds):
+        self.case, self.rounds, self.made, self.turn = case, rounds, 0, 0
         self.places = list(itertools.product(range(len(case.shifts)), range(len(case.skills)), days_of(case)))
-        self.pays = [256 * first_pay(case, roster, number) for number in range(len(case.nurses))]
         self.set_worths(30)
         self.wanted, self.had = dict.fromkeys(self.places, 0), dict.fromkeys(self.places, 0)
-        self.wanted_of, self.had_of = dict.fromkeys(range(len(self.pays)), 0), dict.fromkeys(range(len(self.pays)), 0)
+        self.seen = [Seen(case, number) for number in range(len(case.nurses))]
 
     def need(self, shift, skill, day):
         return self.case.needs[shift, skill][day] if (shift, skill) in self.case.needs else Limits(0, 0)
@@ -386,46 +381,41 @@ class Moves:
         self.worths = {it: 256 * worth if max(self.need(*it)) else 0 for it in self.places}
 
     def in_points(self):
-        worths = {at: [points(self.worths[(*at, day)]) for day in days_of(self.case)] for at in self.case.needs}
-        return worths, [min(40, points(it)) for it in self.pays]
+        return {at: [points(self.worths[(*at, day)]) for day in days_of(self.case)] for at in self.case.needs}
 
-    def learn(self, rows):
-        """After a round with these rows."""
+    def move(self, rows, moves):
+        """By these rows, so many moves being made then."""
+        covers = collections.Counter((*choice, day) for row in rows for day, choice in enumerate(row) if choice)
         for it in self.places:
             need = self.need(*it)
             wanted = max(need) if points(self.worths[it]) <= 30 else need.least
             self.wanted[it] = faded(self.wanted[it], wanted)
-            self.had[it] = faded(self.had[it], sum(row[it[2]] == it[:2] for row in rows))
-        for number, row in enumerate(rows):
-            limits, had = self.case.contracts[self.case.nurses[number].contract].assignments, total_with(self.case, number, row)
-            fine = self.pays[number]
-            wanted = limits.greatest if fine < 5120 else limits.least if fine > 5120 else min(max(had, limits.least), limits.greatest)
-            self.wanted_of[number] = faded(self.wanted_of[number], wanted)
-            self.had_of[number] = faded(self.had_of[number], had)
-
-    def go_on(self, rows):
-        """To the next round. After the first the worths begin again at 15."""
-        self.made += 1
-        if self.made == 1:
-            self.set_worths(15)
-            return
-        self.learn(rows)
-        step = greatest_step(self.made, self.rounds)
-        share, share_of = shares(self.wanted, self.had, step), shares(self.wanted_of, self.had_of, step // 9 * 2)
+            self.had[it] = faded(self.had[it], covers[it])
+        share = shares(self.wanted, self.had, greatest_step(moves, self.rounds * MOVES))
         for it in self.places:
             self.worths[it] = next_worth(self.worths[it], self.wanted[it], self.had[it], share[it])
-        for it in share_of:
-            self.pays[it] = next_pay(self.pays[it], self.wanted_of[it], self.had_of[it], share_of[it])
+
+    def go_on(self, rows):
+        """To the next round, from one with these rows. After the first the worths begin again at 15."""
+        for seen, row in zip(self.seen, rows):
+            self.turn += 1
+            seen.keep(self.turn, row)
+        if self.made == 0:
+            self.set_worths(15)
+        else:
+            self.move(rows, self.made * MOVES + 1)
+            for more in range(2, MOVES + 1):
+                self.move([it.cheapest(self.worths) for it in self.seen], self.made * MOVES + more)
+        self.made += 1
 
 
 def floors(case, roster, rounds, first_week=0):
     """What each of so many rounds reaches."""
-    moves, found = Moves(case, roster, rounds), []
+    moves = Moves(case, rounds)
     for _ in range(rounds):
-        reached, rows = floor(case, roster, *moves.in_points(), first_week)
-        found.append(reached)
+        reached, rows = floor(case, roster, moves.in_points(), first_week)
+        yield reached
         moves.go_on(rows)
-    return found
 
 
 # ---- what the commands answer: the output and the log
@@ -478,13 +468,16 @@ def improve(case, roster, rounds, first_week=0):
 
 
 def bound(case, roster, rounds, first_week=0):
-    """What 'bound' answers after so many rounds."""
-    best, log = 0, [f"start {penalty(case, roster)}"]
+    """What 'bound' answers after so many rounds, or as soon as the bound is what the roster costs."""
+    best, total = 0, penalty(case, roster)
+    log = [f"start {total}"]
     for number, reached in enumerate(floors(case, roster, rounds, first_week), 1):
+        if best == total:
+            break
         if reached > best:
             best = reached
             log.append(f"round {number} {best}")
-    return f"roster {penalty(case, roster)}\nbound {best}\n", "".join(f"{it}\n" for it in log)
+    return f"roster {total}\nbound {best}\n", "".join(f"{it}\n" for it in log)
 
 
 # ---- texts of which nothing is refused

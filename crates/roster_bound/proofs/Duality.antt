@@ -1,12 +1,11 @@
 -- What the places pay is what the nurses earn: so the least costs together are at most the penalty.
-use Rattle.std.proofs.Common.{◌≡◌, ◌∙◌, ◌+◌, ◌-◌, ◌*◌, ◌%◌, ◌||◌, ◌<◌, ◌≤◌, ◌&&◌, ◌==◌, ℕ, zero, suc, Bool, true, false, not, ap, arith, refl, sym, subst, List, [], length, nat_lt, Contains, mul-add, None, Some, if◌then◌else◌}
+use Rattle.std.proofs.Common.{◌≡◌, ◌∙◌, ◌+◌, ◌-◌, ◌*◌, ◌%◌, ◌||◌, ◌<◌, ◌≤◌, ◌&&◌, ◌==◌, ℕ, zero, suc, Bool, true, false, not, ap, arith, refl, sym, [], length, nat_lt, Contains, mul-add, if◌then◌else◌}
 use Rattle.std.specs.List.{list_all}
 use Rattle.std.proofs.lemmas.Bool.{and_from, and_parts, eqb-true}
 use Rattle.roster_instance.specs.declared.choice.Choice.{Choice}
 use Rattle.roster_instance.specs.declared.choice.Choice.TheVariants.{Off, Work}
 use Rattle.roster_instance.specs.Choices.{all_choices, all_rows, days_of, same_choice, shift_of}
 use Rattle.roster_instance.specs.Counting.{all_below, one_if, sum_below}
-use Rattle.roster_instance.specs.Levels.{levelled}
 use Rattle.roster_rules.specs.HardRules.{keeps_absences, keeps_hard, keeps_skills, keeps_successions}
 use Rattle.roster_instance.specs.Meaning.{Meaning, day_count, minimum, nurse_count, optimum, shift_at, shift_count, skill_at, skill_count}
 use Rattle.roster_rules.specs.AllowedRows.{is_frozen, keeps_frozen_day, keeps_frozen_days}
@@ -25,8 +24,7 @@ use Rattle.roster_laws.proofs.Fives.{penalty_is}
 use Rattle.roster_laws.proofs.SameRows.{same_choice_self}
 use Rattle.roster_laws.proofs.Keeps.{keeps_hard-parts}
 use Rattle.roster_laws.proofs.OneRow.{penalty-parts, requests_of_row}
-use Rattle.roster_bound.specs.Worths.{ArePays, AreWorths, IsLowerBound, NursePays, PlaceWorths, bound_by, can_work, earned, floors_together, free_by, levelled_bound, most_worth, nurse_floor, own_rows, place_floor, places_floor, price_with, rounded_up, row_cost_by, row_floor}
-use Rattle.roster_bound.proofs.Levels.{level_below}
+use Rattle.roster_bound.specs.Worths.{AreWorths, IsLowerBound, PlaceWorths, bound_by, can_work, earned, floors_together, most_worth, own_rows, place_floor, places_floor, price_by, rounded_up, row_cost_by, row_floor}
 use Rattle.roster_bound.proofs.LeastCosts.{least_below, place_least}
 use Rattle.roster_bound.proofs.Sums.{count_by_place, over_places, places_both, places_le, places_none, sum_le, sum_of_one, sum_same_number}
 
@@ -94,20 +92,12 @@ earned_within : (w : PlaceWorths) → AreWorths w → (d : ℕ) (x : Choice) →
 earned_within w are d Off = omega arith
 earned_within w are d (Work s k) = are d s.0 k.0
 
-without_free : (a r : ℕ) → a + r + 0 ≡ a + r
-without_free a r = omega arith
-
--- where days off have no price
-price_is : (c : Meaning) (w : PlaceWorths) (n d : ℕ) (x : Choice) → price_with c w 0 n d x ≡ (most_worth - earned w d x) + request_cost_on c n d (shift_of x)
-price_is c w n d Off = without_free (most_worth - 0) (request_cost_on c n d None)
-price_is c w n d (Work s k) = without_free (most_worth - w d s.0 k.0) (request_cost_on c n d (Some s))
-
 pub row_cost-earned : (c : Meaning) (w : PlaceWorths) → AreWorths w → (n : ℕ) (row : Row)
-    → row_cost_by c w 0 n row + sum_below (length row) (λ d. earned w d (choice_on row d)) ≡ nurse_cost c n (days_of row) + length row * most_worth
+    → row_cost_by c w n row + sum_below (length row) (λ d. earned w d (choice_on row d)) ≡ nurse_cost c n (days_of row) + length row * most_worth
 row_cost-earned c w are n row =
     omega (
       arith,
-      prices_split (length row) (λ d. price_with c w 0 n d (choice_on row d)) (λ d. earned w d (choice_on row d)) (λ d. request_cost_on c n d (shift_of (choice_on row d))) (λ d. earned_within w are d (choice_on row d)) (λ d. price_is c w n d (choice_on row d)),
+      prices_split (length row) (λ d. price_by c w n d (choice_on row d)) (λ d. earned w d (choice_on row d)) (λ d. request_cost_on c n d (shift_of (choice_on row d))) (λ d. earned_within w are d (choice_on row d)) (λ d. refl),
       requests_of_row c n row,
     )
 
@@ -179,61 +169,49 @@ module _ (c : Meaning) (from : ℕ) (given : Rows) (w : PlaceWorths) (are : AreW
         and_from (skills && absences && successions) (keeps_frozen_days c from given n (row_of r n))
         (and_from (skills && absences) successions (and_from skills absences (all_elim (nurse_count c) (λ n. keeps_skills c n (row_of r n) (day_count c)) rules.1 n inside) (all_elim (nurse_count c) (λ n. keeps_absences c n (row_of r n) (day_count c)) all_rules.1 n inside)) (all_elim (nurse_count c) (λ n. keeps_successions c n (days_of_nurse r n) (day_count c)) two_rules.1 n inside)) frozen_kept
 
-    among : (k : Meaning) → own_rows k from given n ≡ own_rows c from given n → Contains (own_rows k from given n) (row_of r n)
-    among k same =
-        subst (λ (rows : List Row). Contains rows (row_of r n)) (sym same)
-        (member_is_kept (can_work c from given n) (all_rows (all_choices c) (day_count c)) (row_of r n) (row_is_member c (row_of r n) (row_fits c r n fits inside)) worked)
+    among : Contains (own_rows c from given n) (row_of r n)
+    among = member_is_kept (can_work c from given n) (all_rows (all_choices c) (day_count c)) (row_of r n) (row_is_member c (row_of r n) (row_fits c r n fits inside)) worked
 
-    -- the floors over the case as it is, and over the levelled one, are below what the row costs
-    row_least : row_floor c from given w 0 n ≤ row_cost_by c w 0 n (row_of r n)
-    row_least = least_below (row_cost_by c w 0 n) (own_rows c from given n) (row_of r n) (among c refl)
+    row_least : row_floor c from given w n ≤ row_cost_by c w n (row_of r n)
+    row_least = least_below (row_cost_by c w n) (own_rows c from given n) (row_of r n) among
 
-    level_least : (pay : NursePays) → ArePays pay → nurse_floor c from given w pay n ≤ row_cost_by c w 0 n (row_of r n)
-    level_least pay are_pays =
-        let free : ℕ = free_by pay n in
-        let least : row_floor (levelled c) from given w free n ≤ row_cost_by (levelled c) w free n (row_of r n) = least_below (row_cost_by (levelled c) w free n) (own_rows (levelled c) from given n) (row_of r n) (among (levelled c) refl) in
-        omega (arith, least, level_below c w n (pay n) (are_pays n) (row_of r n) (row-length c r n fits inside))
+  -- what the rows cost at least
+  abbrev floor : ℕ → ℕ
+  floor = row_floor c from given w
 
-  -- whatever is below what the rows cost
-  module _ (floor : ℕ → ℕ) (least : (n : ℕ) → n < nurse_count c → floor n ≤ row_cost_by c w 0 n (row_of r n)) where
-    row_below : (n : ℕ) → n < nurse_count c → floor n + row_earned w (day_count c) (shift_count c) (skill_count c) r n ≤ nurse_cost c n (days_of_nurse r n) + day_count c * most_worth
-    row_below n inside =
-        let days : length (row_of r n) ≡ day_count c = row-length c r n fits inside in
-        let earns : sum_below (length (row_of r n)) (λ d. earned w d (choice_on (row_of r n) d)) ≡ sum_below (day_count c) (λ d. earned w d (choice_on (row_of r n) d)) =
-        ap (λ m. sum_below m (λ d. earned w d (choice_on (row_of r n) d))) days in
-        let room : length (row_of r n) * most_worth ≡ day_count c * most_worth = ap (λ m. m * most_worth) days in
-        omega (arith, least n inside, row_cost-earned c w are n (row_of r n), earns, room)
+  row_below : (n : ℕ) → n < nurse_count c → floor n + row_earned w (day_count c) (shift_count c) (skill_count c) r n ≤ nurse_cost c n (days_of_nurse r n) + day_count c * most_worth
+  row_below n inside =
+      let days : length (row_of r n) ≡ day_count c = row-length c r n fits inside in
+      let earns : sum_below (length (row_of r n)) (λ d. earned w d (choice_on (row_of r n) d)) ≡ sum_below (day_count c) (λ d. earned w d (choice_on (row_of r n) d)) =
+      ap (λ m. sum_below m (λ d. earned w d (choice_on (row_of r n) d))) days in
+      let room : length (row_of r n) * most_worth ≡ day_count c * most_worth = ap (λ m. m * most_worth) days in
+      omega (arith, row_least n inside, row_cost-earned c w are n (row_of r n), earns, room)
 
-    rows_below : sum_below (nurse_count c) floor + sum_below (nurse_count c) (row_earned w (day_count c) (shift_count c) (skill_count c) r)
-        ≤ sum_below (nurse_count c) (λ n. nurse_cost c n (days_of_nurse r n)) + nurse_count c * (day_count c * most_worth)
-    rows_below =
-        let N = nurse_count c in
-        let earns = row_earned w (day_count c) (shift_count c) (skill_count c) r in
-        let room : ℕ = day_count c * most_worth in
-        omega (
-          arith,
-          sum_both N floor earns,
-          sum_le N (λ n. floor n + earns n) (λ n. nurse_cost c n (days_of_nurse r n) + room) row_below,
-          sum_both N (λ n. nurse_cost c n (days_of_nurse r n)) (λ n. room),
-          sum_same_number N room,
-        )
+  rows_below : sum_below (nurse_count c) floor + sum_below (nurse_count c) (row_earned w (day_count c) (shift_count c) (skill_count c) r)
+      ≤ sum_below (nurse_count c) (λ n. nurse_cost c n (days_of_nurse r n)) + nurse_count c * (day_count c * most_worth)
+  rows_below =
+      let N = nurse_count c in
+      let earns = row_earned w (day_count c) (shift_count c) (skill_count c) r in
+      let room : ℕ = day_count c * most_worth in
+      omega (
+        arith,
+        sum_both N floor earns,
+        sum_le N (λ n. floor n + earns n) (λ n. nurse_cost c n (days_of_nurse r n) + room) row_below,
+        sum_both N (λ n. nurse_cost c n (days_of_nurse r n)) (λ n. room),
+        sum_same_number N room,
+      )
 
-    together_below : floors_together c w floor ≤ penalty c r
-    together_below =
-        let earns = row_earned w (day_count c) (shift_count c) (skill_count c) r in
-        let paid : over_places (day_count c) (shift_count c) (skill_count c) (λ d s k. w d s k * cover r d s k) ≤ sum_below (nurse_count c) earns =
-        omega (arith, paid_is_earned w (day_count c) (shift_count c) (skill_count c) r, ap (λ m. sum_below m earns) nurses) in
-        put_together (places_floor c w) (sum_below (nurse_count c) floor) (sum_below (nurse_count c) earns) (sum_below (nurse_count c) (λ n. nurse_cost c n (days_of_nurse r n))) (nurse_count c * (day_count c * most_worth)) (staffing_cost c r) (penalty c r)
-        (omega (arith, places_below, paid)) rows_below (penalty-parts c r)
+  together_below : floors_together c from given w ≤ penalty c r
+  together_below =
+      let earns = row_earned w (day_count c) (shift_count c) (skill_count c) r in
+      let paid : over_places (day_count c) (shift_count c) (skill_count c) (λ d s k. w d s k * cover r d s k) ≤ sum_below (nurse_count c) earns =
+      omega (arith, paid_is_earned w (day_count c) (shift_count c) (skill_count c) r, ap (λ m. sum_below m earns) nurses) in
+      put_together (places_floor c w) (sum_below (nurse_count c) floor) (sum_below (nurse_count c) earns) (sum_below (nurse_count c) (λ n. nurse_cost c n (days_of_nurse r n))) (nurse_count c * (day_count c * most_worth)) (staffing_cost c r) (penalty c r)
+      (omega (arith, places_below, paid)) rows_below (penalty-parts c r)
 
-    below : rounded_up (floors_together c w floor) ≤ penalty c r
-    below = rounded_below (floors_together c w floor) (penalty c r) together_below (penalty_is c r)
+  below : rounded_up (floors_together c from given w) ≤ penalty c r
+  below = rounded_below (floors_together c from given w) (penalty c r) together_below (penalty_is c r)
 
 pub no_roster_below : (c : Meaning) (from : ℕ) (given : Rows) (w : PlaceWorths) → AreWorths w → IsLowerBound c from given (bound_by c from given w)
 unfolding bound_by
-no_roster_below c from given w are r fits keeps stays = below c from given w are r fits keeps stays (row_floor c from given w 0) (row_least c from given w are r fits keeps stays)
-
-pub no_roster_below_level : (c : Meaning) (from : ℕ) (given : Rows) (w : PlaceWorths) → AreWorths w → (pay : NursePays) → ArePays pay → IsLowerBound c from given (levelled_bound c from given w pay)
-unfolding levelled_bound
-no_roster_below_level c from given w are pay are_pays r fits keeps stays =
-    below c from given w are r fits keeps stays (nurse_floor c from given w pay) (λ n inside. level_least c from given w are r fits keeps stays n inside pay are_pays)
+no_roster_below c from given w are r fits keeps stays = below c from given w are r fits keeps stays

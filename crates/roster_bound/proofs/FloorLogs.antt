@@ -1,20 +1,22 @@
 -- A run that raises a floor: the lines so far are sent.
-use Rattle.std.proofs.Common.{◌≡◌, ◌∙◌, ◌+◌, ◌<◌, ◌≤◌, ◌⊎◌, ℕ, zero, suc, Bool, true, false, List, [], ◌∷◌, ◌++◌, Option, ap, append_assoc, append-nil, arith, codes, flat_map, if◌then◌else◌, inl, inr, length, nat_lt, refl, subst, sym, zero-add}
+use Rattle.std.proofs.Common.{◌≡◌, ◌∙◌, ◌+◌, ◌<◌, ◌≤◌, ◌⊎◌, ℕ, zero, suc, Bool, true, false, List, [], ◌∷◌, ◌++◌, Option, ap, append_assoc, append-nil, arith, codes, flat_map, if◌then◌else◌, inl, inr, length, refl, subst, sym, zero-add}
 use Rattle.std.proofs.lemmas.Bool.{cases_lt}
 use Rattle.std.proofs.lemmas.List.Concat.{flat_map-append}
 use Rattle.std.proofs.lemmas.List.Elements.{All-append, All-cons, All-nil}
 use Rattle.roster_text.specs.declared.fault.WriteFault.{WriteFault}
 use Rattle.roster_text.specs.Io.{BreaksIn, Sends, StopsAt, Watched, saturated, sent_of}
 use Rattle.roster_text.proofs.Texts.{Sends-append, StopsAt-after, StopsAt-append}
-use Rattle.roster_instance.specs.Meaning.{Meaning, contract_of}
-use Rattle.roster_instance.specs.Rosters.{Rows, days_of_nurse}
-use Rattle.roster_rules.specs.Penalties.{penalty, total_of}
-use Rattle.roster_rules.specs.Weights.{assignment_weight, staffing_weight}
+use Rattle.roster_instance.specs.Meaning.{Meaning}
+use Rattle.roster_instance.specs.Rosters.{Rows, fits_case}
+use Rattle.roster_rules.specs.HardRules.{keeps_hard}
+use Rattle.roster_rules.specs.Penalties.{penalty}
+use Rattle.roster_laws.proofs.Frozen.{stays_self}
+use Rattle.roster_rules.specs.Weights.{staffing_weight}
 use Rattle.roster_rules.specs.Improver.{line}
 use Rattle.roster_log.specs.declared.fault.LogFault.TheVariants.{LogFailed}
 use Rattle.roster_bound.specs.Floors.{FloorLine, FloorLogStops, IsFloorLog, IsRoundBound, RaisesFloor, Rises, floor_line, floor_text, last_line, no_line}
-use Rattle.roster_bound.specs.Worths.{ArePays, AreWorths, IsLowerBound, NursePays, PlaceWorths, asks_for_nurses, first_bound, first_pays, first_worths, levelled_bound, most_pay, most_worth}
-use Rattle.roster_bound.proofs.Duality.{no_roster_below_level}
+use Rattle.roster_bound.specs.Worths.{AreWorths, IsLowerBound, PlaceWorths, asks_for_nurses, bound_by, first_bound, first_worths, most_worth}
+use Rattle.roster_bound.proofs.Duality.{no_roster_below}
 
 -- ---- one line more
 
@@ -35,32 +37,23 @@ first_text c given total e = ap (line (codes "start")) e ∙ sym (append-nil (li
 
 pub record Tells (c : Meaning) (from : ℕ) (given : Rows) (made bound : ℕ) : Type 0 where
   pub worths : PlaceWorths
-  pub pays : NursePays
   pub are_worths : AreWorths worths
-  pub are_pays : ArePays pays
-  pub bound_is : bound ≡ levelled_bound c from given worths pays
+  pub bound_is : bound ≡ bound_by c from given worths
   pub first : made ≡ 0 → bound ≡ first_bound c from given
 
 module _ (c : Meaning) (from : ℕ) (given : Rows) where
   pub tells_below : (made bound : ℕ) → Tells c from given made bound → IsLowerBound c from given bound
-  tells_below made bound t = subst (IsLowerBound c from given) (sym t.bound_is) (no_roster_below_level c from given t.worths t.are_worths t.pays t.are_pays)
+  tells_below made bound t = subst (IsLowerBound c from given) (sym t.bound_is) (no_roster_below c from given t.worths t.are_worths)
 
   -- the first round
   even_within : (asks : Bool) → (if asks then staffing_weight else 0) ≤ most_worth
   even_within true = omega arith
   even_within false = omega arith
 
-  pay_within : (few many : Bool) → (if few then most_pay else if many then 0 else assignment_weight) ≤ most_pay
-  pay_within true many = omega arith
-  pay_within false true = omega arith
-  pay_within false false = omega arith
-
   first_tells : Tells c from given 0 (first_bound c from given)
   first_tells = record {
     worths = first_worths c;
-    pays = first_pays c given;
     are_worths = λ d s k. even_within (asks_for_nurses c d s k);
-    are_pays = λ n. pay_within (nat_lt (total_of c n (days_of_nurse given n)) (contract_of c n).total.least) (nat_lt (contract_of c n).total.greatest (total_of c n (days_of_nurse given n)));
     bound_is = refl;
     first = λ e. refl;
   }
@@ -70,10 +63,17 @@ module _ (c : Meaning) (from : ℕ) (given : Rows) where
   no_log : IsFloorLog c from given 0 []
   no_log = record { floors = All-nil (λ x. IsLowerBound c from given x.bound); each = All-nil (IsRoundBound c from given); rises = tt; within = omega arith; first = λ some. absurd (omega (arith, some)) }
 
-  later_log : (made next : ℕ) (lines : List FloorLine) → made ≤ next → (0 < next → 0 < made) → IsFloorLog c from given made lines → IsFloorLog c from given next lines
-  later_log made next lines h some p =
+  reached_log : (made next : ℕ) (lines : List FloorLine) → made ≤ next → (0 < next → first_bound c from given ≤ (last_line no_line lines).bound) → IsFloorLog c from given made lines → IsFloorLog c from given next lines
+  reached_log made next lines h some p =
       let within : (last_line no_line lines).round ≤ made = p.within in
-      record { floors = p.floors; each = p.each; rises = p.rises; within = omega arith; first = λ any. p.first (some any) }
+      record { floors = p.floors; each = p.each; rises = p.rises; within = omega arith; first = some }
+
+  later_log : (made next : ℕ) (lines : List FloorLine) → made ≤ next → (0 < next → 0 < made) → IsFloorLog c from given made lines → IsFloorLog c from given next lines
+  later_log made next lines h some p = reached_log made next lines h (λ any. p.first (some any)) p
+
+  -- the first round's bound is a floor, too
+  first_within : fits_case c given ≡ true → keeps_hard c given ≡ true → first_bound c from given ≤ penalty c given
+  first_within fits keeps = tells_below 0 (first_bound c from given) first_tells given fits keeps (stays_self c from given)
 
   -- a round that didn't raise the floor
   same_log : (made best bound : ℕ) (lines : List FloorLine) → IsFloorLog c from given made lines → best ≡ (last_line no_line lines).bound → bound ≤ best → Tells c from given made bound → IsFloorLog c from given (made + 1) lines
@@ -100,7 +100,7 @@ module _ (c : Meaning) (from : ℕ) (given : Rows) where
       let within : (last_line no_line lines).round ≤ made = p.within in
       let below : IsLowerBound c from given bound = tells_below made bound t in
       let above : first_bound c from given ≤ bound = no_less made best bound (λ some. omega (arith, p.first some, best_is)) more t in
-      let line : IsRoundBound c from given x = record { worths = t.worths; pays = t.pays; are_worths = t.are_worths; are_pays = t.are_pays; bound_is = t.bound_is; first = λ one. t.first (omega (arith, one)); no_less = above } in
+      let line : IsRoundBound c from given x = record { worths = t.worths; are_worths = t.are_worths; bound_is = t.bound_is; first = λ one. t.first (omega (arith, one)); no_less = above } in
       record {
         floors = All-append (λ y. IsLowerBound c from given y.bound) lines (x ∷ []) p.floors (All-cons (λ y. IsLowerBound c from given y.bound) x [] below (All-nil (λ y. IsLowerBound c from given y.bound)));
         each = All-append (IsRoundBound c from given) lines (x ∷ []) p.each (All-cons (IsRoundBound c from given) x [] line (All-nil (IsRoundBound c from given)));
@@ -193,6 +193,16 @@ module _ {W : Type 0} (contents : W → Option (List ℕ)) (c : Meaning) (from :
   Going-end rounds new made sent best p few all = record {
     lines = p.lines;
     is_log = later_log c from given made rounds p.lines few (λ some. omega (arith, some, all)) p.is_log;
+    writes = p.sends.writes;
+    bound_is = p.best_is;
+  }
+
+  -- the floor is what the given roster costs: then it is no less than any bound
+  pub Going-met : (rounds : ℕ) (new : Watched W) (made sent best : ℕ) → Going contents c from given old new made sent best → made ≤ rounds → penalty c given ≤ best → fits_case c given ≡ true → keeps_hard c given ≡ true
+      → RaisesFloor contents c from given rounds old new best
+  Going-met rounds new made sent best p few met fits keeps = record {
+    lines = p.lines;
+    is_log = reached_log c from given made rounds p.lines few (λ some. omega (arith, met, p.best_is, first_within c from given fits keeps)) p.is_log;
     writes = p.sends.writes;
     bound_is = p.best_is;
   }

@@ -6,4 +6,4 @@ pub mod RowFloors
 pub mod Counted
 pub mod SameBounds
 pub mod FloorLogs
-mod Levels
+pub mod SeenLemmas

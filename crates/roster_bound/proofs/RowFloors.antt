@@ -9,7 +9,7 @@ use Rattle.std.proofs.lemmas.List.Elements.{All-contains_itself, All-filter, All
 use Rattle.std.proofs.lemmas.List.Sums.{AllPass-from_list_all}
 use Rattle.arrayvec.specs.ArrayVec.{ArrayVec}
 use Rattle.roster_instance.specs.declared.choice.Choice.{Choice}
-use Rattle.roster_instance.specs.declared.choice.Choice.TheVariants.{Off, Work}
+use Rattle.roster_instance.specs.declared.choice.Choice.TheVariants.{Off}
 use Rattle.roster_rules.specs.AllowedRows.{first_least, keeps_frozen_day, keeps_frozen_days}
 use Rattle.roster_instance.specs.Choices.{all_choices, all_rows, days_of, shift_of}
 use Rattle.roster_rules.specs.HardRules.{breaks_succession, is_able, is_able_on, is_here, is_here_on, keeps_hard, keeps_successions, may_take}
@@ -33,7 +33,7 @@ use Rattle.roster_offers.proofs.OfferLaws.{offers_few_of}
 use Rattle.roster_offers.proofs.ListLaws.{best_over_same}
 use Rattle.roster_bound.specs.Days.{AreWorthOffers, can_do, offers_by_worth, shift_offers_by_worth}
 use Rattle.roster_bound.proofs.Duality.{worked}
-use Rattle.roster_bound.specs.Worths.{HasRow, HaveRows, PlaceWorths, can_work, floor_row, free_price, most_free, own_rows, price_with, row_cost_by, row_floor}
+use Rattle.roster_bound.specs.Worths.{HasRow, HaveRows, PlaceWorths, can_work, floor_row, own_rows, price_by, row_cost_by, row_floor}
 
 -- a choice is one that the nurse is able to do, may follow, and stays
 last_two : (a b d : Bool) → ((a && b) && d) ≡ ((a && d) && b)
@@ -47,24 +47,20 @@ some_least : {X : Type 0} (cost : X → ℕ) (xs : List X) (x : X) → Contains 
 some_least cost [] x member = absurd (omega (arith, member.1))
 some_least cost (y ∷ ys) x member = refl
 
-free_within : (free : ℕ) (x : Choice) → free_price free x ≤ free
-free_within free Off = omega arith
-free_within free (Work s k) = omega arith
-
-module _ (c : Meaning) (from : ℕ) (given : Rows) (w : PlaceWorths) (free : ℕ) (cheap : free ≤ most_free) (n : ℕ) where
+module _ (c : Meaning) (from : ℕ) (given : Rows) (w : PlaceWorths) (n : ℕ) where
   abbrev can : ℕ → Choice → Bool
   can = can_do c from given n
 
   -- ---- the offers of a day
 
-  price_within : (d : ℕ) (x : Choice) → price_with c w free n d x ≤ most_price
-  price_within d x = omega (arith, request_on-within c n d (shift_of x), free_within free x)
+  price_within : (d : ℕ) (x : Choice) → price_by c w n d x ≤ most_price
+  price_within d x = omega (arith, request_on-within c n d (shift_of x))
 
-  offers_of_case : (d : ℕ) → All (IsOfferOf c) (offers_by_worth c from given w free n d)
+  offers_of_case : (d : ℕ) → All (IsOfferOf c) (offers_by_worth c from given w n d)
   offers_of_case d =
-      All-map (IsOfferOf c) (offer_at (price_with c w free n) d) (filter (can d) (all_choices c))
-      (All-filter (can d) (λ x. IsOfferOf c (offer_at (price_with c w free n) d x)) (all_choices c)
-      (All-weaker (Contains (all_choices c)) (λ x. IsOfferOf c (offer_at (price_with c w free n) d x)) (λ x member. record { choice = member_is_choice c x member; price = price_within d x }) (all_choices c) (All-contains_itself (all_choices c))))
+      All-map (IsOfferOf c) (offer_at (price_by c w n) d) (filter (can d) (all_choices c))
+      (All-filter (can d) (λ x. IsOfferOf c (offer_at (price_by c w n) d x)) (all_choices c)
+      (All-weaker (Contains (all_choices c)) (λ x. IsOfferOf c (offer_at (price_by c w n) d x)) (λ x member. record { choice = member_is_choice c x member; price = price_within d x }) (all_choices c) (All-contains_itself (all_choices c))))
 
   -- ---- the rows
 
@@ -81,27 +77,27 @@ module _ (c : Meaning) (from : ℕ) (given : Rows) (w : PlaceWorths) (free : ℕ
       ∙ sym (ap (offered_row_by c n can row) days)
 
   with_its_cost : Row → ℕ × Row
-  with_its_cost row = (row_cost_by c w free n row, row)
+  with_its_cost row = (row_cost_by c w n row, row)
 
   abbrev pub best : Priced (List Offer)
-  best = best_over c n (shift_offers_by_worth c from given w free n)
+  best = best_over c n (shift_offers_by_worth c from given w n)
 
-  best_is : option_map with_its_cost (floor_row c from given w free n) ≡ raised (0 + due c n []) choices_of best
+  best_is : option_map with_its_cost (floor_row c from given w n) ≡ raised (0 + due c n []) choices_of best
   unfolding with_its_cost
   best_is =
-      found_by_offers c n can (price_with c w free n) 0 (row_cost_by c w free n) (can_work c from given n) kept (λ row days. omega arith)
-      ∙ ap (raised (0 + due c n []) choices_of) (sym (best_by_shift c n (offers_by_worth c from given w free n) (day_count c) 0 (summary_of c n [])))
+      found_by_offers c n can (price_by c w n) 0 (row_cost_by c w n) (can_work c from given n) kept (λ row days. omega arith)
+      ∙ ap (raised (0 + due c n []) choices_of) (sym (best_by_shift c n (offers_by_worth c from given w n) (day_count c) 0 (summary_of c n [])))
 
   some_is : (o : Option Row) (p : Priced (List Offer)) → option_map with_its_cost o ≡ raised (0 + due c n []) choices_of p → IsSome o → IsSome p
   some_is None p e some = elim (true≢false (sym some)) [ ]
   some_is (Some row) None e some = absurd cc
   some_is (Some row) (Some p) e some = refl
 
-  read : (o : Option Row) (k : ℕ) (offers : List Offer) → option_map with_its_cost o ≡ raised (0 + due c n []) choices_of (Some (k, offers)) → (due c n [] + k ≡ option_map_or (row_cost_by c w free n) o 0) × (o ≡ Some (choices_of offers))
+  read : (o : Option Row) (k : ℕ) (offers : List Offer) → option_map with_its_cost o ≡ raised (0 + due c n []) choices_of (Some (k, offers)) → (due c n [] + k ≡ option_map_or (row_cost_by c w n) o 0) × (o ≡ Some (choices_of offers))
   unfolding with_its_cost
   read None k offers e = absurd cc
   read (Some row) k offers e =
-      let cost : row_cost_by c w free n row ≡ 0 + due c n [] + k = ap (cost_or 0) e in
+      let cost : row_cost_by c w n row ≡ 0 + due c n [] + k = ap (cost_or 0) e in
       (omega (arith, cost), ap Some (ap (thing_or []) e))
 
   module _ (own : HasRow c from given n) where
@@ -110,8 +106,8 @@ module _ (c : Meaning) (from : ℕ) (given : Rows) (w : PlaceWorths) (free : ℕ
 
     some : IsSome best
     some =
-        some_is (floor_row c from given w free n) best best_is
-        (some_least (row_cost_by c w free n) (own_rows c from given n) own.row (member_is_kept (can_work c from given n) (all_rows (all_choices c) (day_count c)) own.row (row_is_member c own.row own.fits) own.works))
+        some_is (floor_row c from given w n) best best_is
+        (some_least (row_cost_by c w n) (own_rows c from given n) own.row (member_is_kept (can_work c from given n) (all_rows (all_choices c) (day_count c)) own.row (row_is_member c own.row own.fits) own.works))
 
     -- the choice of that row on a day
     own_of_case : (d : ℕ) → d < day_count c → is_choice_of c (choice_on own.row d) ≡ true
@@ -124,38 +120,38 @@ module _ (c : Meaning) (from : ℕ) (given : Rows) (w : PlaceWorths) (free : ℕ
         let all : offered_row_by c n can own.row (length own.row) ≡ true = sym (kept own.row days_of_own) ∙ own.works in
         (and_parts _ _ (all_elim (length own.row) (λ k. can k (choice_on own.row k) && not (breaks_succession c n (days_of own.row) k)) all d (omega (arith, within, days_of_own)))).0
 
-    offers_some : (d : ℕ) → d < day_count c → 0 < length (offers_by_worth c from given w free n d)
+    offers_some : (d : ℕ) → d < day_count c → 0 < length (offers_by_worth c from given w n d)
     offers_some d within =
         let member = member_is_kept (can d) (all_choices c) (choice_on own.row d) (choice_is_member c (choice_on own.row d) (own_of_case d within)) (can_do_own d within) in
-        omega (arith, member.1, length-map (filter (can d) (all_choices c)) (offer_at (price_with c w free n) d))
+        omega (arith, member.1, length-map (filter (can d) (all_choices c)) (offer_at (price_by c w n) d))
 
-    day_offers : (d : ℕ) → d < day_count c → AreDayOffers c n (shift_offers_by_worth c from given w free n d)
+    day_offers : (d : ℕ) → d < day_count c → AreDayOffers c n (shift_offers_by_worth c from given w n d)
     day_offers d within = record {
-      of_case = by_shift_all (IsOfferOf c) (offers_by_worth c from given w free n d) (offers_of_case d);
-      some = by_shift_some (offers_by_worth c from given w free n d) (offers_some d within);
-      few = omega (arith, by_shift_fewer (offers_by_worth c from given w free n d), offers_few_of c n can (price_with c w free n) (λ e x is. (and_parts (is_able (nurse_at c n).skills x) (is_here c n e x) (and_parts (may_take c n e x) (keeps_frozen_day from given n e x) is).0).0) d);
+      of_case = by_shift_all (IsOfferOf c) (offers_by_worth c from given w n d) (offers_of_case d);
+      some = by_shift_some (offers_by_worth c from given w n d) (offers_some d within);
+      few = omega (arith, by_shift_fewer (offers_by_worth c from given w n d), offers_few_of c n can (price_by c w n) (λ e x is. (and_parts (is_able (nurse_at c n).skills x) (is_here c n e x) (and_parts (may_take c n e x) (keeps_frozen_day from given n e x) is).0).0) d);
     }
 
     -- ---- over a table of these offers
 
-    module _ (table : List (ArrayVec Offer)) (are : AreWorthOffers c from given w free n table) where
+    module _ (table : List (ArrayVec Offer)) (are : AreWorthOffers c from given w n table) where
       pub can_search : AreOffers c n table
       can_search = record { days = omega (arith, are.days); each = λ day within. subst (AreDayOffers c n) (sym (are.each day within)) (day_offers day within) }
 
       same_best : best_over c n (offers_on table) ≡ best
-      same_best = best_over_same c n (offers_on table) (shift_offers_by_worth c from given w free n) are.each
+      same_best = best_over_same c n (offers_on table) (shift_offers_by_worth c from given w n) are.each
 
       pub some_found : IsSome (best_over c n (offers_on table))
       some_found = subst (λ (p : Priced (List Offer)). IsSome p) (sym same_best) some
 
       module _ (cost : ℕ) (row : Row) (found : IsFound (best_over c n (offers_on table)) cost row) where
-        both : (due c n [] + cost ≡ row_floor c from given w free n) × (floor_row c from given w free n ≡ Some (choices_of found.offers))
-        both = read (floor_row c from given w free n) cost found.offers (best_is ∙ ap (raised (0 + due c n []) choices_of) (sym same_best ∙ found.is))
+        both : (due c n [] + cost ≡ row_floor c from given w n) × (floor_row c from given w n ≡ Some (choices_of found.offers))
+        both = read (floor_row c from given w n) cost found.offers (best_is ∙ ap (raised (0 + due c n []) choices_of) (sym same_best ∙ found.is))
 
-        pub floor_is : due c n [] + cost ≡ row_floor c from given w free n
+        pub floor_is : due c n [] + cost ≡ row_floor c from given w n
         floor_is = both.0
 
-        pub floor_row_is : floor_row c from given w free n ≡ Some row
+        pub floor_row_is : floor_row c from given w n ≡ Some row
         floor_row_is = both.1 ∙ ap Some (sym found.row_is)
 
 -- each nurse can work the own row of a roster that keeps the hard rules

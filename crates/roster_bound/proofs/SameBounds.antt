@@ -1,5 +1,5 @@
--- A bound is by the worths at the case's places and by the pays of its nurses alone.
-use Rattle.std.proofs.Common.{◌≡◌, ◌∙◌, ◌+◌, ◌-◌, ◌*◌, ◌<◌, ◌==◌, ℕ, Bool, true, false, ap, ap₂, refl, arith, List, [], ◌∷◌, length, nat_lt, Contains, None, Option, Some, if◌then◌else◌}
+-- A bound is by the worths at the case's places alone.
+use Rattle.std.proofs.Common.{◌≡◌, ◌+◌, ◌-◌, ◌*◌, ◌<◌, ◌==◌, ℕ, Bool, true, false, ap, ap₂, refl, arith, List, [], ◌∷◌, length, nat_lt, Contains, None, Option, Some, if◌then◌else◌}
 use Rattle.std.specs.List.{All, list_all}
 use Rattle.std.specs.Option.{option_map_or}
 use Rattle.std.proofs.lemmas.Bool.{and_parts, eqb-true, ltb-true}
@@ -9,15 +9,13 @@ use Rattle.roster_instance.specs.declared.choice.Choice.{Choice}
 use Rattle.roster_instance.specs.declared.choice.Choice.TheVariants.{Off, Work}
 use Rattle.roster_instance.specs.Choices.{all_choices, all_rows, days_of, shift_of}
 use Rattle.roster_instance.specs.Counting.{sum_below}
-use Rattle.roster_instance.specs.Levels.{levelled}
 use Rattle.roster_instance.specs.Meaning.{Meaning, day_count, nurse_count, shift_count, skill_count}
 use Rattle.roster_instance.specs.Rosters.{Row, Rows, choice_on, is_choice_of, is_row_of}
 use Rattle.roster_rules.specs.AllowedRows.{cheaper_of, first_least}
 use Rattle.roster_rules.specs.Penalties.{own_cost, request_cost_on}
-use Rattle.roster_rules.specs.Weights.{shift_run_weight}
 use Rattle.roster_rules.proofs.RunSums.{sum_same}
 use Rattle.roster_laws.proofs.AllRows.{member_is_row}
-use Rattle.roster_bound.specs.Worths.{NursePays, PlaceWorths, SamePays, SameWorths, can_work, earned, free_price, levelled_bound, most_worth, nurse_floor, own_rows, place_floor, places_floor, price_with, rounded_up, row_cost_by, row_floor, total_floor, level_cost}
+use Rattle.roster_bound.specs.Worths.{PlaceWorths, SameWorths, bound_by, can_work, earned, most_worth, own_rows, place_floor, places_floor, price_by, rounded_up, row_cost_by, row_floor}
 use Rattle.roster_bound.proofs.LeastCosts.{least_cost}
 
 -- ---- the first least member, and what it costs
@@ -59,21 +57,21 @@ module _ (c : Meaning) (w v : PlaceWorths) (same : SameWorths c w v) where
       let parts = and_parts (nat_lt s.0 (shift_count c)) (nat_lt k.0 (skill_count c)) is in
       same d s.0 k.0 inside (ltb-true s.0 (shift_count c) parts.0) (ltb-true k.0 (skill_count c) parts.1)
 
-  row_same : (free n : ℕ) (row : Row) → is_row_of c row ≡ true → row_cost_by c w free n row ≡ row_cost_by c v free n row
-  row_same free n row is =
+  row_same : (n : ℕ) (row : Row) → is_row_of c row ≡ true → row_cost_by c w n row ≡ row_cost_by c v n row
+  row_same n row is =
       let parts = and_parts (length row == day_count c) (list_all (is_choice_of c) row) is in
       let days : length row ≡ day_count c = eqb-true (length row) (day_count c) parts.0 in
       let choice : (d : ℕ) → d < length row → is_choice_of c (choice_on row d) ≡ true = λ d inside. All-get_or (λ x. is_choice_of c x ≡ true) row d Off inside (AllPass-from_list_all (is_choice_of c) row parts.1) in
       ap (λ m. own_cost c n (days_of row) + m)
-      (sum_same (length row) (λ d. price_with c w free n d (choice_on row d)) (λ d. price_with c v free n d (choice_on row d))
-      (λ d inside. ap (λ e. ((most_worth - e) + request_cost_on c n d (shift_of (choice_on row d))) + free_price free (choice_on row d)) (earned_same d (choice_on row d) (omega (arith, inside, days)) (choice d inside))))
+      (sum_same (length row) (λ d. price_by c w n d (choice_on row d)) (λ d. price_by c v n d (choice_on row d))
+      (λ d inside. ap (λ e. (most_worth - e) + request_cost_on c n d (shift_of (choice_on row d))) (earned_same d (choice_on row d) (omega (arith, inside, days)) (choice d inside))))
 
-  row_floor_same : (from : ℕ) (given : Rows) (free n : ℕ) → row_floor c from given w free n ≡ row_floor c from given v free n
-  row_floor_same from given free n =
+  row_floor_same : (from : ℕ) (given : Rows) (n : ℕ) → row_floor c from given w n ≡ row_floor c from given v n
+  row_floor_same from given n =
       let rows : List Row = all_rows (all_choices c) (day_count c) in
-      let P : Row → Type 0 = λ row. row_cost_by c w free n row ≡ row_cost_by c v free n row in
-      least_same (row_cost_by c w free n) (row_cost_by c v free n) (own_rows c from given n)
-      (All-filter (can_work c from given n) P rows (All-weaker (Contains rows) P (λ row member. row_same free n row (member_is_row c row member)) rows (All-contains_itself rows)))
+      let P : Row → Type 0 = λ row. row_cost_by c w n row ≡ row_cost_by c v n row in
+      least_same (row_cost_by c w n) (row_cost_by c v n) (own_rows c from given n)
+      (All-filter (can_work c from given n) P rows (All-weaker (Contains rows) P (λ row member. row_same n row (member_is_row c row member)) rows (All-contains_itself rows)))
 
   places_same : places_floor c w ≡ places_floor c v
   places_same =
@@ -83,14 +81,9 @@ module _ (c : Meaning) (w v : PlaceWorths) (same : SameWorths c w v) where
       (λ d hd. sum_same (shift_count c) (at w d) (at v d)
       (λ s hs. sum_same (skill_count c) (place_floor c w d s) (place_floor c v d s) (λ k hk. ap (λ e. place_floor c (λ day shift skill. e) d s k) (same d s k hd hs hk))))
 
-module _ (c : Meaning) (from : ℕ) (given : Rows) (w v : PlaceWorths) (pay other : NursePays) (same : SameWorths c w v) (alike : SamePays c pay other) where
-  nurse_same : (n : ℕ) → n < nurse_count c → nurse_floor c from given w pay n ≡ nurse_floor c from given v other n
-  nurse_same n inside =
-      ap (λ p. row_floor (levelled c) from given w (shift_run_weight + p) n + total_floor c n p - level_cost c n p) (alike n inside)
-      ∙ ap (λ floor. floor + total_floor c n (other n) - level_cost c n (other n)) (row_floor_same (levelled c) w v same from given (shift_run_weight + other n) n)
-
-  pub bound_same : levelled_bound c from given w pay ≡ levelled_bound c from given v other
-  unfolding levelled_bound
+module _ (c : Meaning) (from : ℕ) (given : Rows) (w v : PlaceWorths) (same : SameWorths c w v) where
+  pub bound_same : bound_by c from given w ≡ bound_by c from given v
+  unfolding bound_by
   bound_same =
       ap₂ (λ places nurses. rounded_up (places + nurses - nurse_count c * (day_count c * most_worth))) (places_same c w v same)
-      (sum_same (nurse_count c) (nurse_floor c from given w pay) (nurse_floor c from given v other) nurse_same)
+      (sum_same (nurse_count c) (row_floor c from given w) (row_floor c from given v) (λ n inside. row_floor_same c w v same from given n))

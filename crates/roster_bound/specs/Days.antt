@@ -9,25 +9,25 @@ use Rattle.roster_rules.specs.HardRules.{may_take}
 use Rattle.roster_offers.specs.declared.offer.Offer.{Offer}
 use Rattle.roster_offers.specs.Offers.{cheapest_by_shift, offer_at, offers_by}
 use Rattle.roster_offers.specs.Lists.{offers_on}
-use Rattle.roster_bound.specs.Worths.{PlaceWorths, price_with}
+use Rattle.roster_bound.specs.Worths.{PlaceWorths, price_by}
 
 -- the nurse has the skill, and on a frozen day it is the given choice
 abbrev pub can_do : Meaning → ℕ → Rows → (n d : ℕ) → Choice → Bool
 can_do c from given n d choice = may_take c n d choice && keeps_frozen_day from given n d choice
 
 -- it with its price, where she can do it
-abbrev pub offer_if_able : Meaning → ℕ → Rows → PlaceWorths → (free n d : ℕ) → Choice → Option Offer
-offer_if_able c from given w free n d choice = if can_do c from given n d choice then Some (offer_at (price_with c w free n) d choice) else None
+abbrev pub offer_if_able : Meaning → ℕ → Rows → PlaceWorths → (n d : ℕ) → Choice → Option Offer
+offer_if_able c from given w n d choice = if can_do c from given n d choice then Some (offer_at (price_by c w n) d choice) else None
 
--- all that the nurse can do on a day, with its price, by a price for days off
-abbrev pub offers_by_worth : Meaning → ℕ → Rows → PlaceWorths → (free n d : ℕ) → List Offer
-offers_by_worth c from given w free n d = offers_by c (can_do c from given n) (price_with c w free n) d
+-- all that the nurse can do on a day, with its price
+abbrev pub offers_by_worth : Meaning → ℕ → Rows → PlaceWorths → (n d : ℕ) → List Offer
+offers_by_worth c from given w n d = offers_by c (can_do c from given n) (price_by c w n) d
 
 -- for each shift the cheapest alone
-abbrev pub shift_offers_by_worth : Meaning → ℕ → Rows → PlaceWorths → (free n d : ℕ) → List Offer
-shift_offers_by_worth c from given w free n d = cheapest_by_shift (offers_by_worth c from given w free n d)
+abbrev pub shift_offers_by_worth : Meaning → ℕ → Rows → PlaceWorths → (n d : ℕ) → List Offer
+shift_offers_by_worth c from given w n d = cheapest_by_shift (offers_by_worth c from given w n d)
 
 -- a table of them, a list for each day
-pub record AreWorthOffers (c : Meaning) (from : ℕ) (given : Rows) (w : PlaceWorths) (free n : ℕ) (offers : List (ArrayVec Offer)) : Type 0 where
+pub record AreWorthOffers (c : Meaning) (from : ℕ) (given : Rows) (w : PlaceWorths) (n : ℕ) (offers : List (ArrayVec Offer)) : Type 0 where
   pub days : length offers ≡ day_count c
-  pub each : (day : ℕ) → day < day_count c → offers_on offers day ≡ shift_offers_by_worth c from given w free n day
+  pub each : (day : ℕ) → day < day_count c → offers_on offers day ≡ shift_offers_by_worth c from given w n day

@@ -7,7 +7,7 @@ use Rattle.roster_rules.specs.Penalties.{penalty}
 use Rattle.roster_rules.specs.Improver.{line}
 use Rattle.roster_log.specs.declared.fault.LogFault.{LogFault}
 use Rattle.roster_log.specs.declared.fault.LogFault.TheVariants.{LogFailed}
-use Rattle.roster_bound.specs.Worths.{ArePays, AreWorths, IsLowerBound, NursePays, PlaceWorths, first_bound, levelled_bound}
+use Rattle.roster_bound.specs.Worths.{AreWorths, IsLowerBound, PlaceWorths, bound_by, first_bound}
 
 -- a line of the log: a round, and the floor that it reached
 pub record FloorLine : Type 0 where
@@ -28,13 +28,11 @@ abbrev pub Rises : FloorLine → List FloorLine → Type 0
 Rises before [] = Unit {0}
 Rises before (x ∷ xs) = (before.round < x.round) × (before.bound < x.bound) × Rises x xs
 
--- a round's bound: that of some worths and pays, which aren't said but for the first round's; and no less than the first round's
+-- a round's bound: that of some worths, which aren't said but for the first round's; and no less than the first round's
 pub record IsRoundBound (c : Meaning) (from : ℕ) (given : Rows) (x : FloorLine) : Type 0 where
   pub worths : PlaceWorths
-  pub pays : NursePays
   pub are_worths : AreWorths worths
-  pub are_pays : ArePays pays
-  pub bound_is : x.bound ≡ levelled_bound c from given worths pays
+  pub bound_is : x.bound ≡ bound_by c from given worths
   pub first : x.round ≡ 1 → x.bound ≡ first_bound c from given
   pub no_less : first_bound c from given ≤ x.bound
 

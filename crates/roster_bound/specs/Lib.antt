@@ -1,6 +1,6 @@
 pub mod Worths
 pub mod Tables
-pub mod Levelled
 pub mod Days
 pub mod Floors
+pub mod Seen
 pub mod Workspaces

@@ -1,11 +1,8 @@
 -- What a run that raises a floor has room for.
-use Rattle.std.specs.Prelude.{◌≡◌, ℕ, ◌*◌, length, true}
-use Rattle.roster_instance.specs.Meaning.{Meaning, day_count, nurse_count}
-use Rattle.roster_case.specs.Held.{HeldRoster}
+use Rattle.std.specs.Prelude.{◌≡◌, ◌*◌, length, true}
+use Rattle.roster_instance.specs.Meaning.{Meaning, day_count}
 use Rattle.roster_partial.specs.Workspaces.{fits_space}
-use Rattle.roster_bound.specs.Levelled.{pays_of}
-use Rattle.roster_bound.specs.Tables.{worths_of}
-use Rattle.roster_bound.specs.Worths.{first_bound, levelled_bound}
+use Rattle.roster_bound.specs.Seen.{FitsSeen}
 use Rattle.roster_bound.specs.declared.workspace.FloorWorkspace.{FloorWorkspace}
 use Rattle.roster_bound.specs.declared.workspace.RowSpace.{RowSpace}
 
@@ -14,18 +11,10 @@ pub record FitsRows (c : Meaning) (w : RowSpace) : Type 0 where
   pub search : fits_space c w.workspace ≡ true
   pub cover : length w.cover.items ≡ 64 * day_count c
 
--- and a worth and two covers for each of these places, and a pay for each nurse
+-- and a worth and two covers for each of these places, and rows of each nurse
 pub record FitsFloor (c : Meaning) (w : FloorWorkspace) : Type 0 where
   pub rows : FitsRows c w.rows
   pub worths : w.worths.days ≡ day_count c
   pub wanted : length w.covers.wanted.items ≡ 64 * day_count c
   pub had : length w.covers.had.items ≡ 64 * day_count c
-  pub pays : length w.pays.each.items ≡ nurse_count c
-
--- the bound by its worths and pays
-abbrev pub bound_of : HeldRoster → ℕ → FloorWorkspace → ℕ
-bound_of held from w = levelled_bound held.case from held.roster (worths_of w.worths) (pays_of w.pays.each.items)
-
--- they give the first bound
-abbrev pub IsFirst : HeldRoster → FloorWorkspace → Type 0
-IsFirst held w = (from : ℕ) → bound_of held from w ≡ first_bound held.case from held.roster
+  pub seen : FitsSeen c w.seen

@@ -5,22 +5,24 @@ use Rattle.std.specs.Prelude.{◌≡◌, ℕ, ◌+◌, ◌-◌, ◌*◌, ◌/◌
 use Rattle.std.specs.Option.{option_map_or}
 use Rattle.roster_instance.specs.declared.choice.Choice.{Choice}
 use Rattle.roster_instance.specs.declared.choice.Choice.TheVariants.{Off, Work}
-use Rattle.roster_instance.specs.declared.rules.Limits.{Limits}
 use Rattle.roster_instance.specs.Choices.{all_choices, all_rows, days_of, shift_of}
 use Rattle.roster_instance.specs.Counting.{sum_below}
-use Rattle.roster_instance.specs.Levels.{levelled}
 use Rattle.roster_instance.specs.Limits.{most_small}
-use Rattle.roster_instance.specs.Meaning.{Meaning, contract_of, day_count, minimum, nurse_count, optimum, past_of, shift_count, skill_count}
-use Rattle.roster_instance.specs.Rosters.{Row, Rows, choice_on, days_of_nurse, fits_case, is_row_of}
+use Rattle.roster_instance.specs.Meaning.{Meaning, day_count, minimum, nurse_count, optimum, shift_count, skill_count}
+use Rattle.roster_instance.specs.Rosters.{Row, Rows, choice_on, fits_case, is_row_of}
 use Rattle.roster_rules.specs.AllowedRows.{first_least, keeps_frozen_days}
 use Rattle.roster_rules.specs.HardRules.{keeps_absences, keeps_hard, keeps_skills, keeps_successions}
-use Rattle.roster_rules.specs.Penalties.{extra_cost, missing_cost, own_cost, penalty, request_cost_on, total_of}
-use Rattle.roster_rules.specs.Weights.{assignment_weight, shift_run_weight, staffing_weight}
+use Rattle.roster_rules.specs.Penalties.{own_cost, penalty, request_cost_on}
+use Rattle.roster_rules.specs.Weights.{staffing_weight}
 use Rattle.roster_laws.specs.FrozenDays.{FrozenDaysStay}
 
 -- no roster of the case that keeps the hard rules, and agrees with the given one on each day before week `from`, costs less
 abbrev pub IsLowerBound : Meaning → ℕ → Rows → ℕ → Type 0
 IsLowerBound c from given bound = (r : Rows) → fits_case c r ≡ true → keeps_hard c r ≡ true → FrozenDaysStay c from given r → bound ≤ penalty c r
+
+-- it is a floor under itself: none of these costs less than this roster
+abbrev pub IsLeast : Meaning → ℕ → Rows → Rows → Type 0
+IsLeast c from given r = IsLowerBound c from given (penalty c r)
 
 -- ---- worths: the points that each place, by day, shift and skill, pays to a nurse
 
@@ -28,7 +30,7 @@ abbrev pub PlaceWorths : Type 0
 PlaceWorths = (day shift skill : ℕ) → ℕ
 
 abbrev pub most_worth : ℕ
-most_worth = 1000
+most_worth = 200000
 
 -- no place pays more than that
 abbrev pub AreWorths : PlaceWorths → Type 0
@@ -45,7 +47,7 @@ earned w d (Work s k) = w d s.0 k.0
 abbrev pub place_cost : Meaning → PlaceWorths → (d s k : ℕ) → ℕ → ℕ
 place_cost c w d s k nurses = staffing_weight * (optimum c d s k - nurses) + w d s k * nurses
 
--- that is at most, by the limits of a case: 1,028,970
+-- that is at most, by the limits of a case: 199,829,970
 abbrev pub most_place : ℕ
 most_place = (staffing_weight + most_worth) * most_small
 
@@ -63,17 +65,9 @@ places_floor c w = sum_below (day_count c) (λ d. sum_below (shift_count c) (λ 
 abbrev pub price_by : Meaning → PlaceWorths → (n d : ℕ) → Choice → ℕ
 price_by c w n d choice = (most_worth - earned w d choice) + request_cost_on c n d (shift_of choice)
 
--- a day off may have a price besides
-abbrev pub free_price : ℕ → Choice → ℕ
-free_price free Off = free
-free_price free (Work s k) = 0
-
-abbrev pub price_with : Meaning → PlaceWorths → (free n d : ℕ) → Choice → ℕ
-price_with c w free n d choice = price_by c w n d choice + free_price free choice
-
 -- what a row costs its nurse at these prices
-abbrev pub row_cost_by : Meaning → PlaceWorths → (free n : ℕ) → Row → ℕ
-row_cost_by c w free n row = own_cost c n (days_of row) + sum_below (length row) (λ d. price_with c w free n d (choice_on row d))
+abbrev pub row_cost_by : Meaning → PlaceWorths → (n : ℕ) → Row → ℕ
+row_cost_by c w n row = own_cost c n (days_of row) + sum_below (length row) (λ d. price_by c w n d (choice_on row d))
 
 -- the nurse has the skills for the row, no absence is worked, no shift of it is forbidden by the one before, and it agrees with the given one on each frozen day
 abbrev pub can_work : Meaning → ℕ → Rows → ℕ → Row → Bool
@@ -93,76 +87,26 @@ abbrev pub HaveRows : Meaning → ℕ → Rows → Type 0
 HaveRows c from given = (n : ℕ) → n < nurse_count c → HasRow c from given n
 
 -- the first of the cheapest of these, and its cost
-abbrev pub floor_row : Meaning → ℕ → Rows → PlaceWorths → (free n : ℕ) → Option Row
-floor_row c from given w free n = first_least (row_cost_by c w free n) (own_rows c from given n)
+abbrev pub floor_row : Meaning → ℕ → Rows → PlaceWorths → (n : ℕ) → Option Row
+floor_row c from given w n = first_least (row_cost_by c w n) (own_rows c from given n)
 
-abbrev pub row_floor : Meaning → ℕ → Rows → PlaceWorths → (free n : ℕ) → ℕ
-row_floor c from given w free n = option_map_or (row_cost_by c w free n) (floor_row c from given w free n) 0
-
--- ---- the least that a nurse costs: over the levelled case, in which an assignment costs 35 points whatever the total and the shift's
--- run are. A day off gets dearer by as much as the extra day of a run costs, and by a pay for assignments: of that and of the totals
--- the nurse has a least cost of its own, as a place has of its nurses.
-
--- for each nurse a pay for assignments, in points
-abbrev pub NursePays : Type 0
-NursePays = (nurse : ℕ) → ℕ
-
-abbrev pub most_pay : ℕ
-most_pay = 2 * assignment_weight
-
-abbrev pub ArePays : NursePays → Type 0
-ArePays pay = (n : ℕ) → pay n ≤ most_pay
-
--- the most assignments that a nurse can have in the end
-abbrev pub most_total : Meaning → ℕ → ℕ
-most_total c n = (past_of c n).assignments + day_count c
-
--- what so many assignments cost: the total, those that they are fewer than the most, and the pay
-abbrev pub total_with_pay : Meaning → (n pay : ℕ) → ℕ → ℕ
-total_with_pay c n pay total = missing_cost c n total + extra_cost c n total + assignment_weight * (most_total c n - total) + pay * total
-
--- a total as near to another one as a nurse can get: not below the history's, and not above the most
-abbrev pub nearest_total : Meaning → ℕ → ℕ → ℕ
-nearest_total c n total = max (past_of c n).assignments (min total (most_total c n))
-
--- it is least there at the least total, or at the greatest
-abbrev pub total_floor : Meaning → (n pay : ℕ) → ℕ
-total_floor c n pay = min (total_with_pay c n pay (nearest_total c n (contract_of c n).total.least)) (total_with_pay c n pay (nearest_total c n (contract_of c n).total.greatest))
-
--- what the levelled case and the prices of days off have counted besides
-abbrev pub level_cost : Meaning → (n pay : ℕ) → ℕ
-level_cost c n pay = (assignment_weight + pay) * most_total c n + shift_run_weight * day_count c
-
--- the price of a day off, 55 points at most
-abbrev pub most_free : ℕ
-most_free = shift_run_weight + most_pay
-
-abbrev pub free_by : NursePays → ℕ → ℕ
-free_by pay n = shift_run_weight + pay n
-
-abbrev pub nurse_floor : Meaning → ℕ → Rows → PlaceWorths → NursePays → ℕ → ℕ
-nurse_floor c from given w pay n = row_floor (levelled c) from given w (free_by pay n) n + total_floor c n (pay n) - level_cost c n (pay n)
+abbrev pub row_floor : Meaning → ℕ → Rows → PlaceWorths → (n : ℕ) → ℕ
+row_floor c from given w n = option_map_or (row_cost_by c w n) (floor_row c from given w n) 0
 
 -- ---- both together
 
--- what the places and, by a floor for each, the nurses cost at least, less the most that a nurse earns, which stands in the price of
--- each day
-abbrev pub floors_together : Meaning → PlaceWorths → (ℕ → ℕ) → ℕ
-floors_together c w floor = places_floor c w + sum_below (nurse_count c) floor - nurse_count c * (day_count c * most_worth)
+-- what the places and the nurses cost at least, less the most that a nurse earns, which stands in the price of each day
+abbrev pub floors_together : Meaning → ℕ → Rows → PlaceWorths → ℕ
+floors_together c from given w = places_floor c w + sum_below (nurse_count c) (row_floor c from given w) - nurse_count c * (day_count c * most_worth)
 
 -- the next multiple of 5, which each penalty is
 abbrev pub rounded_up : ℕ → ℕ
 rounded_up n = 5 * ((n + 4) / 5)
 
--- over the case as it is
 unfoldable pub bound_by : Meaning → ℕ → Rows → PlaceWorths → ℕ
-bound_by c from given w = rounded_up (floors_together c w (row_floor c from given w 0))
+bound_by c from given w = rounded_up (floors_together c from given w)
 
--- over the levelled case
-unfoldable pub levelled_bound : Meaning → ℕ → Rows → PlaceWorths → NursePays → ℕ
-levelled_bound c from given w pay = rounded_up (floors_together c w (nurse_floor c from given w pay))
-
--- ---- the worths and the pays of the first round
+-- ---- the worths of the first round
 
 -- a place asks for nurses: its minimum or its optimum is above 0
 abbrev pub asks_for_nurses : Meaning → (d s k : ℕ) → Bool
@@ -176,21 +120,10 @@ even_worths c worth d s k = if asks_for_nurses c d s k then worth else 0
 abbrev pub first_worths : Meaning → PlaceWorths
 first_worths c = even_worths c staffing_weight
 
--- the most where so many assignments are too few, none where they are too many, else half the most
-abbrev pub first_pay : Limits → ℕ → ℕ
-first_pay asked total = if nat_lt total asked.least then most_pay else if nat_lt asked.greatest total then 0 else assignment_weight
-
--- by the assignments that a nurse has in the given roster, with the history's
-abbrev pub first_pays : Meaning → Rows → NursePays
-first_pays c given n = first_pay (contract_of c n).total (total_of c n (days_of_nurse given n))
-
 -- the bound of the first round
 abbrev pub first_bound : Meaning → ℕ → Rows → ℕ
-first_bound c from given = levelled_bound c from given (first_worths c) (first_pays c given)
+first_bound c from given = bound_by c from given (first_worths c)
 
--- two worths agree at each place of the case, and two pays for each nurse
+-- two worths agree at each place of the case
 abbrev pub SameWorths : Meaning → PlaceWorths → PlaceWorths → Type 0
 SameWorths c w v = (d s k : ℕ) → d < day_count c → s < shift_count c → k < skill_count c → w d s k ≡ v d s k
-
-abbrev pub SamePays : Meaning → NursePays → NursePays → Type 0
-SamePays c pay other = (n : ℕ) → n < nurse_count c → pay n ≡ other n

@@ -5,19 +5,22 @@ ghost use Rattle.roster_instance.specs.Meaning.{Meaning};
 ghost use Rattle.roster_instance.specs.Rosters.{Rows, fits_case};
 ghost use Rattle.roster_rules.specs.HardRules.{keeps_hard};
 ghost use Rattle.roster_rules.specs.Penalties.{penalty};
-ghost use Rattle.roster_bound.specs.Worths.{ArePays, AreWorths, HaveRows, IsLowerBound, NursePays, PlaceWorths, bound_by, levelled_bound, rounded_up};
+ghost use Rattle.roster_bound.specs.Worths.{AreWorths, HaveRows, IsLeast, IsLowerBound, PlaceWorths, bound_by, rounded_up};
 
 use roster_rules::{Case, Roster};
 
 /// Whatever the places pay, what places and nurses cost at least, rounded up to a multiple of 5, is a lower bound on the penalty of
-/// each roster that fits the case, keeps the hard rules and agrees with the given one on the frozen days. So is what they cost at least
-/// where the case is levelled, whatever the nurses' assignments pay.
+/// each roster that fits the case, keeps the hard rules and agrees with the given one on the frozen days.
 pub fn no_roster_is_below_the_bound()
-    ensures rows { (c : Meaning) (from : ℕ) (given : Rows) (w : PlaceWorths) → AreWorths w →
+    ensures { (c : Meaning) (from : ℕ) (given : Rows) (w : PlaceWorths) → AreWorths w →
         IsLowerBound c from given (bound_by c from given w) }
-    ensures levelled { (c : Meaning) (from : ℕ) (given : Rows) (w : PlaceWorths) → AreWorths w →
-        (pay : NursePays) → ArePays pay →
-        IsLowerBound c from given (levelled_bound c from given w pay) }
+{}
+
+/// Where a floor is what a roster costs, none costs less of those that fit the case, keep the hard rules and agree with the given one on
+/// the frozen days.
+pub fn met_bound_is_least()
+    ensures { (c : Meaning) (from : ℕ) (given : Rows) (bound : ℕ) (r : Rows) →
+        IsLowerBound c from given bound → bound ≡ penalty c r → IsLeast c from given r }
 {}
 
 /// In a roster that keeps the hard rules each nurse has a row that agrees with it on the frozen days: the own.

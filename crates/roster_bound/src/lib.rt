@@ -1,21 +1,19 @@
 //! A floor under the penalty of every roster of a case that keeps the hard rules.
 //!
 //! Worths, what places and nurses cost at least by them, and the floor that follows are defined in `specs/Worths.antt`, how worths are
-//! held in `specs/Tables.antt`, what a nurse is offered by them in `specs/Days.antt`, what is kept
-//! of a roster under which a floor is raised in `specs/Levelled.antt`, and the log of a run in `specs/Floors.antt`.
-//! `no_roster_is_below_the_bound` promises that the floor by any worths and pays is one. `lower_bound` promises to be it, and `raise_floor`
-//! that all that it tells is the bound of a round, and no less than the first round's. `improve_worths` gives worths alone.
+//! held in `specs/Tables.antt`, what a nurse is offered by them in `specs/Days.antt`, and the log of a run in `specs/Floors.antt`.
+//! `no_roster_is_below_the_bound` promises that the floor by any worths is one. `lower_bound` promises to be it, and `raise_floor` that
+//! all that it tells is the bound of a round, and no less than the first round's. `improve_worths` gives worths alone.
 #![tactic(auto)]
 
 mod fading;
 mod floors;
 mod laws;
-mod levelled;
 mod moves;
 mod offers;
-mod pays;
 mod places;
 mod rounds;
+mod seen;
 mod workspace;
 mod worths;
 
@@ -24,11 +22,12 @@ pub use fading::{
     take_row,
 };
 pub use floors::{lower_bound, row_floor};
-pub use laws::{bounds_are_rounded_up, no_roster_is_below_the_bound, rows_are_had};
-pub use levelled::Levelled;
+pub use laws::{
+    bounds_are_rounded_up, met_bound_is_least, no_roster_is_below_the_bound, rows_are_had,
+};
 pub use offers::{Base, Terms, choices};
-pub use pays::Pays;
 pub use places::places_floor;
-pub use rounds::{improve_worths, raise_floor};
+pub use rounds::{MOVES, Pace, improve_worths, raise_floor};
+pub use seen::Seen;
 pub use workspace::{FloorWorkspace, RowSpace};
 pub use worths::{MOST_WORTH, Worths};

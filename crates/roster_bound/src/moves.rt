@@ -40,8 +40,8 @@ pub(crate) fn learn(case: &Case, worths: &Worths, cover: &[u16], covers: &mut Co
     }
 }
 
-/// A fading sum with so many nurses, or assignments, more.
-pub(crate) fn faded(sum: u32, more: u16) -> u32 {
+/// A fading sum with so many nurses more.
+fn faded(sum: u32, more: u16) -> u32 {
     let kept = sum as u64 * 179 / 256;
     (256 * more as u64 + kept).min(MOST_SUM as u64) as u32
 }
@@ -57,7 +57,7 @@ fn wanted(case: &Case, worths: &Worths, day: u16, place: u8) -> u16
 {
     let (shift, skill) = (Shift(place / 8), Skill(place % 8));
     let need = case.need(day, shift, skill);
-    if worths.at(day, shift, skill) as u32 <= STAFFING {
+    if worths.at(day, shift, skill) <= STAFFING {
         need.minimum.max(need.optimum)
     } else {
         need.minimum
@@ -76,14 +76,12 @@ pub(crate) fn farthest(covers: &Covers) -> u32
     far
 }
 
-/// Counts a row at its places. The answer is how many days it works.
-pub(crate) fn count_row(row: &[Choice], cover: &mut [u16]) -> u16
+/// Counts a row at its places.
+pub(crate) fn count_row(row: &[Choice], cover: &mut [u16])
     ensures { length cover.new ≡ length cover.old }
 {
-    let mut worked: u16 = 0;
     for day in 0..row.len() {
         if let Choice::Work(shift, skill) = row[day] {
-            worked = worked.saturating_add(1);
             let place = 8 * shift.0 as usize + skill.0 as usize;
             let at = day.saturating_mul(64).saturating_add(place);
             if at < cover.len() {
@@ -91,20 +89,19 @@ pub(crate) fn count_row(row: &[Choice], cover: &mut [u16]) -> u16
             }
         }
     }
-    worked
 }
 
-/// How far a worth moves at most after so many rounds of all, in 256ths of a point: 18 points by the third power of the share of the
-/// rounds that are left.
-pub(crate) fn most_step(made: u16, rounds: u16) -> u32
-    requires made { made ≤ rounds }
-    requires some { 0 < rounds }
-{
-    let left = (rounds - made) as u64;
-    let all = rounds as u64;
+/// How far a worth moves at most after so many moves of all, in 256ths of a point: 18 points by the third power of the share of the
+/// moves that are left.
+pub(crate) fn most_step(made: u64, all: u64) -> u32 {
+    let left = all.saturating_sub(made).min(MOST_MOVES);
+    let all = all.clamp(1, MOST_MOVES);
     let step = FIRST_STEP * left / all * left / all * left / all;
     step.min(FIRST_STEP) as u32
 }
+
+/// So many moves are reckoned with at most.
+const MOST_MOVES: u64 = 1 << 32;
 
 /// 18 points, in 256ths.
 const FIRST_STEP: u64 = 4608;

@@ -11,24 +11,21 @@ ghost use Rattle.roster_rules.specs.Penalties.{request_cost_on};
 ghost use Rattle.roster_rules.specs.Weights.{most_request};
 ghost use Rattle.roster_bound.specs.Days.{offer_if_able, offers_by_worth};
 ghost use Rattle.roster_bound.specs.Tables.{worths_of};
-ghost use Rattle.roster_bound.specs.Worths.{earned, free_price, most_free, most_worth};
+ghost use Rattle.roster_bound.specs.Worths.{earned, most_worth};
 
 use crate::worths::{MOST_WORTH, Worths};
 use arrayvec::ArrayVec;
 use roster_offers::{MOST_CHOICES, Offer, request_cost};
 use roster_rules::{Case, Choice, Roster, Shift, Skill, choice_on, may_take};
 
-/// What a nurse's floor is reckoned by: a case, what its places pay, a roster of which the days before week `from` stay, and what a
-/// day off costs besides, in points.
+/// What a nurse's floor is reckoned by: a case, what its places pay, and a roster of which the days before week `from` stay.
 #[derive(Clone, Copy)]
 pub struct Terms<'a> {
     pub case: &'a Case,
     pub worths: &'a Worths,
     pub given: &'a Roster,
     pub from: u16,
-    pub free: u16,
     pub ghost days: { worths.now.days ≡ day_count case.now },
-    pub ghost cheap: { free ≤ most_free },
 }
 
 /// A case, and a roster of which the days before week `from` stay.
@@ -39,13 +36,12 @@ pub struct Base<'a> {
     pub from: u16,
 }
 
-/// All that a nurse can do on a day, each choice at what the nurse earns less than the most, what the requests cost, and the price of
-/// a day off.
+/// All that a nurse can do on a day, each choice at what the nurse earns less than the most, and what the requests cost.
 pub fn choices(terms: &Terms<'_>, nurse: usize, day: u16) -> ArrayVec<Offer, MOST_CHOICES>
     requires nurse { nurse < nurse_count terms.now.case.now }
     requires day { day < day_count terms.now.case.now }
     ensures offers { result.items ≡ offers_by_worth terms.now.case.now terms.now.from
-        terms.now.given.now (worths_of terms.now.worths.now) terms.now.free nurse day }
+        terms.now.given.now (worths_of terms.now.worths.now) nurse day }
 {
     let case = terms.case;
     let shifts = case.shifts();
@@ -81,12 +77,12 @@ fn offered(terms: &Terms<'_>, nurse: usize, day: u16, choice: Choice, asked: u32
     requires asked { asked ≡ request_cost_on terms.now.case.now nurse day (shift_of choice) }
     requires within { asked ≤ most_request }
     ensures { result ≡ offer_if_able terms.now.case.now terms.now.from terms.now.given.now
-        (worths_of terms.now.worths.now) terms.now.free nurse day choice }
+        (worths_of terms.now.worths.now) nurse day choice }
 {
     let able = may_take(terms.case, nurse, day, choice);
     let kept = keeps_frozen_day(terms, nurse, day, choice);
     let pay = earned(terms, day, choice);
-    let price = (MOST_WORTH - pay) as u32 + asked + free_price(terms, choice);
+    let price = MOST_WORTH - pay + asked;
     offer_if(able && kept, choice, price)
 }
 
@@ -107,7 +103,7 @@ fn keeps_frozen_day(terms: &Terms<'_>, nurse: usize, day: u16, choice: Choice) -
 }
 
 /// What a nurse earns on a day.
-fn earned(terms: &Terms<'_>, day: u16, choice: Choice) -> u16
+fn earned(terms: &Terms<'_>, day: u16, choice: Choice) -> u32
     requires day { day < day_count terms.now.case.now }
     requires choice { is_choice_of terms.now.case.now choice ≡ true }
     ensures pay { result ≡ earned (worths_of terms.now.worths.now) day choice }
@@ -117,16 +113,5 @@ fn earned(terms: &Terms<'_>, day: u16, choice: Choice) -> u16
     match choice {
         Choice::Off => 0,
         Choice::Work(shift, skill) => terms.worths.at(day, shift, skill),
-    }
-}
-
-/// What a day off costs besides.
-fn free_price(terms: &Terms<'_>, choice: Choice) -> u32
-    ensures price { result ≡ free_price terms.now.free choice }
-    ensures within { result ≤ 65535 }
-{
-    match choice {
-        Choice::Off => terms.free as u32,
-        Choice::Work(..) => 0,
     }
 }

@@ -76,12 +76,12 @@ fn place_floor(case: &Case, worths: &Worths, day: u16, shift: Shift, skill: Skil
 }
 
 /// What a place costs with so many nurses: those that are missing, and the pay.
-fn place_cost(optimum: u16, worth: u16, nurses: u16) -> u32
+fn place_cost(optimum: u16, worth: u32, nurses: u16) -> u32
     requires optimum { optimum ≤ most_small }
     requires worth { worth ≤ most_worth }
     requires nurses { nurses ≤ most_small }
     ensures cost { result ≡ staffing_weight * (optimum - nurses) + worth * nurses }
     ensures within { result ≤ most_place }
 {
-    STAFFING * optimum.saturating_sub(nurses) as u32 + worth as u32 * nurses as u32
+    STAFFING * optimum.saturating_sub(nurses) as u32 + worth * nurses as u32
 }

@@ -1,16 +1,14 @@
 //! The memory of a run that raises a floor.
 
 ghost use Rattle.std.specs.Prelude.{◌≡◌, ◌*◌, IfOk, length};
-ghost use Rattle.roster_instance.specs.Levels.{levelled};
 ghost use Rattle.roster_instance.specs.Meaning.{day_count};
 ghost use Rattle.roster_bound.specs.Tables.{worths_of};
-ghost use Rattle.roster_bound.specs.Workspaces.{FitsFloor, FitsRows, IsFirst};
+ghost use Rattle.roster_bound.specs.Workspaces.{FitsFloor, FitsRows};
 ghost use Rattle.roster_bound.specs.Worths.{SameWorths, first_worths};
 
-use crate::levelled::Levelled;
 use crate::moves::Covers;
-use crate::pays::Pays;
 use crate::rounds::FIRST;
+use crate::seen::Seen;
 use crate::worths::Worths;
 use arrayvec::ArrayVec;
 use roster_case::Case;
@@ -18,13 +16,12 @@ use roster_offers::DayOffers;
 use roster_partial::{BestFault, Workspace};
 use std::alloc::Global;
 
-/// What the searches for the nurses' cheapest rows write into: the workspace of a search, the offers of a nurse, how many of these
-/// rows are at each place, 64 places for each day, and how many days each nurse's row works.
+/// What the searches for the nurses' cheapest rows write into: the workspace of a search, the offers of a nurse, and how many of these
+/// rows are at each place, 64 places for each day.
 pub struct RowSpace {
     pub workspace: Workspace,
     pub(crate) offers: DayOffers,
     pub(crate) cover: Vec<u16>,
-    pub(crate) worked: Vec<u16>,
 }
 
 // By hand, so that who drops it has one call to prove.
@@ -34,19 +31,18 @@ impl Drop for RowSpace {
             workspace: _,
             offers: _,
             cover: _,
-            worked: _,
         } = self;
     }
 }
 
-/// What a run that raises a floor writes into: what its searches do, the worths with the covers by which they move, and the nurses'
-/// pays. Beside a search's workspace and a nurse's offers that is 64 times 14 bytes for each day and 14 for each nurse: 332 kB at
-/// most. One serves one run after another.
+/// What a run that raises a floor writes into: what its searches do, the worths with the covers by which they move, and the rows that
+/// were seen. Beside a search's workspace, a nurse's offers and those rows that is 64 times 14 bytes for each day: 326 kB at most. One
+/// serves one run after another.
 pub struct FloorWorkspace {
     pub rows: RowSpace,
     pub worths: Worths,
     pub(crate) covers: Covers,
-    pub(crate) pays: Pays,
+    pub(crate) seen: Seen,
 }
 
 // By hand, so that who drops it has one call to prove.
@@ -56,13 +52,13 @@ impl Drop for FloorWorkspace {
             rows: _,
             worths: _,
             covers: _,
-            pays: _,
+            seen: _,
         } = self;
     }
 }
 
 impl RowSpace {
-    /// Room for the nurses of a case, by at most six growths.
+    /// Room for the nurses of a case, by at most five growths.
     ///
     /// # Errors
     ///
@@ -74,7 +70,6 @@ impl RowSpace {
             workspace: Workspace::for_case(alloc, case)?,
             offers: ArrayVec::new(),
             cover: vec![in alloc; 0; 64 * case.days() as usize]?,
-            worked: vec![in alloc; 0; case.nurses()]?,
         })
     }
 
@@ -106,11 +101,11 @@ impl FloorWorkspace {
                 wanted: vec![in alloc; 0; places]?,
                 had: vec![in alloc; 0; places]?,
             },
-            pays: Pays::of_nurses(alloc, case.nurses())?,
+            seen: Seen::for_case(alloc, case)?,
         })
     }
 
-    /// Begins anew, as if no round had been made: with the worths of the first.
+    /// Begins anew, as if no round had been made: with the worths of the first, and no row seen.
     pub(crate) fn begin(&mut self, case: &Case)
         requires { FitsFloor case.now self.old }
         ensures fits { FitsFloor case.now self.new }
@@ -123,15 +118,6 @@ impl FloorWorkspace {
             self.covers.had[place] = 0;
         }
         self.worths.set_all(case, FIRST);
-    }
-
-    /// The same for a run under a held roster, with the pays of the first round.
-    pub(crate) fn begin_under(&mut self, held: &Levelled)
-        requires { FitsFloor (levelled held.now.case) self.old }
-        ensures fits { FitsFloor (levelled held.now.case) self.new }
-        ensures first { IsFirst held.now self.new }
-    {
-        self.begin(held.case());
-        self.pays.begin(held);
+        self.seen.forget();
     }
 }

@@ -11,8 +11,9 @@ use roster_rules::{Case, Shift, Skill};
 use std::alloc::{AllocError, Global};
 use std::marker::Model;
 
-/// The most that a place pays, in points.
-pub const MOST_WORTH: u16 = 1000;
+/// The most that a place pays, in points: more than whatever a row costs more by one day's other choice, 45,200 on each of three days
+/// and totals besides.
+pub const MOST_WORTH: u32 = 200_000;
 
 /// How many parts of a point a worth is held in.
 pub(crate) const PARTS: u32 = 256;
@@ -47,7 +48,7 @@ impl Worths {
     /// # Errors
     ///
     /// The growth was refused.
-    pub fn even(alloc: Global, case: &Case, worth: u16) -> Result<Worths, AllocError>
+    pub fn even(alloc: Global, case: &Case, worth: u32) -> Result<Worths, AllocError>
         requires { worth ≤ most_worth }
         ensures days { IfOk result (λ worths. worths.days ≡ day_count case.now) }
         ensures fine { IfOk result (λ worths. worths.fine ≡ replicate (64 * day_count case.now)
@@ -56,12 +57,12 @@ impl Worths {
         let days = case.days();
         Ok(Worths {
             days,
-            fine: vec![in alloc; PARTS * worth as u32; 64 * days as usize]?,
+            fine: vec![in alloc; PARTS * worth; 64 * days as usize]?,
         })
     }
 
     /// What a place pays, in points.
-    pub fn at(&self, day: u16, shift: Shift, skill: Skill) -> u16
+    pub fn at(&self, day: u16, shift: Shift, skill: Skill) -> u32
         requires day { day < self.now.days }
         requires shift { shift.0 < 8 }
         requires skill { skill.0 < 8 }
@@ -69,11 +70,29 @@ impl Worths {
         ensures within { result ≤ most_worth }
     {
         let fine = self.fine[64 * day as usize + 8 * shift.0 as usize + skill.0 as usize];
-        ((fine + PARTS / 2) / PARTS) as u16
+        (fine + PARTS / 2) / PARTS
+    }
+
+    /// What a place pays, in 256ths of a point; nothing beyond the places of all days.
+    pub(crate) fn fine_or_none(&self, place: usize) -> u32
+        ensures { result ≤ most_fine }
+    {
+        if place < self.fine.len() {
+            self.fine[place]
+        } else {
+            0
+        }
+    }
+
+    /// The same in points, rounded as it is for use.
+    pub(crate) fn points_or_none(&self, place: usize) -> u32
+        ensures { result ≤ most_worth }
+    {
+        (self.fine_or_none(place) + PARTS / 2) / PARTS
     }
 
     /// Gives each place that asks for nurses the same worth, and none to the others.
-    pub(crate) fn set_all(&mut self, case: &Case, worth: u16)
+    pub(crate) fn set_all(&mut self, case: &Case, worth: u32)
         requires worth { worth ≤ most_worth }
         requires days { self.old.days ≡ day_count case.now }
         ensures days { self.new.days ≡ self.old.days }
@@ -86,8 +105,8 @@ impl Worths {
     }
 
     /// Moves each worth towards what is wanted at its place, by its share of a step: the whole step where wanted and had are so far
-    /// apart.
-    pub(crate) fn follow(&mut self, covers: &Covers, step: u32, far: u32)
+    /// apart. Downwards it moves by so many 256ths more.
+    pub(crate) fn follow(&mut self, covers: &Covers, step: u32, far: u32, more_down: u32)
         requires wanted { length covers.now.wanted.items ≡ 64 * self.old.days }
         requires had { length covers.now.had.items ≡ 64 * self.old.days }
         requires far { 0 < far }
@@ -97,7 +116,7 @@ impl Worths {
             let (wanted, had) = (covers.wanted[place], covers.had[place]);
             let apart = wanted.abs_diff(had) as u64;
             let share = (apart * step as u64 / far as u64).min(step as u64) as u32;
-            self.fine[place] = moved(self.fine[place], wanted, had, share);
+            self.fine[place] = moved(self.fine[place], wanted, had, share, more_down);
         }
     }
 
@@ -110,7 +129,7 @@ impl Worths {
 }
 
 /// A worth in 256ths of a point where the place asks for nurses, else none.
-fn even_worth(case: &Case, place: usize, worth: u16) -> u32
+fn even_worth(case: &Case, place: usize, worth: u32) -> u32
     requires place { place < 64 * day_count case.now }
     requires worth { worth ≤ most_worth }
     ensures fine { result ≡ 256 * even_worths case.now worth (place / 64) (place % 64 / 8)
@@ -118,7 +137,7 @@ fn even_worth(case: &Case, place: usize, worth: u16) -> u32
     ensures within { result ≤ most_fine }
 {
     if asks_for_nurses(case, place) {
-        return PARTS * worth as u32;
+        return PARTS * worth;
     }
     0
 }
@@ -134,22 +153,22 @@ fn asks_for_nurses(case: &Case, place: usize) -> bool
     need.minimum > 0 || need.optimum > 0
 }
 
-/// A worth in 256ths of a point, moved by a share: up where nurses are wanted, and by one more down where there are too many.
-fn moved(fine: u32, wanted: u32, had: u32, share: u32) -> u32
+/// A worth in 256ths of a point, moved by a share: up where nurses are wanted, and by so much more down where there are too many.
+fn moved(fine: u32, wanted: u32, had: u32, share: u32, more_down: u32) -> u32
     requires { fine ≤ most_fine }
     ensures up { had < wanted → result ≡ min (fine + share) most_fine }
-    ensures down { wanted < had → result ≡ fine - (share + 1) }
+    ensures down { wanted < had → result ≡ fine - (share + more_down) }
     ensures same { had ≡ wanted → result ≡ fine }
     ensures within { result ≤ most_fine }
 {
     if had < wanted {
         fine.saturating_add(share).min(MOST_FINE)
     } else if wanted < had {
-        fine.saturating_sub(share.saturating_add(1))
+        fine.saturating_sub(share.saturating_add(more_down))
     } else {
         fine
     }
 }
 
 /// The most in 256ths of a point.
-pub(crate) const MOST_FINE: u32 = 256_000;
+pub(crate) const MOST_FINE: u32 = 51_200_000;

@@ -1,17 +1,13 @@
 //! The command `bound`: a number that no roster costs less than.
 
-ghost use Rattle.std.specs.Prelude.{◌≡◌, true, IfOk};
-ghost use Rattle.roster_instance.specs.Levels.{levelled};
+ghost use Rattle.std.specs.Prelude.{◌≡◌, true};
 ghost use Rattle.roster_instance.specs.Rosters.{fits_case};
-ghost use Rattle.roster_bound.specs.Workspaces.{FitsFloor};
 ghost use Rattle.roster_commands.specs.Answer.{IsBoundFor, Reports, outcome_of, output_of};
 
 use crate::fault::Fault;
 use crate::held::hold;
 use crate::reading::Instance;
-use roster_best::BestFault;
-use roster_bound::{FloorWorkspace, Levelled, raise_floor};
-use roster_case::Held;
+use roster_bound::{FloorWorkspace, raise_floor};
 use roster_reports::write_bound;
 use roster_rounds::{LogFault, rounds_have_room};
 use roster_state::Meter;
@@ -37,32 +33,12 @@ pub(crate) fn report_bound<'a, Out: Write, Log: Write>(
 {
     let mut meter = Meter::new(&mut instance.case);
     let held = hold(alloc, source, instance)?;
-    let Ok(mut floor) = Floor::of(alloc, held) else {
+    let Ok(mut workspace) = FloorWorkspace::for_case(alloc, held.case()) else {
         return Err(Fault::Workspace);
     };
-    rounds_have_room(floor.held.case(), rounds);
-    let workspace = &mut floor.workspace;
-    match raise_floor(&floor.held, rounds, from, workspace, &mut meter, log) {
-        Ok(bound) => Ok(write_bound(output, floor.held.total(), bound)?),
+    rounds_have_room(held.case(), rounds);
+    match raise_floor(&held, rounds, from, &mut workspace, &mut meter, log) {
+        Ok(bound) => Ok(write_bound(output, held.total(), bound)?),
         Err(LogFault::LogFailed { .. }) => Err(Fault::Log),
-    }
-}
-
-/// A roster with its case levelled, and what a run that raises a floor under it writes into.
-#[derive(Drop)]
-struct Floor {
-    held: Levelled,
-    workspace: FloorWorkspace,
-}
-
-impl Floor {
-    /// Levels a held roster's case, and makes room.
-    fn of(alloc: Global, held: Held) -> Result<Floor, BestFault>
-        ensures held { IfOk result (λ floor. floor.held ≡ held) }
-        ensures fits { IfOk result (λ floor. FitsFloor (levelled held.case) floor.workspace) }
-    {
-        let held = Levelled::of(alloc, held)?;
-        let workspace = FloorWorkspace::for_case(alloc, held.case())?;
-        Ok(Floor { held, workspace })
     }
 }

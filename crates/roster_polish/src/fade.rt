@@ -201,7 +201,6 @@ fn fade_nurse(
         worths: pays,
         given: base.given,
         from: base.from,
-        free: 0,
     };
     row_floor(&terms, nurse, &mut floor.rows, meter);
     let row = floor.rows.workspace.row();

@@ -74,7 +74,7 @@ fn price_by_worth(kick: &Kick<'_>, case: &Case, nurse: usize, day: u16, choice: 
         Choice::Off => 0,
         Choice::Work(shift, skill) => kick.worths.at(day, shift, skill),
     };
-    (MOST_WORTH - earned) as u32 + request_cost(case, nurse, day, choice.shift())
+    MOST_WORTH - earned + request_cost(case, nurse, day, choice.shift())
 }
 
 /// The place of a choice among the nine of a day: to be off, then the shifts.

@@ -20,7 +20,9 @@ use crate::random::Random;
 use crate::run::{Course, rounds_within};
 use crate::searches::Searches;
 use crate::space::PolishSpace;
-use roster_bound::{Base, Fading, WHOLE, improve_worths, lacks_nurses, raise_missed};
+use roster_bound::{
+    Base, Fading, MOST_WORTH, MOVES, Pace, WHOLE, improve_worths, lacks_nurses, raise_missed,
+};
 use roster_case::{Case, Choice, HardFault, Roster, Shift, Skill};
 use roster_costs::{
     first_absent_before, first_hard, first_succession_before, first_understaffed_before,
@@ -32,8 +34,10 @@ use roster_state::Meter;
 /// How many passes the first fade makes. Each later one makes twice as many as that before.
 const FIRST_PASSES: u32 = 30;
 
-/// How many passes mend the rows of a fade at most.
-const MENDING_PASSES: u32 = 40;
+/// How many passes mend the rows of a fade at most, and from which of them on a missing nurse outweighs all else.
+const MENDING_PASSES: u32 = 60;
+
+const OUTWEIGHING_FROM: u32 = 40;
 
 /// By how many points the worth of a place that misses nurses is raised before such a pass.
 const RAISE: u32 = 40;
@@ -42,6 +46,12 @@ const RAISE: u32 = 40;
 const MENDING: Fading = Fading {
     share: WHOLE / 2,
     missing: 300,
+};
+
+/// What they pay in the last of these: more for a nurse who is missing than a row can cost more by another choice of one day.
+const OUTWEIGHING: Fading = Fading {
+    share: WHOLE / 8,
+    missing: MOST_WORTH,
 };
 
 /// How many rounds over all nurses the worths are improved before the first fade, at most.
@@ -201,7 +211,11 @@ fn begin_plan(
     base.case.keeps_limits();
     let nurses = base.case.nurses() as u32;
     let rounds = rounds_within(course.searches, ROUNDS_PART, nurses).min(MOST_ROUNDS);
-    improve_worths(base, rounds as u16, &mut space.floor, meter);
+    let pace = Pace {
+        rounds: rounds as u16,
+        moves: MOVES,
+    };
+    improve_worths(base, pace, &mut space.floor, meter);
     space.kept.put_rows(base.given);
     Kicking {
         searches: Searches {
@@ -298,8 +312,9 @@ fn fade_and_mend(
     mend_rows(base, kicking, space, meter)
 }
 
-/// Gives the nurses new rows, pass by pass, while a place that misses nurses pays more each time, until none does or the passes or the
-/// searches end. Says whether the rows keep the hard rules then. The days before week `from` are as they are given.
+/// Gives the nurses new rows, pass by pass, while a place that misses nurses pays more each time, in the last passes more than for all
+/// else, until none does or the passes or the searches end. Says whether the rows keep the hard rules then. The days before week `from`
+/// are as they are given.
 fn mend_rows(
     base: &Base<'_>,
     kicking: &mut Kicking,
@@ -321,7 +336,12 @@ fn mend_rows(
             break;
         }
         raise_missed(base.case, RAISE, &mut space.floor);
-        make_fade_pass(base, MENDING, kicking, space, meter);
+        let fading = if pass < OUTWEIGHING_FROM {
+            MENDING
+        } else {
+            OUTWEIGHING
+        };
+        make_fade_pass(base, fading, kicking, space, meter);
     }
     first_hard(base.case, &space.faded).is_none()
 }

@@ -16,7 +16,7 @@ use crate::random::Random;
 use crate::searches::Searches;
 use crate::settle::settle_first;
 use crate::space::PolishSpace;
-use roster_bound::{Base, improve_worths, rows_are_had};
+use roster_bound::{Base, MOVES, Pace, improve_worths, rows_are_had};
 use roster_case::Held;
 use roster_log::{LogFault, log_word};
 use roster_state::Meter;
@@ -162,7 +162,11 @@ fn begin(held: &Held, course: &Course, space: &mut PolishSpace, meter: &mut Mete
     };
     held.keeps_rules();
     rows_are_had(base.case, base.given, base.from);
-    improve_worths(&base, rounds as u16, &mut space.floor, meter);
+    let pace = Pace {
+        rounds: rounds as u16,
+        moves: if course.kicks { 1 } else { MOVES },
+    };
+    improve_worths(&base, pace, &mut space.floor, meter);
     space.keep(held);
     let left = course.searches - rounds * nurses;
     Kicking {

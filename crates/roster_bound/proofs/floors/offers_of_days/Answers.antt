@@ -25,6 +25,6 @@ loop-day-preserved c =
     let t = c.args.terms.now in
     record {
       days = ap length c.push.ensures.items ∙ length_push c.loop-day.offers.items c.offers_of_day.result ∙ ap (λ n. n + 1) c.loop-day.invariant.days;
-      each = day_more (shift_offers_by_worth t.case.now t.from t.given.now (worths_of t.worths.now) t.free c.args.nurse) c.loop-day.offers.items c.push.new.self.items c.loop-day.day c.offers_of_day.result c.loop-day.invariant.days
+      each = day_more (shift_offers_by_worth t.case.now t.from t.given.now (worths_of t.worths.now) c.args.nurse) c.loop-day.offers.items c.push.new.self.items c.loop-day.day c.offers_of_day.result c.loop-day.invariant.days
           c.loop-day.invariant.each c.push.ensures.items c.offers_of_day.ensures.offers;
     }

@@ -7,5 +7,5 @@ use Rattle.roster_bound.proofs.floors.offers_of_days.Given as goal
 abbrev pub invariant-loop-day : goal.invariant-loop-day
 invariant-loop-day l = record {
   days : length l.offers.items ≡ l.day;
-  each : (day : ℕ) → day < l.day → offers_on l.offers.items day ≡ shift_offers_by_worth l.terms.case.now l.terms.from l.terms.given.now (worths_of l.terms.worths.now) l.terms.free l.nurse day;
+  each : (day : ℕ) → day < l.day → offers_on l.offers.items day ≡ shift_offers_by_worth l.terms.case.now l.terms.from l.terms.given.now (worths_of l.terms.worths.now) l.nurse day;
 }

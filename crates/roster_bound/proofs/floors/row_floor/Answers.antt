@@ -11,13 +11,13 @@ pub search-cost-requires-clause-offers : goal.search-cost-requires-clause-offers
 search-cost-requires-clause-offers c =
     let k = c.args.terms.now.case.now in
     subst (AreOffers k c.args.nurse) (sym c.as_slice.ensures.value)
-    (can_search k c.args.terms.now.from c.args.terms.now.given.now (worths_of c.args.terms.now.worths.now) c.args.terms.now.free c.args.terms.now.cheap c.args.nurse c.requires.row c.offers_of_days.new.offers.items c.offers_of_days.ensures.offers)
+    (can_search k c.args.terms.now.from c.args.terms.now.given.now (worths_of c.args.terms.now.worths.now) c.args.nurse c.requires.row c.offers_of_days.new.offers.items c.offers_of_days.ensures.offers)
 
 pub search-cost-requires-clause-some : goal.search-cost-requires-clause-some
 search-cost-requires-clause-some c =
     let k = c.args.terms.now.case.now in
     subst (λ (offers : List (ArrayVec Offer)). IsSome (best_over k c.args.nurse (offers_on offers))) (sym c.as_slice.ensures.value)
-    (some_found k c.args.terms.now.from c.args.terms.now.given.now (worths_of c.args.terms.now.worths.now) c.args.terms.now.free c.args.terms.now.cheap c.args.nurse c.requires.row c.offers_of_days.new.offers.items c.offers_of_days.ensures.offers)
+    (some_found k c.args.terms.now.from c.args.terms.now.given.now (worths_of c.args.terms.now.worths.now) c.args.nurse c.requires.row c.offers_of_days.new.offers.items c.offers_of_days.ensures.offers)
 
 -- what the search finds over the table
 found : (c : After-start-owed) → IsFound (best_over c.args.terms.now.case.now c.args.nurse (offers_on c.offers_of_days.new.offers.items)) c.search-cost.result c.search-cost.new.self.row
@@ -29,10 +29,10 @@ pub returns-clause-floor : goal.returns-clause-floor
 returns-clause-floor c =
     let k = c.args.terms.now.case.now in
     ap (λ m. m + c.search-cost.result) c.start-owed.ensures.cost
-    ∙ floor_is k c.args.terms.now.from c.args.terms.now.given.now (worths_of c.args.terms.now.worths.now) c.args.terms.now.free c.args.terms.now.cheap c.args.nurse c.requires.row c.offers_of_days.new.offers.items
+    ∙ floor_is k c.args.terms.now.from c.args.terms.now.given.now (worths_of c.args.terms.now.worths.now) c.args.nurse c.requires.row c.offers_of_days.new.offers.items
     c.offers_of_days.ensures.offers c.search-cost.result c.search-cost.new.self.row (found (goal.at.returns-clause-floor c).After-start-owed)
 
 pub returns-clause-row : goal.returns-clause-row
 returns-clause-row c =
-    floor_row_is c.args.terms.now.case.now c.args.terms.now.from c.args.terms.now.given.now (worths_of c.args.terms.now.worths.now) c.args.terms.now.free c.args.terms.now.cheap c.args.nurse c.requires.row c.offers_of_days.new.offers.items
+    floor_row_is c.args.terms.now.case.now c.args.terms.now.from c.args.terms.now.given.now (worths_of c.args.terms.now.worths.now) c.args.nurse c.requires.row c.offers_of_days.new.offers.items
     c.offers_of_days.ensures.offers c.search-cost.result c.search-cost.new.self.row (found (goal.at.returns-clause-row c).After-start-owed)

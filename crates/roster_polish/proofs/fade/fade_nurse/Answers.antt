@@ -13,13 +13,13 @@ fits : (c : After-row-row) → is_row_of c.args.base.now.case.now c.row-row.resu
 fits c =
     let row = c.row_floor.new.rows.workspace.row in
     subst (λ own. is_row_of c.args.base.now.case.now own ≡ true) (sym c.row-row.ensures)
-    (found_fits c.args.base.now.case.now c.args.base.now.from c.args.base.now.given.now (worths_of c.take_row.new.pays) 0 c.args.nurse row c.row_floor.ensures.row)
+    (found_fits c.args.base.now.case.now c.args.base.now.from c.args.base.now.given.now (worths_of c.take_row.new.pays) c.args.nurse row c.row_floor.ensures.row)
 
 stays : (c : After-row-row) → keeps_frozen_days c.args.base.now.case.now c.args.base.now.from c.args.base.now.given.now c.args.nurse c.row-row.result.now ≡ true
 stays c =
     let row = c.row_floor.new.rows.workspace.row in
     subst (λ own. keeps_frozen_days c.args.base.now.case.now c.args.base.now.from c.args.base.now.given.now c.args.nurse own ≡ true) (sym c.row-row.ensures)
-    (found_stays c.args.base.now.case.now c.args.base.now.from c.args.base.now.given.now (worths_of c.take_row.new.pays) 0 c.args.nurse row c.row_floor.ensures.row)
+    (found_stays c.args.base.now.case.now c.args.base.now.from c.args.base.now.given.now (worths_of c.take_row.new.pays) c.args.nurse row c.row_floor.ensures.row)
 
 pub put_row-requires-clause-days : goal.put_row-requires-clause-days
 put_row-requires-clause-days c =
@@ -44,7 +44,7 @@ returns-clause-fits c =
         worths = floor.worths;
         wanted = floor.wanted;
         had = floor.had;
-        pays = floor.pays;
+        seen = floor.seen;
       };
       known = before.known;
       kept_known = before.kept_known;

@@ -7,7 +7,7 @@ invariant-loop-place l = record {
   worths : l.self.worths ≡ l.fn.self.worths;
   wanted : length l.self.covers.wanted.items ≡ length l.fn.self.covers.wanted.items;
   had : length l.self.covers.had.items ≡ length l.fn.self.covers.had.items;
-  pays : l.self.pays ≡ l.fn.self.pays;
+  seen : l.self.seen ≡ l.fn.self.seen;
 }
 
 abbrev pub invariant-loop-place-2 : goal.invariant-loop-place-2
@@ -16,5 +16,5 @@ invariant-loop-place-2 l = record {
   worths : l.self.worths ≡ l.fn.self.worths;
   wanted : length l.self.covers.wanted.items ≡ length l.fn.self.covers.wanted.items;
   had : length l.self.covers.had.items ≡ length l.fn.self.covers.had.items;
-  pays : l.self.pays ≡ l.fn.self.pays;
+  seen : l.self.seen ≡ l.fn.self.seen;
 }
