@@ -28,6 +28,7 @@ use Rattle.roster_search.specs.Rows.{AreRowsIn, BetweenRowsKept, RowCells}
 use Rattle.roster_search.specs.declared.rows.RowShape.{RowShape}
 use Rattle.roster_search.specs.Tables.{AreOfLeast, IsOfferOf, LeadsOn, Stands, label_of}
 use Rattle.roster_search.proofs.CountLaws.{Goes}
+use Rattle.roster_search.proofs.RowLaws.{place_at}
 use Rattle.roster_search.proofs.GroupLaws.{as_place, like_code, like_place, like_weekends}
 use Rattle.roster_search.proofs.BlockLaws.{place_kept, place_lowered, place_set}
 use Rattle.roster_search.proofs.LabelLaws.{label_at-is, label_refused, step_low}
@@ -188,6 +189,42 @@ rows_within z s first rows fits some few =
     let last = with_assignments (with_weekends s (s.weekends + (rows - 1))) a in
     let last_fits = all-fit z last (record { last = f.last; run = f.run; shift_run = f.shift_run; assignments = omega (arith, f.assignments); weekends = omega (arith, some, few) }) in
     omega (arith, numbered-within z last last_fits, code_rows z s first (rows - 1) a, one_row_less rows z.assignments some, f.assignments)
+
+-- ---- rows that are one run of cells: one alone, or some that touch
+
+abbrev pub IsOneRun : (rows width side : ℕ) → Type 0
+IsOneRun rows width side = (rows ≡ 1) ⊎ (width ≡ side)
+
+-- which place of which row a cell is
+pub record RunPlace (rows width side j : ℕ) : Type 0 where
+  pub row : ℕ
+  pub place : ℕ
+  pub in_rows : row < rows
+  pub inside : place < width
+  pub is : row * side + place ≡ j
+
+no_row_more : (rows side : ℕ) → rows ≡ 1 → (rows - 1) * side ≡ 0
+no_row_more rows side one =
+    let none : rows - 1 ≡ 0 = omega (arith, one) in
+    ap (λ k. k * side) none ∙ omega arith
+
+pub run_place : (rows width side j : ℕ) → 0 < rows → 0 < width → IsOneRun rows width side → j < (rows - 1) * side + width → RunPlace rows width side j
+run_place rows width side j some wide (inl one) below = record { row = 0; place = j; in_rows = some; inside = omega (arith, below, no_row_more rows side one); is = omega arith }
+run_place rows width side j some wide (inr touch) below =
+    let at = place_at rows side j (omega (arith, wide, touch)) (omega (arith, below, one_row_less rows side some, touch)) in
+    record { row = at.row; place = at.place; in_rows = at.in_rows; inside = omega (arith, at.inside, touch); is = at.is }
+
+-- no place beside the rows is written
+pub run_kept : (rows side from end code : ℕ) → from < end → end ≤ side → IsOneRun rows (end - from) side → (old new : List ℕ) → SameOutside (code + from) (code + from + ((rows - 1) * side + (end - from))) old new
+    → (i a : ℕ) → i < rows → a < side → (a < from) ⊎ (end ≤ a) → slice_index_or new (code + (i * side + a)) 0 ≡ slice_index_or old (code + (i * side + a)) 0
+run_kept rows side from end code some whole (inl one) old new others i a in_rows inside beside =
+    let first : i ≡ 0 = omega (arith, in_rows, one) in
+    let none : i * side ≡ 0 = ap (λ k. k * side) first ∙ omega arith in
+    elim beside [
+      | inl before ↦ others.before (code + (i * side + a)) (omega (arith, none, before))
+      | inr after ↦ others.after (code + (i * side + a)) (omega (arith, none, after, some, no_row_more rows side one))
+    ]
+run_kept rows side from end code some whole (inr touch) old new others i a in_rows inside beside = absurd (elim beside [ inl before ↦ omega (arith, before, touch, whole, some) | inr after ↦ omega (arith, after, inside, touch, whole, some) ])
 
 -- a row and a place of a stretch are within its rows
 pub in_rows-end : (rows side i a : ℕ) → i < rows → a < side → i * side + a < rows * side

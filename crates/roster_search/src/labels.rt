@@ -153,7 +153,12 @@ fn label_group(
 {
     let days = &day.days;
     days.case.keeps_limits();
-    if !group.can_be(days.case, days.nurse) {
+    let own = NurseDays {
+        case: days.case,
+        nurse: days.nurse,
+        rules: days.rules,
+    };
+    if !own.can_be(&group) {
         return;
     }
     let side = days.ranges.assignments();
@@ -172,7 +177,7 @@ fn label_group(
             from,
             end,
         };
-        let alike = left.alike_rows(days.case, days.nurse, day.day);
+        let alike = own.alike_rows(day.day, &left);
         let rows = rows_with_room(alike, side);
         let alike = Stretch { rows, ..left };
         label_rows(day, &alike, labels, pointers, room, meter);
@@ -211,11 +216,17 @@ fn label_rows(
     ensures put { IsPut day.now rows.now labels.old labels.new pointers.old pointers.new }
     ensures counted { meter.new ≡ meter.old + stretch_steps day.now rows.now }
 {
-    let (case, nurse) = (day.days.case, day.days.nurse);
+    let SearchDays {
+        case,
+        nurse,
+        rules,
+        ..
+    } = day.days;
+    let own = NurseDays { case, nurse, rules };
     let mut from = rows.from;
     while from < rows.end {
         let left = Stretch { from, ..*rows };
-        let end = left.alike_end(case, nurse);
+        let end = own.alike_end(&left);
         let part = Stretch { end, ..left };
         label_stretch(day, &part, labels, pointers, &mut room.numbers, meter);
         from = end;
@@ -241,7 +252,8 @@ fn label_stretch(
     ensures counted { meter.new ≡ meter.old + stretch_steps day.now stretch.now }
 {
     let ranges = &day.days.ranges;
-    let code = stretch.block.first(ranges) as usize + stretch.from as usize;
+    let first = stretch.block.first(ranges);
+    let code = first as usize + stretch.from as usize;
     let between = (stretch.rows - 1) * ranges.assignments();
     let count = (between + (stretch.end - stretch.from)) as usize;
     let numbers = &mut numbers[..count];
@@ -252,26 +264,54 @@ fn label_stretch(
         numbers,
         meter,
     );
-    put_numbers(day, stretch, numbers, pointers);
+    put_numbers(day, stretch, first, numbers, pointers);
 }
 
-/// Puts the numbers of a stretch in the places of its pointers, row by row.
-fn put_numbers(day: &OpenDay<'_, '_>, stretch: &Stretch, numbers: &[u8], pointers: &mut Pointers)
+/// Puts the numbers of a stretch in the places of its pointers, where the code of its first block is known.
+#[inline(always)]
+fn put_numbers(
+    day: &OpenDay<'_, '_>,
+    stretch: &Stretch,
+    first: u32,
+    numbers: &[u8],
+    pointers: &mut Pointers,
+)
     requires stretch { IsStretchOf day.now stretch.now }
+    requires first { first ≡ code_of day.now.days.ranges stretch.now.block }
     requires numbers { length numbers.now ≡ places_of day.now stretch.now }
     requires small { AreHalfBytes day.now stretch.now numbers.now }
     requires room { day.now.first + product day.now.days.ranges ≤ length pointers.old }
     ensures put { ArePointersPut day.now stretch.now numbers.now pointers.old pointers.new }
 {
-    let ranges = &day.days.ranges;
-    let side = ranges.assignments() as usize;
-    let width = (stretch.end - stretch.from) as usize;
-    let code = stretch.block.first(ranges) as usize + stretch.from as usize;
-    // Rows that touch are one.
-    if width == side {
+    let side = day.days.ranges.assignments();
+    let code = first as usize + stretch.from as usize;
+    // One row alone, and rows that touch, are one run of places.
+    if stretch.rows == 1 || stretch.end - stretch.from == side {
         pointers.set_run(day.first as usize + code, numbers);
         return;
     }
+    put_apart(day, stretch, first, numbers, pointers);
+}
+
+/// The same, one row after another.
+#[inline(never)]
+fn put_apart(
+    day: &OpenDay<'_, '_>,
+    stretch: &Stretch,
+    first: u32,
+    numbers: &[u8],
+    pointers: &mut Pointers,
+)
+    requires stretch { IsStretchOf day.now stretch.now }
+    requires first { first ≡ code_of day.now.days.ranges stretch.now.block }
+    requires numbers { length numbers.now ≡ places_of day.now stretch.now }
+    requires small { AreHalfBytes day.now stretch.now numbers.now }
+    requires room { day.now.first + product day.now.days.ranges ≤ length pointers.old }
+    ensures put { ArePointersPut day.now stretch.now numbers.now pointers.old pointers.new }
+{
+    let side = day.days.ranges.assignments() as usize;
+    let width = (stretch.end - stretch.from) as usize;
+    let code = first as usize + stretch.from as usize;
     'rows: for row in 0..stretch.rows as usize {
         let at = row * side;
         pointers.set_run(day.first as usize + code + at, &numbers[at..at + width]);

@@ -18,6 +18,7 @@ pub(crate) struct RowShape {
 }
 
 /// Sets the labels of the rows to other ones with so much more, and their numbers to one.
+#[inline(always)]
 pub(crate) fn set_rows(
     shape: RowShape,
     labels: &mut [u32],
@@ -36,12 +37,36 @@ pub(crate) fn set_rows(
     ensures between { BetweenRowsKept shape labels.old labels.new }
     ensures lengths { KeepLengths labels.old labels.new numbers.old numbers.new }
 {
-    // Rows that touch are one.
-    if shape.width == shape.side {
+    let RowShape { rows, width, side } = shape;
+    // One row alone, and rows that touch, are one run of cells.
+    if rows == 1 || width == side {
         set_all(labels, others, more, NO_ROW);
         numbers.fill(number);
         return;
     }
+    set_apart(shape, labels, numbers, others, more, number);
+}
+
+/// The same, one row after another.
+#[inline(never)]
+fn set_apart(
+    shape: RowShape,
+    labels: &mut [u32],
+    numbers: &mut [u8],
+    others: &[u32],
+    more: u32,
+    number: u8,
+)
+    requires rows { AreRowsIn shape (length labels.old) }
+    requires short { length labels.old ≤ most_places }
+    requires numbers { length numbers.old ≡ length labels.old }
+    requires others { length others.now ≡ length labels.old }
+    ensures labels { RowCells shape (λ j label. label ≡ min (raised others.now more j) no_row)
+        labels.new }
+    ensures numbers { RowCells shape (λ j x. x ≡ number) numbers.new }
+    ensures between { BetweenRowsKept shape labels.old labels.new }
+    ensures lengths { KeepLengths labels.old labels.new numbers.old numbers.new }
+{
     'rows: for row in 0..shape.rows {
         let at = row * shape.side;
         let end = at + shape.width;
@@ -51,6 +76,7 @@ pub(crate) fn set_rows(
 }
 
 /// Lowers the labels of the rows to other ones with so much more, and sets the numbers of those that become smaller.
+#[inline(always)]
 pub(crate) fn lower_rows(
     shape: RowShape,
     labels: &mut [u32],
@@ -70,10 +96,34 @@ pub(crate) fn lower_rows(
     ensures between { BetweenRowsKept shape labels.old labels.new }
     ensures lengths { KeepLengths labels.old labels.new numbers.old numbers.new }
 {
-    if shape.width == shape.side {
+    if shape.rows == 1 || shape.width == shape.side {
         lower_all(labels, numbers, others, more, number);
         return;
     }
+    lower_apart(shape, labels, numbers, others, more, number);
+}
+
+/// The same, one row after another.
+#[inline(never)]
+fn lower_apart(
+    shape: RowShape,
+    labels: &mut [u32],
+    numbers: &mut [u8],
+    others: &[u32],
+    more: u32,
+    number: u8,
+)
+    requires rows { AreRowsIn shape (length labels.old) }
+    requires short { length labels.old ≤ most_places }
+    requires numbers { length numbers.old ≡ length labels.old }
+    requires others { length others.now ≡ length labels.old }
+    ensures labels { RowCells shape (λ j label. label ≡ min (slice_index_or labels.old j 0)
+        (raised others.now more j)) labels.new }
+    ensures numbers { RowCells shape (λ j x. x ≡ pointer_by (slice_index_or labels.old j 0)
+        (raised others.now more j) (slice_index_or numbers.old j 0) number) numbers.new }
+    ensures between { BetweenRowsKept shape labels.old labels.new }
+    ensures lengths { KeepLengths labels.old labels.new numbers.old numbers.new }
+{
     'rows: for row in 0..shape.rows {
         let at = row * shape.side;
         let end = at + shape.width;

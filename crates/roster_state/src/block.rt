@@ -10,6 +10,7 @@ ghost use Rattle.roster_state.specs.Room.{most_of_step};
 ghost use Rattle.roster_state.specs.Standing.{can_be, excess};
 ghost use Rattle.roster_state.specs.Step.{with_assignments, with_weekends};
 
+use crate::days::NurseDays;
 use crate::ranges::Ranges;
 use crate::state::{State, shift_digit, shift_numbered};
 use crate::step::{cost_apart, next_of};
@@ -140,26 +141,6 @@ impl Block {
         }
     }
 
-    /// Whether a row may lead to its states: a run of days off goes with no run of a shift, and a run of a shift is no longer than
-    /// the working days in a row, as far as these are told apart and the history doesn't say otherwise. What a search leaves out by
-    /// this no row meets, since it holds before the first day and goes on from day to day.
-    #[inline(always)]
-    pub fn can_be(&self, case: &Case, nurse: usize) -> bool
-        requires nurse { nurse < nurse_count case.now }
-        ensures { result ≡ can_be case.now nurse self.now }
-    {
-        let rules = case.contract_rules(nurse);
-        match self.state.last {
-            None => self.state.run <= rules.free.cap() && self.state.shift_run == 0,
-            Some(shift) => can_work(
-                &self.state,
-                rules.working,
-                case.run_of_shift(shift),
-                excess(case.past(nurse)),
-            ),
-        }
-    }
-
     /// How many places a block has: the greater of the least and the greatest total, and one more.
     pub fn places(&self, ranges: &Ranges) -> u32
         ensures places { result ≡ ranges.now.assignments }
@@ -177,6 +158,28 @@ impl Block {
         ensures within { result + ranges.now.assignments ≤ product ranges.now }
     {
         self.state.code(ranges)
+    }
+}
+
+impl NurseDays<'_> {
+    /// Whether a row may lead to a block's states: a run of days off goes with no run of a shift, and a run of a shift is no longer than
+    /// the working days in a row, as far as these are told apart and the history doesn't say otherwise. What a search leaves out by
+    /// this no row meets, since it holds before the first day and goes on from day to day.
+    #[inline(always)]
+    pub fn can_be(&self, block: &Block) -> bool
+        requires nurse { self.now.nurse < nurse_count self.now.case.now }
+        ensures { result ≡ can_be self.now.case.now self.now.nurse block.now }
+    {
+        let NurseDays { case, nurse, rules } = *self;
+        match block.state.last {
+            None => block.state.run <= rules.free.cap() && block.state.shift_run == 0,
+            Some(shift) => can_work(
+                &block.state,
+                rules.working,
+                case.run_of_shift(shift),
+                excess(case.past(nurse)),
+            ),
+        }
     }
 }
 

@@ -11,7 +11,7 @@ use Rattle.roster_search.proofs.labels.label_stretch.Goals as goal
 use Rattle.roster_search.proofs.labels.label_stretch.Goals.{After-label_run}
 
 pub slice_bounds-label_run-end : goal.slice_bounds-label_run-end
-slice_bounds-label_run-end c = in_table c.requires.stretch c.first.ensures.first c.assignments.ensures.assignments c.requires.tables.labels_room
+slice_bounds-label_run-end c = in_table c.requires.stretch c.first-first.ensures.first c.assignments.ensures.assignments c.requires.tables.labels_room
 
 pub slice_bounds-numbers-end : goal.slice_bounds-numbers-end
 slice_bounds-numbers-end c = in_room c.requires.stretch c.assignments.ensures.assignments c.requires.numbers_room
@@ -24,11 +24,11 @@ label_run-requires-clause-lengths c =
     let good = c.requires.stretch in
     let is = c.assignments.ensures.assignments in
     let stretch = c.args.stretch.now in
-    let code = c.first.result + stretch.from in
+    let code = c.first-first.result + stretch.from in
     let long = (stretch.rows - 1) * c.assignments.result + (stretch.end - stretch.from) in
     let width : code + long - code ≡ long = omega arith in
     record {
-      labels_length = length-between c.args.labels.now code (code + long) (in_table good c.first.ensures.first is c.requires.tables.labels_room) ∙ width ∙ count_is good is;
+      labels_length = length-between c.args.labels.now code (code + long) (in_table good c.first-first.ensures.first is c.requires.tables.labels_room) ∙ width ∙ count_is good is;
       numbers_length = length-take-le _ c.args.numbers.now (in_room good is c.requires.numbers_room) ∙ count_is good is;
     }
 
@@ -38,14 +38,14 @@ record Labelled (c : After-label_run) (code long : ℕ) : Type 0 where
   labels : length c.label_run.new.labels ≡ long
   put : IsWritten code c.label_run.new.labels c.args.labels.now (put_mid code (code + long - code) c.args.labels.now c.label_run.new.labels)
 
-labelled : (c : After-label_run) → Labelled c (c.first.result + c.args.stretch.now.from) ((c.args.stretch.now.rows - 1) * c.assignments.result + (c.args.stretch.now.end - c.args.stretch.now.from))
+labelled : (c : After-label_run) → Labelled c (c.first-first.result + c.args.stretch.now.from) ((c.args.stretch.now.rows - 1) * c.assignments.result + (c.args.stretch.now.end - c.args.stretch.now.from))
 labelled c =
     let good = c.requires.stretch in
     let is = c.assignments.ensures.assignments in
     let stretch = c.args.stretch.now in
-    let code = c.first.result + stretch.from in
+    let code = c.first-first.result + stretch.from in
     let long = (stretch.rows - 1) * c.assignments.result + (stretch.end - stretch.from) in
-    let room = in_table good c.first.ensures.first is c.requires.tables.labels_room in
+    let room = in_table good c.first-first.ensures.first is c.requires.tables.labels_room in
     let width : code + long - code ≡ long = omega arith in
     let labels = c.label_run.ensures.lengths.of_labels ∙ length-between c.args.labels.now code (code + long) room ∙ width in
     record {
@@ -65,12 +65,12 @@ returns-clause-put c =
     let side = day.days.ranges.assignments in
     let done = labelled (goal.at.returns-clause-put c).After-label_run in
     let is = count_is good c.assignments.ensures.assignments in
-    let code_is = c.first.ensures.first in
-    let code = c.first.result + stretch.from in
+    let code_is = c.first-first.ensures.first in
+    let code = c.first-first.result + stretch.from in
     let long = (stretch.rows - 1) * c.assignments.result + (stretch.end - stretch.from) in
     let put = c.put_numbers.ensures.put in
     let labels : ℕ → ℕ = λ k. get_or (put_mid code (code + long - code) c.args.labels.now c.label_run.new.labels) k 0 in
-    let kept = list_kept side stretch.from stretch.end c.first.result good.assignments good.some_places _ c.label_run.new.labels c.args.labels.now _ done.put
+    let kept = list_kept side stretch.from stretch.end c.first-first.result good.assignments good.some_places _ c.label_run.new.labels c.args.labels.now _ done.put
     (λ j below. get_or-between c.args.labels.now code (code + long) j 0 (omega (arith, below, done.labels))) c.label_run.ensures.between in
     record {
       least = stretch_moved day stretch c.label_run.new.labels c.label_run.new.numbers _ c.put_numbers.new.pointers
@@ -80,7 +80,7 @@ returns-clause-put c =
           ap labels there ∙ done.put.inside (i * side + b) (omega (arith, below, done.labels, is)))
           put.inside c.label_run.ensures.least;
       labels_kept = λ i a in_rows inside beside.
-          let there : code_of day.days.ranges stretch.block + (i * side + a) ≡ c.first.result + (i * side + a) = omega (arith, code_is) in
+          let there : code_of day.days.ranges stretch.block + (i * side + a) ≡ c.first-first.result + (i * side + a) = omega (arith, code_is) in
           ap labels there ∙ kept i a inside beside ∙ ap (λ k. get_or c.args.labels.now k 0) (sym there);
       pointers_kept = put.kept;
       beside = record {

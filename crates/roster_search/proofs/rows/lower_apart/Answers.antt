@@ -6,7 +6,7 @@ use Rattle.roster_lanes.specs.Lanes.{pointer_by, raised}
 use Rattle.roster_search.specs.Halves.{IsWritten}
 use Rattle.roster_search.proofs.PartLaws.{part_put}
 use Rattle.roster_search.proofs.RowLaws.{between_more, done_more, rest_more, row_within}
-use Rattle.roster_search.proofs.rows.lower_rows.Goals as goal
+use Rattle.roster_search.proofs.rows.lower_apart.Goals as goal
 
 pub rows-preserved : goal.rows-preserved
 rows-preserved c =
@@ -27,10 +27,10 @@ rows-preserved c =
     let more = c.args.more in
     let old_labels = c.args.labels.now in
     let old_numbers = c.args.numbers.now in
-    let long = c.lower_all-in-rows.ensures.lengths.0 ∙ wide in
-    let long_numbers = c.lower_all-in-rows.ensures.lengths.1 ∙ wide_numbers in
-    let put = part_put at shape.width labels c.lower_all-in-rows.new.labels long in_labels in
-    let put_numbers = part_put at shape.width numbers c.lower_all-in-rows.new.pointers long_numbers in_numbers in
+    let long = c.lower_all.ensures.lengths.0 ∙ wide in
+    let long_numbers = c.lower_all.ensures.lengths.1 ∙ wide_numbers in
+    let put = part_put at shape.width labels c.lower_all.new.labels long in_labels in
+    let put_numbers = part_put at shape.width numbers c.lower_all.new.pointers long_numbers in_numbers in
     let label_is : (b : ℕ) → b < shape.width → slice_index_or (between at (at + shape.width) labels) b 0 ≡ slice_index_or old_labels (at + b) 0 =
     λ b inside. get_or-between labels at (at + shape.width) b 0 (omega (arith, inside)) ∙ old.labels_rest (at + b) (omega arith) in
     let number_is : (b : ℕ) → b < shape.width → slice_index_or (between at (at + shape.width) numbers) b 0 ≡ slice_index_or old_numbers (at + b) 0 =
@@ -39,9 +39,9 @@ rows-preserved c =
     λ b inside. ap (λ k. (k + more) % 2 ^ 32) (get_or-between others at (at + shape.width) b 0 (omega (arith, inside))) in
     record {
       labels = done_more shape apart row long put (λ j label. label ≡ min (slice_index_or old_labels j 0) (raised others more j)) old.labels
-          (λ b inside. c.lower_all-in-rows.ensures.labels b (omega (arith, inside, wide)) ∙ (λ q. min (label_is b inside q) (other_is b inside q)));
+          (λ b inside. c.lower_all.ensures.labels b (omega (arith, inside, wide)) ∙ (λ q. min (label_is b inside q) (other_is b inside q)));
       numbers = done_more shape apart row long_numbers put_numbers (λ j number. number ≡ pointer_by (slice_index_or old_labels j 0) (raised others more j) (slice_index_or old_numbers j 0) c.args.number) old.numbers
-          (λ b inside. c.lower_all-in-rows.ensures.pointers b (omega (arith, inside, wide)) ∙ (λ q. pointer_by (label_is b inside q) (other_is b inside q) (number_is b inside q) c.args.number));
+          (λ b inside. c.lower_all.ensures.pointers b (omega (arith, inside, wide)) ∙ (λ q. pointer_by (label_is b inside q) (other_is b inside q) (number_is b inside q) c.args.number));
       labels_rest = rest_more shape apart row long put old_labels old.labels_rest;
       numbers_rest = rest_more shape apart row long_numbers put_numbers old_numbers old.numbers_rest;
       between = between_more shape apart row long put old_labels old.between;

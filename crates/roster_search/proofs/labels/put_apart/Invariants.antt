@@ -1,7 +1,7 @@
 use Rattle.std.proofs.Common.{◌≡◌, ◌+◌, ◌-◌, ◌*◌, ◌<◌, ℕ, slice_index_or}
 use Rattle.roster_state.specs.Codes.{code_of}
 use Rattle.roster_search.specs.OpenDays.{KeepsRest, PlacesKept}
-use Rattle.roster_search.proofs.labels.put_numbers.Given as goal
+use Rattle.roster_search.proofs.labels.put_apart.Given as goal
 
 abbrev pub invariant-rows : goal.invariant-rows
 invariant-rows l = record {

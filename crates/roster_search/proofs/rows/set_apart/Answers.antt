@@ -7,7 +7,7 @@ use Rattle.roster_offers.specs.Lists.{no_row}
 use Rattle.roster_search.specs.Halves.{IsWritten}
 use Rattle.roster_search.proofs.PartLaws.{part_put}
 use Rattle.roster_search.proofs.RowLaws.{between_more, done_more, row_within}
-use Rattle.roster_search.proofs.rows.set_rows.Goals as goal
+use Rattle.roster_search.proofs.rows.set_apart.Goals as goal
 
 pub rows-preserved : goal.rows-preserved
 rows-preserved c =
@@ -25,14 +25,14 @@ rows-preserved c =
     let wide = length-between labels at (at + shape.width) in_labels ∙ width in
     let wide_numbers = length-between numbers at (at + shape.width) in_numbers ∙ width in
     let others = c.args.others.now in
-    let long = c.set_all-in-rows.ensures.length ∙ wide in
-    let long_numbers = c.fill-in-rows.auto.self ∙ wide_numbers in
-    let put = part_put at shape.width labels c.set_all-in-rows.new.labels long in_labels in
-    let put_numbers = part_put at shape.width numbers c.fill-in-rows.new.self long_numbers in_numbers in
+    let long = c.set_all.ensures.length ∙ wide in
+    let long_numbers = c.fill.auto.self ∙ wide_numbers in
+    let put = part_put at shape.width labels c.set_all.new.labels long in_labels in
+    let put_numbers = part_put at shape.width numbers c.fill.new.self long_numbers in_numbers in
     record {
       labels = done_more shape apart row long put (λ j label. label ≡ min (raised others c.args.more j) no_row) old.labels
-          (λ b inside. c.set_all-in-rows.ensures.labels b (omega (arith, inside, wide)) ∙ ap (λ k. min ((k + c.args.more) % 2 ^ 32) no_row) (get_or-between others at (at + shape.width) b 0 (omega (arith, inside))));
-      numbers = done_more shape apart row long_numbers put_numbers (λ j number. number ≡ c.args.number) old.numbers (λ b inside. c.fill-in-rows.ensures.clones b 0 (omega (arith, inside, wide_numbers)) refl);
+          (λ b inside. c.set_all.ensures.labels b (omega (arith, inside, wide)) ∙ ap (λ k. min ((k + c.args.more) % 2 ^ 32) no_row) (get_or-between others at (at + shape.width) b 0 (omega (arith, inside))));
+      numbers = done_more shape apart row long_numbers put_numbers (λ j number. number ≡ c.args.number) old.numbers (λ b inside. c.fill.ensures.clones b 0 (omega (arith, inside, wide_numbers)) refl);
       between = between_more shape apart row long put c.args.labels.now old.between;
       lengths = record { of_labels = put.length_stays ∙ old.lengths.of_labels; of_numbers = put_numbers.length_stays ∙ old.lengths.of_numbers };
     }

@@ -3,7 +3,7 @@ use Rattle.roster_lanes.specs.Lanes.{raised}
 use Rattle.roster_offers.specs.Lists.{no_row}
 use Rattle.roster_search.specs.OpenDays.{KeepLengths}
 use Rattle.roster_search.specs.Rows.{BetweenRowsKept}
-use Rattle.roster_search.proofs.rows.set_rows.Given as goal
+use Rattle.roster_search.proofs.rows.set_apart.Given as goal
 
 abbrev pub invariant-rows : goal.invariant-rows
 invariant-rows l = record {

@@ -2,7 +2,7 @@ use Rattle.std.proofs.Common.{◌≡◌, ◌+◌, ◌*◌, ◌<◌, ◌≤◌, �
 use Rattle.roster_lanes.specs.Lanes.{pointer_by, raised}
 use Rattle.roster_search.specs.OpenDays.{KeepLengths}
 use Rattle.roster_search.specs.Rows.{BetweenRowsKept}
-use Rattle.roster_search.proofs.rows.lower_rows.Given as goal
+use Rattle.roster_search.proofs.rows.lower_apart.Given as goal
 
 abbrev pub invariant-rows : goal.invariant-rows
 invariant-rows l = record {
