@@ -9,7 +9,7 @@ use Rattle.std.proofs.lemmas.List.Elements.{All-contains_itself, All-filter, All
 use Rattle.std.proofs.lemmas.List.Sums.{AllPass-from_list_all}
 use Rattle.arrayvec.specs.ArrayVec.{ArrayVec}
 use Rattle.roster_instance.specs.declared.choice.Choice.{Choice}
-use Rattle.roster_instance.specs.declared.choice.Choice.TheVariants.{Off, Work}
+use Rattle.roster_instance.specs.declared.choice.Choice.TheVariants.{Off}
 use Rattle.roster_rules.specs.AllowedRows.{first_least, keeps_frozen_day, keeps_frozen_days}
 use Rattle.roster_instance.specs.Choices.{all_choices, all_rows, days_of, shift_of}
 use Rattle.roster_rules.specs.HardRules.{breaks_succession, is_able, is_able_on, is_here, is_here_on, keeps_hard, keeps_successions, may_take}

@@ -1,5 +1,5 @@
 -- A bound is by the worths at the case's places alone.
-use Rattle.std.proofs.Common.{◌≡◌, ◌∙◌, ◌+◌, ◌-◌, ◌*◌, ◌<◌, ◌==◌, ℕ, Bool, true, false, ap, ap₂, refl, arith, List, [], ◌∷◌, length, nat_lt, Contains, None, Option, Some, if◌then◌else◌}
+use Rattle.std.proofs.Common.{◌≡◌, ◌+◌, ◌-◌, ◌*◌, ◌<◌, ◌==◌, ℕ, Bool, true, false, ap, ap₂, refl, arith, List, [], ◌∷◌, length, nat_lt, Contains, None, Option, Some, if◌then◌else◌}
 use Rattle.std.specs.List.{All, list_all}
 use Rattle.std.specs.Option.{option_map_or}
 use Rattle.std.proofs.lemmas.Bool.{and_parts, eqb-true, ltb-true}

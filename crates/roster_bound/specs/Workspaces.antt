@@ -1,5 +1,5 @@
 -- What a run that raises a floor has room for.
-use Rattle.std.specs.Prelude.{◌≡◌, ℕ, ◌*◌, length, true}
+use Rattle.std.specs.Prelude.{◌≡◌, ◌*◌, length, true}
 use Rattle.roster_instance.specs.Meaning.{Meaning, day_count}
 use Rattle.roster_partial.specs.Workspaces.{fits_space}
 use Rattle.roster_bound.specs.Seen.{FitsSeen}

@@ -170,20 +170,14 @@ fn make_round(base: &Base<'_>, workspace: &mut FloorWorkspace, meter: &mut Meter
         * greatest_extension_count base.now.case.now }
     ensures fits { FitsFloor base.now.case.now workspace.new }
 {
-    let FloorWorkspace {
-        rows,
-        worths,
-        seen,
-        ..
-    } = workspace;
-    worths.keep_most();
+    workspace.worths.keep_most();
     let terms = Terms {
         case: base.case,
-        worths,
+        worths: &workspace.worths,
         given: base.given,
         from: base.from,
     };
-    lower_bound(&terms, rows, seen, meter)
+    lower_bound(&terms, &mut workspace.rows, &mut workspace.seen, meter)
 }
 
 /// Moves the worths after a round, `made` of all rounds having been made before it.

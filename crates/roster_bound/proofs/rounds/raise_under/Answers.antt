@@ -1,4 +1,4 @@
-use Rattle.std.proofs.Common.{◌∙◌, ◌≡◌, ℕ, arith, subst, sym}
+use Rattle.std.proofs.Common.{◌∙◌, ◌≡◌, ℕ, arith, subst}
 use Rattle.std.proofs.lemmas.Result.{err_from_is_err_and}
 use Rattle.roster_text.specs.Io.{BreaksIn, Sends}
 use Rattle.roster_instance.specs.Meaning.{Meaning}
