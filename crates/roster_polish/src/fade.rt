@@ -19,7 +19,7 @@ use crate::random::Random;
 use crate::settle::Aim;
 use crate::space::PolishSpace;
 use crate::stay::stay_if_no_dearer;
-use crate::visit::{is_left_out, offer_days, search_offered};
+use crate::visit::{Turn, visit};
 use roster_bound::{
     Base, Fading, Terms, WHOLE, follow_cover, lacks_nurses, pay_places, put_row, rows_are_had,
     take_row,
@@ -215,24 +215,21 @@ pub(crate) fn make_fade_pass(
         let turn = Turn {
             nurse: space.order[place],
             surely: place == 0,
-            fading,
         };
-        let searched = fade_nurse(base, turn, space, meter);
+        let searched = fade_nurse(base, turn, fading, space, meter);
         kicking.searches.take_if(searched);
     }
 }
 
-/// A nurse's turn in a pass, and whether she is surely searched.
-#[derive(Clone, Copy)]
-struct Turn {
-    nurse: usize,
-    surely: bool,
-    fading: Fading,
-}
-
 /// Gives a nurse the best row by what the places pay without the present one, or leaves her out. The days before week `from` are as they
 /// are given. Says whether she was searched.
-fn fade_nurse(base: &Base<'_>, turn: Turn, space: &mut PolishSpace, meter: &mut Meter) -> bool
+fn fade_nurse(
+    base: &Base<'_>,
+    turn: Turn,
+    fading: Fading,
+    space: &mut PolishSpace,
+    meter: &mut Meter,
+) -> bool
     requires each { HaveRows base.now.case.now base.now.from base.now.given.now }
     requires nurse { turn.nurse < nurse_count base.now.case.now }
     requires fits { FitsPolish base.now.case.now space.old }
@@ -243,10 +240,9 @@ fn fade_nurse(base: &Base<'_>, turn: Turn, space: &mut PolishSpace, meter: &mut 
     ensures frozen { FrozenDaysStay base.now.case.now base.now.from base.now.given.now
         space.new.faded }
     ensures surely { turn.surely ≡ true → result ≡ true }
-    ensures searched { result ≡ true → meter.old + day_count base.now.case.now ≤ meter.new }
-    ensures counted { result ≡ true → meter.new ≤ meter.old + extension_count base.now.case.now
-        turn.nurse }
+    ensures each_day { result ≡ true → meter.old + day_count base.now.case.now ≤ meter.new }
     ensures spared { result ≡ false → meter.new ≡ meter.old }
+    ensures counted { meter.new ≤ meter.old + extension_count base.now.case.now turn.nurse }
     ensures fits { FitsPolish base.now.case.now space.new }
 {
     let PolishSpace {
@@ -256,7 +252,7 @@ fn fade_nurse(base: &Base<'_>, turn: Turn, space: &mut PolishSpace, meter: &mut 
         faded,
         ..
     } = space;
-    let (case, nurse, fading) = (base.case, turn.nurse, turn.fading);
+    let (case, nurse) = (base.case, turn.nurse);
     take_row(case, faded.row(nurse), fading, floor, pays);
     let terms = Terms {
         case,
@@ -265,11 +261,8 @@ fn fade_nurse(base: &Base<'_>, turn: Turn, space: &mut PolishSpace, meter: &mut 
         from: base.from,
     };
     let workspace = &mut floor.rows.workspace;
-    offer_days(&terms, nurse, workspace);
-    let row = faded.row(nurse);
-    let searched = turn.surely || !is_left_out(&terms, nurse, row, workspace.offers(), last);
+    let searched = visit(&terms, turn, faded.row(nurse), workspace, last, meter);
     if searched {
-        search_offered(&terms, nurse, workspace, last, meter);
         faded.put_row(nurse, workspace.row());
     }
     put_row(case, faded.row(nurse), fading, floor, pays);

@@ -1,6 +1,6 @@
 //! Whether a nurse whose turn it is in a fade is left out.
 
-ghost use Rattle.std.specs.Prelude.{◌≡◌, ◌+◌, ◌<◌, ◌≤◌, Some, true};
+ghost use Rattle.std.specs.Prelude.{◌≡◌, ◌+◌, ◌<◌, ◌≤◌, ◌||◌, Some, false, not, true};
 ghost use Rattle.roster_bundle.specs.Limits.{greatest_u64};
 ghost use Rattle.roster_instance.specs.Meaning.{day_count, nurse_count};
 ghost use Rattle.roster_instance.specs.Rosters.{is_row_of};
@@ -22,8 +22,48 @@ use roster_state::Meter;
 /// A nurse is left out where her row can be no more than so many points cheaper.
 const LEAST_GAIN: u64 = 5;
 
+/// A nurse's turn in a pass, and whether she is surely searched.
+#[derive(Clone, Copy)]
+pub(crate) struct Turn {
+    pub(crate) nurse: usize,
+    pub(crate) surely: bool,
+}
+
+/// Searches a nurse's best row by what places pay, or leaves her out. `row` is her present one. Says whether she was searched.
+pub(crate) fn visit(
+    terms: &Terms<'_>,
+    turn: Turn,
+    row: &[Choice],
+    workspace: &mut Workspace,
+    last: &mut LastSearches,
+    meter: &mut Meter,
+) -> bool
+    requires own { HasRow terms.now.case.now terms.now.from terms.now.given.now turn.nurse }
+    requires nurse { turn.nurse < nurse_count terms.now.case.now }
+    requires row { is_row_of terms.now.case.now row.now ≡ true }
+    requires fits { fits_space terms.now.case.now workspace.old ≡ true }
+    requires known { IsKnown terms.now.case.now last.old }
+    requires room { meter.old + extension_count terms.now.case.now turn.nurse ≤ greatest_u64 }
+    ensures searched { result ≡ (turn.surely || not (is_left_out terms.now.case.now terms.now.from
+        terms.now.given.now (worths_of terms.now.worths.now) last.old turn.nurse row.now)) }
+    ensures row { result ≡ true → floor_row terms.now.case.now terms.now.from terms.now.given.now
+        (worths_of terms.now.worths.now) turn.nurse ≡ Some workspace.new.row }
+    ensures each_day { result ≡ true → meter.old + day_count terms.now.case.now ≤ meter.new }
+    ensures spared { result ≡ false → meter.new ≡ meter.old }
+    ensures counted { meter.new ≤ meter.old + extension_count terms.now.case.now turn.nurse }
+    ensures fits { fits_space terms.now.case.now workspace.new ≡ true }
+    ensures known { IsKnown terms.now.case.now last.new }
+{
+    offer_days(terms, turn.nurse, workspace);
+    if !turn.surely && is_left_out(terms, turn.nurse, row, workspace.offers(), last) {
+        return false;
+    }
+    search_offered(terms, turn.nurse, workspace, last, meter);
+    true
+}
+
 /// Puts a nurse's offers of each day, one for each shift, at what places pay, into a workspace in the place of others.
-pub(crate) fn offer_days(terms: &Terms<'_>, nurse: usize, workspace: &mut Workspace)
+fn offer_days(terms: &Terms<'_>, nurse: usize, workspace: &mut Workspace)
     requires nurse { nurse < nurse_count terms.now.case.now }
     requires fits { fits_space terms.now.case.now workspace.old ≡ true }
     ensures offers { AreWorthOffers terms.now.case.now terms.now.from terms.now.given.now
@@ -38,7 +78,7 @@ pub(crate) fn offer_days(terms: &Terms<'_>, nurse: usize, workspace: &mut Worksp
 }
 
 /// Searches a nurse's best row by the offers that were put into a workspace, and keeps what the search tells.
-pub(crate) fn search_offered(
+fn search_offered(
     terms: &Terms<'_>,
     nurse: usize,
     workspace: &mut Workspace,
@@ -65,7 +105,7 @@ pub(crate) fn search_offered(
 
 /// Whether a nurse's row, which is the one that her last search found, can be no more than five points cheaper by these offers: so much
 /// the prices tell that have changed since that search. A nurse without one isn't left out.
-pub(crate) fn is_left_out(
+fn is_left_out(
     terms: &Terms<'_>,
     nurse: usize,
     row: &[Choice],
