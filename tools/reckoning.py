@@ -337,8 +337,8 @@ def shares(wanted, had, step):
 
 
 def next_worth(fine, wanted, had, share):
-    """More where nurses are wanted, less where there are too many: by 200,000 points at most, and by one 256th more downwards."""
-    return min(fine + share, 51_200_000) if had < wanted else max(0, fine - share - 1) if wanted < had else fine
+    """More where nurses are wanted, less where there are too many, up to 200,000 points."""
+    return min(fine + share, 51_200_000) if had < wanted else max(0, fine - share) if wanted < had else fine
 
 
 class Seen:

@@ -105,8 +105,8 @@ impl Worths {
     }
 
     /// Moves each worth towards what is wanted at its place, by its share of a step: the whole step where wanted and had are so far
-    /// apart.
-    pub(crate) fn follow(&mut self, covers: &Covers, step: u32, far: u32)
+    /// apart. Downwards it moves by so many 256ths more.
+    pub(crate) fn follow(&mut self, covers: &Covers, step: u32, far: u32, more_down: u32)
         requires wanted { length covers.now.wanted.items ≡ 64 * self.old.days }
         requires had { length covers.now.had.items ≡ 64 * self.old.days }
         requires far { 0 < far }
@@ -116,7 +116,7 @@ impl Worths {
             let (wanted, had) = (covers.wanted[place], covers.had[place]);
             let apart = wanted.abs_diff(had) as u64;
             let share = (apart * step as u64 / far as u64).min(step as u64) as u32;
-            self.fine[place] = moved(self.fine[place], wanted, had, share);
+            self.fine[place] = moved(self.fine[place], wanted, had, share, more_down);
         }
     }
 
@@ -153,18 +153,18 @@ fn asks_for_nurses(case: &Case, place: usize) -> bool
     need.minimum > 0 || need.optimum > 0
 }
 
-/// A worth in 256ths of a point, moved by a share: up where nurses are wanted, and by one more down where there are too many.
-fn moved(fine: u32, wanted: u32, had: u32, share: u32) -> u32
+/// A worth in 256ths of a point, moved by a share: up where nurses are wanted, and by so much more down where there are too many.
+fn moved(fine: u32, wanted: u32, had: u32, share: u32, more_down: u32) -> u32
     requires { fine ≤ most_fine }
     ensures up { had < wanted → result ≡ min (fine + share) most_fine }
-    ensures down { wanted < had → result ≡ fine - (share + 1) }
+    ensures down { wanted < had → result ≡ fine - (share + more_down) }
     ensures same { had ≡ wanted → result ≡ fine }
     ensures within { result ≤ most_fine }
 {
     if had < wanted {
         fine.saturating_add(share).min(MOST_FINE)
     } else if wanted < had {
-        fine.saturating_sub(share.saturating_add(1))
+        fine.saturating_sub(share.saturating_add(more_down))
     } else {
         fine
     }

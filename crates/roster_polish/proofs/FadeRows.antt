@@ -21,10 +21,10 @@ use Rattle.roster_laws.proofs.Frozen.{frozen_is}
 use Rattle.roster_laws.proofs.OneRow.{other_row, own_row}
 use Rattle.roster_bound.specs.Worths.{PlaceWorths, can_work, floor_row, own_rows, row_cost_by}
 
-module _ (c : Meaning) (from : ℕ) (given : Rows) (w : PlaceWorths) (free n : ℕ) (row : Row) (is : floor_row c from given w free n ≡ Some row) where
+module _ (c : Meaning) (from : ℕ) (given : Rows) (w : PlaceWorths) (n : ℕ) (row : Row) (is : floor_row c from given w n ≡ Some row) where
   among : Contains (own_rows c from given n) row
   among =
-      let found = least.found (row_cost_by c w free n) (own_rows c from given n) row is in
+      let found = least.found (row_cost_by c w n) (own_rows c from given n) row is in
       rw found.split (Contains-append_right found.before (row ∷ found.after) row (0, omega arith, refl))
 
   pub found_fits : is_row_of c row ≡ true

@@ -212,8 +212,9 @@ pub(crate) fn make_fade_pass(
         if kicking.searches.left == 0 {
             break;
         }
+        let nurse = space.order[place];
         let turn = Turn {
-            nurse: space.order[place],
+            nurse,
             surely: place == 0,
         };
         let searched = fade_nurse(base, turn, fading, space, meter);

@@ -23,7 +23,7 @@ returns c =
           worths = fits.floor.worths;
           wanted = fits.floor.wanted;
           had = fits.floor.had;
-          pays = fits.floor.pays;
+          seen = fits.floor.seen;
         };
         known = told.known;
         kept_known = fits.kept_known;
