@@ -1,4 +1,5 @@
-use Rattle.std.proofs.Common.{◌≡◌, ◌∙◌, ◌+◌, ◌-◌, ◌<◌, ◌≤◌, ◌⊎◌, ℕ, Bool, false, true, suc, zero, ap, arith, get_or, inl, inr, length, refl, subst, sym, nat_eq}
+use Rattle.std.proofs.Common.{◌≡◌, ◌∙◌, ◌+◌, ◌-◌, ◌*◌, ◌<◌, ◌≤◌, ◌⊎◌, ℕ, Bool, false, true, suc, zero, ap, arith, get_or, inl, inr, length, refl, subst, sym}
+use Rattle.std.proofs.lemmas.Bool.{cases_eq, eq-eqb}
 use Rattle.std.proofs.lemmas.List.Elements.{All-get_or}
 use Rattle.roster_instance.specs.Counting.{one_if}
 use Rattle.roster_instance.specs.Meaning.{Meaning, day_count, nurse_count}
@@ -52,8 +53,16 @@ loop-place-preserved c =
     let some : 0 < left = some_left left c.if-kicking-eq0.false in
     let both = one_or_none k n l.meter left c.fade_nurse-searched.new.meter new_left (inside (goal.at.loop-place-preserved c).After-index-nurse) some c.fade_nurse-searched.result c.take_if.ensures.left told.each_day told.spared told.counted in
     let spends = spent_both k c.args.meter.now c.args.kicking.now.searches.left l.meter left c.fade_nurse-searched.new.meter new_left before.spends both.1 in
+    let all = c.args.kicking.now.searches.left in
+    -- the first one is searched
+    let fewer : 0 < all → (l.place ≡ 0) ⊎ (l.place ≡ 0 → ⊥) → new_left < all = λ any either. elim either [
+      | inl first ↦ (
+          let one : new_left ≡ left - 1 = c.take_if.ensures.left ∙ ap (λ b. left - one_if b) (told.surely (eq-eqb l.place 0 first)) in
+          omega (arith, one, some, before.spends.fewer))
+      | inr later ↦ omega (arith, l.invariant.fewer (omega (arith, later)) any, both.1.fewer)
+    ] in
     record {
-      fewer = λ later any. ?;
+      fewer = λ later any. fewer any (cases_eq l.place 0);
       faded = record {
         kept = told.kept ∙ before.kept;
         frozen = told.frozen;
