@@ -19,7 +19,8 @@ they differ. It writes no roster that `roster` didn't write and read back. 'why'
 with what `roster` counts of it."""
 FILES = """\
 The files stand in the program's order (scenario, history, week data, solutions), or are named by --sce, --his,
---weeks and --sols; without a file, standard input is read. --roster PROGRAM, or the variable DESK_ROSTER, names
+--weeks and --sols; without a file, standard input is read. A table of 'desk csv' is taken where all solutions are
+due, also by --with, and as a spreadsheet saves it as CSV. --roster PROGRAM, or the variable DESK_ROSTER, names
 another program than the one of this repository. The status is that of roster: 0 for done, 1 for a refused input,
 2 for a wrong command line, 3 for a failed read or write, and 4 for too little memory.
 
@@ -39,6 +40,9 @@ slices of polish go on beside it, from the roster in the file, and each that is 
 for each cheaper roster; it goes to standard error, and on a terminal it is one line that changes. Where something
 else writes the file meanwhile, that stays, and the roster is kept beside it. How many days change is no part of the
 penalty, and can't be kept small by it; it is told at the end, and by 'costs --with'.
+
+Where the roster in the file costs what a floor by --bound is, no roster that keeps the hard rules and the frozen days
+costs less. It is optimal, and the run ends: no further round is made, and runs of polish that go on are left.
 
 With --plan the roster given may break minimums, successions and absences on days that may change, and --sols may be
 left out: then nobody works yet. In the place of the rounds 'roster plan' looks for a roster that keeps the hard rules,
@@ -187,8 +191,8 @@ def add_improve(commands: typing.Any) -> None:
     parser.add_argument(
         "--bound",
         action="store_true",
-        help="ask 'roster bound' for a floor, and tell how much above it the roster is; with --seconds beside the search, for a"
-        " fifth of that time at most, else first",
+        help="ask 'roster bound' for a floor, and tell how much above it the roster is, or that it is optimal; with --seconds"
+        " beside the search, for a fifth of that time at most, else first",
     )
     with_polish(parser)
     parser.add_argument("--log", metavar="FILE", help="write the log to this file, too; 'page --log' draws it")
@@ -223,6 +227,8 @@ def add_looks(commands: typing.Any) -> None:
     it = command(commands, "costs", does.run_costs, "tells what each nurse costs by rule, and S1 by shift and skill")
     it.add_argument("--json", action="store_true", help="write them as JSON")
     with_other(it, "its costs come after those of the first, as before>after")
+    it.add_argument("--bound", action="store_true", help="ask 'roster bound' for a floor, and tell whether the roster is optimal")
+    with_first_week(it, "with --bound: the floor is of the rosters that keep the weeks before V")
     with_files(it)
     it = command(commands, "grid", does.run_grid, "shows nurses by days on a terminal, and the cover of each day")
     with_other(it, "it is shown, with what changed")

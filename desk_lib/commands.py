@@ -3,8 +3,8 @@ import argparse
 import os
 import time
 
-from desk_lib import asks, breaches, calendar_file, check, grid, improve, next_month, outputs, page, plot, polish, program
-from desk_lib import replacing, shortage, split, tables, views
+from desk_lib import asks, breaches, calendar_file, check, floor, grid, improve, next_month, outputs, page, plot, polish
+from desk_lib import program, replacing, shortage, split, tables, views
 from desk_lib.costs import Costing
 from desk_lib.given import SOLUTIONS, asks_of, both_plans, costings, files_read, texts_of, write, write_bytes, write_text
 from desk_lib.model import Plan
@@ -21,14 +21,18 @@ def run_check(asked: argparse.Namespace, roster: Program) -> int:
 
 
 def run_costs(asked: argparse.Namespace, roster: Program) -> int:
-    *before, costing = costings(asked, roster, both_plans(asked, roster), asked.other is not None)
-    old = before[0] if before else None
+    if asked.first_week and not asked.bound:
+        raise DeskError("--from: this is of the floor; ask for it by --bound", 2)
+    pairs = both_plans(asked, roster)
+    *before, costing = costings(asked, roster, pairs, asked.other is not None)
+    least, old = floor_of(asked, roster, pairs[-1][0]), before[0] if before else None
     broken = breaches.all_breaches(old.plan) if old else []
     for line in breaches.words_told(broken):
         program.warn(line)
     if broken:
         program.warn(f"so the first roster breaks {plural(len(broken), 'hard rule')}, which no cost has a part of")
-    write([tables.json_text(costing, old)] if asked.json else tables.cost_lines(costing, old))
+    told = [] if least is None else floor.lines(costing.totals_by_rule()["total"], least, asked.first_week)
+    write([tables.json_text(costing, old, least)] if asked.json else [*tables.cost_lines(costing, old), *told])
     return 0
 
 
@@ -50,11 +54,11 @@ def run_grid(asked: argparse.Namespace, roster: Program) -> int:
 def run_page(asked: argparse.Namespace, roster: Program) -> int:
     log = plot.points_in(read_file(asked.log).data, asked.log) if asked.log else []
     sheet, before, texts = sheet_of(asked, roster)
-    floor = improve.floor_of(roster, texts, first_week_words(asked)) if asked.bound else None
+    least = floor_of(asked, roster, texts)
     nurse = None if asked.nurse is None else nurse_in(sheet.costing.plan, asked.nurse)
     title = f"Roster {shown(sheet.case.name)}" if asked.title is None else asked.title
     wanted = page.Wanted(title, roster.version(), asked.notice, nurse)
-    write_text(asked.out, page.Page(sheet, before, log, floor, wanted).text())
+    write_text(asked.out, page.Page(sheet, before, log, least, wanted).text())
     return 0
 
 
@@ -79,8 +83,9 @@ def run_why(asked: argparse.Namespace, roster: Program) -> int:
     return 0
 
 
-def first_week_words(asked: argparse.Namespace) -> list[str]:
-    return ["--from", str(asked.first_week)] if asked.first_week else []
+def floor_of(asked: argparse.Namespace, roster: Program, texts: Texts) -> int | None:
+    """The floor by `bound`, where one is asked for."""
+    return floor.found_by(roster, texts, asked.first_week)[1] if asked.bound else None
 
 
 def check_search(asked: argparse.Namespace) -> None:
@@ -131,13 +136,12 @@ def check_shortages(plan: Plan, first_week: int) -> None:
 
 def run_of(asked: argparse.Namespace, roster: Program, texts: Texts, plan: Plan) -> improve.Run:
     """A run that begins with the roster of the texts."""
-    before, progress = texts.before(plan.solutions_offset(), []), improve.Progress(asked.log)
-    solutions = texts.joined[plan.solutions_offset() :]
-    run = improve.Run(roster, before, solutions, asked.out, first_week_words(asked), progress)
+    before, progress = texts.before(plan.solutions_offset(), []), improve.Progress(asked.log, floor.Sought(asked.first_week))
+    run = improve.Run(roster, before, texts.joined[plan.solutions_offset() :], asked.out, progress)
     for it in texts.texts:
         if outputs.identity(it.name) == outputs.identity(asked.out):
             # (it may have changed since it was read)
-            run.there = it.data
+            run.there = it.given
     return run
 
 
@@ -145,10 +149,9 @@ def search(asked: argparse.Namespace, run: improve.Run, seeds: list[int], end: f
     """All that `improve` makes, one after the other, of so many nurses."""
     if asked.plan:
         run.plan(asked.polish, seeds[0], end)
-    if asked.bound:
-        run.seek_floor(asked.seconds)
+    is_optimal = asked.bound and run.seek_floor(asked.seconds)
     if not asked.plan:
-        run.rounds(100 if asked.rounds is None else asked.rounds, end)
+        run.rounds(0 if is_optimal else 100 if asked.rounds is None else asked.rounds, end)
     if asked.polish is not None or end is not None:
         polish.go_on(run, polish.Course(asked.polish, seeds, asked.slice, end, nurses))
 

@@ -5,7 +5,7 @@ import os
 import sys
 import typing
 
-from desk_lib import asks, breaches, check, outputs, program, replacing
+from desk_lib import asks, breaches, check, outputs, program, replacing, table_in
 from desk_lib.costs import Costing
 from desk_lib.grammar import WORD
 from desk_lib.model import Plan, with_no_solutions
@@ -91,7 +91,7 @@ def texts_of(asked: argparse.Namespace) -> Texts:
     """The files that the command line names, or standard input."""
     by_kind = {kind: getattr(asked, kind) for kind in KINDS}
     if not any(by_kind.values()):
-        texts = Texts(read_files([(it, "") for it in asked.files])) if asked.files else from_input()
+        texts = read_texts(asked, [(it, "") for it in asked.files]) if asked.files else from_input()
         return with_no_solutions(texts) if needs_no_roster(asked) else texts
     if asked.files:
         told = f"{shown(asked.files[0])}: name all files by --sce, --his, --weeks and --sols, or none"
@@ -106,8 +106,20 @@ def texts_of(asked: argparse.Namespace) -> Texts:
     for kind in ("sce", "his"):
         if len(by_kind[kind]) > 1:
             raise DeskError(f"--{kind} names {' and '.join(map(shown, by_kind[kind]))}; give one file", 2)
-    texts = Texts(read_files([(name, kind) for kind, names in by_kind.items() for name in names or ()]))
+    texts = read_texts(asked, [(name, kind) for kind, names in by_kind.items() for name in names or ()])
     return with_no_solutions(texts) if is_new else texts
+
+
+def read_texts(asked: argparse.Namespace, named: list[tuple[str, str]]) -> Texts:
+    """The texts of these files. A table of the desk's own becomes solutions; what is wrong with one, `check` tells whole."""
+    texts = read_files(named)
+    table = table_in.table_in(texts)
+    if not table or table.wrong and asked.command == "check":
+        return Texts(texts)
+    try:
+        return Texts([*texts[:-1], table_in.right(table).solutions()])
+    except DeskError as why:
+        raise DeskError(f"{why}; 'desk check' with these files tells all that is wrong") from None
 
 
 def read_files(named: list[tuple[str, str]]) -> list[Text]:
@@ -159,7 +171,7 @@ def both_plans(asked: argparse.Namespace, roster: Program) -> list[tuple[Texts, 
 
 def with_second(roster: Program, texts: Texts, plan: Plan, names: list[str]) -> tuple[Texts, Plan]:
     """The texts with the solutions of these files, and their plan."""
-    second = read_files([(it, "") for it in names])
+    second = second_in(names, plan)
     after = texts.before(plan.solutions_offset(), second)
     count, weeks = sum(WORD.findall(it.data).count(b"SOLUTION") for it in second), plan.case.weeks
     try:
@@ -169,6 +181,15 @@ def with_second(roster: Program, texts: Texts, plan: Plan, names: list[str]) -> 
             raise
         told = f"--with {' '.join(map(shown, names))}: {plural(count, 'solution')} for {plural(weeks, 'week')}"
         raise DeskError(f"{told}; give those of all weeks, in one file, or in several with --with before each") from None
+
+
+def second_in(names: list[str], plan: Plan) -> list[Text]:
+    """The texts of a second roster, in solutions or in a table."""
+    texts = read_files([(it, "") for it in names])
+    try:
+        return [table_in.solutions_in(it, plan.case) for it in texts]
+    except DeskError as why:
+        raise DeskError(f"--with {' '.join(map(shown, names))}: {why}", why.status) from None
 
 
 def taken_second(roster: Program, word: str, texts: Texts, names: list[str]) -> Plan:

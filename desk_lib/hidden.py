@@ -3,9 +3,9 @@ import re
 
 from desk_lib.findings import Finding, also
 from desk_lib.grammar import WORD
-from desk_lib.texts import Text, Texts
+from desk_lib.table_in import begin_of, table_in
+from desk_lib.texts import UTF8_MARK, Text, Texts
 
-UTF8_MARK = b"\xef\xbb\xbf"
 UTF16_MARKS = (b"\xff\xfe", b"\xfe\xff")
 SAVE_AS = "save it as UTF-8 without a byte order mark"
 QUOTES = b'"|\xe2\x80[\x98-\x9f]|\xc2\xab|\xc2\xbb'
@@ -47,8 +47,6 @@ KINDS = {
     b"[": "JSON",
     b"\x7fELF": "a program",
 }
-# The first cell of the CSV that the desk writes, and how the second begins, which names a day.
-TABLE = re.compile(rb'"?nurse"?[,;\t]"?(week |\d{4}-)')
 
 
 def is_utf8(data: bytes) -> bool:
@@ -76,8 +74,11 @@ def whole_file(text: Text) -> str:
     kind = next((told for it, told in KINDS.items() if begin.startswith(it)), "")
     if kind:
         return f"the file is {kind}; give it as plain text, whose words docs/COMMANDS.md has under 'The input'"
-    if TABLE.match(begin):
-        return "the file is a table as 'desk csv' writes it; give the roster as 'desk split' and 'improve' write it"
+    if begin_of(text):
+        return (
+            "the file is a table as 'desk csv' writes it; such a one is taken in the place of all solutions, after a scenario, a"
+            " history and week data in which nothing is wrong"
+        )
     if is_utf16(text.data):
         return f"the file is UTF-16, of two bytes a letter; {SAVE_AS}"
     if text.data.count(b"\0") * 4 > len(text.data):
@@ -120,10 +121,12 @@ def causes(texts: Texts) -> tuple[list[Finding], bytes, bool, set[tuple[str, int
     hiding: set[tuple[str, int]] = set()
     names = names_in(texts.joined)
     cleaned, all_read = bytearray(texts.joined), True
-    for start, text in zip(texts.starts, texts.texts):
-        told = whole_file(text)
-        if told:
-            found.append(Finding(start, texts.place(start), told))
+    for number, (start, text) in enumerate(zip(texts.starts, texts.texts)):
+        table = table_in(texts.texts[: number + 1])
+        wrong = [(it.cell.at, it.cell.length, it.message) for it in table.wrong] if table else []
+        told = "" if wrong else whole_file(text)
+        if wrong or told:
+            found += [Finding(start + at, texts.place(start + at, length), it) for at, length, it in wrong or [(0, 0, told)]]
             cleaned[start : start + len(text.data)] = b" " * len(text.data)
             all_read = False
             continue

@@ -6,8 +6,9 @@ import sys
 import time
 import typing
 
+from desk_lib.floor import Sought, number_of, words_of
 from desk_lib.model import changed_days
-from desk_lib.program import Answer, Program, Running, costs_by, plan_in, refusal
+from desk_lib.program import Answer, Program, costs_by, plan_in, refusal
 from desk_lib.replacing import Replacement, bytes_of, keep_beside, read_back
 from desk_lib.signals import Interrupted, held_back, within_time
 from desk_lib.texts import DeskError, Text, Texts, plural, shown
@@ -17,9 +18,6 @@ from desk_lib.texts import DeskError, Text, Texts, plural, shown
 # takes so many.
 TRIES = [1_000 * 4**it for it in range(7)]
 UNSAID = 20_000
-# The part of the time that is given which a floor is looked for, beside the search.
-FLOOR_SHARE = 0.2
-
 # How the line of `plan` begins where more searches may find a roster.
 NOT_FOUND = "not found: "
 
@@ -27,17 +25,13 @@ NOT_FOUND = "not found: "
 class Progress:
     """Tells how far a run is: the log's lines, or on a terminal one line that changes."""
 
-    def __init__(self, log: str | None):
+    def __init__(self, log: str | None, sought: Sought):
         """`log` is the name of a file for the lines."""
-        self.name, self.is_terminal = log, sys.stderr.isatty()
+        self.name, self.sought, self.is_terminal = log, sought, sys.stderr.isatty()
         try:
             self.log = open(log, "wb") if log else None
         except OSError as why:
             raise self.failed(why) from None
-        # (the floor, and the run of `bound` that looks for it beside the search)
-        self.known: int | None = None
-        self.beside: Running | None = None
-        self.is_floor_wanted = False
         self.began, self.last, self.is_shown = time.monotonic(), b"", False
 
     def line(self, line: bytes) -> None:
@@ -58,41 +52,16 @@ class Progress:
 
     def close(self, ending: list[str]) -> None:
         """Ends what goes on beside, and the file of the log, with these lines."""
-        if self.beside:
-            self.known = self.floor
-            self.beside.close()
-            self.beside = None
+        self.sought.close()
         with contextlib.suppress(OSError):
             if self.log:
                 self.log.write("".join(f"{it}\n" for it in ending).encode())
                 self.log.close()
 
-    def know_floor(self, floor: int) -> None:
-        self.known = floor
-
-    def seek_floor(self, running: Running) -> None:
-        """This run of `bound` looks for a floor beside the search."""
-        self.beside, self.is_floor_wanted = running, True
-
-    @property
-    def floor(self) -> int | None:
-        """The floor, as far as it is known by now."""
-        for line in self.beside.lines_there() if self.beside else ():
-            if line.startswith(b"round "):
-                self.known = number_of(line)
-        return self.known
-
-    def above_floor(self, total: int) -> str:
-        """A clause for the floor, where one is looked for."""
-        floor = self.floor
-        if floor is None:
-            return ", no floor was found in the time for it" if self.is_floor_wanted and not self.beside else ""
-        return f", {total - floor} above the floor {floor}"
-
     def show(self, what: str, total: int, more: str = "") -> None:
         """The line that changes."""
         if self.is_terminal:
-            text = f"{what}: {total}{self.above_floor(total)}{more}, {time.monotonic() - self.began:.0f} s"
+            text = f"{what}: {total}{self.sought.short_clause(total)}{more}, {time.monotonic() - self.began:.0f} s"
             sys.stderr.write(f"\r{text}\x1b[K")
             sys.stderr.flush()
             self.is_shown = True
@@ -108,7 +77,7 @@ class Progress:
         """Leaves the line that changes as it is. What the run came to follows on a terminal, and where a floor is known."""
         if self.is_terminal:
             sys.stderr.write("\n" * self.is_shown + f"{told}\n" * bool(told))
-        elif told and (self.known is not None or self.is_floor_wanted):
+        elif told and (self.sought.known is not None or self.sought.is_wanted):
             sys.stderr.write(f"desk: {told}\n")
         sys.stderr.flush()
 
@@ -116,12 +85,11 @@ class Progress:
 class Run:
     """A run of the improver, whose roster is always in the file."""
 
-    def __init__(
-        self, roster: Program, before: Texts, solutions: bytes, out: str, first_week: list[str], progress: Progress
-    ):
-        """`before` has all texts but the solutions; `first_week` are the words of --from, if it was given."""
+    def __init__(self, roster: Program, before: Texts, solutions: bytes, out: str, progress: Progress):
+        """`before` has all texts but the solutions."""
         self.roster, self.before, self.solutions = roster, before, solutions
-        self.out, self.first_week, self.progress = out, first_week, progress
+        self.out, self.progress, self.sought = out, progress, progress.sought
+        self.first_week = words_of(self.sought.first_week)
         # (the last line of the last log; and what the file has: what it costs, and after what)
         self.given, self.end, self.total, self.saved = self.texts(), b"", 0, ""
         # (what `polish` begins with; and what is told where nothing was put into the file)
@@ -187,35 +155,43 @@ class Run:
 
     def ending(self, seeds: list[int]) -> list[str]:
         """How the run was made: the last lines of the file of the log. Those of a search are there where there was one."""
-        floor, found = self.progress.floor, [f"time {time.monotonic() - self.progress.began:.1f}"]
+        found = [f"time {time.monotonic() - self.progress.began:.1f}"]
         found += [f"searches {self.searches}"] if self.searches else []
-        found += [f"floor {floor}"] if floor is not None else []
+        found += self.sought.lines(self.total if self.saved else None)
         if self.searches:
             found.append(f"seed {seeds[0]}" + (f"-{seeds[-1]}" if seeds[1:] else ""))
         return [*found, f"version {self.roster.version()}"]
 
     # ---- a floor
 
-    def seek_floor(self, seconds: int | None) -> None:
-        """Asks for a floor: where a time is given, beside the search, for a part of it; else before that."""
-        words = ["bound", *self.first_week]
-        if seconds is None:
-            self.progress.know_floor(floor_of(self.roster, self.texts(), self.first_week, self.progress))
-        else:
-            self.progress.seek_floor(self.roster.start(words, self.texts().joined, seconds=FLOOR_SHARE * seconds))
+    def seek_floor(self, seconds: int | None) -> bool:
+        """Asks for a floor: where a time is given, beside the search, for a part of it; else before that. Says whether the roster
+        so far is known to be optimal at once."""
+        if seconds is not None:
+            self.sought.seek_beside(self.roster, self.texts(), seconds)
+            return False
+        return self.sought.is_met(self.sought.seek(self.roster, self.texts(), self.tell_floor))
+
+    def tell_floor(self, line: bytes) -> None:
+        if line.startswith(b"round "):
+            self.progress.show_word(f"a floor is looked for: {number_of(line)}")
+
+    def is_optimal(self) -> bool:
+        """Whether no roster can be cheaper than that in the file, by the floor that is known."""
+        return bool(self.saved) and self.sought.is_met(self.total)
 
     # ---- rounds
 
     def rounds(self, count: int, end: float | None) -> None:
-        """Makes rounds until one changes nothing, or so many, or until a time; at least one, where one is allowed. The log is
-        that of one run."""
+        """Makes rounds until one changes nothing, or so many, or until a time, or the roster is optimal; at least one, where one is
+        allowed. The log is that of one run."""
         self.round(1, min(1, count))
         within_time(end, lambda: self.further_rounds(count))
         self.progress.line(self.end)
 
     def further_rounds(self, count: int) -> None:
         for number in range(2, count + 1):
-            if self.end.startswith(b"settled"):
+            if self.end.startswith(b"settled") or self.is_optimal():
                 break
             self.round(number, 1)
 
@@ -277,21 +253,6 @@ class Run:
             self.progress.show(f"round {number}", int(words[-1]))
 
 
-def number_of(line: bytes) -> int:
-    return int(line.split(b" ")[-1])
-
-
-def floor_of(roster: Program, texts: Texts, first_week: list[str], progress: Progress | None = None) -> int:
-    """What no roster that keeps the hard rules and the frozen days is below, as `bound` says."""
-
-    def tell(line: bytes) -> None:
-        if progress and line.startswith(b"round "):
-            progress.show("a floor is looked for", number_of(line))
-
-    output = roster.ask(["bound", *first_week], texts, tell).output
-    return number_of(next(it for it in output.splitlines() if it.startswith(b"bound ")))
-
-
 def finish(run: Run, seeds: list[int], work: typing.Callable[[], None]) -> None:
     """Does the work, by these seeds. What ends it early leaves the last whole round in the file, and says so."""
     try:
@@ -307,4 +268,4 @@ def finish(run: Run, seeds: list[int], work: typing.Callable[[], None]) -> None:
         raise DeskError("; ".join(filter(None, [str(why), run.has()])), why.status) from None
     finally:
         run.progress.close(run.ending(seeds) if run.progress.log and run.progress.last else [])
-    run.progress.end(f"{shown(run.out)}: {shown(run.progress.last)}{run.progress.above_floor(run.total)}, {run.changes()}")
+    run.progress.end(f"{shown(run.out)}: {shown(run.progress.last)}{run.sought.clause(run.total)}, {run.changes()}")

@@ -1,4 +1,5 @@
 """The case and the roster of texts that the program takes. Names are bytes, as they stand there."""
+import collections.abc
 import dataclasses
 import datetime
 import re
@@ -180,18 +181,24 @@ def changed_days(before: Roster, after: Roster) -> int:
     return sum(was != now for rows in zip(before, after) for was, now in zip(*rows))
 
 
-def solutions_of(case: Case, roster: Roster) -> bytes:
-    """The solutions of a roster, as the program takes them."""
-    texts = []
+def solution_pieces(case: Case, roster: Roster) -> collections.abc.Iterator[tuple[bytes, tuple[int, int] | None]]:
+    """The solutions of a roster, as the program takes them: for each week the head, and each assignment with the nurse and the
+    day."""
     for week in range(case.weeks):
         lines = [
-            b"%s %s %s %s\n" % (nurse.name, DAYS[day % 7], case.shifts[row[day][0]].name, case.skills[row[day][1]])
-            for nurse, row in zip(case.nurses, roster)
+            (b"%s %s %s %s\n" % (nurse.name, DAYS[day % 7], case.shifts[row[day][0]].name, case.skills[row[day][1]]), (number, day))
+            for number, (nurse, row) in enumerate(zip(case.nurses, roster))
             for day in range(7 * week, 7 * week + 7)
             if row[day]
         ]
-        texts.append(b"SOLUTION\n%d %s\n\nASSIGNMENTS = %d\n%s" % (week, case.name, len(lines), b"".join(lines)))
-    return b"\n".join(texts)
+        apart = b"\n" if week else b""
+        yield b"%sSOLUTION\n%d %s\n\nASSIGNMENTS = %d\n" % (apart, week, case.name, len(lines)), None
+        yield from lines
+
+
+def solutions_of(case: Case, roster: Roster) -> bytes:
+    """The solutions of a roster, as the program takes them."""
+    return b"".join(piece for piece, _ in solution_pieces(case, roster))
 
 
 def with_no_solutions(texts: Texts) -> Texts:

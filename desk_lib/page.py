@@ -7,6 +7,7 @@ import time
 
 from reckoning import SATURDAY, SUNDAY
 
+from desk_lib import floor as floors
 from desk_lib.costs import RULES, Costing
 from desk_lib.grammar import DAYS
 from desk_lib.model import Choice
@@ -137,10 +138,10 @@ class Page:
         was = lambda rule: f"<small>was {old[rule]}</small>" if old and old[rule] != now[rule] else ""
         cards = [f'<li class="total"><span>penalty</span><b>{now["total"]}</b>{was("total")}</li>']
         if self.floor is not None:
-            cards.append(
-                f"<li><span>floor of all rosters</span><b>{self.floor}</b><small>{now['total'] - self.floor} above"
-                " it</small></li>"
-            )
+            is_met = now["total"] == self.floor
+            told = floors.optimal(self.sheet.first_week) if is_met else f"{now['total'] - self.floor} above it"
+            kind = ' class="optimal"' if is_met else ""
+            cards.append(f"<li{kind}><span>floor of all rosters</span><b>{self.floor}</b><small>{told}</small></li>")
         cards += [f"<li><span>{rule} {MEANING[rule]}</span><b>{now[rule]}</b>{was(rule)}</li>" for rule in MEANING]
         return f'<ul class="cards">{"".join(cards)}</ul>'
 

@@ -10,7 +10,8 @@ import os
 import selectors
 import time
 
-from desk_lib.improve import Run, number_of
+from desk_lib.floor import number_of
+from desk_lib.improve import Run
 from desk_lib.program import Answer, Running
 from desk_lib.signals import within_time
 from desk_lib.texts import Texts
@@ -106,7 +107,7 @@ class Polish:
 
     def __init__(self, run: Run, course: Course):
         self.run, self.course = run, course
-        self.least, self.word = run.total, b"settled"
+        self.least, self.word = run.total, run.end.split(b" ")[0]
         self.begun, self.slices = 0, 0
         self.pace = Pace(course.nurses)
         self.ended: list[tuple[int, int, Answer]] = []
@@ -145,8 +146,8 @@ class Polish:
         return self.course.searches is None
 
     def is_least(self) -> bool:
-        """Whether no roster can be cheaper, so that the time needn't be waited for."""
-        return self.is_open() and self.run.total <= (self.run.progress.floor or 0)
+        """Whether no roster can be cheaper: it is optimal, or costs nothing, so that the time needn't be waited for."""
+        return self.run.is_optimal() or self.is_open() and not self.run.total
 
     # ---- what is begun
 
@@ -217,6 +218,9 @@ class Polish:
         if total < self.run.total:
             self.keep(answer, f"slice {job.number} of polish")
             self.tell(b"slice %d %d" % (job.number, total))
+        elif total == self.run.total:
+            # (it settles the roster that it is given, and didn't change it)
+            self.word = word_of(answer)
         if not self.begun:
             # (those beside whole runs are slower)
             self.pace.learn(job.searches, took)
@@ -236,7 +240,7 @@ class Polish:
     def keep(self, answer: Answer, what: str) -> None:
         if answer.output != self.run.solutions:
             self.run.save(answer.output, number_of(answer.end()), what)
-        self.word = answer.end().split(b" ")[0]
+        self.word = word_of(answer)
 
     def keep_first(self) -> None:
         """Of equally dear rosters of whole runs the first stays, whichever was over first."""
@@ -255,9 +259,14 @@ class Polish:
         self.run.progress.show("polish", self.least, kept)
 
 
+def word_of(answer: Answer) -> bytes:
+    """Whether a run ended settled, as its last line says."""
+    return answer.end().split(b" ")[0]
+
+
 def go_on(run: Run, course: Course) -> None:
-    """Goes on with polish, to its end or until the time is over."""
+    """Goes on with polish, to its end, or until the time is over or the roster is optimal."""
     polish = Polish(run, course)
-    if course.end is None or time.monotonic() < course.end:
+    if not run.is_optimal() and (course.end is None or time.monotonic() < course.end):
         within_time(course.end, polish.work)
         polish.finish()

@@ -97,10 +97,12 @@ def costs_of(costing: Costing) -> dict:
     return {**costing.totals_by_rule(), "nurses": nurses, "places": places}
 
 
-def json_text(costing: Costing, before: Costing | None) -> str:
-    """What `costs --json` writes: an object with the costs, and with a second roster also those of the first, as `before`, with
-    the hard rules that it breaks."""
+def json_text(costing: Costing, before: Costing | None, floor: int | None) -> str:
+    """What `costs --json` writes: an object with the costs, and where one was looked for the floor. With a second roster it has
+    also those of the first, as `before`, with the hard rules that it breaks."""
     found: dict = {"scenario": shown(costing.case.name), **costs_of(costing)}
+    if floor is not None:
+        found |= {"floor": floor, "optimal": found["total"] == floor}
     if before:
         found["days_changed"] = changed_days(before.plan.roster, costing.plan.roster)
         found["before"] = {**costs_of(before), "breaks": words_told(all_breaches(before.plan))}

@@ -8,6 +8,9 @@ import unicodedata
 # What a file is, by the option that names it.
 KINDS = {"sce": "scenario", "his": "history", "weeks": "week data", "sols": "solution"}
 
+# What an editor may begin a text with.
+UTF8_MARK = b"\xef\xbb\xbf"
+
 # So many bytes of a line are kept before a word and after it.
 AROUND = 400
 # What an edit of a text puts in the place of some bytes: from where, how many, and what.
@@ -53,12 +56,33 @@ def cut(text: str, width: int) -> str:
 
 
 @dataclasses.dataclass(frozen=True)
+class Origin:
+    """Of what a text was made: the bytes of the file, and the parts of the text, each by where it begins, where the word stands in
+    the file of which it was made, and how long that is."""
+
+    data: bytes
+    parts: list[tuple[int, int, int]]
+
+    def word_at(self, at: int) -> tuple[int, int]:
+        """The word of which a byte of the text was made."""
+        _, first, length = self.parts[max(0, bisect.bisect_right(self.parts, at, key=lambda it: it[0]) - 1)]
+        return first, length
+
+
+@dataclasses.dataclass(frozen=True)
 class Text:
-    """A file: the name by which it was given, its bytes, and the option that named it, if one did."""
+    """A file: the name by which it was given, its bytes, and the option that named it, if one did. Where the bytes were made of
+    others, it has these, too."""
 
     name: str
     data: bytes
     kind: str = ""
+    origin: Origin | None = None
+
+    @property
+    def given(self) -> bytes:
+        """The bytes of the file."""
+        return self.origin.data if self.origin else self.data
 
     def edited(self, start: int, edits: list[Edit]) -> "Text":
         """The text, which begins at this byte of all texts, with those of the edits that are of it."""
@@ -132,17 +156,19 @@ class Texts:
         at = offset - self.starts[self.index(offset)]
         if at >= len(text.data):
             at = len(text.data.rstrip(b" \t\r\n"))
+        if text.origin:
+            at, length = text.origin.word_at(at)
         starts = self.line_starts(self.index(offset))
         number = bisect.bisect_right(starts, at)
-        last = starts[number] if number < len(starts) else len(text.data)
+        last = starts[number] if number < len(starts) else len(text.given)
         # (a line may be as long as the file)
         first, last = max(starts[number - 1], at - AROUND), min(last, at + length + AROUND)
-        return Place(text.name, number, text.data[first:last].rstrip(b"\r\n"), at - first, length)
+        return Place(text.name, number, text.given[first:last].rstrip(b"\r\n"), at - first, length)
 
     def line_starts(self, index: int) -> list[int]:
         """The bytes of a file at which its lines begin."""
         if index not in self.lines:
-            self.lines[index] = [0, *(it.end() for it in re.finditer(rb"\n", self.texts[index].data))]
+            self.lines[index] = [0, *(it.end() for it in re.finditer(rb"\n", self.texts[index].given))]
         return self.lines[index]
 
     def line_start(self, number: int) -> int:

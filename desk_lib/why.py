@@ -10,7 +10,7 @@ import reckoning
 
 from desk_lib.costs import Costing
 from desk_lib.findings import nearest
-from desk_lib.improve import number_of
+from desk_lib.floor import number_of
 from desk_lib.model import Choice, Plan, choice_name, changed_days, day_in, day_place, solutions_of
 from desk_lib.program import Program, costs_by
 from desk_lib.tables import changed

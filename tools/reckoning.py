@@ -306,16 +306,18 @@ def floor(case, roster, worths, first_week=0):
     return 5 * -(-max(0, places + sum(least for least, _ in nurses)) // 5), [row for _, row in nurses]
 
 
-# ---- how worths go on from round to round: the program's own affair, told here for its tests. They are held in 256ths of a point. What
+# ---- how worths go on from round to round: the program's own affair, told here for its tests. They are held in parts of a point. What
 # is wanted at a place and what is there are sums that fade.
 
+# In how many parts of a point.
+PARTS = 16_384
 # How often worths move between two rounds, and how many rows of each nurse are kept.
 MOVES = 20
 KEPT = 64
 
 
 def points(fine):
-    return (fine + 128) // 256
+    return (fine + PARTS // 2) // PARTS
 
 
 def faded(before, more):
@@ -324,7 +326,7 @@ def faded(before, more):
 
 def greatest_step(made, rounds):
     """18 points by the third power of the share of the rounds that are left, each time rounded down."""
-    step = 18 * 256
+    step = 18 * PARTS
     for _ in range(3):
         step = step * (rounds - made) // rounds
     return step
@@ -338,7 +340,7 @@ def shares(wanted, had, step):
 
 def next_worth(fine, wanted, had, share):
     """More where nurses are wanted, less where there are too many, up to 200,000 points."""
-    return min(fine + share, 51_200_000) if had < wanted else max(0, fine - share) if wanted < had else fine
+    return min(fine + share, 200_000 * PARTS) if had < wanted else max(0, fine - share) if wanted < had else fine
 
 
 class Seen:
@@ -361,7 +363,7 @@ class Seen:
     def cheapest(self, worths):
         """The first of the cheapest of them by these worths."""
         paid = lambda row: sum(worths[(*choice, day)] for day, choice in enumerate(row) if choice)
-        return min(self.rows, key=lambda it: 256 * it[2] - paid(it[1]))[1]
+        return min(self.rows, key=lambda it: PARTS * it[2] - paid(it[1]))[1]
 
 
 class Moves:
@@ -378,7 +380,7 @@ class Moves:
         return self.case.needs[shift, skill][day] if (shift, skill) in self.case.needs else Limits(0, 0)
 
     def set_worths(self, worth):
-        self.worths = {it: 256 * worth if max(self.need(*it)) else 0 for it in self.places}
+        self.worths = {it: PARTS * worth if max(self.need(*it)) else 0 for it in self.places}
 
     def in_points(self):
         return {at: [points(self.worths[(*at, day)]) for day in days_of(self.case)] for at in self.case.needs}
@@ -388,7 +390,9 @@ class Moves:
         covers = collections.Counter((*choice, day) for row in rows for day, choice in enumerate(row) if choice)
         for it in self.places:
             need = self.need(*it)
-            wanted = max(need) if points(self.worths[it]) <= 30 else need.least
+            if not max(need):
+                continue
+            wanted = max(need) if self.worths[it] <= 30 * PARTS else need.least
             self.wanted[it] = faded(self.wanted[it], wanted)
             self.had[it] = faded(self.had[it], covers[it])
         share = shares(self.wanted, self.had, greatest_step(moves, self.rounds * MOVES))

@@ -2,13 +2,13 @@
 use Rattle.std.specs.Prelude.{◌≡◌, ℕ, ◌+◌, ◌-◌, ◌*◌, ◌/◌, ◌%◌, ◌<◌, ◌==◌, ◌&&◌, if◌then◌else◌, max, min, nat_lt, slice_index_or}
 use Rattle.roster_instance.specs.Meaning.{Meaning, day_count, minimum, optimum}
 use Rattle.roster_rules.specs.Weights.{staffing_weight}
-use Rattle.roster_bound.specs.Tables.{most_fine}
+use Rattle.roster_bound.specs.Tables.{most_fine, parts}
 use Rattle.roster_bound.specs.declared.workspace.FloorWorkspace.{FloorWorkspace}
 
--- how many nurses a place wants at its worth, in 256ths of a point: the optimum as long as that is no more than a missing nurse costs,
+-- how many nurses a place wants at its worth, in parts of a point: the optimum as long as that is no more than a missing nurse costs,
 -- and else the minimum
 abbrev pub wanted_at : (minimum optimum fine : ℕ) → ℕ
-wanted_at minimum optimum fine = if nat_lt (256 * staffing_weight) fine then minimum else max minimum optimum
+wanted_at minimum optimum fine = if nat_lt (parts * staffing_weight) fine then minimum else max minimum optimum
 
 -- a worth after a step: up, to the most, where nurses are missing; down where there are too many
 abbrev pub moved_by : (wanted nurses fine step : ℕ) → ℕ

@@ -2,18 +2,21 @@
 use Rattle.std.specs.Prelude.{◌≡◌, ℕ, ◌+◌, ◌*◌, ◌/◌, ◌≤◌, All, List, length, slice_index_or}
 use Rattle.roster_bound.specs.Worths.{PlaceWorths, most_worth}
 
--- so many days, and the worths in 256ths of a point, 64 for each day: at place 8 s + k that of shift s and skill k
+-- in how many parts of a point worths are held
+abbrev pub parts : ℕ
+parts = 16384
+
+-- so many days, and the worths in these parts, 64 for each day: at place 8 s + k that of shift s and skill k
 pub record WorthTable : Type 0 where
   pub days : ℕ
   pub fine : List ℕ
 
--- in 256ths of a point
 abbrev pub most_fine : ℕ
-most_fine = 256 * most_worth
+most_fine = parts * most_worth
 
 -- rounded to the nearest point
 abbrev pub rounded : ℕ → ℕ
-rounded fine = (fine + 128) / 256
+rounded fine = (fine + parts / 2) / parts
 
 abbrev pub worths_of : WorthTable → PlaceWorths
 worths_of t d s k = rounded (slice_index_or t.fine (64 * d + 8 * s + k) 0)

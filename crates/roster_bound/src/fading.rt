@@ -38,7 +38,7 @@ pub fn count_rows(case: &Case, roster: &Roster, floor: &mut FloorWorkspace)
     }
 }
 
-/// Moves the worth of each place that asks for nurses by so many 256ths of a point: up where one is missing, down where there are too
+/// Moves the worth of each place that asks for nurses by so many parts of a point: up where one is missing, down where there are too
 /// many.
 pub fn follow_cover(case: &Case, step: u32, floor: &mut FloorWorkspace)
     requires { FitsFloor case.now floor.old }
@@ -210,7 +210,7 @@ fn pay_place(case: &Case, place: usize, fading: Fading, floor: &FloorWorkspace, 
     pays.put_fine(place, faded_pay(need, nurses, fine, fading));
 }
 
-/// What a place pays, in 256ths of a point: a share of its worth, and the rest of what a nurse more is good for.
+/// What a place pays, in parts of a point: a share of its worth, and the rest of what a nurse more is good for.
 fn faded_pay(need: Need, nurses: u16, fine: u32, fading: Fading) -> u32 {
     let lacking = if nurses < need.optimum { STAFFING } else { 0 };
     let missing = if nurses < need.minimum {
@@ -225,8 +225,8 @@ fn faded_pay(need: Need, nurses: u16, fine: u32, fading: Fading) -> u32 {
 }
 
 impl Worths {
-    /// What a place pays, in 256ths of a point.
-    fn fine_at(&self, place: usize) -> u32
+    /// What a place pays, in parts of a point.
+    pub(crate) fn fine_at(&self, place: usize) -> u32
         requires { place < 64 * self.now.days }
         ensures fine { result ≡ slice_index_or self.now.fine place 0 }
         ensures within { result ≤ most_fine }
@@ -234,7 +234,7 @@ impl Worths {
         self.fine[place]
     }
 
-    /// Lets a place pay so many 256ths of a point, or the most that a place pays.
+    /// Lets a place pay so many parts of a point, or the most that a place pays.
     fn put_fine(&mut self, place: usize, fine: u32)
         requires { place < 64 * self.old.days }
         ensures days { self.new.days ≡ self.old.days }

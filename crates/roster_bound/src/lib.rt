@@ -30,4 +30,4 @@ pub use places::places_floor;
 pub use rounds::{MOVES, Pace, improve_worths, raise_floor};
 pub use seen::Seen;
 pub use workspace::{FloorWorkspace, RowSpace};
-pub use worths::{MOST_WORTH, Worths};
+pub use worths::{MOST_WORTH, PARTS, Worths};

@@ -3,9 +3,10 @@
 ghost use Rattle.std.specs.Prelude.{◌≡◌, ◌*◌, ◌<◌, ◌≤◌, length};
 ghost use Rattle.roster_instance.specs.Meaning.{day_count};
 
-use crate::worths::Worths;
+use crate::rounds::Pace;
+use crate::worths::{PARTS, Worths};
 use roster_rules::weights::STAFFING;
-use roster_rules::{Case, Choice, Shift, Skill};
+use roster_rules::{Case, Choice, Need, Shift, Skill};
 
 /// For each place, with how many nurses it would have cost least in the rounds so far, and how many it had, in 256ths of a nurse. Both
 /// sums fade: of what was before, 179 parts of 256 stay in each round.
@@ -21,8 +22,8 @@ impl Drop for Covers {
     }
 }
 
-/// Adds a round to the covers, by the worths and by the rows of that round.
-pub(crate) fn learn(case: &Case, worths: &Worths, cover: &[u16], covers: &mut Covers)
+/// Adds a round to the covers, by the worths and by the rows of that round. In fine steps the places that ask for no nurse are left out.
+pub(crate) fn learn(case: &Case, worths: &Worths, step: Step, cover: &[u16], covers: &mut Covers)
     requires worths { worths.now.days ≡ day_count case.now }
     requires cover { length cover.now ≡ 64 * day_count case.now }
     requires wanted { length covers.old.wanted.items ≡ 64 * day_count case.now }
@@ -30,12 +31,20 @@ pub(crate) fn learn(case: &Case, worths: &Worths, cover: &[u16], covers: &mut Co
     ensures wanted { length covers.new.wanted.items ≡ length covers.old.wanted.items }
     ensures had { length covers.new.had.items ≡ length covers.old.had.items }
 {
+    case.keeps_limits();
     for day in 0..case.days() {
-        for place in 0..64u8 {
-            let at = 64 * day as usize + place as usize;
-            let wanted = wanted(case, worths, day, place);
-            covers.wanted[at] = faded(covers.wanted[at], wanted);
-            covers.had[at] = faded(covers.had[at], cover[at]);
+        for shift in 0..case.shifts() {
+            for skill in 0..case.skills() {
+                let at = 64 * day as usize + 8 * shift as usize + skill as usize;
+                let (shift, skill) = (Shift(shift), Skill(skill));
+                let need = case.need(day, shift, skill);
+                if !step.counts(need) {
+                    continue;
+                }
+                let wanted = step.wanted(need, worths.fine_at(at));
+                covers.wanted[at] = faded(covers.wanted[at], wanted);
+                covers.had[at] = faded(covers.had[at], cover[at]);
+            }
         }
     }
 }
@@ -48,21 +57,6 @@ fn faded(sum: u32, more: u16) -> u32 {
 
 /// The greatest fading sum.
 const MOST_SUM: u32 = 1 << 20;
-
-/// With how many nurses a place costs least at its worth.
-fn wanted(case: &Case, worths: &Worths, day: u16, place: u8) -> u16
-    requires worths { worths.now.days ≡ day_count case.now }
-    requires day { day < day_count case.now }
-    requires place { place < 64 }
-{
-    let (shift, skill) = (Shift(place / 8), Skill(place % 8));
-    let need = case.need(day, shift, skill);
-    if worths.at(day, shift, skill) <= STAFFING {
-        need.minimum.max(need.optimum)
-    } else {
-        need.minimum
-    }
-}
 
 /// How far the two sums of a place are apart at most, 1 at least.
 pub(crate) fn farthest(covers: &Covers) -> u32
@@ -91,17 +85,80 @@ pub(crate) fn count_row(row: &[Choice], cover: &mut [u16])
     }
 }
 
-/// How far a worth moves at most after so many moves of all, in 256ths of a point: 18 points by the third power of the share of the
-/// moves that are left.
-pub(crate) fn most_step(made: u64, all: u64) -> u32 {
-    let left = all.saturating_sub(made).min(MOST_MOVES);
-    let all = all.clamp(1, MOST_MOVES);
-    let step = FIRST_STEP * left / all * left / all * left / all;
-    step.min(FIRST_STEP) as u32
+/// How far worths move: by so many grains at most, which are parts of a point, or in coarse steps 256ths.
+#[derive(Clone, Copy)]
+pub(crate) struct Step {
+    pub(crate) most: u32,
+    is_coarse: bool,
+}
+
+/// By how many parts of a point a worth moves, where it moves up, and where it moves down.
+#[derive(Clone, Copy)]
+pub(crate) struct Way {
+    pub(crate) up: u32,
+    pub(crate) down: u32,
+}
+
+impl Step {
+    /// After so many moves of all, by the third power of the share of the moves that are left: 18 points at first. Where worths move once
+    /// a round the steps are coarse.
+    pub(crate) fn after(made: u64, pace: Pace) -> Step {
+        let is_coarse = pace.moves <= 1;
+        let first = if is_coarse {
+            FIRST_STEP / COARSE as u64
+        } else {
+            FIRST_STEP
+        };
+        let all = (pace.rounds as u64 * pace.moves as u64).clamp(1, MOST_MOVES);
+        let left = all.saturating_sub(made);
+        let step = first * left / all * left / all * left / all;
+        Step {
+            most: step.min(FIRST_STEP) as u32,
+            is_coarse,
+        }
+    }
+
+    /// By how many parts of a point a worth moves at most.
+    pub(crate) fn most_parts(self) -> u32 {
+        self.by(self.most).down
+    }
+
+    /// Up and down by so many grains; by one more downwards in coarse steps.
+    pub(crate) fn by(self, grains: u32) -> Way {
+        if self.is_coarse {
+            return Way {
+                up: grains.saturating_mul(COARSE),
+                down: grains.saturating_add(1).saturating_mul(COARSE),
+            };
+        }
+        Way {
+            up: grains,
+            down: grains,
+        }
+    }
+
+    /// With how many nurses a place costs least at its worth: the optimum as long as that is no more than a missing nurse costs, in coarse
+    /// steps rounded to a point.
+    fn wanted(self, need: Need, fine: u32) -> u16 {
+        let rounded = if self.is_coarse { PARTS / 2 - 1 } else { 0 };
+        if fine <= PARTS * STAFFING + rounded {
+            need.minimum.max(need.optimum)
+        } else {
+            need.minimum
+        }
+    }
+
+    /// Whether a place with such a need is counted.
+    fn counts(self, need: Need) -> bool {
+        self.is_coarse || need.minimum > 0 || need.optimum > 0
+    }
 }
 
 /// So many moves are reckoned with at most.
 const MOST_MOVES: u64 = 1 << 32;
 
-/// 18 points, in 256ths.
-const FIRST_STEP: u64 = 4608;
+/// 18 points, in parts.
+const FIRST_STEP: u64 = 18 * PARTS as u64;
+
+/// A 256th of a point, in parts.
+const COARSE: u32 = PARTS / 256;

@@ -14,7 +14,7 @@ ghost use Rattle.roster_bound.specs.Worths.{AreWorths, HaveRows, IsLowerBound, b
 
 use crate::floors::lower_bound;
 use crate::laws::rows_are_had;
-use crate::moves::{farthest, learn, most_step};
+use crate::moves::{Step, farthest, learn};
 use crate::offers::{Base, Terms};
 use crate::workspace::FloorWorkspace;
 use roster_case::{Case, Held};
@@ -190,15 +190,12 @@ fn move_worths(case: &Case, made: u16, pace: Pace, workspace: &mut FloorWorkspac
         return;
     }
     let before = made as u64 * pace.moves as u64;
-    let all = pace.rounds as u64 * pace.moves as u64;
-    // Many small moves would add up to a fall.
-    let more_down = if pace.moves > 1 { 0 } else { 1 };
     for moves_before in 0..pace.moves {
         if moves_before > 0 {
             count_known_rows(case, workspace);
         }
         let moves = before + moves_before as u64 + 1;
-        move_once(case, most_step(moves, all), more_down, workspace);
+        move_once(case, Step::after(moves, pace), workspace);
     }
 }
 
@@ -217,8 +214,8 @@ fn count_known_rows(case: &Case, workspace: &mut FloorWorkspace)
     seen.count_cheapest(case, worths, &mut rows.cover);
 }
 
-/// Moves each worth by the rows that are counted, by such a step at most, and by so much more downwards.
-fn move_once(case: &Case, step: u32, more_down: u32, workspace: &mut FloorWorkspace)
+/// Moves each worth by the rows that are counted, by such a step at most.
+fn move_once(case: &Case, step: Step, workspace: &mut FloorWorkspace)
     requires fits { FitsFloor case.now workspace.old }
     ensures { FitsFloor case.now workspace.new }
 {
@@ -226,8 +223,9 @@ fn move_once(case: &Case, step: u32, more_down: u32, workspace: &mut FloorWorksp
         rows,
         worths,
         covers,
-        ..
+        seen,
     } = workspace;
-    learn(case, worths, &rows.cover, covers);
-    worths.follow(covers, step, farthest(covers), more_down);
+    learn(case, worths, step, &rows.cover, covers);
+    worths.follow(covers, step, farthest(covers));
+    seen.move_by(step.most_parts());
 }

@@ -13,18 +13,21 @@ use std::alloc::{AllocError, Global};
 pub(crate) const KEPT: usize = 64;
 
 /// A row that is kept: what it costs its nurse beside what places pay, in points, and in which turn it was found last; none before the
-/// first.
+/// first. And what it cost by the worths when it was looked at last, and how far worths have to move until it may be the cheapest.
 #[derive(Clone, Copy, Default)]
 pub(crate) struct Mark {
     pub(crate) cost: u32,
     pub(crate) turn: u32,
+    pub(crate) by_worths: u64,
+    pub(crate) sleeps: u64,
 }
 
 /// The rows that were found last for each nurse, 64 at most, no row twice. Of each row its place is held for each day: 64 for each day,
-/// and beyond all of them where the nurse is off. For each nurse that is 128 bytes a day and 512 besides: 18,841,600 bytes at most.
+/// and beyond all of them where the nurse is off. For each nurse that is 128 bytes a day and 1,536 besides: 19,251,200 bytes at most.
 pub struct Seen {
     pub(crate) days: usize,
     pub(crate) turn: u32,
+    pub(crate) moved: u64,
     pub(crate) marks: Vec<Mark>,
     pub(crate) places: Vec<u16>,
 }
@@ -35,6 +38,7 @@ impl Drop for Seen {
         let Seen {
             days: _,
             turn: _,
+            moved: _,
             marks: _,
             places: _,
         } = self;
@@ -59,6 +63,7 @@ impl Seen {
         Ok(Seen {
             days,
             turn: 0,
+            moved: 0,
             marks: vec![in alloc; Mark::default(); rows]?,
             places: vec![in alloc; NOWHERE; rows * days]?,
         })
@@ -71,6 +76,7 @@ impl Seen {
         ensures places { self.new.places ≡ self.old.places }
     {
         self.turn = 0;
+        self.moved = 0;
         self.marks.fill(Mark::default());
     }
 
@@ -94,6 +100,8 @@ impl Seen {
         self.marks[at] = Mark {
             cost: cost_unpaid(row, found, worths),
             turn: self.turn,
+            by_worths: 0,
+            sleeps: 0,
         };
         self.put_row(case, at, row);
     }
@@ -143,10 +151,20 @@ impl Seen {
         }
     }
 
+    /// Takes down that worths move, by so much at most.
+    pub(crate) fn move_by(&mut self, most: u32)
+        ensures days { self.new.days ≡ self.old.days }
+        ensures marks { self.new.marks ≡ self.old.marks }
+        ensures places { self.new.places ≡ self.old.places }
+    {
+        self.moved = self.moved.saturating_add(most as u64);
+    }
+
     /// Counts, for each nurse, the one of her rows that is cheapest by the worths at its places.
-    pub(crate) fn count_cheapest(&self, case: &Case, worths: &Worths, cover: &mut [u16])
-        requires fits { FitsSeen case.now self.now }
-        ensures { length cover.new ≡ length cover.old }
+    pub(crate) fn count_cheapest(&mut self, case: &Case, worths: &Worths, cover: &mut [u16])
+        requires fits { FitsSeen case.now self.old }
+        ensures fits { FitsSeen case.now self.new }
+        ensures cover { length cover.new ≡ length cover.old }
     {
         for nurse in 0..case.nurses() {
             if let Some(at) = self.cheapest(case, nurse, worths) {
@@ -155,40 +173,63 @@ impl Seen {
         }
     }
 
-    /// The row of a nurse that is cheapest by the worths, the first where several are; none where no row of hers is kept.
-    pub(crate) fn cheapest(&self, case: &Case, nurse: usize, worths: &Worths) -> Option<usize>
+    /// The row of a nurse that is cheapest by the worths, the first where several are; none where no row of hers is kept. A row isn't
+    /// looked at as long as worths have moved too little to make it the cheapest.
+    pub(crate) fn cheapest(&mut self, case: &Case, nurse: usize, worths: &Worths) -> Option<usize>
         requires nurse { nurse < nurse_count case.now }
-        requires fits { FitsSeen case.now self.now }
-        ensures { IfSome result (λ at. at < length self.now.marks.items) }
+        requires fits { FitsSeen case.now self.old }
+        ensures fits { FitsSeen case.now self.new }
+        ensures at { IfSome result (λ at. at < length self.new.marks.items) }
     {
         let first = KEPT * nurse;
         let mut cheapest = None;
         let mut least = u64::MAX;
         for at in first..first + KEPT {
             if self.marks[at].turn == 0 {
+                break;
+            }
+            if self.marks[at].sleeps > self.moved {
                 continue;
             }
             let cost = self.cost_by(case, at, worths);
+            self.marks[at].by_worths = cost;
             if cost < least {
                 least = cost;
                 cheapest = Some(at);
             }
         }
+        self.lay_rows(case, nurse, least);
         cheapest
     }
 
-    /// What a row costs by the worths, in 256ths of a point, where the nurse earns less than the most on each day.
+    /// Lays down the rows of a nurse that were looked at just now, where the cheapest costs so much: each until worths have moved so far
+    /// that both could have changed by what lies between them.
+    fn lay_rows(&mut self, case: &Case, nurse: usize, least: u64)
+        requires nurse { nurse < nurse_count case.now }
+        requires fits { FitsSeen case.now self.old }
+        ensures fits { FitsSeen case.now self.new }
+    {
+        let first = KEPT * nurse;
+        let both = 2 * self.days.max(1) as u64;
+        for at in first..first + KEPT {
+            let mark = self.marks[at];
+            if mark.sleeps <= self.moved {
+                let apart = mark.by_worths.saturating_sub(least) / both;
+                self.marks[at].sleeps = self.moved.saturating_add(apart);
+            }
+        }
+    }
+
+    /// What a row costs by the worths, in parts of a point, where the nurse earns less than the most on each day.
     pub(crate) fn cost_by(&self, case: &Case, at: usize, worths: &Worths) -> u64
         requires fits { FitsSeen case.now self.now }
         requires at { at < length self.now.marks.items }
     {
         let first = at * self.days;
-        let mut cost = PARTS as u64 * self.marks[at].cost as u64;
-        for day in 0..self.days {
-            let paid = worths.fine_or_none(self.places[first + day] as usize);
-            cost = cost.saturating_add((MOST_FINE - paid) as u64);
-        }
-        cost
+        let paid = worths.fine_of(&self.places[first..first + self.days]);
+        let cost = PARTS as u64 * self.marks[at].cost as u64;
+        let most = case.days() as u64 * MOST_FINE as u64;
+        (cost + most).saturating_sub(paid)
     }
 
     /// Counts a row at its places.

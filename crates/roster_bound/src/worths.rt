@@ -3,10 +3,10 @@
 ghost use Rattle.std.specs.Prelude.{◌≡◌, ◌+◌, ◌-◌, ◌*◌, ◌/◌, ◌%◌, ◌<◌, ◌≤◌, IfOk, length, min, replicate};
 ghost use Rattle.roster_instance.specs.Limits.{most_days};
 ghost use Rattle.roster_instance.specs.Meaning.{day_count};
-ghost use Rattle.roster_bound.specs.Tables.{most_fine, worths_of};
+ghost use Rattle.roster_bound.specs.Tables.{most_fine, parts, worths_of};
 ghost use Rattle.roster_bound.specs.Worths.{AreWorths, SameWorths, asks_for_nurses, even_worths, most_worth};
 
-use crate::moves::Covers;
+use crate::moves::{Covers, Step, Way};
 use roster_rules::{Case, Shift, Skill};
 use std::alloc::{AllocError, Global};
 use std::marker::Model;
@@ -16,9 +16,9 @@ use std::marker::Model;
 pub const MOST_WORTH: u32 = 200_000;
 
 /// How many parts of a point a worth is held in.
-pub(crate) const PARTS: u32 = 256;
+pub const PARTS: u32 = 16_384;
 
-/// The points that each place, a day, a shift and a skill, pays to a nurse that works there. They are held in 256ths of a point, 64 for
+/// The points that each place, a day, a shift and a skill, pays to a nurse that works there. They are held in parts of a point, 64 for
 /// each day, and rounded to the nearest point for use.
 pub struct Worths {
     pub(crate) days: u16,
@@ -52,7 +52,7 @@ impl Worths {
         requires { worth ≤ most_worth }
         ensures days { IfOk result (λ worths. worths.days ≡ day_count case.now) }
         ensures fine { IfOk result (λ worths. worths.fine ≡ replicate (64 * day_count case.now)
-            (256 * worth)) }
+            (parts * worth)) }
     {
         let days = case.days();
         Ok(Worths {
@@ -73,22 +73,28 @@ impl Worths {
         (fine + PARTS / 2) / PARTS
     }
 
-    /// What a place pays, in 256ths of a point; nothing beyond the places of all days.
-    pub(crate) fn fine_or_none(&self, place: usize) -> u32
-        ensures { result ≤ most_fine }
+    /// What a place pays, in points; nothing beyond the places of all days.
+    pub(crate) fn points_or_none(&self, place: usize) -> u32
+        ensures { result ≤ most_worth }
     {
         if place < self.fine.len() {
-            self.fine[place]
+            (self.fine[place] + PARTS / 2) / PARTS
         } else {
             0
         }
     }
 
-    /// The same in points, rounded as it is for use.
-    pub(crate) fn points_or_none(&self, place: usize) -> u32
-        ensures { result ≤ most_worth }
-    {
-        (self.fine_or_none(place) + PARTS / 2) / PARTS
+    /// What all these places pay together, in parts of a point, but for those beyond the places of all days.
+    pub(crate) fn fine_of(&self, places: &[u16]) -> u64 {
+        let fine = self.fine.as_slice();
+        let mut paid: u64 = 0;
+        for place in places {
+            let place = *place as usize;
+            if place < fine.len() {
+                paid = paid.wrapping_add(fine[place] as u64);
+            }
+        }
+        paid
     }
 
     /// Gives each place that asks for nurses the same worth, and none to the others.
@@ -105,8 +111,8 @@ impl Worths {
     }
 
     /// Moves each worth towards what is wanted at its place, by its share of a step: the whole step where wanted and had are so far
-    /// apart. Downwards it moves by so many 256ths more.
-    pub(crate) fn follow(&mut self, covers: &Covers, step: u32, far: u32, more_down: u32)
+    /// apart.
+    pub(crate) fn follow(&mut self, covers: &Covers, step: Step, far: u32)
         requires wanted { length covers.now.wanted.items ≡ 64 * self.old.days }
         requires had { length covers.now.had.items ≡ 64 * self.old.days }
         requires far { 0 < far }
@@ -114,9 +120,12 @@ impl Worths {
     {
         for place in 0..self.fine.len() {
             let (wanted, had) = (covers.wanted[place], covers.had[place]);
+            if wanted == had {
+                continue;
+            }
             let apart = wanted.abs_diff(had) as u64;
-            let share = (apart * step as u64 / far as u64).min(step as u64) as u32;
-            self.fine[place] = moved(self.fine[place], wanted, had, share, more_down);
+            let share = (apart * step.most as u64 / far as u64).min(step.most as u64) as u32;
+            self.fine[place] = moved(self.fine[place], wanted, had, step.by(share));
         }
     }
 
@@ -128,11 +137,11 @@ impl Worths {
     }
 }
 
-/// A worth in 256ths of a point where the place asks for nurses, else none.
+/// A worth in parts of a point where the place asks for nurses, else none.
 fn even_worth(case: &Case, place: usize, worth: u32) -> u32
     requires place { place < 64 * day_count case.now }
     requires worth { worth ≤ most_worth }
-    ensures fine { result ≡ 256 * even_worths case.now worth (place / 64) (place % 64 / 8)
+    ensures fine { result ≡ parts * even_worths case.now worth (place / 64) (place % 64 / 8)
         (place % 8) }
     ensures within { result ≤ most_fine }
 {
@@ -153,22 +162,22 @@ fn asks_for_nurses(case: &Case, place: usize) -> bool
     need.minimum > 0 || need.optimum > 0
 }
 
-/// A worth in 256ths of a point, moved by a share: up where nurses are wanted, and by so much more down where there are too many.
-fn moved(fine: u32, wanted: u32, had: u32, share: u32, more_down: u32) -> u32
+/// A worth in parts of a point, moved: up where nurses are wanted, down where there are too many.
+fn moved(fine: u32, wanted: u32, had: u32, by: Way) -> u32
     requires { fine ≤ most_fine }
-    ensures up { had < wanted → result ≡ min (fine + share) most_fine }
-    ensures down { wanted < had → result ≡ fine - (share + more_down) }
+    ensures up { had < wanted → result ≡ min (fine + by.up) most_fine }
+    ensures down { wanted < had → result ≡ fine - by.down }
     ensures same { had ≡ wanted → result ≡ fine }
     ensures within { result ≤ most_fine }
 {
     if had < wanted {
-        fine.saturating_add(share).min(MOST_FINE)
+        fine.saturating_add(by.up).min(MOST_FINE)
     } else if wanted < had {
-        fine.saturating_sub(share.saturating_add(more_down))
+        fine.saturating_sub(by.down)
     } else {
         fine
     }
 }
 
-/// The most in 256ths of a point.
-pub(crate) const MOST_FINE: u32 = 51_200_000;
+/// The most in parts of a point.
+pub(crate) const MOST_FINE: u32 = 3_276_800_000;

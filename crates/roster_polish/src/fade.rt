@@ -21,15 +21,15 @@ use crate::space::PolishSpace;
 use crate::stay::stay_if_no_dearer;
 use crate::visit::{Turn, visit};
 use roster_bound::{
-    Base, Fading, Terms, WHOLE, follow_cover, lacks_nurses, pay_places, put_row, rows_are_had,
-    take_row,
+    Base, Fading, PARTS, Terms, WHOLE, follow_cover, lacks_nurses, pay_places, put_row,
+    rows_are_had, take_row,
 };
 use roster_case::Held;
 use roster_costs::first_hard;
 use roster_state::Meter;
 
 /// How many nurses have their turn in a fade for each search that it may make. Those who can gain little are left out.
-pub(crate) const VISITS: u64 = 4;
+pub(crate) const VISITS: u64 = 16;
 
 /// How many passes a fade makes besides where places are below their minimums: two, and two, and two again.
 const MORE_PASSES: u64 = 6;
@@ -140,12 +140,12 @@ pub(crate) fn fade_rows(
 /// So many passes of a fade go by the true prices alone.
 const LAST_PASSES: u64 = 2;
 
-/// How far a fade has come in one of its passes, so many searches having been made: from worths alone to none in the last two, evenly, and
-/// on from there. It comes sooner where the last quarter of its searches says so.
+/// How far a fade has come in one of its passes, so many searches having been made: from worths alone to none in the last two, evenly by
+/// passes, or by searches where it has made more of these; and on from there.
 fn fading_in(pass: u64, made: u64, length: Length) -> Fading {
     let even = length.passes.saturating_sub(LAST_PASSES);
-    let quarters = length.searches.saturating_sub(made).saturating_mul(4);
-    let share = part_of(even.saturating_sub(pass), even).min(part_of(quarters, length.searches));
+    let left = length.searches.saturating_sub(made);
+    let share = part_of(even.saturating_sub(pass), even).min(part_of(left, length.searches));
     Fading {
         share,
         missing: MISSING * times_in(pass, length.passes),
@@ -158,7 +158,7 @@ fn part_of(part: u64, all: u64) -> u32 {
     (whole.saturating_mul(part) / all.max(1)).min(whole) as u32
 }
 
-/// How far worths move after a pass, in 256ths of a point: the fewer passes there are the farther, by the share that the worths have.
+/// How far worths move after a pass, in parts of a point: the fewer passes there are the farther, by the share that the worths have.
 fn step_in(share: u32, passes: u64) -> u32 {
     let most = (ALL_STEPS / passes.max(1)).clamp(LEAST_STEP, MOST_STEP);
     most as u32 * share.min(WHOLE) / WHOLE

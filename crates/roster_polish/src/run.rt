@@ -191,15 +191,15 @@ pub(crate) fn rounds_within(searches: u32, parts: u32, nurses: u32) -> u32
 }
 
 /// How many passes over all nurses a fade makes: none for kicks alone, or else as many as take the searches that are left where one nurse
-/// of four is searched in each, but for 3 of a hundred of all, or for ten searches of each nurse where that is more. Below a hundred
+/// of sixteen is searched in each, but for 3 of a hundred of all, or for ten searches of each nurse where that is more. Below 25
 /// searches of each nurse it may end below a minimum: then half of all searches are kept for kicks.
 fn passes_within(course: &Course, left: u32, nurses: u32) -> u64
     requires some { 0 < nurses }
     requires few { nurses ≤ most_nurses }
     ensures fadeless { course.now.kicks ≡ true → result ≡ 0 }
-    ensures long { course.now.kicks ≡ false → 100 * nurses + spared course.now.searches
+    ensures long { course.now.kicks ≡ false → 25 * nurses + spared course.now.searches
         nurses ≤ left → TakesAllBut (spared course.now.searches nurses) left nurses result }
-    ensures short { course.now.kicks ≡ false → left < 100 * nurses + spared course.now.searches
+    ensures short { course.now.kicks ≡ false → left < 25 * nurses + spared course.now.searches
         nurses → TakesAllBut (course.now.searches / 2) left nurses result }
 {
     if course.kicks {
@@ -214,4 +214,4 @@ fn passes_within(course: &Course, left: u32, nurses: u32) -> u64
 }
 
 /// So many searches of each nurse lead from the worths to the true prices without haste.
-const MANY_SEARCHES: u32 = 100;
+const MANY_SEARCHES: u32 = 25;

@@ -7,8 +7,14 @@ invariant-loop-day l = record {
   had : length l.covers.had.items ≡ length l.fn.covers.had.items;
 }
 
-abbrev pub invariant-loop-place : goal.invariant-loop-place
-invariant-loop-place l = record {
+abbrev pub invariant-loop-shift : goal.invariant-loop-shift
+invariant-loop-shift l = record {
+  wanted : length l.covers.wanted.items ≡ length l.fn.covers.wanted.items;
+  had : length l.covers.had.items ≡ length l.fn.covers.had.items;
+}
+
+abbrev pub invariant-loop-skill : goal.invariant-loop-skill
+invariant-loop-skill l = record {
   wanted : length l.covers.wanted.items ≡ length l.fn.covers.wanted.items;
   had : length l.covers.had.items ≡ length l.fn.covers.had.items;
 }

@@ -30,7 +30,7 @@ returns-in_err-write_bound-in-Ok-raise_floor g c =
     let output : Output g.row.Out.Denot = record { contents = g.Out.Write.contents; before = c.args.output.now; after = c.write_bound.new.output } in
     let log : Output g.row.Log.Denot = record { contents = g.Log.Write.contents; before = c.args.log.now; after = c.raise_floor.new.log } in
     let of_case : Meaning → HeldRoster = λ m. record { case = m; roster = c.args.instance.roster } in
-    let held = c.in-Ok.ensures.held ∙ c.in_ok-held.ensures.held ∙ ap of_case c.new-meter.ensures.same in
+    let held = c.in_ok-held.ensures.held ∙ ap of_case c.new-meter.ensures.same in
     let kept = subst (λ (m : Meaning). hard_faults m c.args.instance.roster ≡ []) c.new-meter.ensures.same c.in_ok-held.ensures.kept in
     let bound = c.in-Ok-raise_floor.bound in
     let raised = subst (λ (h : HeldRoster). RaisesFloor g.Log.Write.contents h.case c.args.from h.roster c.args.rounds c.args.log.now c.raise_floor.new.log bound) held c.in-Ok-raise_floor.ensures.ok in
@@ -46,7 +46,7 @@ returns-in-Ok-raise_floor g c =
     let output : Output g.row.Out.Denot = record { contents = g.Out.Write.contents; before = c.args.output.now; after = c.write_bound.new.output } in
     let log : Output g.row.Log.Denot = record { contents = g.Log.Write.contents; before = c.args.log.now; after = c.raise_floor.new.log } in
     let of_case : Meaning → HeldRoster = λ m. record { case = m; roster = c.args.instance.roster } in
-    let held = c.in-Ok.ensures.held ∙ c.in_ok-held.ensures.held ∙ ap of_case c.new-meter.ensures.same in
+    let held = c.in_ok-held.ensures.held ∙ ap of_case c.new-meter.ensures.same in
     let kept = subst (λ (m : Meaning). hard_faults m c.args.instance.roster ≡ []) c.new-meter.ensures.same c.in_ok-held.ensures.kept in
     let bound = c.in-Ok-raise_floor.bound in
     let raised = subst (λ (h : HeldRoster). RaisesFloor g.Log.Write.contents h.case c.args.from h.roster c.args.rounds c.args.log.now c.raise_floor.new.log bound) held c.in-Ok-raise_floor.ensures.ok in
@@ -59,7 +59,7 @@ returns g c =
     let output : Output g.row.Out.Denot = record { contents = g.Out.Write.contents; before = c.args.output.now; after = c.args.output.now } in
     let log : Output g.row.Log.Denot = record { contents = g.Log.Write.contents; before = c.args.log.now; after = c.raise_floor.new.log } in
     let of_case : Meaning → HeldRoster = λ m. record { case = m; roster = c.args.instance.roster } in
-    let held = c.in-Ok.ensures.held ∙ c.in_ok-held.ensures.held ∙ ap of_case c.new-meter.ensures.same in
+    let held = c.in_ok-held.ensures.held ∙ ap of_case c.new-meter.ensures.same in
     let kept = subst (λ (m : Meaning). hard_faults m c.args.instance.roster ≡ []) c.new-meter.ensures.same c.in_ok-held.ensures.kept in
     let f = c.in-Err-LogFailed.field-0 in
     let stops = subst (λ (h : HeldRoster). FloorLogStops g.Log.Write.contents h.case c.args.from h.roster c.args.rounds c.args.log.now c.raise_floor.new.log f) held c.in-Err-LogFailed.ensures.err in
