@@ -164,12 +164,13 @@ fn step_in(share: u32, passes: u64) -> u32 {
     most as u32 * share.min(WHOLE) / WHOLE
 }
 
-/// How far a worth moves in all passes together, in 256ths of a point, as far as the least and the most for one pass let it.
-const ALL_STEPS: u64 = 40_000;
+/// How far a worth moves in all passes together, some 156 points, as far as the least and the most for one pass let it: a quarter of a
+/// point, and two.
+const ALL_STEPS: u64 = 40_000 * PARTS as u64 / 256;
 
-const LEAST_STEP: u64 = 64;
+const LEAST_STEP: u64 = PARTS as u64 / 4;
 
-const MOST_STEP: u64 = 512;
+const MOST_STEP: u64 = PARTS as u64 * 2;
 
 /// How many times as much a place below its minimum pays in a pass: three times in the first two that are made besides.
 fn times_in(pass: u64, passes: u64) -> u32
