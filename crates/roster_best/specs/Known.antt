@@ -1,5 +1,5 @@
 -- What the last search for each nurse tells of the next: at what prices it went over the shifts, and what it found (our own).
-use Rattle.std.specs.Prelude.{◌≡◌, ◌≢◌, ℕ, ◌+◌, ◌*◌, ◌<◌, ◌≤◌, ◌==◌, ◌&&◌, Bool, Contains, IfSome, List, [], Option, Some, None, length, slice_index, slice_index_or}
+use Rattle.std.specs.Prelude.{◌≡◌, ◌≢◌, ℕ, ◌+◌, ◌-◌, ◌*◌, ◌<◌, ◌≤◌, ◌==◌, ◌&&◌, Bool, Contains, IfSome, List, [], fold, max, Option, Some, None, length, slice_index, slice_index_or}
 use Rattle.roster_instance.specs.declared.choice.Shift.{Shift}
 use Rattle.roster_instance.specs.Choices.{shift_of}
 use Rattle.roster_instance.specs.Limits.{most_shifts}
@@ -33,6 +33,15 @@ pub record IsDearer (prices : List ℕ) (rise fall : ℕ) (offer : Offer) : Type
   pub place : price_place (shift_of offer.choice) < 1 + most_shifts
   pub offered : slice_index prices (price_place (shift_of offer.choice)) ≢ not_offered
   pub price : slice_index prices (price_place (shift_of offer.choice)) + rise ≤ offer.price + fall
+
+-- by how much more the present choice has become dearer since these prices than an offer of the day has
+abbrev pub gain_over : List ℕ → (present offer : Offer) → ℕ
+gain_over prices present offer =
+    (present.price + slice_index prices (price_place (shift_of offer.choice))) - (slice_index prices (price_place (shift_of present.choice)) + offer.price)
+
+-- than any of these offers
+abbrev pub most_gain : List ℕ → Offer → List Offer → ℕ
+most_gain prices present offers = fold (λ most offer. max most (gain_over prices present offer)) 0 offers
 
 -- ---- what is kept of all nurses
 

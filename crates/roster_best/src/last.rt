@@ -1,14 +1,14 @@
 //! What the last search for each nurse tells of the next.
 
-ghost use Rattle.std.specs.Prelude.{◌≡◌, ◌+◌, ◌<◌, ℕ, true, All, IfOk, IfSome, None, length, replicate};
+ghost use Rattle.std.specs.Prelude.{◌≡◌, ◌+◌, ◌<◌, ◌≤◌, ◌^◌, ℕ, true, All, IfOk, IfSome, None, is_some, length, replicate, slice_index_or};
 ghost use Rattle.roster_instance.specs.Choices.{shift_of};
 ghost use Rattle.roster_instance.specs.Limits.{most_shifts};
-ghost use Rattle.roster_instance.specs.Meaning.{Meaning, nurse_count};
+ghost use Rattle.roster_instance.specs.Meaning.{Meaning, day_count, nurse_count};
 ghost use Rattle.roster_instance.specs.Rosters.{Row};
 ghost use Rattle.roster_rules.specs.AllowedRows.{best_row};
 ghost use Rattle.roster_rules.specs.Improver.{step};
-ghost use Rattle.roster_offers.specs.Lists.{IsFound, best_over, offers_on};
-ghost use Rattle.roster_best.specs.Known.{ArePrices, IsDearer, IsKnown, fits_last, price_place};
+ghost use Rattle.roster_offers.specs.Lists.{AreOffers, IsFound, best_over, offers_on};
+ghost use Rattle.roster_best.specs.Known.{ArePrices, IsDearer, IsKnown, fits_last, gain_over, most_gain, price_place, prices_on};
 ghost use Rattle.roster_best.specs.Searches.{AreOffersOf, AreShiftOffers};
 
 use arrayvec::ArrayVec;
@@ -121,23 +121,60 @@ impl LastSearches {
         present <= least
     }
 
+    /// Whether a search for the nurse is known.
+    pub fn knows(&self, nurse: usize) -> bool
+        requires { nurse < length self.now.costs.items }
+        ensures { result ≡ is_some (slice_index_or self.now.costs.items nurse None) }
+    {
+        self.costs[nurse].is_some()
+    }
+
+    /// By how much more the present choice of a nurse's day has become dearer since her last search than some other offer of the day
+    /// has, at most.
+    pub fn most_gain(
+        &self,
+        case: &Case,
+        nurse: usize,
+        day: u16,
+        present: Offer,
+        offers: &[Offer],
+    ) -> u64
+        requires nurse { nurse < nurse_count case.now }
+        requires day { day < day_count case.now }
+        requires known { IsKnown case.now self.now }
+        requires present { price_place (shift_of present.choice) < 1 + most_shifts }
+        requires places { All (λ offer. price_place (shift_of offer.choice) < 1 + most_shifts)
+            offers.now }
+        ensures gain { result ≡ most_gain (prices_on case.now self.now nurse day) present
+            offers.now }
+        ensures within { result ≤ 2 ^ 33 }
+    {
+        case.keeps_limits();
+        let prices = &self.prices[nurse * case.days() as usize + day as usize];
+        let mut most = 0;
+        for offer in offers {
+            most = most.max(gain_over(prices, present, *offer));
+        }
+        most
+    }
+
     /// Keeps the prices and the cost of a search for a nurse, in the place of those of an earlier one.
-    pub(crate) fn remember(
+    pub fn remember(
         &mut self,
-        held: &Held,
+        case: &Case,
         nurse: usize,
         offers: &[ArrayVec<Offer, MOST_OFFERS>],
         cost: u32,
     )
-        requires nurse { nurse < nurse_count held.now.case }
-        requires known { IsKnown held.now.case self.old }
-        requires offers { AreOffersOf held.now.case held.now.roster nurse offers.now }
-        requires found { (row : Row) × IsFound (best_over held.now.case nurse
-            (offers_on offers.now)) cost row }
-        ensures known { IsKnown held.now.case self.new }
+        requires nurse { nurse < nurse_count case.now }
+        requires known { IsKnown case.now self.old }
+        requires days { length offers.now ≡ day_count case.now }
+        requires offers { AreOffers case.now nurse offers.now }
+        requires found { (row : Row) × IsFound (best_over case.now nurse (offers_on offers.now))
+            cost row }
+        ensures known { IsKnown case.now self.new }
     {
-        held.case().keeps_limits();
-        held.keeps_rules();
+        case.keeps_limits();
         let days = offers.len();
         for day in 0..days {
             self.prices[nurse * days + day] = prices_by_shift(offers[day].as_slice());
@@ -171,6 +208,18 @@ fn change_since(prices: &[u32; MOST_OFFERS], offers: &[Offer]) -> Option<Change>
         fall = fall.max(before.saturating_sub(offer.price));
     }
     Some(Change { rise, fall })
+}
+
+/// By how much more the present choice has become dearer since these prices than an offer has.
+fn gain_over(prices: &[u32; MOST_OFFERS], present: Offer, offer: Offer) -> u64
+    requires present { price_place (shift_of present.choice) < 1 + most_shifts }
+    requires offer { price_place (shift_of offer.choice) < 1 + most_shifts }
+    ensures gain { result ≡ gain_over prices.now present offer }
+    ensures within { result ≤ 2 ^ 33 }
+{
+    let mine = prices[price_place(present.choice)] as u64;
+    let others = prices[price_place(offer.choice)] as u64;
+    (present.price as u64 + others).saturating_sub(mine + offer.price as u64)
 }
 
 /// The price of each shift on a day.

@@ -96,13 +96,14 @@ pub fn cheaper_row(
     ensures fits { fits_space held.now.case workspace.new ≡ true }
     ensures known { IsKnown held.now.case last.new }
 {
+    held.case().keeps_limits();
     held.keeps_rules();
     offers_of_days(held, nurse, from, workspace);
     if last.has_none_cheaper(held, nurse, workspace.offers()) {
         return None;
     }
     let (cost, best) = best_of_offers(held, nurse, workspace, meter);
-    last.remember(held, nurse, workspace.offers(), cost);
+    last.remember(held.case(), nurse, workspace.offers(), cost);
     Some(best)
 }
 

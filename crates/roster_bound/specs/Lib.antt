@@ -4,3 +4,4 @@ pub mod Days
 pub mod Floors
 pub mod Seen
 pub mod Workspaces
+pub mod Fading

@@ -1,13 +1,18 @@
 //! What places pay in a fade: their worths, which turn into the true prices step by step.
 
-ghost use Rattle.std.specs.Prelude.{◌≡◌, ◌*◌, ◌<◌, ◌≤◌, IfSome, length};
-ghost use Rattle.roster_instance.specs.Meaning.{day_count};
-ghost use Rattle.roster_bound.specs.Tables.{most_fine};
+ghost use Rattle.std.specs.Prelude.{◌≡◌, ◌≢◌, ℕ, ◌*◌, ◌/◌, ◌%◌, ◌<◌, ◌≤◌, IfSome, length, min, slice_index_or, true};
+ghost use Rattle.roster_instance.specs.Meaning.{day_count, minimum, nurse_count, optimum};
+ghost use Rattle.roster_instance.specs.Rosters.{is_choice_of};
+ghost use Rattle.roster_bound.specs.Fading.{HaveFollowed, followed_by};
+ghost use Rattle.roster_bound.specs.Tables.{most_fine, worths_of};
 ghost use Rattle.roster_bound.specs.Workspaces.{FitsFloor};
+ghost use Rattle.roster_bound.specs.Worths.{price_by};
 
 use crate::moves::count_row;
+use crate::offers::{Terms, earned};
 use crate::workspace::FloorWorkspace;
-use crate::worths::{MOST_FINE, PARTS, Worths};
+use crate::worths::{MOST_FINE, MOST_WORTH, PARTS, Worths};
+use roster_offers::request_cost;
 use roster_rules::weights::STAFFING;
 use roster_rules::{Case, Choice, Need, Roster, Shift, Skill};
 
@@ -22,9 +27,6 @@ pub struct Fading {
 /// The share where a place pays its worth alone.
 pub const WHOLE: u32 = 1024;
 
-/// How far a worth moves at most, half a point.
-const HALF: u32 = PARTS / 2;
-
 /// Counts the rows of a roster at their places, and no others.
 pub fn count_rows(case: &Case, roster: &Roster, floor: &mut FloorWorkspace)
     requires { FitsFloor case.now floor.old }
@@ -36,13 +38,13 @@ pub fn count_rows(case: &Case, roster: &Roster, floor: &mut FloorWorkspace)
     }
 }
 
-/// Moves the worth of each place that asks for nurses by a share of half a point: up where one is missing, down where there are too
+/// Moves the worth of each place that asks for nurses by so many parts of a point: up where one is missing, down where there are too
 /// many.
-pub fn follow_cover(case: &Case, share: u32, floor: &mut FloorWorkspace)
+pub fn follow_cover(case: &Case, step: u32, floor: &mut FloorWorkspace)
     requires { FitsFloor case.now floor.old }
-    ensures { FitsFloor case.now floor.new }
+    ensures followed { HaveFollowed case.now step floor.old floor.new }
+    ensures fits { FitsFloor case.now floor.new }
 {
-    let step = HALF * share.min(WHOLE) / WHOLE;
     for place in 0..64 * case.days() as usize {
         let need = need_at(case, place);
         let nurses = floor.rows.cover[place];
@@ -99,23 +101,37 @@ pub fn take_row(
     }
 }
 
-/// Lets the places of a row, which is counted there, pay what they do with it.
-pub fn pay_row(
+/// Counts a row at its places, and lets these pay what they do with it.
+pub fn put_row(
     case: &Case,
     row: &[Choice],
     fading: Fading,
-    floor: &FloorWorkspace,
+    floor: &mut FloorWorkspace,
     pays: &mut Worths,
 )
-    requires fits { FitsFloor case.now floor.now }
+    requires fits { FitsFloor case.now floor.old }
     requires days { pays.old.days ≡ day_count case.now }
+    ensures fits { FitsFloor case.now floor.new }
     ensures days { pays.new.days ≡ pays.old.days }
 {
+    count_row(row, &mut floor.rows.cover);
     for day in 0..row.len() {
         if let Some(place) = place_of(case, row, day) {
             pay_place(case, place, fading, floor, pays);
         }
     }
+}
+
+/// What a choice costs a nurse on a day: what she earns less than the most, and what the requests cost.
+pub fn price_of(terms: &Terms<'_>, nurse: usize, day: u16, choice: Choice) -> u32
+    requires nurse { nurse < nurse_count terms.now.case.now }
+    requires day { day < day_count terms.now.case.now }
+    requires choice { is_choice_of terms.now.case.now choice ≡ true }
+    ensures price { result ≡ price_by terms.now.case.now (worths_of terms.now.worths.now) nurse
+        day choice }
+{
+    let earned = earned(terms, day, choice);
+    MOST_WORTH - earned + request_cost(terms.case, nurse, day, choice.shift())
 }
 
 /// Whether some place is below its minimum by the rows that are counted.
@@ -150,6 +166,8 @@ fn place_of(case: &Case, row: &[Choice], day: usize) -> Option<usize>
 /// Minimum and optimum of a place.
 fn need_at(case: &Case, place: usize) -> Need
     requires { place < 64 * day_count case.now }
+    ensures minimum { result.minimum ≡ minimum case.now (place / 64) (place % 64 / 8) (place % 8) }
+    ensures optimum { result.optimum ≡ optimum case.now (place / 64) (place % 64 / 8) (place % 8) }
 {
     case.keeps_limits();
     let (day, shift, skill) = (place / 64, place % 64 / 8, place % 8);
@@ -158,7 +176,11 @@ fn need_at(case: &Case, place: usize) -> Need
 
 /// A worth that follows its place: nurses are wanted to the optimum as long as it is no more than a missing one costs, and else to
 /// the minimum.
-fn followed(need: Need, nurses: u16, fine: u32, step: u32) -> u32 {
+fn followed(need: Need, nurses: u16, fine: u32, step: u32) -> u32
+    requires { fine ≤ most_fine }
+    ensures followed { result ≡ followed_by need.minimum need.optimum nurses fine step }
+    ensures within { result ≤ most_fine }
+{
     let wanted = if fine <= PARTS * STAFFING {
         need.minimum.max(need.optimum)
     } else {
@@ -167,7 +189,7 @@ fn followed(need: Need, nurses: u16, fine: u32, step: u32) -> u32 {
     if need.minimum == 0 && need.optimum == 0 {
         fine
     } else if nurses < wanted {
-        fine.saturating_add(step)
+        fine.saturating_add(step).min(MOST_FINE)
     } else if nurses > wanted {
         fine.saturating_sub(step)
     } else {
@@ -206,7 +228,8 @@ impl Worths {
     /// What a place pays, in parts of a point.
     pub(crate) fn fine_at(&self, place: usize) -> u32
         requires { place < 64 * self.now.days }
-        ensures { result ≤ most_fine }
+        ensures fine { result ≡ slice_index_or self.now.fine place 0 }
+        ensures within { result ≤ most_fine }
     {
         self.fine[place]
     }
@@ -214,7 +237,10 @@ impl Worths {
     /// Lets a place pay so many parts of a point, or the most that a place pays.
     fn put_fine(&mut self, place: usize, fine: u32)
         requires { place < 64 * self.old.days }
-        ensures { self.new.days ≡ self.old.days }
+        ensures days { self.new.days ≡ self.old.days }
+        ensures fine { slice_index_or self.new.fine place 0 ≡ min fine most_fine }
+        ensures others { (other : ℕ) → other ≢ place → slice_index_or self.new.fine other 0
+            ≡ slice_index_or self.old.fine other 0 }
     {
         self.fine[place] = fine.min(MOST_FINE);
     }

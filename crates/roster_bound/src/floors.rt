@@ -116,7 +116,7 @@ fn offers_of_days(terms: &Terms<'_>, nurse: usize, offers: &mut DayOffers)
 }
 
 /// The offers of one day.
-fn offers_of_day(terms: &Terms<'_>, nurse: usize, day: u16) -> ArrayVec<Offer, MOST_OFFERS>
+pub fn offers_of_day(terms: &Terms<'_>, nurse: usize, day: u16) -> ArrayVec<Offer, MOST_OFFERS>
     requires nurse { nurse < nurse_count terms.now.case.now }
     requires day { day < day_count terms.now.case.now }
     ensures offers { result.items ≡ shift_offers_by_worth terms.now.case.now terms.now.from

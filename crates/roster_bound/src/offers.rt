@@ -103,7 +103,7 @@ fn keeps_frozen_day(terms: &Terms<'_>, nurse: usize, day: u16, choice: Choice) -
 }
 
 /// What a nurse earns on a day.
-fn earned(terms: &Terms<'_>, day: u16, choice: Choice) -> u32
+pub(crate) fn earned(terms: &Terms<'_>, day: u16, choice: Choice) -> u32
     requires day { day < day_count terms.now.case.now }
     requires choice { is_choice_of terms.now.case.now choice ≡ true }
     ensures pay { result ≡ earned (worths_of terms.now.worths.now) day choice }

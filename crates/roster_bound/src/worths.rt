@@ -16,7 +16,7 @@ use std::marker::Model;
 pub const MOST_WORTH: u32 = 200_000;
 
 /// How many parts of a point a worth is held in.
-pub(crate) const PARTS: u32 = 16_384;
+pub const PARTS: u32 = 16_384;
 
 /// The points that each place, a day, a shift and a skill, pays to a nurse that works there. They are held in parts of a point, 64 for
 /// each day, and rounded to the nearest point for use.

@@ -5,7 +5,7 @@ use Rattle.std.proofs.lemmas.Nat.{mul-add-lt, mul-le}
 use Rattle.std.proofs.lemmas.List.Edits.{get_or-between, length-between}
 use Rattle.std.specs.List.{between}
 use Rattle.roster_offers.proofs.PartLaws.{part_before, part_inside, part_length}
-use Rattle.std.proofs.Common.{⊎_elim, ◌∙◌, ◌≤◌, ◌*◌, ◌-◌, ◌≡◌, ◌≢◌, ◌+◌, ◌<◌, ℕ, List, arith, below_more, get_or, get_or-set_other, get_or-set_same, length, set, subst, sym}
+use Rattle.std.proofs.Common.{⊎_elim, ◌∙◌, ◌≤◌, ◌*◌, ◌-◌, ◌≡◌, ◌+◌, ◌<◌, ℕ, List, arith, below_more, get_or, length, subst, sym}
 use Rattle.std.proofs.lemmas.List.{get_or_past}
 
 -- a part of a list is written anew, of as many cells

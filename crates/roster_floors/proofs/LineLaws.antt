@@ -1,5 +1,5 @@
 -- A line lies under all offers of the day.
-use Rattle.std.proofs.Common.{◌≡◌, ◌+◌, ◌-◌, ◌<◌, ◌≤◌, ℕ, List, Option, None, Some, ap, arith, false, length, lt-ltb, min, set, slice_index_or, subst, true}
+use Rattle.std.proofs.Common.{◌≡◌, ◌+◌, ◌<◌, ◌≤◌, ℕ, List, Option, None, Some, ap, arith, false, min, slice_index_or, subst, true}
 use Rattle.roster_instance.specs.declared.choice.Shift.{Shift}
 use Rattle.roster_instance.specs.declared.rules.Limits.{Limits}
 use Rattle.roster_instance.specs.Meaning.{run_of_shift}

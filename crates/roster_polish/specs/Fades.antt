@@ -1,6 +1,13 @@
 -- Rows that are faded beside the kept roster (our own).
-use Rattle.std.specs.Prelude.{◌≡◌, ◌+◌, ◌-◌, ◌*◌, ◌/◌, ◌<◌, ◌≤◌, ℕ, max}
+use Rattle.std.specs.Prelude.{◌≡◌, ◌+◌, ◌-◌, ◌*◌, ◌/◌, ◌<◌, ◌≤◌, ◌&&◌, ℕ, Bool, None, is_some, max, nat_le, slice_index_or}
+use Rattle.roster_instance.specs.Counting.{sum_below}
 use Rattle.roster_instance.specs.Meaning.{Meaning, day_count}
+use Rattle.roster_instance.specs.Rosters.{Row, Rows, choice_on}
+use Rattle.roster_offers.specs.Offers.{offer_at}
+use Rattle.roster_best.specs.Known.{most_gain, prices_on}
+use Rattle.roster_best.specs.declared.last.LastSearches.{LastSearches}
+use Rattle.roster_bound.specs.Days.{shift_offers_by_worth}
+use Rattle.roster_bound.specs.Worths.{PlaceWorths, price_by}
 use Rattle.roster_laws.specs.FrozenDays.{FrozenDaysStay}
 use Rattle.roster_bound.specs.declared.offers.Base.{Base}
 use Rattle.roster_polish.specs.declared.kick.Kicking.{Kicking}
@@ -26,7 +33,21 @@ pub record AreFaded (base : Base) (kicking_old kicking : Kicking) (space_old spa
 abbrev pub spared : (searches nurses : ℕ) → ℕ
 spared searches nurses = max (searches / 100 * 3) (10 * nurses)
 
--- so many passes over all nurses take what is left but for so many searches, and no part of a pass
+-- so many passes over all nurses, in which one of sixteen is searched, take what is left but for so many searches; they are sixteen times
+-- as many as where all are searched, and these no part of a pass less
 pub record TakesAllBut (kept left nurses passes : ℕ) : Type 0 where
-  pub within : passes * nurses ≤ left - kept
-  pub all : left - kept < (passes + 1) * nurses
+  pub within : passes * nurses ≤ 16 * (left - kept)
+  pub all : 16 * (left - kept) < (passes + 16) * nurses
+  pub whole : passes ≡ 16 * (passes / 16)
+
+-- ---- who is left out of a pass
+
+-- by how many points the present row, which is the one that the nurse's last search found, can be made cheaper at most by what places pay
+-- now: on each day by how much more its choice has become dearer since that search than an offer has
+abbrev pub gain_since : Meaning → ℕ → Rows → PlaceWorths → LastSearches → (n : ℕ) → Row → ℕ
+gain_since c from given w last n row =
+    sum_below (day_count c) (λ d. most_gain (prices_on c last n d) (offer_at (price_by c w n) d (choice_on row d)) (shift_offers_by_worth c from given w n d))
+
+-- where that is five points at most, and there was such a search
+abbrev pub is_left_out : Meaning → ℕ → Rows → PlaceWorths → LastSearches → (n : ℕ) → Row → Bool
+is_left_out c from given w last n row = is_some (slice_index_or last.costs.items n None) && nat_le (gain_since c from given w last n row) 5

@@ -19,19 +19,30 @@ use crate::random::Random;
 use crate::settle::Aim;
 use crate::space::PolishSpace;
 use crate::stay::stay_if_no_dearer;
+use crate::visit::{Turn, visit};
 use roster_bound::{
-    Base, Fading, Terms, WHOLE, follow_cover, lacks_nurses, pay_places, pay_row, row_floor,
+    Base, Fading, PARTS, Terms, WHOLE, follow_cover, lacks_nurses, pay_places, put_row,
     rows_are_had, take_row,
 };
 use roster_case::Held;
 use roster_costs::first_hard;
 use roster_state::Meter;
 
+/// How many nurses have their turn in a fade for each search that it may make. Those who can gain little are left out.
+pub(crate) const VISITS: u64 = 16;
+
 /// How many passes a fade makes besides where places are below their minimums: two, and two, and two again.
-const MORE_PASSES: u32 = 6;
+const MORE_PASSES: u64 = 6;
 
 /// What a place below its minimum pays besides, in points. It pays three times as much in each two passes more.
 const MISSING: u32 = 100;
+
+/// How long a fade is: so many passes, and so many searches, after which its last passes follow at once.
+#[derive(Clone, Copy)]
+struct Length {
+    passes: u64,
+    searches: u64,
+}
 
 /// Fades the roster and settles it again. Where it is then no dearer, it stays and is kept; else the roster that was kept comes back.
 /// Says whether it stayed.
@@ -67,7 +78,11 @@ pub(crate) fn try_fade(
         from: kicking.searches.from,
     };
     rows_are_had(base.case, base.given, base.from);
-    if kicking.passes == 0 || !fade_rows(&base, kicking, space, meter) {
+    if kicking.passes == 0 {
+        return false;
+    }
+    if !fade_rows(&base, kicking, space, meter) {
+        space.last.put(&space.kept_last);
         return false;
     }
     let aim = Aim {
@@ -96,33 +111,69 @@ pub(crate) fn fade_rows(
     ensures faded { AreFaded base.now kicking.old kicking.new space.old space.new meter.old
         meter.new }
 {
-    let passes = kicking.passes;
+    let before = kicking.searches.left;
+    let length = Length {
+        passes: kicking.passes,
+        searches: (kicking.passes / VISITS).saturating_mul(base.case.nurses() as u64),
+    };
     space.begin_fade(base.case, base.given);
-    for pass in 0..passes.saturating_add(MORE_PASSES) {
-        let is_more = pass >= passes && (pass - passes) % 2 == 0;
+    for pass in 0..length.passes.saturating_add(MORE_PASSES) {
+        if kicking.searches.left == 0 {
+            break;
+        }
+        let is_more = pass >= length.passes && (pass - length.passes) % 2 == 0;
         if is_more && !lacks_nurses(base.case, &space.floor) {
             break;
         }
-        let fading = fading_in(pass, passes);
+        let made = before - kicking.searches.left;
+        if made > length.searches && pass < length.passes.saturating_sub(LAST_PASSES) {
+            continue;
+        }
+        let fading = fading_in(pass, made, length);
         make_fade_pass(base, fading, kicking, space, meter);
-        follow_cover(base.case, fading.share, &mut space.floor);
+        let step = step_in(fading.share, length.passes);
+        follow_cover(base.case, step, &mut space.floor);
     }
     first_hard(base.case, &space.faded).is_none()
 }
 
-/// How far a fade of so many passes has come in one of them: from worths alone to none in the last two, evenly, and on from there.
-fn fading_in(pass: u32, passes: u32) -> Fading {
-    let even = passes.saturating_sub(2).max(1);
-    let left = even.saturating_sub(pass);
-    let share = WHOLE as u64 * left as u64 / even as u64;
+/// So many passes of a fade go by the true prices alone.
+const LAST_PASSES: u64 = 2;
+
+/// How far a fade has come in one of its passes, so many searches having been made: from worths alone to none in the last two, evenly by
+/// passes, or by searches where it has made more of these; and on from there.
+fn fading_in(pass: u64, made: u64, length: Length) -> Fading {
+    let even = length.passes.saturating_sub(LAST_PASSES);
+    let left = length.searches.saturating_sub(made);
+    let share = part_of(even.saturating_sub(pass), even).min(part_of(left, length.searches));
     Fading {
-        share: share.min(WHOLE as u64) as u32,
-        missing: MISSING * times_in(pass, passes),
+        share,
+        missing: MISSING * times_in(pass, length.passes),
     }
 }
 
+/// A part of all, in 1024ths.
+fn part_of(part: u64, all: u64) -> u32 {
+    let whole = WHOLE as u64;
+    (whole.saturating_mul(part) / all.max(1)).min(whole) as u32
+}
+
+/// How far worths move after a pass, in parts of a point: the fewer passes there are the farther, by the share that the worths have.
+fn step_in(share: u32, passes: u64) -> u32 {
+    let most = (ALL_STEPS / passes.max(1)).clamp(LEAST_STEP, MOST_STEP);
+    most as u32 * share.min(WHOLE) / WHOLE
+}
+
+/// How far a worth moves in all passes together, some 156 points, as far as the least and the most for one pass let it: a quarter of a
+/// point, and two.
+const ALL_STEPS: u64 = 40_000 * PARTS as u64 / 256;
+
+const LEAST_STEP: u64 = PARTS as u64 / 4;
+
+const MOST_STEP: u64 = PARTS as u64 * 2;
+
 /// How many times as much a place below its minimum pays in a pass: three times in the first two that are made besides.
-fn times_in(pass: u32, passes: u32) -> u32
+fn times_in(pass: u64, passes: u64) -> u32
     ensures { result ≤ 27 }
 {
     if pass < passes {
@@ -135,7 +186,8 @@ fn times_in(pass: u32, passes: u32) -> u32
     }
 }
 
-/// Gives each nurse, in an order that is drawn, the best row by what the places pay without the nurse's row.
+/// Gives each nurse, in an order that is drawn, the best row by what the places pay without the nurse's row, but for those who can gain
+/// little. The first one is never left out.
 pub(crate) fn make_fade_pass(
     base: &Base<'_>,
     fading: Fading,
@@ -161,40 +213,48 @@ pub(crate) fn make_fade_pass(
         if kicking.searches.left == 0 {
             break;
         }
-        kicking.searches.left -= 1;
         let nurse = space.order[place];
-        fade_nurse(base, nurse, fading, space, meter);
+        let turn = Turn {
+            nurse,
+            surely: place == 0,
+        };
+        let searched = fade_nurse(base, turn, fading, space, meter);
+        kicking.searches.take_if(searched);
     }
 }
 
-/// Gives a nurse the best row by what the places pay without the present one. The days before week `from` are as they are given.
+/// Gives a nurse the best row by what the places pay without the present one, or leaves her out. The days before week `from` are as they
+/// are given. Says whether she was searched.
 fn fade_nurse(
     base: &Base<'_>,
-    nurse: usize,
+    turn: Turn,
     fading: Fading,
     space: &mut PolishSpace,
     meter: &mut Meter,
-)
+) -> bool
     requires each { HaveRows base.now.case.now base.now.from base.now.given.now }
-    requires nurse { nurse < nurse_count base.now.case.now }
+    requires nurse { turn.nurse < nurse_count base.now.case.now }
     requires fits { FitsPolish base.now.case.now space.old }
     requires frozen { FrozenDaysStay base.now.case.now base.now.from base.now.given.now
         space.old.faded }
-    requires room { meter.old + extension_count base.now.case.now nurse ≤ greatest_u64 }
+    requires room { meter.old + extension_count base.now.case.now turn.nurse ≤ greatest_u64 }
     ensures kept { space.new.kept ≡ space.old.kept }
     ensures frozen { FrozenDaysStay base.now.case.now base.now.from base.now.given.now
         space.new.faded }
-    ensures each_day { meter.old + day_count base.now.case.now ≤ meter.new }
-    ensures counted { meter.new ≤ meter.old + extension_count base.now.case.now nurse }
+    ensures surely { turn.surely ≡ true → result ≡ true }
+    ensures each_day { result ≡ true → meter.old + day_count base.now.case.now ≤ meter.new }
+    ensures spared { result ≡ false → meter.new ≡ meter.old }
+    ensures counted { meter.new ≤ meter.old + extension_count base.now.case.now turn.nurse }
     ensures fits { FitsPolish base.now.case.now space.new }
 {
     let PolishSpace {
         floor,
+        last,
         pays,
         faded,
         ..
     } = space;
-    let case = base.case;
+    let (case, nurse) = (base.case, turn.nurse);
     take_row(case, faded.row(nurse), fading, floor, pays);
     let terms = Terms {
         case,
@@ -202,10 +262,13 @@ fn fade_nurse(
         given: base.given,
         from: base.from,
     };
-    row_floor(&terms, nurse, &mut floor.rows, meter);
-    let row = floor.rows.workspace.row();
-    faded.put_row(nurse, row);
-    pay_row(case, row, fading, floor, pays);
+    let workspace = &mut floor.rows.workspace;
+    let searched = visit(&terms, turn, faded.row(nurse), workspace, last, meter);
+    if searched {
+        faded.put_row(nurse, workspace.row());
+    }
+    put_row(case, faded.row(nurse), fading, floor, pays);
+    searched
 }
 
 /// Draws an order.

@@ -27,7 +27,7 @@ use roster_state::Meter;
 pub(crate) struct Kicking {
     pub(crate) searches: Searches,
     pub(crate) random: Random,
-    pub(crate) passes: u32,
+    pub(crate) passes: u64,
 }
 
 /// What is drawn for a kick: whether its prices are those by worths, its weeks, how many of a hundred prices are raised, and by how

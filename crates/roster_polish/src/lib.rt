@@ -18,6 +18,7 @@ mod searches;
 mod settle;
 mod space;
 mod stay;
+mod visit;
 
 pub use plan::{find_roster, first_unmendable, missing};
 pub use room::{MOST_SEARCHES, searches_have_room};

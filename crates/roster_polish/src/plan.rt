@@ -32,7 +32,7 @@ use roster_rules::choice_on;
 use roster_state::Meter;
 
 /// How many passes the first fade makes. Each later one makes twice as many as that before.
-const FIRST_PASSES: u32 = 30;
+const FIRST_PASSES: u64 = 480;
 
 /// How many passes mend the rows of a fade at most, and from which of them on a missing nurse outweighs all else.
 const MENDING_PASSES: u32 = 60;
@@ -264,8 +264,8 @@ fn fade_until_kept(
 }
 
 /// How many passes the fade after one of so many makes: twice as many.
-fn passes_after(passes: u32) -> u32
-    ensures { result ≡ min (2 * passes) (2 ^ 32 - 1) }
+fn passes_after(passes: u64) -> u64
+    ensures { result ≡ min (2 * passes) (2 ^ 64 - 1) }
 {
     passes.saturating_mul(2)
 }

@@ -9,7 +9,7 @@ ghost use Rattle.roster_polish.specs.Fades.{TakesAllBut, spared};
 ghost use Rattle.roster_polish.specs.Polished.{FitsPolish, GivenLogStops, PolishLogStops, Polishes, PolishesGiven, first_searches, settling_searches};
 ghost use Rattle.roster_polish.specs.Settled.{extensions_of};
 
-use crate::fade::try_fade;
+use crate::fade::{VISITS, try_fade};
 use crate::kick::{Kicking, try_kick};
 use crate::log::log_kick;
 use crate::random::Random;
@@ -190,28 +190,28 @@ pub(crate) fn rounds_within(searches: u32, parts: u32, nurses: u32) -> u32
     (searches / (parts * nurses.max(1))).min(100)
 }
 
-/// How many passes over all nurses a fade makes: none for kicks alone, or else as many as take the searches that are left, but for 3 of
-/// a hundred of all, or for ten passes where that is more. Below a hundred passes it may end below a minimum: then half of all searches
-/// are kept for kicks.
-fn passes_within(course: &Course, left: u32, nurses: u32) -> u32
+/// How many passes over all nurses a fade makes: none for kicks alone, or else as many as take the searches that are left where one nurse
+/// of sixteen is searched in each, but for 3 of a hundred of all, or for ten searches of each nurse where that is more. Below 25
+/// searches of each nurse it may end below a minimum: then half of all searches are kept for kicks.
+fn passes_within(course: &Course, left: u32, nurses: u32) -> u64
     requires some { 0 < nurses }
     requires few { nurses ≤ most_nurses }
     ensures fadeless { course.now.kicks ≡ true → result ≡ 0 }
-    ensures long { course.now.kicks ≡ false → 100 * nurses + spared course.now.searches
+    ensures long { course.now.kicks ≡ false → 25 * nurses + spared course.now.searches
         nurses ≤ left → TakesAllBut (spared course.now.searches nurses) left nurses result }
-    ensures short { course.now.kicks ≡ false → left < 100 * nurses + spared course.now.searches
+    ensures short { course.now.kicks ≡ false → left < 25 * nurses + spared course.now.searches
         nurses → TakesAllBut (course.now.searches / 2) left nurses result }
 {
     if course.kicks {
         return 0;
     }
     let spare = (course.searches / 100 * 3).max(10 * nurses);
-    let passes = left.saturating_sub(spare) / nurses;
-    if passes >= MANY_PASSES {
-        return passes;
+    let each = left.saturating_sub(spare) / nurses;
+    if each >= MANY_SEARCHES {
+        return VISITS * each as u64;
     }
-    left.saturating_sub(course.searches / 2) / nurses
+    VISITS * (left.saturating_sub(course.searches / 2) / nurses) as u64
 }
 
-/// So many passes lead from the worths to the true prices without haste.
-const MANY_PASSES: u32 = 100;
+/// So many searches of each nurse lead from the worths to the true prices without haste.
+const MANY_SEARCHES: u32 = 25;

@@ -84,7 +84,7 @@ impl PolishSpace {
         self.kept_last.put(&self.last);
     }
 
-    /// Begins a fade from a roster: its rows are counted, and the nurses stand in their order.
+    /// Begins a fade from a roster: its rows are counted, the nurses stand in their order, and no search is known.
     pub(crate) fn begin_fade(&mut self, case: &Case, given: &Roster)
         requires given { fits_case case.now given.now ≡ true }
         requires fits { FitsPolish case.now self.old }
@@ -95,6 +95,7 @@ impl PolishSpace {
         self.faded.put_rows(given);
         count_rows(case, given, &mut self.floor);
         put_in_order(&mut self.order);
+        self.last.forget();
     }
 }
 

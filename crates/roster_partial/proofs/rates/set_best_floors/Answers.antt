@@ -1,4 +1,4 @@
-use Rattle.std.proofs.Common.{◌+◌, ℕ, List, arith, subst, sym}
+use Rattle.std.proofs.Common.{ℕ, List, arith, subst, sym}
 use Rattle.roster_offers.specs.Lists.{offers_on}
 use Rattle.roster_floors.specs.declared.rates.Rates.{Rates}
 use Rattle.roster_partial.specs.Counts.{CountsSets, most_sets}

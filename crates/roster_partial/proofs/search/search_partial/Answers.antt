@@ -1,7 +1,6 @@
-use Rattle.std.proofs.Common.{◌∙◌, ◌+◌, ◌*◌, ◌≤◌, arith, refl}
+use Rattle.std.proofs.Common.{◌∙◌, arith, refl}
 use Rattle.roster_offers.specs.Lists.{offers_on}
 use Rattle.roster_partial.specs.Counts.{CountsPartial}
-use Rattle.roster_partial.proofs.CountLaws.{partial_from}
 use Rattle.roster_partial.proofs.search.search_partial.Goals as goal
 use Rattle.roster_partial.proofs.search.search_partial.Goals.{After-search_within}
 

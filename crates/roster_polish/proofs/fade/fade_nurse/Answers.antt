@@ -6,52 +6,53 @@ use Rattle.roster_laws.specs.FrozenDays.{FrozenDaysStay}
 use Rattle.roster_bound.specs.Tables.{worths_of}
 use Rattle.roster_polish.proofs.FadeRows.{found_fits, found_stays, put_stays, same_length}
 use Rattle.roster_polish.proofs.fade.fade_nurse.Goals as goal
-use Rattle.roster_polish.proofs.fade.fade_nurse.Goals.{After-row-row}
-
--- the row that is found fits the case, and keeps the frozen days
-fits : (c : After-row-row) → is_row_of c.args.base.now.case.now c.row-row.result.now ≡ true
-fits c =
-    let row = c.row_floor.new.rows.workspace.row in
-    subst (λ own. is_row_of c.args.base.now.case.now own ≡ true) (sym c.row-row.ensures)
-    (found_fits c.args.base.now.case.now c.args.base.now.from c.args.base.now.given.now (worths_of c.take_row.new.pays) c.args.nurse row c.row_floor.ensures.row)
-
-stays : (c : After-row-row) → keeps_frozen_days c.args.base.now.case.now c.args.base.now.from c.args.base.now.given.now c.args.nurse c.row-row.result.now ≡ true
-stays c =
-    let row = c.row_floor.new.rows.workspace.row in
-    subst (λ own. keeps_frozen_days c.args.base.now.case.now c.args.base.now.from c.args.base.now.given.now c.args.nurse own ≡ true) (sym c.row-row.ensures)
-    (found_stays c.args.base.now.case.now c.args.base.now.from c.args.base.now.given.now (worths_of c.take_row.new.pays) c.args.nurse row c.row_floor.ensures.row)
+use Rattle.roster_polish.proofs.fade.fade_nurse.Goals.{then-searched, else-searched}
 
 pub put_row-requires-clause-days : goal.put_row-requires-clause-days
 put_row-requires-clause-days c =
-    same_length c.args.base.now.case.now c.args.space.now.faded c.args.nurse c.row-row.result.now c.requires.fits.faded c.requires.nurse (fits (goal.at.put_row-requires-clause-days c).After-row-row)
+    let k = c.args.base.now.case.now in
+    let n = c.args.turn.nurse in
+    let row = c.visit-searched.new.workspace.row in
+    let fits : is_row_of k row ≡ true = found_fits k c.args.base.now.from c.args.base.now.given.now (worths_of c.take_row.new.pays) n row (c.visit-searched.ensures.row c.if-searched.true) in
+    same_length k c.args.space.now.faded n c.row-then-searched.result.now c.requires.fits.faded c.requires.nurse (subst (λ own. is_row_of k own ≡ true) (sym c.row-then-searched.ensures) fits)
 
 pub returns-clause-frozen : goal.returns-clause-frozen
 returns-clause-frozen c =
     let k = c.args.base.now.case.now in
+    let from = c.args.base.now.from in
     let given = c.args.base.now.given.now in
-    let faded = c.args.space.now.faded in
-    subst (λ (r : Rows). FrozenDaysStay k c.args.base.now.from given r) (sym c.put_row.ensures)
-    (put_stays k c.args.base.now.from given faded c.args.nurse c.row-row.result.now c.requires.frozen (stays (goal.at.returns-clause-frozen c).After-row-row))
+    let n = c.args.turn.nurse in
+    let row = c.visit-searched.new.workspace.row in
+    elim c.if-searched.branch [
+      | then-searched w ↦ (
+          let is = c.visit-searched.ensures.row w.if-searched.true in
+          let stays : keeps_frozen_days k from given n row ≡ true = found_stays k from given (worths_of c.take_row.new.pays) n row is in
+          rw (w.faded-is, w.put_row.ensures, w.row-then-searched.ensures) (put_stays k from given c.args.space.now.faded n row c.requires.frozen stays))
+      | else-searched w ↦ rw (w.faded-is) c.requires.frozen
+    ]
 
 pub returns-clause-fits : goal.returns-clause-fits
 returns-clause-fits c =
     let k = c.args.base.now.case.now in
+    let from = c.args.base.now.from in
+    let given = c.args.base.now.given.now in
+    let n = c.args.turn.nurse in
+    let row = c.visit-searched.new.workspace.row in
     let before = c.requires.fits in
-    let floor = c.take_row.ensures.fits in
     record {
-      floor = record {
-        rows = c.row_floor.ensures.rows;
-        worths = floor.worths;
-        wanted = floor.wanted;
-        had = floor.had;
-        seen = floor.seen;
-      };
-      known = before.known;
+      floor = c.put_row-2.ensures.fits;
+      known = c.visit-searched.ensures.known;
       kept_known = before.kept_known;
       dearer = before.dearer;
       kept = before.kept;
-      pays = c.pay_row.ensures.days ∙ c.take_row.ensures.days ∙ before.pays;
-      faded = subst (λ (r : Rows). fits_case k r ≡ true) (sym c.put_row.ensures) (fits-with_row k c.args.space.now.faded c.args.nurse c.row-row.result.now before.faded (fits (goal.at.returns-clause-fits c).After-row-row));
+      pays = c.put_row-2.ensures.days ∙ c.take_row.ensures.days ∙ before.pays;
+      faded = elim c.if-searched.branch [
+        | then-searched w ↦ (
+            let is = c.visit-searched.ensures.row w.if-searched.true in
+            let fits : is_row_of k row ≡ true = found_fits k from given (worths_of c.take_row.new.pays) n row is in
+            rw (w.faded-is, w.put_row.ensures, w.row-then-searched.ensures) (fits-with_row k c.args.space.now.faded n row before.faded fits))
+        | else-searched w ↦ rw (w.faded-is) before.faded
+      ];
       count = before.count;
       order = before.order;
     }

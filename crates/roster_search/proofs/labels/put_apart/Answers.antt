@@ -1,10 +1,9 @@
-use Rattle.std.proofs.Common.{◌≡◌, ◌∙◌, ◌+◌, ◌-◌, ◌*◌, ◌<◌, ◌≤◌, ℕ, ap, arith, inl, inr, refl, slice_index_or, subst, sym}
+use Rattle.std.proofs.Common.{◌≡◌, ◌∙◌, ◌+◌, ◌-◌, ◌*◌, ◌<◌, ◌≤◌, ℕ, ap, arith, refl, slice_index_or, subst, sym}
 use Rattle.std.proofs.lemmas.List.Edits.{get_or-between, length-between}
 use Rattle.roster_state.specs.Codes.{code_of, product}
 use Rattle.roster_lanes.specs.Lanes.{SameOutside}
 use Rattle.roster_search.proofs.CellLaws.{outside_wider, rest_same, rest_then}
-use Rattle.roster_search.proofs.RowLaws.{place_at}
-use Rattle.roster_search.proofs.StretchLaws.{count_within, in_stretch, numbers_more, one_row_less, row_in_places, row_in_table, row_is, row_kept, row_outside, row_short, rows_in_table}
+use Rattle.roster_search.proofs.StretchLaws.{numbers_more, row_in_places, row_in_table, row_is, row_kept, row_outside, row_short}
 use Rattle.roster_search.proofs.labels.put_apart.Goals as goal
 
 pub slice_bounds-set_run-end : goal.slice_bounds-set_run-end

@@ -1,9 +1,6 @@
 use Rattle.std.proofs.Common.{◌≡◌, ◌∙◌, ◌+◌, ◌-◌, ◌*◌, ◌≤◌, arith, length, refl}
 use Rattle.std.proofs.lemmas.List.Edits.{length-between}
-use Rattle.std.specs.List.{between}
-use borrow.Rule.Slice.PartMut.{put_mid}
 use Rattle.roster_offers.specs.Lists.{no_row}
-use Rattle.roster_search.specs.Halves.{IsWritten}
 use Rattle.roster_search.proofs.PartLaws.{part_put}
 use Rattle.roster_search.proofs.RowLaws.{between_more, done_more, row_within}
 use Rattle.roster_search.proofs.rows.clear_rows.Goals as goal

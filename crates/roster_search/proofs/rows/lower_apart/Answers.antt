@@ -1,9 +1,7 @@
 use Rattle.std.proofs.Common.{◌≡◌, ◌∙◌, ◌+◌, ◌-◌, ◌*◌, ◌%◌, ◌^◌, ◌<◌, ◌≤◌, ℕ, ap, arith, length, min, slice_index_or}
 use Rattle.std.proofs.lemmas.List.Edits.{get_or-between, length-between}
 use Rattle.std.specs.List.{between}
-use borrow.Rule.Slice.PartMut.{put_mid}
 use Rattle.roster_lanes.specs.Lanes.{pointer_by, raised}
-use Rattle.roster_search.specs.Halves.{IsWritten}
 use Rattle.roster_search.proofs.PartLaws.{part_put}
 use Rattle.roster_search.proofs.RowLaws.{between_more, done_more, rest_more, row_within}
 use Rattle.roster_search.proofs.rows.lower_apart.Goals as goal

@@ -1,10 +1,7 @@
 use Rattle.std.proofs.Common.{◌≡◌, ◌∙◌, ◌+◌, ◌-◌, ◌*◌, ◌%◌, ◌^◌, ◌≤◌, ap, arith, length, min, refl}
 use Rattle.std.proofs.lemmas.List.Edits.{get_or-between, length-between}
-use Rattle.std.specs.List.{between}
-use borrow.Rule.Slice.PartMut.{put_mid}
 use Rattle.roster_lanes.specs.Lanes.{raised}
 use Rattle.roster_offers.specs.Lists.{no_row}
-use Rattle.roster_search.specs.Halves.{IsWritten}
 use Rattle.roster_search.proofs.PartLaws.{part_put}
 use Rattle.roster_search.proofs.RowLaws.{between_more, done_more, row_within}
 use Rattle.roster_search.proofs.rows.set_apart.Goals as goal

@@ -9,6 +9,6 @@ abbrev pub invariant-loop-day : goal.invariant-loop-day
 invariant-loop-day l = record {
   costs : l.self.costs ≡ l.fn.self.costs;
   length : length l.self.prices.items ≡ length l.fn.self.prices.items;
-  put : (d : ℕ) → d < l.day → ArePrices (offers_on l.offers d) (slice_index_or l.self.prices.items (l.nurse * day_count l.held.case + d) []);
-  others : (i : ℕ) → Outside l.held.case l.nurse i → slice_index_or l.self.prices.items i [] ≡ slice_index_or l.fn.self.prices.items i [];
+  put : (d : ℕ) → d < l.day → ArePrices (offers_on l.offers d) (slice_index_or l.self.prices.items (l.nurse * day_count l.case + d) []);
+  others : (i : ℕ) → Outside l.case l.nurse i → slice_index_or l.self.prices.items i [] ≡ slice_index_or l.fn.self.prices.items i [];
 }
