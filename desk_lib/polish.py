@@ -21,14 +21,16 @@ MOST_SEARCHES, SEEDS = 10_000_000, 2**32
 # way to whole runs where there are too few processors. Their seeds are far from those of whole runs.
 FIRST, SECONDS, GROWTH, NICENESS, SEED_AWAY = 100, 3.0, 4, 10, 2**31
 # Where the time is given: how much of what is left the first whole run is made for, which tells how fast such runs are, and each
-# after it; and from how many seconds on one is begun. A run that doesn't end is lost, and a machine may slow down.
-FIRST_SHARE, SHARE, WORTHWHILE = 0.65, 0.75, 2.0
+# after it; and from how many seconds on one is begun. One long run finds more than two that share its time; but a run that doesn't
+# end is lost, and a machine may slow down. So the first is made for less where the machine is at work for others: where the last slice
+# took so many times what a processor gave to it, or more than half of the processors have had work in the last minute.
+FIRST_SHARE, BUSY_SHARE, SHARE, WORTHWHILE, BUSY = 0.85, 0.5, 0.75, 2.0, 1.25
 # For how many seconds, and how much of the time that is left, a slice goes on that tells how much is searched in a second; and how much
 # faster it may go without what a slice takes besides.
 KNOWN, KNOWN_SHARE, MOST_FASTER = 0.1, 0.02, 1.3
-# How many rounds over all nurses a run makes for its worths at most, and how much of the time of two searches, one for worths and one
-# that isn't, the first takes: between 1.2 and 1.5 on wards of 12 to 120 nurses.
-ROUNDS, OF_WORTHS = 100, 4 / 3
+# How many rounds over all nurses a run makes for its worths at most, and with which part of its searches; and how many times longer
+# such a search takes than another, with what moves the worths: 2.9 to 4.7 on wards of 12 to 120 nurses.
+ROUNDS, PART, OF_WORTHS = 100, 4, 3
 
 
 @dataclasses.dataclass(frozen=True)
@@ -62,24 +64,30 @@ class Job:
 class Pace:
     """How long searches take, as slices tell that are made one after the other, each with more searches, and then whole runs.
 
-    A run begins with rounds over all nurses for its worths, in half of its searches at most. These take longer than the others, so
+    A run begins with rounds over all nurses for its worths, in a part of its searches at most. These take longer than the others, so
     a long run has more searches in a second than a slice."""
 
     def __init__(self, nurses: int) -> None:
-        # (searches for worths, at most; the seconds of a search in a slice, and what a run takes besides)
+        # (searches for worths, at most; the seconds of a search that isn't for worths, and what a run takes besides)
         self.worths, self.each, self.before = ROUNDS * nurses, 0.0, 0.0
-        # (the seconds of the first slice, and the last slice)
-        self.first, self.last = 0.0, (0, 0.0)
+        # (the seconds of the first slice; the last slice, and whether it had to wait for a processor)
+        self.first, self.last, self.is_busy = 0.0, (0.0, 0.0), False
 
-    def learn(self, searches: int, seconds: float) -> None:
+    def work(self, searches: int) -> float:
+        """What a run of so many searches takes, in those that aren't for worths."""
+        worths = min(self.worths, searches / PART)
+        return searches + (OF_WORTHS - 1) * worths
+
+    def learn(self, searches: int, seconds: float, of_processor: float) -> None:
         """Takes what a slice took. What it took besides the searches was in the one before, too. On a machine that is at work for
         others both may be far off: so the search is held to that of the whole slice."""
-        fewer, sooner = self.last
-        sure = self.each = seconds / searches
-        if sooner and searches > fewer and seconds > sooner:
-            self.each = min(sure, max(sure / MOST_FASTER, (seconds - sooner) / (searches - fewer)))
-        self.before = seconds - searches * self.each
-        self.first, self.last = self.first or seconds, (searches, seconds)
+        (less, sooner), work = self.last, self.work(searches)
+        sure = self.each = seconds / work
+        if sooner and work > less and seconds > sooner:
+            self.each = min(sure, max(sure / MOST_FASTER, (seconds - sooner) / (work - less)))
+        self.before = seconds - work * self.each
+        self.first, self.last = self.first or seconds, (work, seconds)
+        self.is_busy = seconds > BUSY * of_processor or os.getloadavg()[0] > len(os.sched_getaffinity(0)) / 2
 
     def is_known(self, left: float) -> bool:
         """Whether the last slice was long enough to tell, beside the first one and the seconds that are left."""
@@ -87,14 +95,14 @@ class Pace:
 
     def seconds_of(self, searches: int) -> float:
         """How long a run of so many searches takes."""
-        worths = min(self.worths, searches / 2)
-        return self.before + self.each * (OF_WORTHS * worths + (2 - OF_WORTHS) * (searches - worths))
+        return self.before + self.each * self.work(searches)
 
     def searches_in(self, seconds: float) -> int:
         """How many searches a run of so many seconds has."""
-        searches = (seconds - self.before) / self.each
-        if searches > 2 * self.worths:
-            searches = self.worths + (searches - OF_WORTHS * self.worths) / (2 - OF_WORTHS)
+        work = (seconds - self.before) / self.each
+        searches = work / self.work(PART) * PART
+        if searches > PART * self.worths:
+            searches = work - (OF_WORTHS - 1) * self.worths
         return max(0, int(searches))
 
     def correct(self, searches: int, seconds: float) -> None:
@@ -175,7 +183,9 @@ class Polish:
 
     def share(self) -> float:
         """How much of what is left the next whole run is made for. Several seeds have a run each, all of them equally long."""
-        return FIRST_SHARE if len(self.course.seeds) == 1 and not self.begun else SHARE
+        if len(self.course.seeds) > 1 or self.begun:
+            return SHARE
+        return BUSY_SHARE if self.pace.is_busy else FIRST_SHARE
 
     def next_seed(self) -> int | None:
         """The seed of the next whole run. Where the time says how much is searched, each run after these has the next one."""
@@ -223,7 +233,7 @@ class Polish:
             self.word = word_of(answer)
         if not self.begun:
             # (those beside whole runs are slower)
-            self.pace.learn(job.searches, took)
+            self.pace.learn(job.searches, took, job.running.of_processor)
         grown = min(GROWTH * job.searches, int(SECONDS * job.searches / took), MOST_SEARCHES)
         self.start_slice(self.course.slice_ or max(1, grown))
 

@@ -52,6 +52,8 @@ class Running:
 
     def __init__(self, path: str, words: list[str], text: bytes, niceness: int = 0, seconds: float = 0):
         self.words, self.log, self.rest, self.is_over = words, [], b"", False
+        # (how many seconds of a processor it took, once it is over)
+        self.of_processor = 0.0
         self.output, desk = open(os.memfd_create("output"), "w+b"), os.getpid()
         with open(os.memfd_create("input"), "w+b") as given:
             given.write(text)
@@ -95,9 +97,11 @@ class Running:
 
     def answer(self) -> Answer:
         """What the program answered, once it is over."""
-        status = self.ran.wait()
+        if self.ran.returncode is None:
+            _, status, used = os.wait4(self.ran.pid, 0)
+            self.ran.returncode, self.of_processor = os.waitstatus_to_exitcode(status), used.ru_utime + used.ru_stime
         self.output.seek(0)
-        return Answer(status, self.output.read(), self.log)
+        return Answer(self.ran.returncode, self.output.read(), self.log)
 
     def taken(self, texts: Texts) -> Answer:
         """As `answer`, and a refusal is an error that names the file."""
