@@ -152,17 +152,19 @@ pub(crate) const BOUND_HELP: &str =
     "How good a roster can get. Two lines are written, what the roster costs, and a
 number that no roster costs less than, however it is made:
   roster 3150
-  bound 745
+  bound 750
 So at most the difference can still be saved. The bound is for all rosters of
 the instance that keep the hard rules. There may be none that costs so little.
 
 The hard rules are asked first, as for 'roster cost'. To standard error goes a
 log, each line as soon as it is known:
   start 3150     what the roster costs
-  round 85 745   the bound that round 85 found. A round that finds no greater one
+  round 72 750   the bound that round 72 found. A round that finds no greater one
                  has no line.
 A round takes each nurse once, as a round of 'roster improve' does. More rounds
 mostly find a greater bound, but not always. With --rounds 0 the bound is 0.
+Where it comes to be what the roster costs, the run ends: no roster of these is
+cheaper.
 
 With --from V the weeks 0 to V - 1 are frozen: the bound is for those rosters in
 which each nurse's days in them are as they stand. Where V is above the last
