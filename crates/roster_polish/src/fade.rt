@@ -29,7 +29,7 @@ use roster_costs::first_hard;
 use roster_state::Meter;
 
 /// How many nurses have their turn in a fade for each search that it may make. Those who can gain little are left out.
-pub(crate) const VISITS: u64 = 16;
+pub(crate) const VISITS: u64 = 4;
 
 /// How many passes a fade makes besides where places are below their minimums: two, and two, and two again.
 const MORE_PASSES: u64 = 6;
@@ -140,12 +140,12 @@ pub(crate) fn fade_rows(
 /// So many passes of a fade go by the true prices alone.
 const LAST_PASSES: u64 = 2;
 
-/// How far a fade has come in one of its passes, so many searches having been made: from worths alone to none in the last two, evenly by
-/// passes, or by searches where it has made more of these; and on from there.
+/// How far a fade has come in one of its passes, so many searches having been made: from worths alone to none in the last two, evenly, and
+/// on from there. It comes sooner where the last quarter of its searches says so.
 fn fading_in(pass: u64, made: u64, length: Length) -> Fading {
     let even = length.passes.saturating_sub(LAST_PASSES);
-    let left = length.searches.saturating_sub(made);
-    let share = part_of(even.saturating_sub(pass), even).min(part_of(left, length.searches));
+    let quarters = length.searches.saturating_sub(made).saturating_mul(4);
+    let share = part_of(even.saturating_sub(pass), even).min(part_of(quarters, length.searches));
     Fading {
         share,
         missing: MISSING * times_in(pass, length.passes),

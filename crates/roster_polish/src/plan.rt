@@ -32,7 +32,7 @@ use roster_rules::choice_on;
 use roster_state::Meter;
 
 /// How many passes the first fade makes. Each later one makes twice as many as that before.
-const FIRST_PASSES: u64 = 480;
+const FIRST_PASSES: u64 = 120;
 
 /// How many passes mend the rows of a fade at most, and from which of them on a missing nurse outweighs all else.
 const MENDING_PASSES: u32 = 60;

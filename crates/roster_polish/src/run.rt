@@ -191,7 +191,7 @@ pub(crate) fn rounds_within(searches: u32, parts: u32, nurses: u32) -> u32
 }
 
 /// How many passes over all nurses a fade makes: none for kicks alone, or else as many as take the searches that are left where one nurse
-/// of sixteen is searched in each, but for 3 of a hundred of all, or for ten searches of each nurse where that is more. Below 25
+/// of four is searched in each, but for 3 of a hundred of all, or for ten searches of each nurse where that is more. Below 25
 /// searches of each nurse it may end below a minimum: then half of all searches are kept for kicks.
 fn passes_within(course: &Course, left: u32, nurses: u32) -> u64
     requires some { 0 < nurses }
