@@ -15,9 +15,9 @@ from desk_lib.texts import DeskError, Text, Texts, plural, shown
 
 
 # How many searches `plan` is given one after the other, up to the number or the time that is given. Where neither is, the program
-# takes so many.
+# takes so many for each nurse, and a number at least.
 TRIES = [1_000 * 4**it for it in range(7)]
-UNSAID = 20_000
+SEARCHES_OF_A_NURSE, LEAST_SEARCHES = 400, 20_000
 # How the line of `plan` begins where more searches may find a roster.
 NOT_FOUND = "not found: "
 
@@ -230,13 +230,17 @@ class Run:
             of_searches = [] if searches is None else ["--searches", str(searches)]
             words = ["plan", "--seed", str(seed), *of_searches, *self.first_week]
             answer = self.roster.call(words, self.given.joined)
-            self.searches += UNSAID if searches is None else searches
+            self.searches += self.unsaid() if searches is None else searches
             if answer.status == 0:
                 return [answer]
             if answer.status != 1 or not answer.last().startswith(NOT_FOUND):
                 raise refusal("plan", answer, self.given)
         told = f"no roster that keeps the hard rules was found, and the nearest has '{answer.last().removeprefix(NOT_FOUND)}'"
         raise DeskError(f"{told}; give more searches by --polish, more --seconds, or need less")
+
+    def unsaid(self) -> int:
+        """How many searches the program takes where it isn't told how many."""
+        return max(SEARCHES_OF_A_NURSE * len(plan_in(self.given).case.nurses), LEAST_SEARCHES)
 
     def tell(self, line: bytes, number: int) -> None:
         """Passes on a line of a round's log, with the number of that round."""

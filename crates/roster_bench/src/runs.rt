@@ -48,7 +48,7 @@ fn command_of(plan: &Plan) -> Command
     ensures bound { (rounds : ℕ) → plan.now.work ≡ work.Bound rounds →
         result ≡ command.Bound rounds 0 }
     ensures polish { (searches : ℕ) → plan.now.work ≡ work.Polish searches →
-        result ≡ command.Polish searches plan.now.size.seed 0 true }
+        result ≡ command.Polish (Some searches) plan.now.size.seed 0 true }
 {
     match plan.work {
         Work::Show { .. } => Command::Show,
@@ -56,7 +56,7 @@ fn command_of(plan: &Plan) -> Command
         Work::Improve { rounds } => Command::Improve { rounds, from: 0 },
         Work::Bound { rounds } => Command::Bound { rounds, from: 0 },
         Work::Polish { searches } => Command::Polish {
-            searches,
+            searches: Some(searches),
             seed: plan.size.seed,
             from: 0,
             kicks: true,

@@ -299,7 +299,7 @@ fn asks_for_bound(alloc: Global, words: &[&str], (rounds, from): (u16, u16)) -> 
 }
 
 /// How a run of searches is asked for: how many, by which seed, from which week on, and whether with kicks alone.
-type Asked = (u32, u32, u16, bool);
+type Asked = (Option<u32>, u32, u16, bool);
 
 /// Whether the words ask for such a run of searches.
 fn asks_for_searches(alloc: Global, words: &[&str], (searches, seed, from, kicks): Asked) -> bool {
@@ -334,7 +334,7 @@ fn requests_of_words(rt: HostRuntime) {
         "3",
         "--kicks",
     ];
-    let (all, none) = ((10_000_000, u32::MAX, 3, true), (20_000, 1, 0, false));
+    let (all, none) = ((Some(10_000_000), u32::MAX, 3, true), (None, 1, 0, false));
     assert!(rt; asks_for_searches(rt.alloc(), &words, all));
     assert!(rt; asks_for_searches(rt.alloc(), &words[..2], none));
     let too_late = request_of(rt.alloc(), &["roster", "improve", "--from", "53"]);

@@ -18,7 +18,7 @@ use Rattle.roster_instance.specs.declared.fault.CaseFault.{CaseFault}
 use Rattle.roster_instance.specs.declared.fault.CaseFault.TheVariants as case
 use Rattle.roster_instance.proofs.Sections.{IsFirst-after}
 use Rattle.roster_rules.specs.declared.fault.HardFault.{HardFault}
-use Rattle.roster_commands.specs.Answer.{Answers, Ends, Input, IsAllowed, IsAnswer, IsOutcomeOf, IsPlanReport, IsPolishReport, IsReportOf, IsUnheld, IsUnread, Leaves, LeavesLog, Logged, CommandEnd, Output, Report, Reports, SpellsInstance, StopsOutput, StopsReading, Untouched, best_report, bound_report, cost_report, improve_report, outcome_of, plain, plan_report, polish_report, roster_of}
+use Rattle.roster_commands.specs.Answer.{Answers, Ends, Input, IsAllowed, IsAnswer, IsOutcomeOf, IsPlanReport, IsPolishReport, IsReportOf, IsUnheld, IsUnread, Leaves, LeavesLog, Logged, CommandEnd, Output, Report, Reports, SpellsInstance, StopsOutput, StopsReading, Untouched, best_report, bound_report, cost_report, improve_report, outcome_of, plain, plan_report, polish_report, roster_of, searches_for}
 use Rattle.roster_reports.specs.Lines.{Text, sizes_text}
 use Rattle.roster_commands.specs.Lines.{status_of}
 use Rattle.roster_commands.specs.declared.fault.Fault.{Fault}
@@ -133,8 +133,8 @@ some_report command.Sizes c r = (plain (sizes_text c), refl)
 some_report (command.Best nurse from) c r = (best_report (string_bytes nurse) from c r, refl)
 some_report (command.Improve rounds from) c r = (improve_report rounds from c r, refl)
 some_report (command.Bound rounds from) c r = let some = some_log c from r rounds in (bound_report some.0 c r, of_floors rounds from c r some.0 some.1)
-some_report (command.Polish searches seed from kicks) c r = (kickless from c r, no_kick searches from kicks c r)
-some_report (command.Plan searches seed from) c r = (unplanned from r c r, no_plan searches from false c r r (λ e. e) (planned_self c from r))
+some_report (command.Polish searches seed from kicks) c r = (kickless from c r, no_kick (searches_for c searches) from kicks c r)
+some_report (command.Plan searches seed from) c r = (unplanned from r c r, no_plan (searches_for c searches) from false c r r (λ e. e) (planned_self c from r))
 
 pub refused_reading : {W L : Type 0} (output : Output W) (log : Output L) (command : Command) (source : Text) (f : Fault) → StopsReading source f → Untouched output → Untouched log
     → Answers output log command source (Some f)

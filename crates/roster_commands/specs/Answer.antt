@@ -1,5 +1,5 @@
 -- What a run answers.
-use Rattle.std.specs.Prelude.{◌≡◌, ◌≢◌, ℕ, ◌<◌, ◌≤◌, ◌⊎◌, Bool, true, false, List, [], IfSome, Ok, Err, Option, None, Some, Result, if◌then◌else◌, is_some, length, string_bytes, unwrap_or}
+use Rattle.std.specs.Prelude.{◌≡◌, ◌≢◌, ℕ, ◌*◌, ◌<◌, ◌≤◌, ◌⊎◌, max, Bool, true, false, List, [], IfSome, Ok, Err, Option, None, Some, Result, if◌then◌else◌, is_some, length, string_bytes, unwrap_or}
 use Rattle.std.specs.Io.KnownBytes.{IsAtEnd}
 use Rattle.roster_text.specs.FirstFault.{IsFirstFault}
 use Rattle.roster_text.specs.Grammar.{Spells}
@@ -13,7 +13,7 @@ use Rattle.roster_rules.specs.AllowedRows.{best_row}
 use Rattle.roster_instance.specs.Bundles.{meaning_of, rows_of}
 use Rattle.roster_instance.specs.Faults.{first_fault}
 use Rattle.roster_rules.specs.HardRules.{hard_faults}
-use Rattle.roster_instance.specs.Meaning.{Meaning}
+use Rattle.roster_instance.specs.Meaning.{Meaning, nurse_count}
 use Rattle.roster_instance.specs.Names.{find_name}
 use Rattle.roster_rules.specs.Penalties.{costs_of, penalty}
 use Rattle.roster_instance.specs.Refusals.{all_faults}
@@ -254,6 +254,11 @@ pub record IsPlanReport (searches from : ℕ) (alone : Bool) (c : Meaning) (r : 
   pub run : IsAccepted c nearest → IsPolishing c from nearest (missing c r) searches alone settled last told
   pub is : p ≡ plan_report from nearest last told c r
 
+-- how many searches a run may make: as many as are asked for, or else 400 for each nurse, and 20,000 at least
+abbrev pub searches_for : Meaning → Option ℕ → ℕ
+searches_for c None = max (400 * nurse_count c) 20000
+searches_for c (Some searches) = searches
+
 -- it is what a command asks of a case and its roster, and writes for them
 abbrev pub IsReportOf : Command → Meaning → Rows → Report → Type 0
 IsReportOf command.Show c r p = p ≡ plain (weeks_text c r)
@@ -262,8 +267,8 @@ IsReportOf command.Sizes c r p = p ≡ plain (sizes_text c)
 IsReportOf (command.Best nurse from) c r p = p ≡ best_report (string_bytes nurse) from c r
 IsReportOf (command.Improve rounds from) c r p = p ≡ improve_report rounds from c r
 IsReportOf (command.Bound rounds from) c r p = IsBoundReport rounds from c r p
-IsReportOf (command.Polish searches seed from kicks) c r p = IsPolishReport searches from kicks c r p
-IsReportOf (command.Plan searches seed from) c r p = IsPlanReport searches from false c r p
+IsReportOf (command.Polish searches seed from kicks) c r p = IsPolishReport (searches_for c searches) from kicks c r p
+IsReportOf (command.Plan searches seed from) c r p = IsPlanReport (searches_for c searches) from false c r p
 
 -- ---- the same of an instance that was read
 

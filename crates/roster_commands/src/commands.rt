@@ -3,7 +3,7 @@
 ghost use Rattle.std.specs.Prelude.{◌≡◌, true, OnOk, IfErr};
 ghost use Rattle.roster_text.specs.Io.{Writes};
 ghost use Rattle.roster_instance.specs.Rosters.{fits_case};
-ghost use Rattle.roster_commands.specs.Answer.{Ends, IsReportFor, Reports, StopsOutput, cost_report, outcome_of, output_of};
+ghost use Rattle.roster_commands.specs.Answer.{Ends, IsReportFor, Reports, StopsOutput, cost_report, outcome_of, output_of, searches_for};
 ghost use Rattle.roster_reports.specs.Lines.{sizes_text};
 
 use crate::best::report_best;
@@ -66,7 +66,7 @@ pub(crate) fn report<'a, Out: Write, Log: Write>(
             kicks,
         } => {
             let course = Course {
-                searches: *searches,
+                searches: searches_for(&instance.case, *searches),
                 seed: *seed as u64,
                 from: *from,
                 kicks: *kicks,
@@ -79,7 +79,7 @@ pub(crate) fn report<'a, Out: Write, Log: Write>(
             from,
         } => {
             let course = Course {
-                searches: *searches,
+                searches: searches_for(&instance.case, *searches),
                 seed: *seed as u64,
                 from: *from,
                 kicks: false,
@@ -88,6 +88,20 @@ pub(crate) fn report<'a, Out: Write, Log: Write>(
         }
     }
 }
+
+/// How many searches a run may make: as many as are asked for, or else so many for each nurse, and a number at least.
+fn searches_for(case: &Case, asked: Option<u32>) -> u32
+    ensures { result ≡ searches_for case.now asked }
+{
+    case.keeps_limits();
+    match asked {
+        Some(searches) => searches,
+        None => (SEARCHES_OF_A_NURSE * case.nurses() as u32).max(LEAST_SEARCHES),
+    }
+}
+
+const SEARCHES_OF_A_NURSE: u32 = 400;
+const LEAST_SEARCHES: u32 = 20_000;
 
 fn report_cost<'a, Out: Write>(
     alloc: Global,

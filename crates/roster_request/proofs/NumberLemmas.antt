@@ -1,12 +1,12 @@
 -- That each number of a command line without a fault is one of its range: the value given, or else the default, passes its rule.
-use Rattle.std.proofs.Common.{◌≡◌, ◌<◌, ◌≤◌, ◌^◌, ◌∙◌, ℕ, pos, ap, ap₂, sym, subst, refl, Bool, true, false, cond, List, [], ◌∷◌, Option, Some, None, codes}
+use Rattle.std.proofs.Common.{◌≡◌, ◌⊎◌, ◌<◌, ◌≤◌, ◌^◌, ◌∙◌, ℕ, inl, inr, pos, ap, ap₂, sym, subst, refl, Bool, true, false, cond, List, [], ◌∷◌, Option, Some, None, codes}
 use Rattle.std.specs.Prelude.{IsSomeAnd, Ok, Result, option_and_then, option_map, slice_get}
 use Rattle.std.specs.Str.Parse.{ParsesUnsigned}
 use Rattle.clap.specs.Lexer.{without_minus}
 use Rattle.clap.specs.Values.{read_as}
 use Rattle.clap.specs.ValueTests.{accepts}
 use Rattle.clap.specs.Walk.{Row, Text, row_text}
-use Rattle.clap.specs.Words.{ReadsOne, fault_of, one_text, rows_of, subcommand_of}
+use Rattle.clap.specs.Words.{ReadsOne, fault_of, one_of, one_text, rows_of, subcommand_of}
 use Rattle.clap.specs.declared.builder.value_parser.ValueParser.{ValueParser}
 use Rattle.clap.specs.declared.builder.value_parser.ValueParser.TheVariants as parser
 use Rattle.clap.specs.declared.error.kind.ErrorKind.{ErrorKind}
@@ -16,13 +16,13 @@ use Rattle.clap.proofs.ValueTestLemmas.{accepts-Accepts}
 use Rattle.clap.proofs.WalkLemmas.{one_text-rows}
 use Rattle.roster_request.specs.Limits.{most_from, most_rounds, most_searches, most_seed}
 use Rattle.roster_request.specs.CommandLine.{HasFrom, HasNumber, HasRounds, HasSearches, HasSeed, IsNumberOf, Meets, program, with_from, with_rounds, with_searches}
-use Rattle.roster_request.proofs.OptionLemmas.{AllHave, FirstPasses, HasValue, meets_value, there_by_default}
+use Rattle.roster_request.proofs.OptionLemmas.{AllHave, FirstPasses, HasIfGiven, HasValue, meets_if_given, meets_value, there_by_default}
 
 passed : (t : Bool) (k : ErrorKind) → cond t [] (k ∷ []) ≡ [] → t ≡ true
 passed true k e = refl
 passed false k e = absurd (cc)
 
-module _ (name : Text) (most : ℕ) (default : Text) where
+module _ (name : Text) (most : ℕ) where
   abbrev range : ValueParser
   range = parser.Signed (pos 0) (pos most)
 
@@ -37,10 +37,23 @@ module _ (name : Text) (most : ℕ) (default : Text) where
         within = accepts-Accepts false range v (passed (accepts false range v) _ first);
       }
 
+  -- where words without a fault name a command that may be given this number, it has it or none
+  meets_number_if_given : (commands : List Text) → AllHave name false range [] commands → (words : List Text) → fault_of program words ≡ []
+      → Meets commands (λ rows. (one_of name rows ≡ None) ⊎ HasNumber name most rows) (subcommand_of program words)
+  meets_number_if_given commands have words none = go (subcommand_of program words) (meets_if_given name false range [] commands have tt words none)
+    where
+      either : (rows : List Row) → HasIfGiven name range rows → (one_of name rows ≡ None) ⊎ HasNumber name most rows
+      either rows (inl none) = inl (ap (option_and_then row_text) none)
+      either rows (inr value) = inr (has_number rows value)
+
+      go : (o : Option (Text × List Row)) → Meets commands (HasIfGiven name range) o → Meets commands (λ rows. (one_of name rows ≡ None) ⊎ HasNumber name most rows) o
+      go None met = tt
+      go (Some m) met = λ one. either m.1 (met one)
+
   -- where words without a fault name a command with this number, it has it
-  meets_number : (commands : List Text) → AllHave name false range (default ∷ []) commands → FirstPasses range (default ∷ []) → (words : List Text) → fault_of program words ≡ []
+  meets_number : (default : Text) (commands : List Text) → AllHave name false range (default ∷ []) commands → FirstPasses range (default ∷ []) → (words : List Text) → fault_of program words ≡ []
       → Meets commands (HasNumber name most) (subcommand_of program words)
-  meets_number commands have passes words none =
+  meets_number default commands have passes words none =
       go (subcommand_of program words) (meets_value name false range (default ∷ []) commands have passes (there_by_default name false range (default ∷ []) passes) words none)
     where
       go : (o : Option (Text × List Row)) → Meets commands (HasValue name range) o → Meets commands (HasNumber name most) o
@@ -51,7 +64,7 @@ pub meets_rounds : (words : List Text) → fault_of program words ≡ [] → Mee
 meets_rounds = meets_number (codes "rounds") most_rounds (codes "100") with_rounds refl refl
 
 pub meets_searches : (words : List Text) → fault_of program words ≡ [] → Meets with_searches HasSearches (subcommand_of program words)
-meets_searches = meets_number (codes "searches") most_searches (codes "20000") with_searches refl refl
+meets_searches = meets_number_if_given (codes "searches") most_searches with_searches refl
 
 pub meets_seed : (words : List Text) → fault_of program words ≡ [] → Meets with_searches HasSeed (subcommand_of program words)
 meets_seed = meets_number (codes "seed") most_seed (codes "1") with_searches refl refl

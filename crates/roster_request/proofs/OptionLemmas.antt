@@ -158,6 +158,22 @@ module _ (name : Text) (parser : ValueParser) where
       go true e later h = record { row = r; found = found_at true e; reading = (kept.0 e).0; first = (kept.0 e).1 }
       go false e later h = let rest = later h in record { row = rest.row; found = found_at false e ∙ rest.found; reading = rest.reading; first = rest.first }
 
+  -- they have it, or no row of its name
+  abbrev pub HasIfGiven : List Row → Type 0
+  HasIfGiven rows = (find (λ (r : Row). bytes_eq r.id name) rows ≡ None) ⊎ HasValue name parser rows
+
+  value_if_given : (rows : List Row) → Kept rows → HasIfGiven rows
+  value_if_given [] kept = inl refl
+  value_if_given (r ∷ rs) kept = go (bytes_eq r.id name) refl (value_if_given rs kept.1)
+    where
+      found_at : (t : Bool) → bytes_eq r.id name ≡ t → find (λ (x : Row). bytes_eq x.id name) (r ∷ rs) ≡ cond t (Some r) (find (λ (x : Row). bytes_eq x.id name) rs)
+      found_at t e = ap (λ b. cond b (Some r) (find (λ (x : Row). bytes_eq x.id name) rs)) e
+
+      go : (t : Bool) → bytes_eq r.id name ≡ t → HasIfGiven rs → HasIfGiven (r ∷ rs)
+      go true e later = inr (record { row = r; found = found_at true e; reading = (kept.0 e).0; first = (kept.0 e).1 })
+      go false e (inl none) = inl (found_at false e ∙ none)
+      go false e (inr rest) = inr (record { row = rest.row; found = found_at false e ∙ rest.found; reading = rest.reading; first = rest.first })
+
   -- the rows of another argument
   module _ (id : Text) (differ : bytes_eq id name ≡ false) where
     is_other : {A : Type 0} → bytes_eq id name ≡ true → A
@@ -335,3 +351,16 @@ module _ (name : Text) (required : Bool) (parser : ValueParser) (defaults : List
           let uses = each_weaker IsOnly (UseKeeps (Kept name parser) s.args_override_self) (use_keeps s.args_override_self) s.rules rules.0 in
           let defaults_keep = each_weaker IsOnly (DefaultKeeps (Kept name parser)) (default_keeps passes) s.rules rules.0 in
           has_value name parser (rows_after s.rules [] words) (level_keeps (Kept name parser) s uses defaults_keep words none tt) (there s rules.1 words none)
+
+  -- where it may be left out, they give it a value or none
+  pub meets_if_given : (names : List Text) → AllHave names → DefaultPasses parser defaults → (words : List Text) → fault_of program words ≡ []
+      → Meets names (HasIfGiven name parser) (subcommand_of program words)
+  meets_if_given names have passes =
+      words_meet names (HasIfGiven name parser) (each_weaker (λ (s : Shape). looked_up names s ≡ a ∷ []) (HasAt names (HasIfGiven name parser)) at subs (each_same (looked_up names) (λ s. a ∷ []) subs have))
+    where
+      at : (s : Shape) → looked_up names s ≡ a ∷ [] → HasAt names (HasIfGiven name parser) s
+      at s has words none one =
+          let rules = one_named s.rules (subst (λ b. cond b (named s.rules) (a ∷ []) ≡ a ∷ []) (is_one_of_list names s.name one) has) in
+          let uses = each_weaker IsOnly (UseKeeps (Kept name parser) s.args_override_self) (use_keeps s.args_override_self) s.rules rules.0 in
+          let defaults_keep = each_weaker IsOnly (DefaultKeeps (Kept name parser)) (default_keeps passes) s.rules rules.0 in
+          value_if_given name parser (rows_after s.rules [] words) (level_keeps (Kept name parser) s uses defaults_keep words none tt)

@@ -1,5 +1,5 @@
 -- What the words of a command line ask for, by clap's reading of them.
-use Rattle.std.specs.Prelude.{◌≡◌, ◌≢◌, ◌⊎◌, ◌<◌, ◌≤◌, ◌^◌, ℕ, pos, Bool, true, false, not, List, [], ◌∷◌, map, Option, Some, unwrap_or, codes, string_bytes, None, is_some}
+use Rattle.std.specs.Prelude.{◌≡◌, ◌≢◌, ◌⊎◌, ◌<◌, ◌≤◌, ◌^◌, ℕ, pos, Bool, true, false, not, List, [], ◌∷◌, map, Option, Some, unwrap_or, codes, string_bytes, None, is_some, IfSome}
 use Rattle.std.specs.List.{fold, list_any}
 use Rattle.std.specs.Str.Parse.{IsNumeral, digits_value, without_leading_plus}
 use Rattle.clap.specs.Lexer.{usize_max}
@@ -46,9 +46,9 @@ number_rule name most default = record (value_rule name) {
 abbrev pub rounds_rule : Rule
 rounds_rule = number_rule (codes "rounds") most_rounds (codes "100")
 
--- how many searches a run may make
+-- how many searches a run may make, a number that may be left out
 abbrev pub searches_rule : Rule
-searches_rule = number_rule (codes "searches") most_searches (codes "20000")
+searches_rule = record (value_rule (codes "searches")) { parser = Some (parser.Signed (pos 0) (pos most_searches)) }
 
 -- what its random numbers begin with
 abbrev pub seed_rule : Rule
@@ -128,7 +128,7 @@ abbrev pub HasRounds : List Row → Type 0
 HasRounds rows = HasNumber (codes "rounds") most_rounds rows
 
 abbrev pub HasSearches : List Row → Type 0
-HasSearches rows = HasNumber (codes "searches") most_searches rows
+HasSearches rows = (one_of (codes "searches") rows ≡ None) ⊎ HasNumber (codes "searches") most_searches rows
 
 abbrev pub HasSeed : List Row → Type 0
 HasSeed rows = HasNumber (codes "seed") most_seed rows
@@ -141,7 +141,7 @@ abbrev pub IsOneOf : List Text → Text → Type 0
 IsOneOf [] name = ⊥
 IsOneOf (first ∷ rest) name = (name ≡ first) ⊎ IsOneOf rest name
 
--- the commands with a number of rounds, those with a number of searches, and those that leave some weeks as they are
+-- the commands with a number of rounds, those that may have one of searches, and those that leave some weeks as they are
 abbrev pub with_rounds : List Text
 with_rounds = codes "improve" ∷ codes "bound" ∷ []
 
@@ -151,7 +151,7 @@ with_searches = codes "polish" ∷ codes "plan" ∷ []
 abbrev pub with_from : List Text
 with_from = codes "best" ∷ codes "polish" ∷ codes "plan" ∷ with_rounds
 
--- where one of these commands was met, its matches have the number
+-- where one of these commands was met, its matches have the number, or may have it
 abbrev pub Meets : List Text → (List Row → Type 0) → Option (Text × List Row) → Type 0
 Meets names has None = Unit {0}
 Meets names has (Some met) = IsOneOf names met.0 → has met.1
@@ -168,6 +168,11 @@ pub record IsNumberOf (name : Text) (number : ℕ) (rows : List Row) : Type 0 wh
   pub fits : number < 2 ^ 32
   pub value : number ≡ digits_value 10 (without_leading_plus text)
 
+-- it is that number, or none where clap has no text for the argument
+abbrev pub IsNumberIfGiven : Text → Option ℕ → List Row → Type 0
+IsNumberIfGiven name None rows = one_of name rows ≡ None
+IsNumberIfGiven name (Some number) rows = IsNumberOf name number rows
+
 -- it is whether this flag was given, by the text that clap reads for it: none, or one of two
 pub record IsFlag (name : Text) (is_given : Bool) (rows : List Row) : Type 0 where
   pub none : one_of name rows ≡ None → is_given ≡ false
@@ -180,8 +185,8 @@ HasArguments (command.Best nurse from) rows = (first_of (codes "nurse") rows ≡
 HasArguments (command.Improve rounds from) rows = IsNumberOf (codes "rounds") rounds rows × IsNumberOf (codes "from") from rows
 HasArguments (command.Bound rounds from) rows = IsNumberOf (codes "rounds") rounds rows × IsNumberOf (codes "from") from rows
 HasArguments (command.Polish searches seed from kicks) rows =
-    IsNumberOf (codes "searches") searches rows × IsNumberOf (codes "seed") seed rows × IsNumberOf (codes "from") from rows × IsFlag (codes "kicks") kicks rows
-HasArguments (command.Plan searches seed from) rows = IsNumberOf (codes "searches") searches rows × IsNumberOf (codes "seed") seed rows × IsNumberOf (codes "from") from rows
+    IsNumberIfGiven (codes "searches") searches rows × IsNumberOf (codes "seed") seed rows × IsNumberOf (codes "from") from rows × IsFlag (codes "kicks") kicks rows
+HasArguments (command.Plan searches seed from) rows = IsNumberIfGiven (codes "searches") searches rows × IsNumberOf (codes "seed") seed rows × IsNumberOf (codes "from") from rows
 HasArguments _ rows = Unit {0}
 
 -- the rounds or searches of a command that has some are within their limit, and its first week within that of weeks
@@ -189,8 +194,8 @@ abbrev pub IsInRange : Command → Type 0
 IsInRange (command.Best nurse from) = from ≤ most_from
 IsInRange (command.Improve rounds from) = (rounds ≤ most_rounds) × (from ≤ most_from)
 IsInRange (command.Bound rounds from) = (rounds ≤ most_rounds) × (from ≤ most_from)
-IsInRange (command.Polish searches seed from kicks) = (searches ≤ most_searches) × (from ≤ most_from)
-IsInRange (command.Plan searches seed from) = (searches ≤ most_searches) × (from ≤ most_from)
+IsInRange (command.Polish searches seed from kicks) = IfSome searches (λ n. n ≤ most_searches) × (from ≤ most_from)
+IsInRange (command.Plan searches seed from) = IfSome searches (λ n. n ≤ most_searches) × (from ≤ most_from)
 IsInRange _ = Unit {0}
 
 -- the command that was met, by its name and its matches, is that of the request, with its arguments and its files

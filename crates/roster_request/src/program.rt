@@ -43,14 +43,10 @@ pub(crate) const ROUNDS: NumberOption = NumberOption {
     help: ROUND_COUNT,
 };
 
-/// How many searches a run may make.
-pub(crate) const SEARCHES: NumberOption = NumberOption {
-    name: "searches",
-    value: "N",
-    most: 10_000_000,
-    default: "20000",
-    help: SEARCH_COUNT,
-};
+/// The name by which a number of searches is asked for, and the greatest.
+pub(crate) const SEARCHES: &str = "searches";
+
+const MOST_SEARCHES: i64 = 10_000_000;
 
 /// What the random numbers of a run begin with.
 pub(crate) const SEED: NumberOption = NumberOption {
@@ -180,7 +176,7 @@ fn searching_command<'a>(alloc: Global, name: &'a str, about: &'a str, help: &'a
     ensures { IfOk result (λ c. app_of c ≡ searching name.now) }
 {
     let command = Ok(command(alloc, name, about, help));
-    let with_searches = with_number(alloc, command, SEARCHES);
+    let with_searches = with_searches(alloc, command);
     with_number(alloc, with_searches, SEED)
 }
 
@@ -206,6 +202,14 @@ fn with_number<'a>(alloc: Global, command: Made<'a>, option: NumberOption) -> Ma
         (number_rule option.name.now option.most option.default.now))) }
 {
     command?.arg(number_arg(alloc, option))
+}
+
+/// A command that may be given a number of searches.
+fn with_searches<'a>(alloc: Global, command: Made<'a>) -> Made<'a>
+    ensures { IfOk result (λ c. IsOkAnd command.entry
+        (λ before. app_of c ≡ with_rule (app_of before) searches_rule)) }
+{
+    command?.arg(searches_arg(alloc))
 }
 
 /// A command that may be asked for kicks alone.
@@ -256,6 +260,16 @@ fn kicks_arg<'a>(alloc: Global) -> Arg<'a>
         .long(KICKS)
         .action(ArgAction::SetTrue)
         .help(KICKS_ALONE)
+}
+
+/// A number of searches. Where it is left out, the case says how many.
+fn searches_arg<'a>(alloc: Global) -> Arg<'a>
+    ensures rule { rule_of result ≡ searches_rule }
+    ensures local { result.global ≡ false }
+{
+    value_arg(alloc, SEARCHES, "N")
+        .value_parser(ValueParser::Signed(0, MOST_SEARCHES))
+        .help(SEARCH_COUNT)
 }
 
 /// A number that may be left out.

@@ -32,10 +32,10 @@ pub enum Command {
         from: u16,
     },
     /// Writes the solutions after a run that settles the roster, fades it, unless `kicks` asks for kicks alone, and then kicks nurses out
-    /// of their rows, again and again, as long as so many searches allow. The seed decides what each kick is, and in which order a
-    /// fade takes the nurses. The weeks before week `from` stay as they are.
+    /// of their rows, again and again, as long as so many searches allow; where no number is given, the case says how many. The seed
+    /// decides what each kick is, and in which order a fade takes the nurses. The weeks before week `from` stay as they are.
     Polish {
-        searches: u32,
+        searches: Option<u32>,
         seed: u32,
         from: u16,
         kicks: bool,
@@ -43,7 +43,7 @@ pub enum Command {
     /// Looks for solutions that keep the hard rules, from whatever solutions it was given, and settles and polishes them as `Polish`
     /// does, with those of so many searches that are left. The weeks before week `from` stay as they are.
     Plan {
-        searches: u32,
+        searches: Option<u32>,
         seed: u32,
         from: u16,
     },

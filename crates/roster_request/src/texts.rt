@@ -183,7 +183,8 @@ The files are read one after another, in the order given. Without a file, the
 texts are read from standard input.";
 
 pub(crate) const SEARCH_COUNT: &str =
-    "Apart from the first settling the run takes so many searches at most, 0 to 10000000";
+    "Apart from the first settling the run takes so many searches at most, 0 to 10000000; if it is \
+     not given, 400 for each nurse, and 20000 at least";
 
 pub(crate) const SEED_NUMBER: &str =
     "What the random numbers of the run begin with, 0 to 4294967295";
@@ -219,8 +220,8 @@ end after 1,000,000 rounds, and neither the fade nor a kick stayed.
 A search is one for the best row of a nurse. The first settling takes as many as
 it needs, in up to 1,000,000 rounds. After it the run takes at most as many as
 --searches allows: up to a quarter of them to find prices; of the others nearly
-all for the fade, or about a third where they are too few for a hundred passes
-over all nurses, as 20,000 are from 137 nurses on; and what is left for kicks.
+all for the fade, if it needs so many, or about a third where they are too few
+for 25 of each nurse; and what is left for kicks.
 With --kicks it is up to a half to find prices, and the others for kicks. With
 --searches 0 there is neither. The same texts, --searches, --seed, --kicks and
 --from give the same rosters. It pays to try several seeds. A run that is ended

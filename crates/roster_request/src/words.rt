@@ -1,8 +1,8 @@
 //! From words to a request.
 
-ghost use Rattle.std.specs.Prelude.{◌≡◌, ◌≢◌, ◌≤◌, [], Some, codes, IfOk, IfErr, OnOk, IsSomeAnd, is_some, true, map, string_bytes};
+ghost use Rattle.std.specs.Prelude.{◌≡◌, ◌≢◌, ◌≤◌, [], Some, codes, IfOk, IfErr, IfSome, OnOk, IsSomeAnd, is_some, true, map, string_bytes};
 ghost use Rattle.clap.specs.Words.{fault_of, first_of, found_of, kind_of, rows_of, subcommand_rows_of};
-ghost use Rattle.roster_request.specs.CommandLine.{HasArguments, HasFrom, HasNumber, HasNurse, HasRounds, HasSearches, HasSeed, HasText, IsAsked, IsAskedIn, IsFlag, IsInRange, IsNameOf, IsNumberOf, IsOneOf, Meets, Refuses, TellsKind, commands, files_in, name_of, program, with_from, with_rounds, with_searches};
+ghost use Rattle.roster_request.specs.CommandLine.{HasArguments, HasFrom, HasNumber, HasNurse, HasRounds, HasSearches, HasSeed, HasText, IsAsked, IsAskedIn, IsFlag, IsInRange, IsNameOf, IsNumberIfGiven, IsNumberOf, IsOneOf, Meets, Refuses, TellsKind, commands, files_in, name_of, program, with_from, with_rounds, with_searches};
 ghost use Rattle.roster_request.specs.Limits.{most_from, most_rounds, most_searches};
 
 use crate::program::{FILES, FROM, KICKS, NURSE, NumberOption, ROUNDS, SEARCHES, SEED, program};
@@ -116,13 +116,13 @@ fn rounds_of(given: &ArgMatches<'_>) -> u16
     number_of(given, ROUNDS) as u16
 }
 
-/// The number of searches.
-fn searches_of(given: &ArgMatches<'_>) -> u32
+/// The number of searches, where one is given.
+fn searches_of(given: &ArgMatches<'_>) -> Option<u32>
     requires { HasSearches (rows_of (found_of given.now)) }
-    ensures searches { IsNumberOf (codes "searches") result (rows_of (found_of given.now)) }
-    ensures range { result ≤ most_searches }
+    ensures searches { IsNumberIfGiven (codes "searches") result (rows_of (found_of given.now)) }
+    ensures range { IfSome result (λ searches. searches ≤ most_searches) }
 {
-    number_of(given, SEARCHES)
+    given.get_one::<u32>(SEARCHES)
 }
 
 /// What the random numbers begin with.

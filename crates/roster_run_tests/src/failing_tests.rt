@@ -79,7 +79,7 @@ fn command_of(alloc: Global, name: &str) -> Result<Command, AllocError> {
         },
         "bound" => Command::Bound { rounds: 1, from: 0 },
         "polish" => Command::Polish {
-            searches: 0,
+            searches: Some(0),
             seed: 1,
             from: 0,
             kicks: false,

@@ -39,7 +39,7 @@ const FADED: &str = "start 70\nfade 0\nsettled 0\n";
 fn run_by(alloc: Global, seed: u32, kicks: bool, room: usize) -> Result<(u8, Vec<u8>), AllocError> {
     let request = Request {
         command: Command::Polish {
-            searches: if kicks { 300 } else { 100 },
+            searches: Some(if kicks { 300 } else { 100 }),
             seed,
             from: 0,
             kicks,

@@ -40,13 +40,13 @@ complete -c roster -n '__roster_is bound' -l rounds -x -d 'The run makes so many
 complete -c roster -n '__roster_is bound' -l from -x -d 'The first week that may change, 0 to 52: the weeks before it stay as they stand [default: 0]'
 complete -c roster -n '__roster_is bound' -s h -l help -d 'Print help'
 complete -c roster -n '__roster_is polish' -F
-complete -c roster -n '__roster_is polish' -l searches -x -d 'Apart from the first settling the run takes so many searches at most, 0 to 10000000 [default: 20000]'
+complete -c roster -n '__roster_is polish' -l searches -x -d 'Apart from the first settling the run takes so many searches at most, 0 to 10000000; if it is not given, 400 for each nurse, and 20000 at least'
 complete -c roster -n '__roster_is polish' -l seed -x -d 'What the random numbers of the run begin with, 0 to 4294967295 [default: 1]'
 complete -c roster -n '__roster_is polish' -l kicks -d 'Make kicks alone, and no fade'
 complete -c roster -n '__roster_is polish' -l from -x -d 'The first week that may change, 0 to 52: the weeks before it stay as they stand [default: 0]'
 complete -c roster -n '__roster_is polish' -s h -l help -d 'Print help'
 complete -c roster -n '__roster_is plan' -F
-complete -c roster -n '__roster_is plan' -l searches -x -d 'Apart from the first settling the run takes so many searches at most, 0 to 10000000 [default: 20000]'
+complete -c roster -n '__roster_is plan' -l searches -x -d 'Apart from the first settling the run takes so many searches at most, 0 to 10000000; if it is not given, 400 for each nurse, and 20000 at least'
 complete -c roster -n '__roster_is plan' -l seed -x -d 'What the random numbers of the run begin with, 0 to 4294967295 [default: 1]'
 complete -c roster -n '__roster_is plan' -l from -x -d 'The first week that may change, 0 to 52: the weeks before it stay as they stand [default: 0]'
 complete -c roster -n '__roster_is plan' -s h -l help -d 'Print help'

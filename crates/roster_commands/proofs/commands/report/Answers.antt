@@ -1,6 +1,6 @@
-use Rattle.std.proofs.Common.{ap, refl, subst, sym}
+use Rattle.std.proofs.Common.{ap, false, refl, subst, sym}
 use Rattle.roster_case.specs.Shown.{weeks_text}
-use Rattle.roster_commands.specs.Answer.{IsReportOf, Output, best_report, cost_report, improve_report, outcome_of, plain}
+use Rattle.roster_commands.specs.Answer.{IsPlanReport, IsPolishReport, IsReportOf, Output, best_report, cost_report, improve_report, outcome_of, plain}
 use Rattle.roster_reports.specs.Lines.{sizes_text}
 use Rattle.roster_commands.proofs.AnswerLemmas.{plain_ends, silent_log}
 use Rattle.roster_commands.proofs.commands.report.Goals as goal
@@ -56,9 +56,9 @@ returns-in-Bound g c =
 pub returns-in-Polish : goal.returns-in-Polish
 returns-in-Polish g c =
     let made = c.report_polish.ensures in
-    record { report = made.report; is = subst (λ x. IsReportOf x c.args.instance.case c.args.instance.roster made.report) (sym c.in-Polish.is) made.is; ends = made.ends; logged = made.logged }
+    record { report = made.report; is = subst (λ x. IsReportOf x c.args.instance.case c.args.instance.roster made.report) (sym c.in-Polish.is) (subst (λ n. IsPolishReport n c.in-Polish.from c.in-Polish.kicks c.args.instance.case c.args.instance.roster made.report) c.searches_for.ensures made.is); ends = made.ends; logged = made.logged }
 
 pub returns : goal.returns
 returns g c =
     let made = c.report_plan.ensures in
-    record { report = made.report; is = subst (λ x. IsReportOf x c.args.instance.case c.args.instance.roster made.report) (sym c.in-Plan.is) made.is; ends = made.ends; logged = made.logged }
+    record { report = made.report; is = subst (λ x. IsReportOf x c.args.instance.case c.args.instance.roster made.report) (sym c.in-Plan.is) (subst (λ n. IsPlanReport n c.in-Plan.from false c.args.instance.case c.args.instance.roster made.report) c.searches_for-in-Plan.ensures made.is); ends = made.ends; logged = made.logged }

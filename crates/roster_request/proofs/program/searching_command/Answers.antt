@@ -7,6 +7,6 @@ use Rattle.roster_request.proofs.program.searching_command.Goals as goal
 pub returns : goal.returns
 returns c =
     let bare = new_app c.args.name.now in
-    let searches = c.with_number-with_searches in
+    let searches = c.with_searches-with_searches in
     let with_searches = made_by (λ (a : App). with_rule a searches_rule) bare (Ok c.command.result) searches.result c.command.ensures searches.ensures in
     made_by (λ (a : App). with_rule a seed_rule) (with_rule bare searches_rule) searches.result c.with_number.result with_searches c.with_number.ensures
