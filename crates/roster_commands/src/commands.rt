@@ -101,6 +101,7 @@ fn searches_for(case: &Case, asked: Option<u32>) -> u32
 }
 
 const SEARCHES_OF_A_NURSE: u32 = 400;
+
 const LEAST_SEARCHES: u32 = 20_000;
 
 fn report_cost<'a, Out: Write>(
