@@ -234,7 +234,7 @@ fn a_log_of_a_floor_that_fails_after_each_byte(rt: HostRuntime) -> Result<(), Fa
         alloc,
         &[("(0,1) (0,1) (0,1) (0,1) (0,1) (0,1) (0,1)", three)],
     )?;
-    let (output, told) = ("roster 890\nbound 110\n", "start 890\nround 1 110\n");
+    let (output, told) = ("roster 890\nbound 310\n", "start 890\nround 1 310\n");
     for at_end in [AtEnd::Fail, AtEnd::TakeNothing] {
         for log in 0..told.len() {
             let room = Room {
