@@ -1,0 +1,91 @@
+"""The public calls of the libraries, as their sources declare them."""
+import functools
+import itertools
+import os
+import re
+
+TOP = os.path.dirname(os.path.dirname(os.path.realpath(__file__)))
+# The crates that a program of one's own calls, and what in these serves the crates of a search alone.
+CALLED = "text instance case state best rounds reports bound polish request joined commands"
+BETWEEN = """
+    Area Span areas_of widen NurseDays Stretch is_forbidden LineCosts set_line fill_line Block::numbered Block::of_runs
+    Block::last_number Block::with_weekends
+    Block::state Ranges::last Ranges::run Ranges::shift_run Ranges::assignments Ranges::weekends Ranges::blocks
+    State::last_number State::run State::shift_run State::assignments State::weekends Workspace::search Workspace::offers
+    Workspace::clear_offers Workspace::push_offers Workspace::search_offers LastSearches::knows LastSearches::most_gain
+    LastSearches::remember RowSpace Worths Seen count_rows follow_cover raise_missed pay_places take_row put_row price_of
+    lacks_nurses row_floor offers_of_day rows_are_had places_floor improve_worths refuse refuse_output
+"""
+# Comments, strings and characters, whose braces count for nothing.
+SILENT = r"""//[^\n]*|"(?:[^"\\]|\\[\s\S])*"|'(?:\\[^'\n]+|[^'\\\n])'"""
+OPENS, CLOSES = "([{", ")]}"
+
+
+def silenced(text):
+    """The text with blanks in the place of comments, strings and characters."""
+    return re.sub(SILENT, lambda it: re.sub(r"[^\n]", " ", it[0]), text)
+
+
+def end_of(text, at):
+    """Where the bracket that opens at this place is closed."""
+    depth = 0
+    for place in range(at, len(text)):
+        depth += (text[place] in OPENS) - (text[place] in CLOSES)
+        if not depth:
+            return place
+    return len(text)
+
+
+def owners(text):
+    """The blocks of impls and traits: from where, to where, and of which type or trait."""
+    found = []
+    for block in re.finditer(r"(?m)^\s*(?:pub(?:\([^)]*\))?\s+)?(?:unsafe\s+)?(impl|trait)\b([^{;]*)\{", text):
+        head = re.sub(r"\bwhere\b.*", "", block[2], flags=re.S)
+        while re.search(r"<[^<>]*>", head):
+            head = re.sub(r"<[^<>]*>", " ", head)
+        name = re.search(r"\bfor\s+([\w:]+)", head) or re.search(r"([\w:]+)", head)
+        if name:
+            found.append((block.start(), end_of(text, block.end() - 1), name[1].split("::")[-1]))
+    return found
+
+
+def docstring(text, at):
+    """What the first lines of documentation above the line of this place say, up to an empty one."""
+    said = []
+    for line in reversed(text[: text.rfind("\n", 0, at) + 1].split("\n")[:-1]):
+        if line.strip().startswith("///"):
+            said.insert(0, line.strip()[3:].strip())
+        elif not line.strip().startswith("#["):
+            break
+    return " ".join(itertools.takewhile(bool, said))
+
+
+@functools.lru_cache(maxsize=None)
+def calls_of(crate):
+    """What the sources say of each function and method that a crate exports, by its name: those of other crates too, which it hands on."""
+    folder, methods, free, found = f"{TOP}/crates/{crate}/src", {}, {}, {}
+    if not os.path.isfile(f"{folder}/lib.rt"):
+        return found
+    for path in sorted(os.listdir(folder)):
+        with open(f"{folder}/{path}", encoding="utf-8") as file:
+            source = file.read()
+        text = silenced(source)
+        blocks = owners(text)
+        for it in re.finditer(r"\bpub\s+(?:const\s+|unsafe\s+)*fn\s+(\w+)", text):
+            around = [name for start, end, name in blocks if start < it.start() < end]
+            (methods.setdefault(around[-1], {}) if around else free)[it[1]] = docstring(source, it.start())
+    with open(f"{folder}/lib.rt", encoding="utf-8") as file:
+        exported = re.findall(r"\bpub\s+use\s+(\w+)::([^;]*);", silenced(file.read()))
+    for source, names in exported:
+        below = calls_of(source)
+        for name in re.findall(r"\w+", names):
+            own = {f"{name}::{method}": said for method, said in methods.get(name, {}).items()}
+            own |= {name: free[name]} if name in free else {}
+            found |= own or {it: said for it, said in below.items() if it.split("::")[0] == name}
+    return found
+
+
+def for_callers(crate):
+    """The same without what serves the crates of a search alone."""
+    between = {*BETWEEN.split()}
+    return {it: said for it, said in calls_of(crate).items() if not {it, it.split("::")[0]} & between}
