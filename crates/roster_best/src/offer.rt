@@ -21,8 +21,8 @@ ghost use Rattle.roster_offers.specs.Offers.{offer_of, offers_of, open_offers};
 use arrayvec::ArrayVec;
 use roster_case::{Case, Choice, Held, Shift, Skill};
 use roster_offers::{MOST_CHOICES, Offer, cost_of_requests, has_some_wish, request_cost};
-use roster_rules::is_able;
 use roster_rules::weights::STAFFING;
+use roster_rules::{is_able, is_frozen};
 
 /// How many nurses a day lacks to its minimums and to its optimums, over all shifts and skills.
 #[derive(Clone, Copy)]
@@ -34,19 +34,19 @@ struct Lacking {
 /// What a nurse may do on a day while the others' rows stay, in the order of the choices: to be off, or to work a shift with one
 /// of the nurse's skills, where the nurse isn't absent; each only where no minimum of the day is missed with it. The price is that of the day's staffing with
 /// this choice, of an off request against it, and of a wish to work that it doesn't meet. The days of the weeks before week `from`
-/// are frozen: on these the nurse may do only what the roster says. Every `from` is allowed.
+/// are frozen, and the nurse's fixed days: on these the nurse may do only what the roster says. Every `from` is allowed.
 pub fn choices(held: &Held, nurse: usize, day: u16, from: u16) -> ArrayVec<Offer, MOST_CHOICES>
     requires nurse { nurse < nurse_count held.now.case }
     requires day { day < day_count held.now.case }
     ensures offers { result.items ≡ offers_of held.now.case from held.now.roster nurse day }
-    ensures frozen { is_frozen from day ≡ true →
+    ensures frozen { is_frozen held.now.case from nurse day ≡ true →
         result.items ≡ offer_of held.now.case held.now.roster nurse day
         (choice_on (row_of held.now.roster nurse) day) ∷ [] }
     ensures few { length result.items ≤ 1 + most_shifts * most_skills }
 {
     // The roster keeps the hard rules: so the present choice is one of those that are open.
     held.keeps_rules();
-    if day / 7 < from {
+    if is_frozen(held.case(), from, nurse, day) {
         return present_choice(held, nurse, day);
     }
     open_choices(held, nurse, day)

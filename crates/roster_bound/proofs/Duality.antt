@@ -114,10 +114,10 @@ pub rounded_below : (b pen : ℕ) → b ≤ pen → pen % 5 ≡ 0 → rounded_up
 rounded_below b pen h five = omega (arith, h, five)
 
 -- on a frozen day the given choice keeps
-keeps_given : (from : ℕ) (given : Rows) (n d : ℕ) (x : Choice) → (is_frozen from d ≡ true → x ≡ choice_on (row_of given n) d) → keeps_frozen_day from given n d x ≡ true
-keeps_given from given n d x same = go (is_frozen from d) refl
+keeps_given : (c : Meaning) (from : ℕ) (given : Rows) (n d : ℕ) (x : Choice) → (is_frozen c from n d ≡ true → x ≡ choice_on (row_of given n) d) → keeps_frozen_day c from given n d x ≡ true
+keeps_given c from given n d x same = go (is_frozen c from n d) refl
   where
-    go : (b : Bool) → is_frozen from d ≡ b → (not b || same_choice x (choice_on (row_of given n) d)) ≡ true
+    go : (b : Bool) → is_frozen c from n d ≡ b → (not b || same_choice x (choice_on (row_of given n) d)) ≡ true
     go false e = refl
     go true e = ap (λ y. same_choice y (choice_on (row_of given n) d)) (same e) ∙ same_choice_self (choice_on (row_of given n) d)
 
@@ -159,7 +159,7 @@ module _ (c : Meaning) (from : ℕ) (given : Rows) (w : PlaceWorths) (are : AreW
     row = row_of r n
 
     frozen_kept : keeps_frozen_days c from given n (row_of r n) ≡ true
-    frozen_kept = all_true (day_count c) (λ d. keeps_frozen_day from given n d (choice_on (row_of r n) d)) (λ d h. keeps_given from given n d (choice_on (row_of r n) d) (stays n d h))
+    frozen_kept = all_true (day_count c) (λ d. keeps_frozen_day c from given n d (choice_on (row_of r n) d)) (λ d h. keeps_given c from given n d (choice_on (row_of r n) d) (stays n d h))
 
     pub worked : can_work c from given n (row_of r n) ≡ true
     worked =

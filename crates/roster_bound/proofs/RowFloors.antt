@@ -69,7 +69,7 @@ module _ (c : Meaning) (from : ℕ) (given : Rows) (w : PlaceWorths) (n : ℕ) w
       let D = day_count c in
       let able : ℕ → Bool = λ d. may_take c n d (choice_on row d) in
       let follows : ℕ → Bool = λ d. not (breaks_succession c n (days_of row) d) in
-      let stays : ℕ → Bool = λ d. keeps_frozen_day from given n d (choice_on row d) in
+      let stays : ℕ → Bool = λ d. keeps_frozen_day c from given n d (choice_on row d) in
       ap (λ b. (b && keeps_successions c n (days_of row) D) && keeps_frozen_days c from given n row) (sym (all_both D (is_able_on c n row) (is_here_on c n row)))
       ∙ ap (λ b. b && keeps_frozen_days c from given n row) (sym (all_both D able follows))
       ∙ sym (all_both D (λ d. able d && follows d) stays)
@@ -129,7 +129,7 @@ module _ (c : Meaning) (from : ℕ) (given : Rows) (w : PlaceWorths) (n : ℕ) w
     day_offers d within = record {
       of_case = by_shift_all (IsOfferOf c) (offers_by_worth c from given w n d) (offers_of_case d);
       some = by_shift_some (offers_by_worth c from given w n d) (offers_some d within);
-      few = omega (arith, by_shift_fewer (offers_by_worth c from given w n d), offers_few_of c n can (price_by c w n) (λ e x is. (and_parts (is_able (nurse_at c n).skills x) (is_here c n e x) (and_parts (may_take c n e x) (keeps_frozen_day from given n e x) is).0).0) d);
+      few = omega (arith, by_shift_fewer (offers_by_worth c from given w n d), offers_few_of c n can (price_by c w n) (λ e x is. (and_parts (is_able (nurse_at c n).skills x) (is_here c n e x) (and_parts (may_take c n e x) (keeps_frozen_day c from given n e x) is).0).0) d);
     }
 
     -- ---- over a table of these offers

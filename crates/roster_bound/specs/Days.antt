@@ -13,7 +13,7 @@ use Rattle.roster_bound.specs.Worths.{PlaceWorths, price_by}
 
 -- the nurse has the skill, and on a frozen day it is the given choice
 abbrev pub can_do : Meaning → ℕ → Rows → (n d : ℕ) → Choice → Bool
-can_do c from given n d choice = may_take c n d choice && keeps_frozen_day from given n d choice
+can_do c from given n d choice = may_take c n d choice && keeps_frozen_day c from given n d choice
 
 -- it with its price, where she can do it
 abbrev pub offer_if_able : Meaning → ℕ → Rows → PlaceWorths → (n d : ℕ) → Choice → Option Offer

@@ -6,7 +6,7 @@ ghost use Rattle.roster_instance.specs.Choices.{shift_of};
 ghost use Rattle.roster_instance.specs.Limits.{most_shifts, most_skills};
 ghost use Rattle.roster_instance.specs.Meaning.{day_count, nurse_count};
 ghost use Rattle.roster_instance.specs.Rosters.{is_choice_of};
-ghost use Rattle.roster_rules.specs.AllowedRows.{keeps_frozen_day};
+ghost use Rattle.roster_rules.specs.AllowedRows.{is_frozen, keeps_frozen_day};
 ghost use Rattle.roster_rules.specs.Penalties.{request_cost_on};
 ghost use Rattle.roster_rules.specs.Weights.{most_request};
 ghost use Rattle.roster_bound.specs.Days.{offer_if_able, offers_by_worth};
@@ -16,9 +16,10 @@ ghost use Rattle.roster_bound.specs.Worths.{earned, most_worth};
 use crate::worths::{MOST_WORTH, Worths};
 use arrayvec::ArrayVec;
 use roster_offers::{MOST_CHOICES, Offer, request_cost};
-use roster_rules::{Case, Choice, Roster, Shift, Skill, choice_on, may_take};
+use roster_rules::{Case, Choice, Roster, Shift, Skill, choice_on, is_frozen, may_take};
 
-/// What a nurse's floor is reckoned by: a case, what its places pay, and a roster of which the days before week `from` stay.
+/// What a nurse's floor is reckoned by: a case, what its places pay, and a roster of which the days before week `from` and the fixed
+/// days stay.
 #[derive(Clone, Copy)]
 pub struct Terms<'a> {
     pub case: &'a Case,
@@ -28,7 +29,7 @@ pub struct Terms<'a> {
     pub ghost days: { worths.now.days ≡ day_count case.now },
 }
 
-/// A case, and a roster of which the days before week `from` stay.
+/// A case, and a roster of which the days before week `from` and the fixed days stay.
 #[derive(Clone, Copy)]
 pub struct Base<'a> {
     pub case: &'a Case,
@@ -48,12 +49,19 @@ pub fn choices(terms: &Terms<'_>, nurse: usize, day: u16) -> ArrayVec<Offer, MOS
     let skills = case.skills();
     let asked = request_cost(case, nurse, day, None);
     let mut offers = ArrayVec::new();
-    push_some(&mut offers, offered(terms, nurse, day, Choice::Off, asked));
+    let frozen = is_frozen(case, terms.from, nurse, day);
+    push_some(
+        &mut offers,
+        offered(terms, nurse, day, Choice::Off, frozen, asked),
+    );
     for shift in 0..shifts {
         let asked = request_cost(case, nurse, day, Some(Shift(shift)));
         for skill in 0..skills {
             let choice = Choice::Work(Shift(shift), Skill(skill));
-            push_some(&mut offers, offered(terms, nurse, day, choice, asked));
+            push_some(
+                &mut offers,
+                offered(terms, nurse, day, choice, frozen, asked),
+            );
         }
     }
     offers
@@ -70,17 +78,25 @@ fn push_some(offers: &mut ArrayVec<Offer, MOST_CHOICES>, offer: Option<Offer>)
 }
 
 /// The choice with its price, where the nurse can do it, by what the requests cost with it.
-fn offered(terms: &Terms<'_>, nurse: usize, day: u16, choice: Choice, asked: u32) -> Option<Offer>
+fn offered(
+    terms: &Terms<'_>,
+    nurse: usize,
+    day: u16,
+    choice: Choice,
+    frozen: bool,
+    asked: u32,
+) -> Option<Offer>
     requires nurse { nurse < nurse_count terms.now.case.now }
     requires day { day < day_count terms.now.case.now }
     requires choice { is_choice_of terms.now.case.now choice ≡ true }
+    requires frozen { frozen ≡ is_frozen terms.now.case.now terms.now.from nurse day }
     requires asked { asked ≡ request_cost_on terms.now.case.now nurse day (shift_of choice) }
     requires within { asked ≤ most_request }
     ensures { result ≡ offer_if_able terms.now.case.now terms.now.from terms.now.given.now
         (worths_of terms.now.worths.now) nurse day choice }
 {
     let able = may_take(terms.case, nurse, day, choice);
-    let kept = keeps_frozen_day(terms, nurse, day, choice);
+    let kept = keeps_frozen_day(terms, nurse, day, choice, frozen);
     let pay = earned(terms, day, choice);
     let price = MOST_WORTH - pay + asked;
     offer_if(able && kept, choice, price)
@@ -96,10 +112,12 @@ fn offer_if(able: bool, choice: Choice, price: u32) -> Option<Offer>
 }
 
 /// Whether the day isn't frozen, or the choice is the given one.
-fn keeps_frozen_day(terms: &Terms<'_>, nurse: usize, day: u16, choice: Choice) -> bool
-    ensures { result ≡ keeps_frozen_day terms.now.from terms.now.given.now nurse day choice }
+fn keeps_frozen_day(terms: &Terms<'_>, nurse: usize, day: u16, choice: Choice, frozen: bool) -> bool
+    requires { frozen ≡ is_frozen terms.now.case.now terms.now.from nurse day }
+    ensures { result ≡ keeps_frozen_day terms.now.case.now terms.now.from terms.now.given.now nurse
+        day choice }
 {
-    day / 7 >= terms.from || choice == choice_on(terms.given.row(nurse), day)
+    !frozen || choice == choice_on(terms.given.row(nurse), day)
 }
 
 /// What a nurse earns on a day.
