@@ -1,5 +1,5 @@
 //! Worked examples: what the definitions say of a small instance and of texts that differ from it in a few lines.
-#![tactic(auto, unfolding(roster_bundle::specs::Token::tokens_from, roster_bundle::specs::Token::token_at, roster_bundle::specs::Token::begins_at, roster_bundle::specs::Token::end_from, roster_bundle::specs::Token::is_separator, roster_bundle::specs::Token::is_mark, roster_bundle::specs::Token::is_word_byte, roster_bundle::specs::Token::follows_word_byte, roster_bundle::specs::Token::line_feeds, roster_text::specs::Reading::bundle_at, roster_text::specs::Reading::title_at, roster_text::specs::Reading::scenario_at, roster_text::specs::Reading::section_at, roster_text::specs::Reading::listed_at, roster_text::specs::Reading::times_at, roster_text::specs::Reading::shift_type_at, roster_text::specs::Reading::pair_at, roster_text::specs::Reading::until_with, roster_text::specs::Reading::succession_at, roster_text::specs::Reading::names_at, roster_text::specs::Reading::contract_at, roster_text::specs::Reading::nurse_at, roster_text::specs::Reading::history_at, roster_text::specs::Reading::nurse_history_at, roster_text::specs::Reading::week_data_at, roster_text::specs::Reading::requirement_at, roster_text::specs::Reading::week_pairs_at, roster_text::specs::Reading::solution_at, roster_text::specs::Reading::assignment_at, roster_text::specs::Reading::request_at, roster_text::specs::Reading::absence_at, roster_text::specs::Reading::optional_at, roster_instance::specs::Tables::table_of, roster_instance::specs::Bundles::requests_meant, roster_instance::specs::Bundles::absences_meant, roster_instance::specs::Bundles::meaning_of, roster_instance::specs::Bundles::rows_of, roster_instance::specs::Refusals::case_faults, roster_instance::specs::Refusals::roster_faults, roster_instance::specs::Sizes::state_count, roster_instance::specs::Sizes::choice_count, roster_rules::specs::HardRules::hard_faults, roster_rules::specs::Penalties::costs_of, roster_rules::specs::Penalties::penalty, roster_rules::specs::Runs::run_violations, roster_rules::specs::Runs::open_run))]
+#![tactic(auto, unfolding(roster_bundle::specs::Token::tokens_from, roster_bundle::specs::Token::token_at, roster_bundle::specs::Token::begins_at, roster_bundle::specs::Token::end_from, roster_bundle::specs::Token::is_separator, roster_bundle::specs::Token::is_mark, roster_bundle::specs::Token::is_word_byte, roster_bundle::specs::Token::follows_word_byte, roster_bundle::specs::Token::line_feeds, roster_text::specs::Reading::bundle_at, roster_text::specs::Reading::title_at, roster_text::specs::Reading::scenario_at, roster_text::specs::Reading::section_at, roster_text::specs::Reading::listed_at, roster_text::specs::Reading::times_at, roster_text::specs::Reading::shift_type_at, roster_text::specs::Reading::pair_at, roster_text::specs::Reading::until_with, roster_text::specs::Reading::succession_at, roster_text::specs::Reading::names_at, roster_text::specs::Reading::contract_at, roster_text::specs::Reading::nurse_at, roster_text::specs::Reading::history_at, roster_text::specs::Reading::nurse_history_at, roster_text::specs::Reading::week_data_at, roster_text::specs::Reading::requirement_at, roster_text::specs::Reading::week_pairs_at, roster_text::specs::Reading::solution_at, roster_text::specs::Reading::assignment_at, roster_text::specs::Reading::request_at, roster_text::specs::Reading::nurse_day_at, roster_text::specs::Reading::optional_at, roster_instance::specs::Tables::table_of, roster_instance::specs::Bundles::requests_meant, roster_instance::specs::Bundles::days_meant, roster_instance::specs::Bundles::meaning_of, roster_instance::specs::Bundles::rows_of, roster_instance::specs::Refusals::case_faults, roster_instance::specs::Refusals::roster_faults, roster_instance::specs::Sizes::state_count, roster_instance::specs::Sizes::choice_count, roster_rules::specs::HardRules::hard_faults, roster_rules::specs::Penalties::costs_of, roster_rules::specs::Penalties::penalty, roster_rules::specs::Runs::run_violations, roster_rules::specs::Runs::open_run))]
 
 ghost use Rattle.std.specs.Prelude.{◌≡◌, [], ◌∷◌, None, codes, take, true, false};
 ghost use Rattle.roster_instance.specs.declared.fault.CaseFault.{CaseFault};
@@ -86,6 +86,19 @@ pub fn breaches_of_absences()
         ≡ Some (CaseFault.Unknown 36 ∷ CaseFault.Unknown 37 ∷ []) }
     ensures before_wishes { refusals_in
         (requested (codes "0 ABSENCES = 0 SHIFT_ON_REQUESTS = 0") mini_lines) ≡ None }
+{}
+
+/// The section of fixed days stands after the absences. What is fixed is no breach; a nurse of a line has to be known, and a line may stand
+/// twice.
+pub fn fixed_days_in_the_texts()
+    ensures work { breaches_in (requested (codes "0 ABSENCES = 1 Bob Wed FIXED = 1 Bob Tue")
+        bob_early_on_tuesday) ≡ Some [] }
+    ensures twice { refusals_in (requested (codes "0 FIXED = 2 Bob Tuesday Bob Tue") mini_lines)
+        ≡ Some [] }
+    ensures unknown { refusal_in (requested (codes "0 ABSENCES = 1 Bob Tue FIXED = 1")
+        eve_on_tuesday) ≡ Some (CaseFault.Unknown 37) }
+    ensures before_absences { refusals_in (requested (codes "0 FIXED = 0 ABSENCES = 0") mini_lines)
+        ≡ None }
 {}
 
 /// Each nurse has eight days off in a row, one of them before the first Monday, and three too many.

@@ -89,8 +89,9 @@ lines, what the roster costs before, and what it costs with the row:
   best Ann 180
 
 With --from V the weeks 0 to V - 1 are frozen: the nurse's days in them stay as
-they stand, and the row is the best of those that keep them. All weeks are read,
-and count for what the roster costs. Where V is above the last week, all stays.
+they stand, and so do those of the section FIXED; the row is the best of those
+that keep them. All weeks are read, and count for what the roster costs. Where V
+is above the last week, all stays.
 
 What isn't promised: that this is the best roster, since the others' rows stay;
 that it is best for two nurses at once; how long the search takes. For its
@@ -131,8 +132,9 @@ The last line begins with one of two words:
            there was none to make. More rounds may make the rosters cheaper.
 
 With --from V the weeks 0 to V - 1 are frozen: each nurse's days in them stay as
-they stand, as where these weeks are published. All weeks are read, and count for
-what the roster costs. Where V is above the last week, all stays.
+they stand, as where these weeks are published, and so do those of the section
+FIXED. All weeks are read, and count for what the roster costs. Where V is above
+the last week, all stays.
 
 What isn't promised: that these are the best rosters of all, settled or not,
 since two rows changed at once may still save something; how long the run takes.
@@ -167,8 +169,8 @@ Where it comes to be what the roster costs, the run ends: no roster of these is
 cheaper.
 
 With --from V the weeks 0 to V - 1 are frozen: the bound is for those rosters in
-which each nurse's days in them are as they stand. Where V is above the last
-week, that is the given roster alone.
+which each nurse's days in them, and those of the section FIXED, are as they
+stand. Where V is above the last week, that is the given roster alone.
 
 What isn't promised: how near the bound is to the cheapest roster; how long the
 run takes. For its memory and the greatest number of steps for a nurse see
@@ -228,8 +230,8 @@ With --kicks it is up to a half to find prices, and the others for kicks. With
 by Ctrl-C leaves no rosters, as they are written at its end.
 
 With --from V the weeks 0 to V - 1 are frozen: each nurse's days in them stay as
-they stand. All weeks are read, and count for what the roster costs. Where V is
-above the last week, all stays.
+they stand, and so do those of the section FIXED. All weeks are read, and count
+for what the roster costs. Where V is above the last week, all stays.
 
 What isn't promised: how cheap the rosters get, for which see 'roster bound';
 how long the run takes. For its memory and the greatest number of steps for a
@@ -254,7 +256,7 @@ fallen ill. Refused as ever are a second shift on a day, and a skill that the
 nurse lacks.
 
 Where the given roster breaks a hard rule, the run gives all nurses new rows in
-the weeks that may change, whatever is given there: fade after fade, until no
+the days that may change, whatever is given there: fade after fade, until no
 minimum is missed or no search is left. Then it settles the roster and polishes
 it as 'roster polish' does, with the searches that are left. The rosters written
 keep all hard rules.
@@ -279,9 +281,10 @@ several seeds. A run that is ended by Ctrl-C leaves no rosters, as they are
 written at its end.
 
 With --from V the weeks 0 to V - 1 are frozen: each nurse's days in them stay as
-they stand. All weeks are read, and count for what the roster costs. Where V is
-above the last week, all stays. Where a frozen week breaks a hard rule, that is
-told, and no roster is looked for.
+they stand, and so do those of the section FIXED. All weeks are read, and count
+for what the roster costs. Where V is above the last week, all stays. Where the
+days that stay break a hard rule by themselves, that is told, and no roster is
+looked for.
 
 What isn't promised: that a roster is found where there is one; how cheap the
 rosters get, for which see 'roster bound'; how long the run takes. For its
