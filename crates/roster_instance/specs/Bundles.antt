@@ -172,6 +172,8 @@ meaning_of source b = record {
   nurses = map (nurse_meant source (contract_names source b) (skill_names source b)) b.scenario.nurses.items;
   past = past_meant source (nurse_names source b) (shift_names source b) b.history.nurses;
   weeks = map (week_meant source (shift_names source b) (skill_names source b) (nurse_names source b)) b.week_data;
+  base = [];
+  keep = 0;
 }
 
 -- ---- the roster, by the names of a case

@@ -1,7 +1,8 @@
 -- What the four texts of an instance mean, apart from the roster. Shifts, skills, contracts and nurses are numbered
 -- from 0 in the order of the scenario.
-use Rattle.std.specs.Prelude.{ℕ, ◌+◌, ◌*◌, ◌/◌, ◌%◌, Bool, false, ◌||◌, List, [], length, replicate, Option, Some, None, slice_index_or, unwrap_or}
+use Rattle.std.specs.Prelude.{ℕ, ◌+◌, ◌*◌, ◌/◌, ◌%◌, Bool, false, ◌||◌, ◌==◌, if◌then◌else◌, List, [], length, replicate, Option, Some, None, slice_index_or, unwrap_or}
 use Rattle.std.specs.Option.{option_map_or}
+use Rattle.roster_instance.specs.declared.choice.Choice.{Choice}
 use Rattle.roster_instance.specs.declared.choice.Shift.{Shift}
 use Rattle.roster_instance.specs.declared.choice.Skill.{Skill}
 use Rattle.roster_instance.specs.declared.rules.Border.{Border}
@@ -26,7 +27,8 @@ pub record WeekFacts : Type 0 where
   pub absences : List Bool
 
 -- `runs` has the days in a row of each shift; `successions`, for each shift that has such a line, which shifts may not
--- follow; `past` what stands in the history of each nurse
+-- follow; `past` what stands in the history of each nurse; `base` a row for each nurse of a roster that is kept, at so many points
+-- (`keep`) for each day that becomes another; the texts say neither
 pub record Meaning : Type 0 where
   pub name : List ℕ
   pub skill_names : List (List ℕ)
@@ -39,6 +41,8 @@ pub record Meaning : Type 0 where
   pub nurses : List NurseFacts
   pub past : List (Option Past)
   pub weeks : List WeekFacts
+  pub base : List (List Choice)
+  pub keep : ℕ
 
 -- ---- how many there are
 
@@ -161,3 +165,9 @@ abbrev pub forbids : List (Option (List Bool)) → Option Shift → Option Shift
 forbids successions (Some s) (Some t) = option_map_or (λ line. slice_index_or line t.0 false) (slice_index_or successions s.0 None) false
 forbids successions (Some s) None = false
 forbids successions None next = false
+
+-- ---- a roster that is kept
+
+-- the same case, in which each day of a nurse with another shift than in these rows costs so much more; at no points it is the case itself
+abbrev pub keeping : Meaning → List (List Choice) → ℕ → Meaning
+keeping c rows keep = if keep == 0 then c else record c { base = rows; keep = keep }

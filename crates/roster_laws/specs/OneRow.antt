@@ -20,7 +20,7 @@ rest_of c r n = sum_below (nurse_count c) (λ m. if m == n then 0 else nurse_cos
 abbrev pub others : Rows → ℕ → ℕ → ℕ → ℕ → ℕ
 others r n d s k = cover (with_row r n []) d s k
 
--- S1, S4, S8: the price of a choice on a day: that day's staffing with it, and the nurse's own requests
+-- S1, S4, S8, S9: the price of a choice on a day: that day's staffing with it, and the nurse's own requests
 abbrev pub price : Meaning → Rows → ℕ → ℕ → Choice → ℕ
 price c r n d choice = staffing_cost_by c d (with_choice (others r n d) choice) + request_cost_on c n d (shift_of choice)
 

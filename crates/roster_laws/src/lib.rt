@@ -5,12 +5,13 @@
 //! what a day's staffing lacks (`specs/Staffing.antt`); what the log of a run tells in `specs/Logs.antt`; that frozen
 //! days stay in `specs/FrozenDays.antt`; the greatest sizes
 //! of a case in `specs/Greatest.antt`; the order of rows in `specs/RowOrder.antt`; bundles without absences in
-//! `specs/Absences.antt`.
+//! `specs/Absences.antt`; on how many days a roster is another in `specs/Kept.antt`.
 #![tactic(auto)]
 
 mod absences;
 mod bounds;
 mod improver;
+mod keeping;
 mod replaced;
 mod rows;
 mod sizes;
@@ -22,6 +23,7 @@ pub use improver::{
     penalty_never_rises, runs_keep_the_hard_rules, same_rows_are_equal, settled_stays,
     steps_put_the_best_row_in,
 };
+pub use keeping::kept_roster_costs_its_changes;
 pub use replaced::{
     hard_rules_by_parts, one_row_replaced, penalty_by_parts, staffing_by_what_is_lacking,
 };
