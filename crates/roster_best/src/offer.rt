@@ -20,7 +20,7 @@ ghost use Rattle.roster_offers.specs.Offers.{offer_of, offers_of, open_offers};
 
 use arrayvec::ArrayVec;
 use roster_case::{Case, Choice, Held, Shift, Skill};
-use roster_offers::{MOST_CHOICES, Offer, cost_of_requests, has_some_wish, request_cost};
+use roster_offers::{MOST_CHOICES, Offer, can_cost_more, cost_of_requests, request_cost};
 use roster_rules::is_able;
 use roster_rules::weights::STAFFING;
 
@@ -85,13 +85,13 @@ fn open_choices(held: &Held, nurse: usize, day: u16) -> ArrayVec<Offer, MOST_CHO
     let skills = case.skills();
     let without = lacking_without(held, nurse, day);
     let able = able_by_skill(case, nurse, day);
-    let wished = has_some_wish(case, nurse, day);
-    let asked = cost_of_requests(case, nurse, day, None, wished);
+    let more = can_cost_more(case, nurse, day);
+    let asked = cost_of_requests(case, nurse, day, None, more);
     let mut offers = ArrayVec::new();
     let off = offered(held, nurse, day, Choice::Off, without, asked);
     push_some(&mut offers, off);
     for shift in 0..shifts {
-        let asked = cost_of_requests(case, nurse, day, Some(Shift(shift)), wished);
+        let asked = cost_of_requests(case, nurse, day, Some(Shift(shift)), more);
         for skill in 0..skills {
             if able[skill as usize] {
                 let choice = Choice::Work(Shift(shift), Skill(skill));

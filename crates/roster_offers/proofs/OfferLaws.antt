@@ -138,7 +138,7 @@ module _ (c : Meaning) (from : ℕ) (r : Rows) (n d : ℕ) where
         omega (arith, sum_within (shift_count c) (most_skills * (staffing_weight * most_small)) (λ s. sum_below (skill_count c) (place s)) (λ s h. of_shift s))
 
     price_within : (x : Choice) → price c r n d x ≤ most_price
-    price_within x = omega (arith, staffing_within (with_choice (others r n d) x), request_on-within c n d (shift_of x))
+    price_within x = omega (arith, staffing_within (with_choice (others r n d) x), request_on-within c n d (shift_of x) small.keep)
 
     pub offers_of_case : All (IsOfferOf c) (offers_of c from r n d)
     offers_of_case =
