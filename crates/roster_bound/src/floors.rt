@@ -9,7 +9,7 @@ ghost use Rattle.roster_bound.specs.Days.{AreWorthOffers, shift_offers_by_worth}
 ghost use Rattle.roster_bound.specs.Seen.{FitsSeen};
 ghost use Rattle.roster_bound.specs.Tables.{worths_of};
 ghost use Rattle.roster_bound.specs.Workspaces.{FitsRows};
-ghost use Rattle.roster_bound.specs.Worths.{HasRow, HaveRows, IsLowerBound, bound_by, floor_row, most_worth, row_floor};
+ghost use Rattle.roster_bound.specs.Worths.{HasRow, HaveRows, IsLowerBound, bound_by, floor_row, most_worth, rounded_up, row_floor};
 
 use crate::moves::count_row;
 use crate::offers::{Terms, choices};
@@ -55,8 +55,19 @@ pub fn lower_bound(
         seen.keep(case, nurse, rows.workspace.row(), floor, terms.worths);
         floors += floor;
     }
-    let together = floors.saturating_sub(most_earned(case));
-    5 * ((together + 4) / 5)
+    rounded_up(case, floors.saturating_sub(most_earned(case)))
+}
+
+/// The next number that a penalty can be.
+fn rounded_up(case: &Case, together: u64) -> u64
+    requires { together + 4 ≤ greatest_u64 }
+    ensures { result ≡ rounded_up case.now together }
+{
+    if case.keep() % 5 == 0 {
+        5 * ((together + 4) / 5)
+    } else {
+        together
+    }
 }
 
 /// What all nurses would earn at the most worth on each day.

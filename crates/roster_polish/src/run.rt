@@ -18,7 +18,7 @@ use crate::settle::settle_first;
 use crate::space::PolishSpace;
 use roster_bound::{Base, MOVES, Pace, improve_worths, rows_are_had};
 use roster_case::Held;
-use roster_log::{LogFault, log_word};
+use roster_log::{LogFault, log_start, log_word};
 use roster_state::Meter;
 use roster_text::Watch;
 use std::io::Write;
@@ -104,7 +104,7 @@ pub fn polish_found<W: Write>(
     ensures fits { FitsPolish held.old.case space.new }
 {
     held.keeps_rules();
-    let mut sent = log_word(log, 0, b"start", start)?;
+    let mut sent = log_start(log, 0, held.case(), start)?;
     let mut settled = settle_first(held, course.from, space, meter);
     let mut kicking = begin(held, course, space, meter);
     if try_fade(held, &mut kicking, space, meter) {

@@ -99,6 +99,7 @@ fn search_offered(
     ensures fits { fits_space terms.now.case.now workspace.new ≡ true }
     ensures known { IsKnown terms.now.case.now last.new }
 {
+    terms.case.keeps_limits();
     let cost = workspace.search_offers(terms.case, nurse, meter);
     last.remember(terms.case, nurse, workspace.offers(), cost);
 }
