@@ -1,5 +1,5 @@
 -- What a run answers.
-use Rattle.std.specs.Prelude.{◌≡◌, ◌≢◌, ℕ, ◌*◌, ◌<◌, ◌≤◌, ◌⊎◌, max, Bool, true, false, List, [], IfSome, Ok, Err, Option, None, Some, Result, if◌then◌else◌, is_some, length, string_bytes, unwrap_or}
+use Rattle.std.specs.Prelude.{◌≡◌, ◌≢◌, ℕ, ◌*◌, ◌<◌, ◌≤◌, ◌⊎◌, max, min, Bool, true, false, List, [], IfSome, Ok, Err, Option, None, Some, Result, if◌then◌else◌, is_some, length, string_bytes, unwrap_or}
 use Rattle.std.specs.Io.KnownBytes.{IsAtEnd}
 use Rattle.roster_text.specs.FirstFault.{IsFirstFault}
 use Rattle.roster_text.specs.Grammar.{Spells}
@@ -13,7 +13,8 @@ use Rattle.roster_rules.specs.AllowedRows.{best_row}
 use Rattle.roster_instance.specs.Bundles.{meaning_of, rows_of}
 use Rattle.roster_instance.specs.Faults.{first_fault}
 use Rattle.roster_rules.specs.HardRules.{hard_faults}
-use Rattle.roster_instance.specs.Meaning.{Meaning, nurse_count}
+use Rattle.roster_instance.specs.Limits.{most_keep}
+use Rattle.roster_instance.specs.Meaning.{Meaning, keeping, nurse_count}
 use Rattle.roster_instance.specs.Names.{find_name}
 use Rattle.roster_rules.specs.Penalties.{costs_of, penalty}
 use Rattle.roster_instance.specs.Refusals.{all_faults}
@@ -184,7 +185,7 @@ cost_report c r = record (plain (costs_text (costs_of c r))) { is_held = true; b
 
 -- the log of a search for that row: what the roster costs before, and what it costs with it
 abbrev pub log_with_best : Meaning → ℕ → Rows → ℕ → Text → Text
-log_with_best c from r n name = best_log (penalty c r) name (penalty c (with_best c from r n))
+log_with_best c from r n name = best_log c (penalty c r) name (penalty c (with_best c from r n))
 
 -- the best row of the nurse of this name from a week on
 abbrev pub best_report : Text → ℕ → Meaning → Rows → Report
@@ -259,21 +260,38 @@ abbrev pub searches_for : Meaning → Option ℕ → ℕ
 searches_for c None = max (400 * nurse_count c) 20000
 searches_for c (Some searches) = searches
 
+-- how many points each day costs, by a command, that becomes another than in the given roster: as many as are asked for, at most the most
+abbrev pub keep_of : Command → ℕ
+keep_of (command.Best nurse from keep) = min keep most_keep
+keep_of (command.Improve rounds from keep) = min keep most_keep
+keep_of (command.Bound rounds from keep) = min keep most_keep
+keep_of (command.Polish searches seed from kicks keep) = min keep most_keep
+keep_of (command.Plan searches seed from keep) = min keep most_keep
+keep_of _ = 0
+
+-- the case for which it works: the given roster is kept at these points
+abbrev pub case_for : Command → Meaning → Rows → Meaning
+case_for command c r = keeping c r (keep_of command)
+
+-- it is what a command writes for a case, whatever roster that keeps
+abbrev pub IsReportIn : Command → Meaning → Rows → Report → Type 0
+IsReportIn command.Show c r p = p ≡ plain (weeks_text c r)
+IsReportIn command.Cost c r p = p ≡ cost_report c r
+IsReportIn command.Sizes c r p = p ≡ plain (sizes_text c)
+IsReportIn (command.Best nurse from keep) c r p = p ≡ best_report (string_bytes nurse) from c r
+IsReportIn (command.Improve rounds from keep) c r p = p ≡ improve_report rounds from c r
+IsReportIn (command.Bound rounds from keep) c r p = IsBoundReport rounds from c r p
+IsReportIn (command.Polish searches seed from kicks keep) c r p = IsPolishReport (searches_for c searches) from kicks c r p
+IsReportIn (command.Plan searches seed from keep) c r p = IsPlanReport (searches_for c searches) from false c r p
+
 -- it is what a command asks of a case and its roster, and writes for them
 abbrev pub IsReportOf : Command → Meaning → Rows → Report → Type 0
-IsReportOf command.Show c r p = p ≡ plain (weeks_text c r)
-IsReportOf command.Cost c r p = p ≡ cost_report c r
-IsReportOf command.Sizes c r p = p ≡ plain (sizes_text c)
-IsReportOf (command.Best nurse from) c r p = p ≡ best_report (string_bytes nurse) from c r
-IsReportOf (command.Improve rounds from) c r p = p ≡ improve_report rounds from c r
-IsReportOf (command.Bound rounds from) c r p = IsBoundReport rounds from c r p
-IsReportOf (command.Polish searches seed from kicks) c r p = IsPolishReport (searches_for c searches) from kicks c r p
-IsReportOf (command.Plan searches seed from) c r p = IsPlanReport (searches_for c searches) from false c r p
+IsReportOf command c r p = IsReportIn command (case_for command c r) r p
 
 -- ---- the same of an instance that was read
 
 abbrev pub IsReportFor : Command → Instance → Report → Type 0
-IsReportFor command instance p = IsReportOf command instance.case instance.roster p
+IsReportFor command instance p = IsReportIn command instance.case instance.roster p
 
 abbrev pub IsBoundFor : (rounds from : ℕ) → Instance → Report → Type 0
 IsBoundFor rounds from instance p = IsBoundReport rounds from instance.case instance.roster p
@@ -393,6 +411,12 @@ pub record SpellsInstance (bytes : Text) (instance : Instance) : Type 0 where
   pub case : instance.case ≡ meaning_of bytes instance.bundle
   pub roster : instance.roster ≡ rows_of bytes instance.case instance.bundle
   pub fitting : fits_case instance.case instance.roster ≡ true
+
+-- an instance with its roster kept at some points; what else it has stays
+pub record IsKeptAt (given : Instance) (keep : ℕ) (kept : Instance) : Type 0 where
+  pub bundle : kept.bundle ≡ given.bundle
+  pub case : kept.case ≡ keeping given.case given.roster keep
+  pub roster : kept.roster ≡ given.roster
 
 -- why the bytes are refused by every command
 abbrev pub StopsReading : Text → Fault → Type 0

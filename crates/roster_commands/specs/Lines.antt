@@ -6,7 +6,8 @@ use Rattle.roster_text.specs.declared.fault.TextFault.TheVariants as text
 use Rattle.roster_instance.specs.Faults.{first_fault}
 use Rattle.roster_instance.specs.declared.fault.CaseFault.{CaseFault}
 use Rattle.roster_instance.specs.declared.fault.CaseFault.TheVariants as case
-use Rattle.roster_rules.specs.Improver.{line}
+use Rattle.roster_instance.specs.Meaning.{Meaning}
+use Rattle.roster_rules.specs.Improver.{line, start_word}
 use Rattle.roster_rules.specs.declared.fault.HardFault.{HardFault}
 use Rattle.roster_reports.specs.Lines.{AreNamesOf, Text, case_line, hard_line, memory_line, text_line}
 use Rattle.roster_commands.specs.declared.fault.Fault.{Fault}
@@ -36,8 +37,8 @@ fault_line fault.Log = []
 -- ---- the log of a command
 
 -- the log of a search for a nurse's best row: what the roster costs before, and what it costs with that row
-abbrev pub best_log : ℕ → Text → ℕ → Text
-best_log before name after = line (codes "start") before ++ line (codes "best " ++ name) after
+abbrev pub best_log : Meaning → ℕ → Text → ℕ → Text
+best_log c before name after = line (start_word c) before ++ line (codes "best " ++ name) after
 
 -- ---- statuses: 4 is want of memory, 3 a reader or a writer, 1 the input
 

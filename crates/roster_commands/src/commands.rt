@@ -1,9 +1,10 @@
 //! What each command writes for an instance.
 
-ghost use Rattle.std.specs.Prelude.{◌≡◌, true, OnOk, IfErr};
+ghost use Rattle.std.specs.Prelude.{◌≡◌, ◌≤◌, true, OnOk, IfErr};
 ghost use Rattle.roster_text.specs.Io.{Writes};
+ghost use Rattle.roster_instance.specs.Limits.{most_keep};
 ghost use Rattle.roster_instance.specs.Rosters.{fits_case};
-ghost use Rattle.roster_commands.specs.Answer.{Ends, IsReportFor, Reports, StopsOutput, cost_report, outcome_of, output_of, searches_for};
+ghost use Rattle.roster_commands.specs.Answer.{Ends, IsReportFor, Reports, keep_of, StopsOutput, cost_report, outcome_of, output_of, searches_for};
 ghost use Rattle.roster_reports.specs.Lines.{sizes_text};
 
 use crate::best::report_best;
@@ -42,7 +43,7 @@ pub(crate) fn report<'a, Out: Write, Log: Write>(
         Command::Show => show_weeks(&instance.case, &instance.roster, output),
         Command::Cost => report_cost(alloc, source, instance, output),
         Command::Sizes => report_sizes(&instance.case, output),
-        Command::Best { nurse, from } => {
+        Command::Best { nurse, from, .. } => {
             report_best(
                 alloc,
                 nurse.as_bytes(),
@@ -53,10 +54,10 @@ pub(crate) fn report<'a, Out: Write, Log: Write>(
                 log,
             )
         }
-        Command::Improve { rounds, from } => {
+        Command::Improve { rounds, from, .. } => {
             report_improve(alloc, *rounds, *from, source, instance, output, log)
         }
-        Command::Bound { rounds, from } => {
+        Command::Bound { rounds, from, .. } => {
             report_bound(alloc, *rounds, *from, source, instance, output, log)
         }
         Command::Polish {
@@ -64,6 +65,7 @@ pub(crate) fn report<'a, Out: Write, Log: Write>(
             seed,
             from,
             kicks,
+            ..
         } => {
             let course = Course {
                 searches: searches_for(&instance.case, *searches),
@@ -77,6 +79,7 @@ pub(crate) fn report<'a, Out: Write, Log: Write>(
             searches,
             seed,
             from,
+            ..
         } => {
             let course = Course {
                 searches: searches_for(&instance.case, *searches),
@@ -88,6 +91,24 @@ pub(crate) fn report<'a, Out: Write, Log: Write>(
         }
     }
 }
+
+/// At how many points a command keeps the given roster.
+pub(crate) fn keep_of(command: &Command) -> u16
+    ensures keep { result ≡ keep_of command.now }
+    ensures within { result ≤ most_keep }
+{
+    match command {
+        Command::Show | Command::Cost | Command::Sizes => 0,
+        Command::Best { keep, .. } => (*keep).min(MOST_KEEP),
+        Command::Improve { keep, .. } => (*keep).min(MOST_KEEP),
+        Command::Bound { keep, .. } => (*keep).min(MOST_KEEP),
+        Command::Polish { keep, .. } => (*keep).min(MOST_KEEP),
+        Command::Plan { keep, .. } => (*keep).min(MOST_KEEP),
+    }
+}
+
+/// The most points.
+const MOST_KEEP: u16 = 100;
 
 /// How many searches a run may make: as many as are asked for, or else so many for each nurse, and a number at least.
 fn searches_for(case: &Case, asked: Option<u32>) -> u32

@@ -3,12 +3,12 @@
 ghost use Rattle.std.specs.Prelude.{◌≡◌, [], ◌∷◌, codes, drop, IfOk, IsOkAnd, false, true};
 ghost use Rattle.std.specs.List.{fold};
 ghost use Rattle.clap.specs.Words.{app_of, new_app, rule_of, with_rule, with_subcommand};
-ghost use Rattle.roster_request.specs.CommandLine.{bare, command_of, commands, files_rule, from_rule, kicks_rule, number_rule, nurse_rule, own_command_of, plan, program, rounds_rule, searches_rule, searching, seed_rule, value_rule};
+ghost use Rattle.roster_request.specs.CommandLine.{bare, command_of, commands, files_rule, from_rule, keep_rule, kicks_rule, number_rule, nurse_rule, own_command_of, plan, program, rounds_rule, searches_rule, searching, seed_rule, value_rule};
 
 use crate::texts::{
     ABOUT, BEST, BEST_HELP, BOUND, BOUND_HELP, COST, COST_HELP, EXAMPLES, FIRST_WEEK, IMPROVE,
-    IMPROVE_HELP, KICKS_ALONE, NURSE_NAME, PLAN, PLAN_HELP, POLISH, POLISH_HELP, ROUND_COUNT,
-    SEARCH_COUNT, SEED_NUMBER, SHOW, SHOW_HELP, SIZES, SIZES_HELP, TEXTS,
+    IMPROVE_HELP, KEPT_POINTS, KICKS_ALONE, NURSE_NAME, PLAN, PLAN_HELP, POLISH, POLISH_HELP,
+    ROUND_COUNT, SEARCH_COUNT, SEED_NUMBER, SHOW, SHOW_HELP, SIZES, SIZES_HELP, TEXTS,
 };
 use clap::builder::ValueParser;
 use clap::{Arg, ArgAction, Command};
@@ -64,6 +64,15 @@ pub(crate) const FROM: NumberOption = NumberOption {
     most: 52,
     default: "0",
     help: FIRST_WEEK,
+};
+
+/// How many points each day costs that becomes another than in the given roster.
+pub(crate) const KEEP: NumberOption = NumberOption {
+    name: "keep",
+    value: "N",
+    most: 100,
+    default: "0",
+    help: KEPT_POINTS,
 };
 
 /// A command with the parts that were made so far, or that there was no memory for one of them.
@@ -139,7 +148,7 @@ fn with_command<'a>(program: Made<'a>, command: Made<'a>) -> Made<'a>
 
 /// The command `best`.
 fn best_command<'a>(alloc: Global) -> Made<'a>
-    ensures { IfOk result (λ c. app_of c ≡ own_command_of (nurse_rule ∷ from_rule ∷ [])
+    ensures { IfOk result (λ c. app_of c ≡ own_command_of (nurse_rule ∷ from_rule ∷ keep_rule ∷ [])
         (codes "best")) }
 {
     let with_nurse = command(alloc, "best", BEST, BEST_HELP).arg(nurse_arg(alloc));
@@ -148,7 +157,8 @@ fn best_command<'a>(alloc: Global) -> Made<'a>
 
 /// A command that makes rounds.
 fn rounds_command<'a>(alloc: Global, name: &'a str, about: &'a str, help: &'a str) -> Made<'a>
-    ensures { IfOk result (λ c. app_of c ≡ own_command_of (rounds_rule ∷ from_rule ∷ []) name.now) }
+    ensures { IfOk result (λ c. app_of c ≡ own_command_of (rounds_rule ∷ from_rule ∷ keep_rule ∷ [])
+        name.now) }
 {
     let command = Ok(command(alloc, name, about, help));
     with_weeks(alloc, with_number(alloc, command, ROUNDS))
@@ -157,7 +167,7 @@ fn rounds_command<'a>(alloc: Global, name: &'a str, about: &'a str, help: &'a st
 /// The command `polish`.
 fn polish_command<'a>(alloc: Global) -> Made<'a>
     ensures { IfOk result (λ c. app_of c ≡ own_command_of
-        (searches_rule ∷ seed_rule ∷ kicks_rule ∷ from_rule ∷ []) (codes "polish")) }
+        (searches_rule ∷ seed_rule ∷ kicks_rule ∷ from_rule ∷ keep_rule ∷ []) (codes "polish")) }
 {
     let searching = searching_command(alloc, "polish", POLISH, POLISH_HELP);
     with_weeks(alloc, with_kicks(alloc, searching))
@@ -187,12 +197,14 @@ fn command<'a>(alloc: Global, name: &'a str, about: &'a str, help: &'a str) -> C
     Command::new(alloc, name).about(about).after_help(help)
 }
 
-/// A command with a first week that may change, and the files, as its last arguments.
+/// A command with a first week that may change, points for what is kept, and the files, as its last arguments.
 fn with_weeks<'a>(alloc: Global, command: Made<'a>) -> Made<'a>
     ensures { IfOk result (λ c. IsOkAnd command.entry
-        (λ before. app_of c ≡ with_rule (with_rule (app_of before) from_rule) files_rule)) }
+        (λ before. app_of c ≡ with_rule (with_rule (with_rule (app_of before) from_rule)
+        keep_rule) files_rule)) }
 {
-    with_files(alloc, with_number(alloc, command, FROM))
+    let with_from = with_number(alloc, command, FROM);
+    with_files(alloc, with_number(alloc, with_from, KEEP))
 }
 
 /// A command with one more number that may be left out.

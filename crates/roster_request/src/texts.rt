@@ -74,6 +74,10 @@ pub(crate) const NURSE_NAME: &str = "The nurse of this name in the scenario, let
 pub(crate) const FIRST_WEEK: &str =
     "The first week that may change, 0 to 52: the weeks before it stay as they stand";
 
+pub(crate) const KEPT_POINTS: &str =
+    "Each day of a nurse that becomes another than in the given roster costs so many points more, \
+     0 to 100";
+
 pub(crate) const BEST: &str = "Put a nurse's best row into the rosters, and write them";
 
 pub(crate) const BEST_HELP: &str =
@@ -91,6 +95,10 @@ lines, what the roster costs before, and what it costs with the row:
 With --from V the weeks 0 to V - 1 are frozen: the nurse's days in them stay as
 they stand, and the row is the best of those that keep them. All weeks are read,
 and count for what the roster costs. Where V is above the last week, all stays.
+
+With --keep N each day of a nurse that becomes another than in the given roster,
+another shift or off, costs N points more: the roster stays much as it is. Then
+the log begins with a line 'keep N', and its numbers are with these points.
 
 What isn't promised: that this is the best roster, since the others' rows stay;
 that it is best for two nurses at once; how long the search takes. For its
@@ -134,6 +142,10 @@ With --from V the weeks 0 to V - 1 are frozen: each nurse's days in them stay as
 they stand, as where these weeks are published. All weeks are read, and count for
 what the roster costs. Where V is above the last week, all stays.
 
+With --keep N each day of a nurse that becomes another than in the given roster,
+another shift or off, costs N points more: the roster stays much as it is. Then
+the log begins with a line 'keep N', and its numbers are with these points.
+
 What isn't promised: that these are the best rosters of all, settled or not,
 since two rows changed at once may still save something; how long the run takes.
 For its memory and the greatest number of steps for a nurse see 'roster sizes'.
@@ -169,6 +181,10 @@ cheaper.
 With --from V the weeks 0 to V - 1 are frozen: the bound is for those rosters in
 which each nurse's days in them are as they stand. Where V is above the last
 week, that is the given roster alone.
+
+With --keep N each day of a nurse that becomes another than in the given roster,
+another shift or off, costs N points more, and the bound is for what rosters
+cost with these points. Then the log begins with a line 'keep N'.
 
 What isn't promised: how near the bound is to the cheapest roster; how long the
 run takes. For its memory and the greatest number of steps for a nurse see
@@ -231,6 +247,10 @@ With --from V the weeks 0 to V - 1 are frozen: each nurse's days in them stay as
 they stand. All weeks are read, and count for what the roster costs. Where V is
 above the last week, all stays.
 
+With --keep N each day of a nurse that becomes another than in the given roster,
+another shift or off, costs N points more: the roster stays much as it is. Then
+the log begins with a line 'keep N', and its numbers are with these points.
+
 What isn't promised: how cheap the rosters get, for which see 'roster bound';
 how long the run takes. For its memory and the greatest number of steps for a
 nurse see 'roster sizes'.
@@ -283,6 +303,10 @@ they stand. All weeks are read, and count for what the roster costs. Where V is
 above the last week, all stays. Where a frozen week breaks a hard rule, that is
 told, and no roster is looked for.
 
+With --keep N each day of a nurse that becomes another than in the given roster,
+another shift or off, costs N points more: the roster stays much as it is. Then
+the log begins with a line 'keep N', and its numbers are with these points.
+
 What isn't promised: that a roster is found where there is one; how cheap the
 rosters get, for which see 'roster bound'; how long the run takes. For its
 memory and the greatest number of steps for a nurse see 'roster sizes'.
@@ -291,6 +315,7 @@ Examples:
   roster plan examples/ward.txt > new.txt
   roster plan --searches 200000 --seed 7 examples/ward.txt > new.txt
   roster plan --from 2 examples/ward.txt > new.txt
+  roster plan --keep 50 examples/ward.txt > new.txt
 
 The files are read one after another, in the order given. Without a file, the
 texts are read from standard input.";

@@ -2,10 +2,12 @@
 
 ghost use Rattle.std.specs.Prelude.{◌≡◌, ◌≢◌, ◌≤◌, [], Some, codes, IfOk, IfErr, IfSome, OnOk, IsSomeAnd, is_some, true, map, string_bytes};
 ghost use Rattle.clap.specs.Words.{fault_of, first_of, found_of, kind_of, rows_of, subcommand_rows_of};
-ghost use Rattle.roster_request.specs.CommandLine.{HasArguments, HasFrom, HasNumber, HasNurse, HasRounds, HasSearches, HasSeed, HasText, IsAsked, IsAskedIn, IsFlag, IsInRange, IsNameOf, IsNumberIfGiven, IsNumberOf, IsOneOf, Meets, Refuses, TellsKind, commands, files_in, name_of, program, with_from, with_rounds, with_searches};
-ghost use Rattle.roster_request.specs.Limits.{most_from, most_rounds, most_searches};
+ghost use Rattle.roster_request.specs.CommandLine.{HasArguments, HasFrom, HasKeep, HasNumber, HasNurse, HasRounds, HasSearches, HasSeed, HasText, IsAsked, IsAskedIn, IsFlag, IsInRange, IsNameOf, IsNumberIfGiven, IsNumberOf, IsOneOf, Meets, Refuses, TellsKind, commands, files_in, name_of, program, with_from, with_rounds, with_searches};
+ghost use Rattle.roster_request.specs.Limits.{most_from, most_keep, most_rounds, most_searches};
 
-use crate::program::{FILES, FROM, KICKS, NURSE, NumberOption, ROUNDS, SEARCHES, SEED, program};
+use crate::program::{
+    FILES, FROM, KEEP, KICKS, NURSE, NumberOption, ROUNDS, SEARCHES, SEED, program,
+};
 use crate::request::{CliFault, Command, Request};
 use crate::texts::EXAMPLES;
 use clap::ArgMatches;
@@ -17,7 +19,7 @@ use std::convert::AsStr;
 pub fn request_of<S: AsStr>(alloc: Global, words: &[S]) -> Result<Request, CliFault>
     // The command with its arguments, and the files, are those that clap's matches give for the words.
     ensures request { IfOk result (IsAsked (map S.text words.now)) }
-    // The rounds and the searches of a run, and the first week that may change, are within their limits.
+    // The rounds and the searches of a run, the first week that may change, and the points are within their limits.
     ensures range { IfOk result (λ r. IsInRange r.command) }
     ensures faultless { OnOk result (fault_of program (map S.text words.now) ≡ []) }
     ensures refusal { IfErr result (Refuses (map S.text words.now)) }
@@ -36,6 +38,7 @@ fn request_in(alloc: Global, matches: &ArgMatches<'_>) -> Result<Request, CliFau
     requires searches { Meets with_searches HasSearches (subcommand_rows_of matches.now) }
     requires seed { Meets with_searches HasSeed (subcommand_rows_of matches.now) }
     requires from { Meets with_from HasFrom (subcommand_rows_of matches.now) }
+    requires keep { Meets with_from HasKeep (subcommand_rows_of matches.now) }
     ensures request { IfOk result (IsAskedIn (subcommand_rows_of matches.now)) }
     ensures range { IfOk result (λ r. IsInRange r.command) }
     ensures memory { IfErr result (λ e. e ≡ CliFault.Memory) }
@@ -59,6 +62,7 @@ fn command_in(alloc: Global, name: &str, given: &ArgMatches<'_>) -> Result<Comma
         HasSearches (rows_of (found_of given.now)) }
     requires seed { IsOneOf with_searches name.now → HasSeed (rows_of (found_of given.now)) }
     requires from { IsOneOf with_from name.now → HasFrom (rows_of (found_of given.now)) }
+    requires keep { IsOneOf with_from name.now → HasKeep (rows_of (found_of given.now)) }
     ensures name { IfOk result (λ command. name_of command ≡ name.now) }
     ensures arguments { IfOk result (λ command. HasArguments command
         (rows_of (found_of given.now))) }
@@ -71,25 +75,30 @@ fn command_in(alloc: Global, name: &str, given: &ArgMatches<'_>) -> Result<Comma
         "best" => Ok(Command::Best {
             nurse: given_nurse(alloc, given)?,
             from: from_of(given),
+            keep: keep_of(given),
         }),
         "improve" => Ok(Command::Improve {
             rounds: rounds_of(given),
             from: from_of(given),
+            keep: keep_of(given),
         }),
         "bound" => Ok(Command::Bound {
             rounds: rounds_of(given),
             from: from_of(given),
+            keep: keep_of(given),
         }),
         "polish" => Ok(Command::Polish {
             searches: searches_of(given),
             seed: seed_of(given),
             from: from_of(given),
             kicks: kicks_of(given),
+            keep: keep_of(given),
         }),
         "plan" => Ok(Command::Plan {
             searches: searches_of(given),
             seed: seed_of(given),
             from: from_of(given),
+            keep: keep_of(given),
         }),
         _ => unreachable!(),
     }
@@ -147,6 +156,15 @@ fn from_of(given: &ArgMatches<'_>) -> u16
     ensures range { result ≤ most_from }
 {
     number_of(given, FROM) as u16
+}
+
+/// How many points a day costs that becomes another.
+fn keep_of(given: &ArgMatches<'_>) -> u16
+    requires { HasKeep (rows_of (found_of given.now)) }
+    ensures keep { IsNumberOf (codes "keep") result (rows_of (found_of given.now)) }
+    ensures range { result ≤ most_keep }
+{
+    number_of(given, KEEP) as u16
 }
 
 /// The number of an option, which `clap` has read in its range, or has by its default.

@@ -76,17 +76,24 @@ fn command_of(alloc: Global, name: &str) -> Result<Command, AllocError> {
         "best" => Command::Best {
             nurse: String::from_str(alloc, "Ann")?,
             from: 0,
+            keep: 0,
         },
-        "bound" => Command::Bound { rounds: 1, from: 0 },
+        "bound" => Command::Bound {
+            rounds: 1,
+            from: 0,
+            keep: 0,
+        },
         "polish" => Command::Polish {
             searches: Some(0),
             seed: 1,
             from: 0,
             kicks: false,
+            keep: 0,
         },
         _ => Command::Improve {
             rounds: 100,
             from: 0,
+            keep: 0,
         },
     })
 }

@@ -1,17 +1,17 @@
 use Rattle.std.proofs.Common.{[], ◌∷◌, codes, refl}
 use Rattle.clap.specs.Words.{App, Text, with_subcommand}
-use Rattle.roster_request.specs.CommandLine.{from_rule, kicks_rule, nurse_rule, own_command_of, plan, rounds_rule, searches_rule, seed_rule}
+use Rattle.roster_request.specs.CommandLine.{from_rule, keep_rule, kicks_rule, nurse_rule, own_command_of, plan, rounds_rule, searches_rule, seed_rule}
 use Rattle.roster_request.proofs.CommandLineLemmas.{adds_known, made_by_both}
 use Rattle.roster_request.proofs.program.with_search_commands.Goals as goal
 
 abbrev best : App
-best = own_command_of (nurse_rule ∷ from_rule ∷ []) (codes "best")
+best = own_command_of (nurse_rule ∷ from_rule ∷ keep_rule ∷ []) (codes "best")
 
 abbrev rounds : Text → App
-rounds name = own_command_of (rounds_rule ∷ from_rule ∷ []) name
+rounds name = own_command_of (rounds_rule ∷ from_rule ∷ keep_rule ∷ []) name
 
 abbrev polish : App
-polish = own_command_of (searches_rule ∷ seed_rule ∷ kicks_rule ∷ from_rule ∷ []) (codes "polish")
+polish = own_command_of (searches_rule ∷ seed_rule ∷ kicks_rule ∷ from_rule ∷ keep_rule ∷ []) (codes "polish")
 
 -- a program with this command too
 abbrev step : App → App → App

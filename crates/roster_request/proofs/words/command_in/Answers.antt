@@ -36,3 +36,18 @@ seed_of-requires-in-plan c = c.requires.seed (inr (inl c.in-plan.is))
 
 pub from_of-requires-in-plan : goal.from_of-requires-in-plan
 from_of-requires-in-plan c = c.requires.from (inr (inr (inl c.in-plan.is)))
+
+pub keep_of-requires : goal.keep_of-requires
+keep_of-requires c = c.requires.keep (inl c.in-best.is)
+
+pub keep_of-requires-in-improve : goal.keep_of-requires-in-improve
+keep_of-requires-in-improve c = c.requires.keep (inr (inr (inr (inl c.in-improve.is))))
+
+pub keep_of-requires-in-bound : goal.keep_of-requires-in-bound
+keep_of-requires-in-bound c = c.requires.keep (inr (inr (inr (inr (inl c.in-bound.is)))))
+
+pub keep_of-requires-in-polish : goal.keep_of-requires-in-polish
+keep_of-requires-in-polish c = c.requires.keep (inr (inl c.in-polish.is))
+
+pub keep_of-requires-in-plan : goal.keep_of-requires-in-plan
+keep_of-requires-in-plan c = c.requires.keep (inr (inr (inl c.in-plan.is)))

@@ -4,9 +4,9 @@ use Rattle.std.proofs.lemmas.Result.{IfErr-weaker}
 use Rattle.clap.specs.Simple.{HasMatchesOf}
 use Rattle.clap.specs.Words.{App, HasKind, Row, Text, fault_of, is_simple, is_simple_and_free, kind_of, subcommand_of, subcommand_rows_of, takes}
 use Rattle.clap.specs.declared.parser.matches.ArgMatches.{ArgMatches}
-use Rattle.roster_request.specs.CommandLine.{HasFrom, HasNurse, HasRounds, HasSearches, HasSeed, HasText, IsAskedIn, IsNameOf, Meets, Refuses, commands, program, with_from, with_rounds, with_searches}
+use Rattle.roster_request.specs.CommandLine.{HasFrom, HasKeep, HasNurse, HasRounds, HasSearches, HasSeed, HasText, IsAskedIn, IsNameOf, Meets, Refuses, commands, program, with_from, with_rounds, with_searches}
 use Rattle.roster_request.proofs.CommandLineLemmas.{meets_command, refuses}
-use Rattle.roster_request.proofs.NumberLemmas.{meets_from, meets_rounds, meets_searches, meets_seed}
+use Rattle.roster_request.proofs.NumberLemmas.{meets_from, meets_keep, meets_rounds, meets_searches, meets_seed}
 use Rattle.roster_request.proofs.NurseLemmas.{meets_nurse}
 use Rattle.roster_request.proofs.words.request_of.Goals as goal
 
@@ -51,6 +51,10 @@ request_in-requires-clause-seed g c =
 pub request_in-requires-clause-from : goal.request_in-requires-clause-from
 request_in-requires-clause-from g c =
     holds_of_matches (Meets with_from HasFrom) (map g.S.AsStr.text c.args.words.now) _ c.in-Ok.matches c.in_ok-program.ensures c.in-Ok.ensures.matches c.in-Ok.ensures.kinds meets_from
+
+pub request_in-requires-clause-keep : goal.request_in-requires-clause-keep
+request_in-requires-clause-keep g c =
+    holds_of_matches (Meets with_from HasKeep) (map g.S.AsStr.text c.args.words.now) _ c.in-Ok.matches c.in_ok-program.ensures c.in-Ok.ensures.matches c.in-Ok.ensures.kinds meets_keep
 
 pub returns-in-Ok-clause-request : goal.returns-in-Ok-clause-request
 returns-in-Ok-clause-request g c =
