@@ -17,8 +17,10 @@ Nurse = collections.namedtuple("Nurse", "name contract skills history")
 History = collections.namedtuple("History", "assignments weekends last of_last working off")
 # Of a case `shifts` has the name and the limits of each, `skills` the names, `forbidden` the pairs of shifts, `needs` for each
 # shift and skill a minimum and an optimum for each day, `requests` and `wishes` a nurse, a shift or None for any, and a day,
-# `absences` a nurse and a day. A day counts from the first Monday.
-Case = collections.namedtuple("Case", "name weeks shifts skills forbidden contracts nurses needs requests wishes absences")
+# `absences` a nurse and a day. A day counts from the first Monday. `base` is a roster that is kept, at `keep` points for each day that
+# becomes another; the texts say neither.
+FIELDS = "name weeks shifts skills forbidden contracts nurses needs requests wishes absences base keep"
+Case = collections.namedtuple("Case", FIELDS, defaults=(None, 0))
 Shift = collections.namedtuple("Shift", "name limits")
 
 
@@ -75,12 +77,24 @@ def own_cost(case, nurse, shifts):
     return sum(own_costs(case, nurse, shifts).values())
 
 
+def keeping(case, roster, points):
+    """The case in which each day that becomes another shift than in this roster, or off, costs so many points."""
+    return case._replace(base=roster, keep=points) if points else case
+
+
+def is_changed(case, number, day, choice):
+    """Whether a choice is another shift than in the roster that is kept, or off where that isn't."""
+    was = case.base[number][day]
+    return (was[0] if was else None) != (choice[0] if choice else None)
+
+
 def request_costs(case, number, day, choice):
-    """The off requests of the nurse of this number against a choice, and the wishes that it doesn't meet, by rule."""
+    """The off requests of the nurse of this number against a choice, the wishes that it doesn't meet, and what is kept, by rule."""
     asked = choice and any((number, shift, day) in case.requests for shift in (choice[0], None))
     wished = [shift for shift in (None, *range(len(case.shifts))) if (number, shift, day) in case.wishes]
     met = all(choice and shift in (choice[0], None) for shift in wished)
-    return {"S4": 10 if asked else 0, "S8": 0 if met else 10}
+    kept = {"S9": case.keep if is_changed(case, number, day, choice) else 0} if case.keep else {}
+    return {"S4": 10 if asked else 0, "S8": 0 if met else 10} | kept
 
 
 def request_cost(case, number, day, choice):
@@ -101,7 +115,7 @@ def meets_minimums(case, day, covers):
 
 def costs(case, roster):
     """What each rule costs, by its name, in the order of their numbers."""
-    found = dict.fromkeys((f"S{it}" for it in range(1, 9)), 0)
+    found = dict.fromkeys((f"S{it}" for it in range(1, 10 if case.keep else 9)), 0)
     found["S1"] = sum(staffing(case, day, cover(row[day] for row in roster)) for day in days_of(case))
     for number, (nurse, row) in enumerate(zip(case.nurses, roster)):
         parts = [own_costs(case, nurse, shifts_of(row)), *(request_costs(case, number, day, row[day]) for day in days_of(case))]
@@ -299,11 +313,12 @@ def nurse_floor(case, roster, number, worths, first_week=0):
 
 
 def floor(case, roster, worths, first_week=0):
-    """No roster costs less that keeps the hard rules and the days before a week, as each penalty is a multiple of 5: what is paid to
-    the nurses is what they get. And the rows by which it is reckoned."""
+    """No roster costs less that keeps the hard rules and the days before a week: what is paid to the nurses is what they get. Each
+    penalty is a multiple of 5, unless a roster is kept at points that aren't. And the rows by which it is reckoned."""
     places = sum(place_floor(need, worth) for at in case.needs for need, worth in zip(case.needs[at], worths[at]))
     nurses = [nurse_floor(case, roster, number, worths, first_week) for number in range(len(case.nurses))]
-    return 5 * -(-max(0, places + sum(least for least, _ in nurses)) // 5), [row for _, row in nurses]
+    unit = 1 if case.keep % 5 else 5
+    return unit * -(-max(0, places + sum(least for least, _ in nurses)) // unit), [row for _, row in nurses]
 
 
 # ---- how worths go on from round to round: the program's own affair, told here for its tests. They are held in parts of a point. What
@@ -445,17 +460,22 @@ def cost_lines(case, roster):
     return "".join(f"{rule} {cost}\n" for rule, cost in [*found.items(), ("total", sum(found.values()))])
 
 
+def start_of(case, number):
+    """How a log begins."""
+    return f"keep {case.keep}\nstart {number}" if case.keep else f"start {number}"
+
+
 def best(case, roster, number, row):
     """What 'best' answers where this is the best row."""
     after = with_row(roster, number, row)
-    log = f"start {penalty(case, roster)}\nbest {case.nurses[number].name} {penalty(case, after)}\n"
+    log = f"{start_of(case, penalty(case, roster))}\nbest {case.nurses[number].name} {penalty(case, after)}\n"
     return solutions(case, after), log
 
 
 def improve(case, roster, rounds, first_week=0):
     """What 'improve' answers with so many rounds, where the days before a week stay."""
     total, log = penalty(case, roster), []
-    log.append(f"start {total}")
+    log.append(start_of(case, total))
     changed = True
     for number_of_round in range(1, rounds + 1):
         changed = False
@@ -474,7 +494,7 @@ def improve(case, roster, rounds, first_week=0):
 def bound(case, roster, rounds, first_week=0):
     """What 'bound' answers after so many rounds, or as soon as the bound is what the roster costs."""
     best, total = 0, penalty(case, roster)
-    log = [f"start {total}"]
+    log = [start_of(case, total)]
     for number, reached in enumerate(floors(case, roster, rounds, first_week), 1):
         if best == total:
             break
