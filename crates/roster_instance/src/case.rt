@@ -109,12 +109,7 @@ impl Case {
     /// # Errors
     ///
     /// A growth was refused.
-    pub fn keeping(
-        self,
-        alloc: Global,
-        roster: &Roster,
-        keep: u16,
-    ) -> Result<Case, AllocError>
+    pub fn keeping(self, alloc: Global, roster: &Roster, keep: u16) -> Result<Case, AllocError>
         requires { keep ≤ most_keep }
         ensures { IfOk result (λ case. case ≡ keeping self roster.now keep) }
     {

@@ -39,7 +39,7 @@ requests_of_row c n row =
     let kept : ℕ → ℕ = λ d. keep_cost_on c n d (shift_of (choice_on row d)) in
     let all : request_cost c n (days_of row) ≡ sum_below (length row) off + sum_below (length row) wished + sum_below (length row) kept =
     λ i. sum_below (length-map row shift_of i) (λ d. off_request_cost_on c n d (get_or-map shift_of row d Off i)) + sum_below (length-map row shift_of i) (λ d. wish_cost_on c n d (get_or-map shift_of row d Off i))
-        + sum_below (length-map row shift_of i) (λ d. keep_cost_on c n d (get_or-map shift_of row d Off i)) in
+    + sum_below (length-map row shift_of i) (λ d. keep_cost_on c n d (get_or-map shift_of row d Off i)) in
     all ∙ ap (λ m. m + sum_below (length row) kept) (sym (sum_both (length row) off wished)) ∙ sym (sum_both (length row) (λ d. off d + wished d) kept)
 
 -- ---- one row replaced
