@@ -1,33 +1,22 @@
-#!/usr/bin/env python3
-"""Compares the bounds of a built program with trying all rosters, on small random instances.
+"""Compares the bounds of a built program with trying all rosters.
 
-    tools/compare-bound PROGRAM [--runs N] [--seed S]
-
-It makes N instances (500 where not given) by the seed S (0 where not given), as small as those of tools/compare-best: so few rows
-are free that all rosters can be tried. It runs PROGRAM with 'bound' and 0 to 60 rounds on each, where there are two weeks with the
-first one frozen ('--from 1'), and now and then with all of them. Then it costs every roster that keeps the hard rules and the frozen
-days, by the reckoning of its own that tools/reckoning.py has. The bound has to be at most the least of these penalties, and a
-multiple of 5; the first line of the output the penalty of the roster given; the bounds of the log have to rise from round to round,
-up to that of the output. And the whole answer has to be what the reckoning has for so many rounds. How high a bound gets isn't
-promised: how many were equal to the least penalty is told.
-
-It stands outside the gate. An instance that fails has a line, and its text is printed after it. The last line is
-'N passed, M failed', in instances. The status is 0 only where nothing failed and some were equal.
+So few rows of an instance are free that all rosters can be tried. It runs the program with 'bound' and 0 to 60 rounds on each, where
+there are two weeks with the first one frozen ('--from 1'), and now and then with all of them. Then it costs every roster that keeps
+the hard rules and the frozen days, by the reckoning of its own that tools/reckoning.py has. The bound has to be at most the least of
+these penalties, and a multiple of 5; the first line of the output the penalty of the roster given; the bounds of the log have to rise
+from round to round, up to that of the output. And the whole answer has to be what the reckoning has for so many rounds. How high a
+bound gets isn't promised: how many were equal to the least penalty is told, and some have to be.
 """
-import argparse
 import collections
 import itertools
-import os
-import random
 import re
-import shlex
-import subprocess
-import sys
 
-sys.dont_write_bytecode = True
 import reckoning
+from launch import answer
 from small_instances import first_week_of, random_instance, text_of
 
+# What has to have happened at least once.
+WANTED = ["equal"]
 # The most rosters that are tried for an instance.
 MOST_ROSTERS = 20_000
 
@@ -100,12 +89,6 @@ def small_instance(rng):
             return case, roster, first_week
 
 
-def answer(program, words, text):
-    """Status, output and log."""
-    ran = subprocess.run([*program, *words], input=text, capture_output=True, text=True, timeout=60)
-    return ran.returncode, ran.stdout, ran.stderr
-
-
 Told = collections.namedtuple("Told", "total start bound lines")
 
 
@@ -133,38 +116,23 @@ def faults(it, total, least, rounds):
     return [what for what, is_wrong in wrong.items() if is_wrong]
 
 
-def main():
-    parser = argparse.ArgumentParser(usage="tools/compare-bound PROGRAM [--runs N] [--seed S]")
-    parser.add_argument("program", metavar="PROGRAM")
-    parser.add_argument("--runs", type=int, default=500)
-    parser.add_argument("--seed", type=int, default=0)
-    asked = parser.parse_args()
-    program, *before = shlex.split(asked.program)
-    program = [os.path.realpath(program), *before]
-    failed, equal, above, rosters = 0, 0, 0, 0
-    for run in range(asked.runs):
-        rng = random.Random(f"{asked.seed} {run}")
-        case, roster, first_week = small_instance(rng)
-        text, rounds = text_of(case, roster), rng.choice([0, 1, 10, 60, 60, 60])
-        words = ["bound", "--rounds", str(rounds), *(["--from", str(first_week)] if first_week else [])]
-        status, output, log = answer(program, words, text)
-        least, count = least_penalty(case, roster, first_week)
-        given = told(output, log) if status == 0 else None
-        wrong = faults(given, reckoning.penalty(case, roster), least, rounds) if given else ["the form"]
-        rosters += count
-        if (output, log) != reckoning.bound(case, roster, rounds, first_week):
-            wrong.append("the reckoning's rounds")
-        if wrong:
-            failed += 1
-            print(f"FAILED run {run} of seed {asked.seed}, {words}: {', '.join(wrong)}; the least is {least}")
-            print(status, output, log, text, sep="\n")
-        else:
-            equal += given.bound == least
-            above += given.bound > 0
-    print(f"{rosters} rosters that keep the hard rules; {above} bounds above 0, {equal} equal to the least penalty")
-    print(f"{asked.runs - failed} passed, {failed} failed")
-    return 1 if failed or not equal else 0
+def compare(programs, _, rng, seen):
+    """The text of an instance, and what is wrong."""
+    case, roster, first_week = small_instance(rng)
+    text, rounds = text_of(case, roster), rng.choice([0, 1, 10, 60, 60, 60])
+    words = ["bound", "--rounds", str(rounds), *(["--from", str(first_week)] if first_week else [])]
+    status, output, log = answer(programs[0], words, text)
+    least, count = least_penalty(case, roster, first_week)
+    given = told(output, log) if status == 0 else None
+    wrong = faults(given, reckoning.penalty(case, roster), least, rounds) if given else ["the form"]
+    if (output, log) != reckoning.bound(case, roster, rounds, first_week):
+        wrong.append("the reckoning's rounds")
+    seen["rosters"] += count
+    if wrong:
+        return text, [f"{words}: {', '.join(wrong)}; the least is {least}; {status, output, log}"]
+    seen.update({"equal": given.bound == least, "above": given.bound > 0})
+    return text, []
 
 
-if __name__ == "__main__":
-    sys.exit(main())
+def summary(seen):
+    return f"{seen['rosters']} rosters that keep the hard rules; {seen['above']} bounds above 0, {seen['equal']} equal to the least penalty"
