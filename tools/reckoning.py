@@ -17,8 +17,8 @@ Nurse = collections.namedtuple("Nurse", "name contract skills history")
 History = collections.namedtuple("History", "assignments weekends last of_last working off")
 # Of a case `shifts` has the name and the limits of each, `skills` the names, `forbidden` the pairs of shifts, `needs` for each
 # shift and skill a minimum and an optimum for each day, `requests` and `wishes` a nurse, a shift or None for any, and a day,
-# `absences` a nurse and a day. A day counts from the first Monday.
-Case = collections.namedtuple("Case", "name weeks shifts skills forbidden contracts nurses needs requests wishes absences")
+# `absences` and `fixed` a nurse and a day. A day counts from the first Monday.
+Case = collections.namedtuple("Case", "name weeks shifts skills forbidden contracts nurses needs requests wishes absences fixed")
 Shift = collections.namedtuple("Shift", "name limits")
 
 
@@ -118,7 +118,8 @@ def penalty(case, roster):
 # ---- the hard rules
 
 
-Breach = collections.namedtuple("Breach", "rule day line")
+# Of a minimum that is missed `number` is None, else it is the nurse's.
+Breach = collections.namedtuple("Breach", "rule number day line")
 
 
 def follows(case, nurse, shifts):
@@ -135,7 +136,7 @@ def missed_minimums(case, roster):
             if covers[shift, skill] < need[day].least:
                 place = f"{case.shifts[shift].name} {case.skills[skill]}"
                 told = f"{place}: {covers[shift, skill]} of {need[day].least}"
-                yield Breach("H2", day, f"H2 week {day // 7} {DAYS[day % 7]} {told}")
+                yield Breach("H2", None, day, f"H2 week {day // 7} {DAYS[day % 7]} {told}")
 
 
 def breaks_succession(case, number, row, day):
@@ -157,7 +158,7 @@ def breaches_of_rows(case, roster):
         for number, row in enumerate(roster):
             for day in days_of(case):
                 if is_broken(case, number, row, day):
-                    yield Breach(rule, day, f"{rule} week {day // 7} {DAYS[day % 7]} {case.nurses[number].name}")
+                    yield Breach(rule, number, day, f"{rule} week {day // 7} {DAYS[day % 7]} {case.nurses[number].name}")
 
 
 def breaches(case, roster):
@@ -175,11 +176,20 @@ def lacking(case, roster):
     return sum(max(0, need[day].least - covers[day][at]) for at, need in case.needs.items() for day in days_of(case))
 
 
+def is_unplannable(case, breach, first_week):
+    """Whether no free day can mend it: of a succession neither day is free, and on the day of a minimum no nurse is."""
+    stays = lambda number, day: is_frozen(case, number, day, first_week)
+    if breach.rule == "H2":
+        return all(stays(number, breach.day) for number in range(len(case.nurses)))
+    is_last = breach.rule == "H3" and breach.day > 0
+    return stays(breach.number, breach.day) and (not is_last or stays(breach.number, breach.day - 1))
+
+
 def unplannable(case, roster, first_week):
-    """What 'plan' can't mend: missing skills, and then what rows break before a week, and minimums missed there. In the order in which
+    """What 'plan' can't mend: missing skills, and then what rows break on frozen days, and minimums missed there. In the order in which
     it is told."""
     found = [*breaches_of_rows(case, roster), *missed_minimums(case, roster)]
-    frozen = [it for it in found if it.rule != "H4" and it.day // 7 < first_week]
+    frozen = [it for it in found if it.rule != "H4" and is_unplannable(case, it, first_week)]
     return [it for it in found if it.rule == "H4"] + frozen
 
 
@@ -193,14 +203,19 @@ def choices_of(case, number, day):
     return [None, *((shift, skill) for shift in range(len(case.shifts)) for skill in sorted(case.nurses[number].skills))]
 
 
+def is_frozen(case, number, day, first_week):
+    """Whether a day of a nurse stays: it is before the first week that may change, or fixed."""
+    return day // 7 < first_week or (number, day) in case.fixed
+
+
 def offers_of(case, roster, number, first_week=0):
-    """For each day what the minimums leave to a nurse, in the order of choices, with its price there. On the days before the first
-    week that may change that is the present choice alone."""
+    """For each day what the minimums leave to a nurse, in the order of choices, with its price there. On a frozen day that is the
+    present choice alone."""
     offers = []
     for day in days_of(case):
         choices = choices_of(case, number, day)
         others = [row[day] for other, row in enumerate(roster) if other != number]
-        free = choices if day // 7 >= first_week else [it for it in choices if it == roster[number][day]]
+        free = [it for it in choices if it == roster[number][day]] if is_frozen(case, number, day, first_week) else choices
         covers = {choice: cover([*others, choice]) for choice in free}
         offered = [choice for choice in free if meets_minimums(case, day, covers[choice])]
         offers.append([(it, staffing(case, day, covers[it]) + request_cost(case, number, day, it)) for it in offered])
@@ -268,7 +283,7 @@ def cheapest_row(case, number, all_offers):
 
 
 def best_row(case, roster, number, first_week=0):
-    """The first of the cheapest rows of a nurse that keep the hard rules and the days before a week."""
+    """The first of the cheapest rows of a nurse that keep the hard rules and the frozen days."""
     return cheapest_row(case, number, offers_of(case, roster, number, first_week))[1]
 
 
@@ -291,15 +306,15 @@ def place_floor(need, worth):
 
 def nurse_floor(case, roster, number, worths, first_week=0):
     """The least that a nurse costs less what her places pay, over all rows with her skills and absences and without a forbidden
-    succession. On the days before a week she does what the roster says. And the first of the cheapest of these rows."""
+    succession. On frozen days she does what the roster says. And the first of the cheapest of these rows."""
     worth = lambda day, choice: worths[choice][day] if choice in worths else 0
-    free = lambda day: choices_of(case, number, day) if day // 7 >= first_week else [roster[number][day]]
+    free = lambda day: [roster[number][day]] if is_frozen(case, number, day, first_week) else choices_of(case, number, day)
     price = lambda day, choice: request_cost(case, number, day, choice) - worth(day, choice)
     return cheapest_row(case, number, [[(it, price(day, it)) for it in free(day)] for day in days_of(case)])
 
 
 def floor(case, roster, worths, first_week=0):
-    """No roster costs less that keeps the hard rules and the days before a week, as each penalty is a multiple of 5: what is paid to
+    """No roster costs less that keeps the hard rules and the frozen days, as each penalty is a multiple of 5: what is paid to
     the nurses is what they get. And the rows by which it is reckoned."""
     places = sum(place_floor(need, worth) for at in case.needs for need, worth in zip(case.needs[at], worths[at]))
     nurses = [nurse_floor(case, roster, number, worths, first_week) for number in range(len(case.nurses))]
@@ -453,7 +468,7 @@ def best(case, roster, number, row):
 
 
 def improve(case, roster, rounds, first_week=0):
-    """What 'improve' answers with so many rounds, where the days before a week stay."""
+    """What 'improve' answers with so many rounds, where the frozen days stay."""
     total, log = penalty(case, roster), []
     log.append(f"start {total}")
     changed = True
@@ -529,7 +544,7 @@ def scenario_of(words):
     for _ in range(words.number("NURSES", "=")):
         nurse, contract = words.names(2)
         nurses.append(Nurse(nurse, of_contract[contract], [skills.index(it) for it in words.names(words.number())], None))
-    return Case(name, weeks, shifts, skills, forbidden, contracts, nurses, {}, set(), set(), set())
+    return Case(name, weeks, shifts, skills, forbidden, contracts, nurses, {}, set(), set(), set(), set())
 
 
 def read(text):
@@ -538,7 +553,7 @@ def read(text):
     case = scenario_of(words)
     shift_of = {shift.name: number for number, shift in enumerate(case.shifts)}
     nurse_of = {nurse.name: number for number, nurse in enumerate(case.nurses)}
-    nurses, needs, requests, wishes, absences = list(case.nurses), {}, set(), set(), set()
+    nurses, needs, requests, wishes, absences, fixed = list(case.nurses), {}, set(), set(), set(), set()
     words.next("HISTORY", "0", case.name)
     for _ in nurses:
         number = nurse_of[words.next()]
@@ -556,13 +571,14 @@ def read(text):
             for _ in range(words.number(*(["SHIFT_ON_REQUESTS"] if asked is wishes else []), "=")):
                 nurse, shift, day = words.names(3)
                 asked.add((nurse_of[nurse], shift_of.get(shift), 7 * week + DAYS.index(day[:3])))
-        for _ in range(words.number("ABSENCES", "=") if words.left[0] == "ABSENCES" else 0):
-            nurse, day = words.names(2)
-            absences.add((nurse_of[nurse], 7 * week + DAYS.index(day[:3])))
+        for keyword, days in (("ABSENCES", absences), ("FIXED", fixed)):
+            for _ in range(words.number(keyword, "=") if words.left[0] == keyword else 0):
+                nurse, day = words.names(2)
+                days.add((nurse_of[nurse], 7 * week + DAYS.index(day[:3])))
     roster = [[None] * (7 * case.weeks) for _ in nurses]
     for week in range(case.weeks):
         words.next("SOLUTION")  # the week's number, which nothing depends on
         for _ in range(words.number(case.name, "ASSIGNMENTS", "=")):
             nurse, day, shift, skill = words.names(4)
             roster[nurse_of[nurse]][7 * week + DAYS.index(day[:3])] = shift_of[shift], case.skills.index(skill)
-    return case._replace(nurses=nurses, needs=needs, requests=requests, wishes=wishes, absences=absences), roster
+    return case._replace(nurses=nurses, needs=needs, requests=requests, wishes=wishes, absences=absences, fixed=fixed), roster
