@@ -55,13 +55,18 @@ def open_in(word: str, plan: Plan, asked: argparse.Namespace) -> list[Open]:
     return [Open(day, shift, skill) for day in days]
 
 
+def missed(plan: Plan) -> set[Open]:
+    """The places of days that have fewer nurses than their minimum."""
+    return {Open(it.day, *it.of) for it in minimums(plan)}
+
+
 def all_open(plan: Plan, first_week: int) -> list[Open]:
     """The open shifts of a roster, but on frozen days."""
     case = plan.case
-    left = [Open(day, *plan.roster[nurse][day]) for nurse, day in case.absences if plan.roster[nurse][day]]
-    missed = [Open(it.day, *it.of) for it in minimums(dataclasses.replace(plan, roster=without_absent(plan)))]
+    left = {Open(day, *plan.roster[nurse][day]) for nurse, day in case.absences if plan.roster[nurse][day]}
+    found = left | missed(dataclasses.replace(plan, roster=without_absent(plan)))
     free = lambda day: any(not reckoning.is_frozen(case, nurse, day, first_week) for nurse in range(len(case.nurses)))
-    return sorted(it for it in {*left, *missed} if free(it.day))
+    return sorted(it for it in found if free(it.day))
 
 
 class Takers:
@@ -89,13 +94,13 @@ class Takers:
         """A table of those who may take a shift, and for each shift that nobody may take the reasons."""
         found = [self.of(it) for it in opens]
         cost = costs_by(self.program, without_rules(self.texts, self.plan))["total"]
-        heads = [it.name(self.plan) for it in opens]
+        heads = [it.name(self.plan) + "!" * (it in missed(self.plan)) for it in opens]
         if len(found) == 1:
             order = [*found[0]]
         else:
             order = [it for it in range(len(self.case.nurses)) if any(it in of_shift for of_shift in found)]
         rows = [[shown(self.case.nurses[it].name), *(self.cell(of_shift, it) for of_shift in found)] for it in order]
-        told = f"what the roster costs with it ({cost} without), and how many days of hers are other then; * is the best"
+        told = f"what the roster costs with it ({cost} without), and her changed days; ! below the minimum, * the best"
         lines = [told, *aligned([["nurse", *heads], *rows])] if rows else []
         for it, of_shift in zip(opens, found):
             lines += [] if of_shift else self.told_nobody(it)
