@@ -18,12 +18,14 @@ pub record NurseFacts : Type 0 where
   pub skills : List Skill
 
 -- a week: at place 8 s + k the requirements of shift s and skill k from Monday to Sunday, where a line has them; at place
--- 7 n + w what the off requests of nurse n for weekday w name, what the wishes to work name, and whether the nurse is absent
+-- 7 n + w what the off requests of nurse n for weekday w name, what the wishes to work name, and whether the nurse is absent,
+-- and the day is fixed
 pub record WeekFacts : Type 0 where
   pub needs : List (Option (List Need))
   pub off_requests : List DayRequests
   pub wishes : List DayRequests
   pub absences : List Bool
+  pub fixed : List Bool
 
 -- `runs` has the days in a row of each shift; `successions`, for each shift that has such a line, which shifts may not
 -- follow; `past` what stands in the history of each nurse
@@ -86,7 +88,7 @@ abbrev pub no_requests : DayRequests
 no_requests = record { any = false; shifts = replicate 8 false }
 
 abbrev pub no_week : WeekFacts
-no_week = record { needs = []; off_requests = []; wishes = []; absences = [] }
+no_week = record { needs = []; off_requests = []; wishes = []; absences = []; fixed = [] }
 
 -- how many days in a row a shift is to be worked
 abbrev pub run_of_shift : Meaning → ℕ → Limits
@@ -146,6 +148,10 @@ has_wish_for_any c n d = (wishes_of c n d).any
 -- the nurse is absent on the day
 abbrev pub is_absent : Meaning → ℕ → ℕ → Bool
 is_absent c n d = slice_index_or (week_of c d).absences (7 * n + d % 7) false
+
+-- the nurse's choice on the day stays as the solution has it
+abbrev pub is_fixed : Meaning → ℕ → ℕ → Bool
+is_fixed c n d = slice_index_or (week_of c d).fixed (7 * n + d % 7) false
 
 -- ---- the history (profile: of a line whose last shift is `None` only the days off count, else only the two other runs)
 

@@ -9,7 +9,7 @@ ghost use Rattle.roster_instance.specs.Bundles.{meaning_of, past_meant, week_mea
 ghost use Rattle.roster_instance.specs.Checking.{IsFirst};
 ghost use Rattle.roster_instance.specs.Faults.{first_fault};
 ghost use Rattle.roster_instance.specs.Limits.{most_days, most_nurses, most_shifts, most_skills, most_small, most_states, most_weeks};
-ghost use Rattle.roster_instance.specs.Meaning.{contract_of, day_count, has_off_request, is_absent, last_shift, need, nurse_at, nurse_count, nurse_name, past_of, run_of_shift, shift_count, skill_count, week_count, wishes_of, forbids};
+ghost use Rattle.roster_instance.specs.Meaning.{contract_of, day_count, has_off_request, is_absent, is_fixed, last_shift, need, nurse_at, nurse_count, nurse_name, past_of, run_of_shift, shift_count, skill_count, week_count, wishes_of, forbids};
 ghost use Rattle.roster_instance.specs.Names.{find_name};
 ghost use Rattle.roster_instance.specs.Refusals.{case_faults, state_fault};
 ghost use Rattle.roster_instance.specs.Sizes.{choice_count, greatest_of, state_count, cap};
@@ -301,6 +301,17 @@ impl Case {
     {
         match self.weeks.get(day as usize / 7) {
             Some(week) => week.is_absent(7 * nurse + day as usize % 7),
+            None => false,
+        }
+    }
+
+    /// Whether a nurse's choice on a day stays as the solution has it.
+    pub fn is_fixed(&self, nurse: usize, day: u16) -> bool
+        requires { nurse < nurse_count self.now }
+        ensures { result ≡ is_fixed self.now nurse day }
+    {
+        match self.weeks.get(day as usize / 7) {
+            Some(week) => week.is_fixed(7 * nurse + day as usize % 7),
             None => false,
         }
     }

@@ -15,3 +15,4 @@ pub mod Kept
 pub mod InOrder
 pub mod Frozen
 mod NobodyAbsent
+mod NothingFixed

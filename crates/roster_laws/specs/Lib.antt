@@ -6,3 +6,4 @@ pub mod Greatest
 pub mod RowOrder
 pub mod Settled
 pub mod Absences
+pub mod FixedDays

@@ -62,7 +62,7 @@ MayBePutIn c from r n row = (row_keeps c r n row ≡ true) × (keeps_frozen_days
 
 -- a choice is offered where it is open, and on a frozen day it is the present one
 abbrev pub is_offered : Meaning → ℕ → Rows → ℕ → ℕ → Choice → Bool
-is_offered c from r n d choice = is_open c r n d choice && keeps_frozen_day from r n d choice
+is_offered c from r n d choice = is_open c r n d choice && keeps_frozen_day c from r n d choice
 
 -- each choice of a row is offered on its day, and may follow the one before it
 abbrev pub is_offered_row : Meaning → ℕ → Rows → ℕ → Row → ℕ → Bool

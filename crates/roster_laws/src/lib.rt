@@ -5,11 +5,12 @@
 //! what a day's staffing lacks (`specs/Staffing.antt`); what the log of a run tells in `specs/Logs.antt`; that frozen
 //! days stay in `specs/FrozenDays.antt`; the greatest sizes
 //! of a case in `specs/Greatest.antt`; the order of rows in `specs/RowOrder.antt`; bundles without absences in
-//! `specs/Absences.antt`.
+//! `specs/Absences.antt`, and without fixed days in `specs/FixedDays.antt`.
 #![tactic(auto)]
 
 mod absences;
 mod bounds;
+mod fixed_days;
 mod improver;
 mod replaced;
 mod rows;
@@ -17,6 +18,7 @@ mod sizes;
 
 pub use absences::absences_are_none;
 pub use bounds::penalties_are_low;
+pub use fixed_days::fixed_days_are_none;
 pub use improver::{
     changes_are_few, frozen_days_stay, frozen_weeks_stay, last_round_tells, log_ends_with_the_run,
     penalty_never_rises, runs_keep_the_hard_rules, same_rows_are_equal, settled_stays,

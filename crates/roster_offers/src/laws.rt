@@ -75,7 +75,7 @@ pub fn offers_are_few()
         0 < length (offers_of c from r n d) }
     ensures frozen { (c : Meaning) (from : ℕ) (r : Rows) → fits_case c r ≡ true →
         keeps_hard c r ≡ true → (n : ℕ) → n < nurse_count c → OffersThePresent c from r n }
-    ensures free { (c : Meaning) (from : ℕ) (r : Rows) (n d : ℕ) → is_frozen from d ≡ false →
+    ensures free { (c : Meaning) (from : ℕ) (r : Rows) (n d : ℕ) → is_frozen c from n d ≡ false →
         offers_of c from r n d ≡ open_offers c r n d }
 {}
 

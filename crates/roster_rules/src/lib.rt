@@ -9,6 +9,7 @@
 
 mod able;
 mod fault;
+mod frozen;
 mod laws;
 mod penalties;
 mod rows;
@@ -17,6 +18,7 @@ mod wishes;
 
 pub use able::{is_able, is_here, last_shift, may_take};
 pub use fault::HardFault;
+pub use frozen::is_frozen;
 pub use laws::{runs_grow_by_a_day, runs_of_a_row_grow_by_a_day, weekends_grow_by_a_day};
 pub use penalties::Costs;
 pub use roster_instance::{

@@ -36,6 +36,7 @@ week_wanting places nurses = record {
   off_requests = replicate (7 * nurses) no_requests;
   wishes = replicate (7 * nurses) no_requests;
   absences = replicate (7 * nurses) false;
+  fixed = replicate (7 * nurses) false;
 }
 
 -- each day wants one nurse on Early at best, and Early may not follow Night

@@ -18,6 +18,7 @@ needing_without_ann days away = record mini_of_one_shift {
     off_requests = replicate 14 no_requests;
     wishes = replicate 14 no_requests;
     absences = map (is_among away) (range_with_len 0 7) ++ replicate 7 false;
+    fixed = replicate 14 false;
   } ∷ [];
 }
 
