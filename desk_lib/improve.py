@@ -114,7 +114,8 @@ class Run:
         if told != total - kept:
             raise DeskError(
                 (
-                    f"the log says {total - kept}, and 'roster cost' {told}; {shown(self.out)} isn't replaced. This is a fault of"
+                    f"the log says {total}{f' less {kept} by --keep' if kept else ''}, and 'roster cost' {told};"
+                    f" {shown(self.out)} isn't replaced. This is a fault of"
                     " the desk"
                 ),
                 3,

@@ -1,15 +1,14 @@
 """The command `improve --few`: a roster that keeps the hard rules, and in which few days are other than in the one that was given.
 
 Where it is enough that those who are absent don't come, nothing else changes. Else `plan` looks for a roster, with --keep from high to
-low and then without: by --keep N each day on which a nurse has another shift than in the roster given, or is off, costs N more. The
-skills of nurses whose shift stays are free then; so of the nearest roster there is one more, in which these stay, too, where the
-minimums let them. The one with the fewest changes is put into the file, and all are told.
+low and then without: by --keep N each day on which a nurse has another shift than in the roster given, or is off, costs N more. What
+saves more than that changes even so, and skills for nothing; so each roster is trimmed, too: all is taken back for which no hard rule
+asks. The one with the fewest changes is put into the file, of these the cheapest, and all are told.
 """
 import contextlib
 import dataclasses
 
 from desk_lib import program
-from desk_lib.breaches import all_breaches
 from desk_lib.floor import number_of, words_of
 from desk_lib.improve import NOT_FOUND, TRIES, Run
 from desk_lib.model import Plan, Roster, changed_days, changed_nurses, moved_days, solutions_of, without_absent
@@ -17,6 +16,7 @@ from desk_lib.program import Answer, Running, costs_by, plan_in, refusal
 from desk_lib.signals import within_time
 from desk_lib.tables import aligned
 from desk_lib.texts import DeskError, Text, Texts, plural, shown
+from desk_lib.trimming import Trimming
 
 # What a changed day costs more, from high to low; 0 is as without.
 KEEPS = (100, 50, 20, 10, 0)
@@ -77,7 +77,8 @@ class Repair:
         roster, cost = plan_in(texts).roster, costs_by(self.run.roster, texts)["total"]
         moved = moved_days(self.plan.roster, roster)
         if number_of(answer.end()) != cost + keep * moved:
-            told = f"the log says {number_of(answer.end())}, and 'roster cost' {cost} with {plural(moved, 'day')} changed"
+            by_keep = f" less {keep * moved} by --keep" if keep else ""
+            told = f"the log says {number_of(answer.end())}{by_keep}, and 'roster cost' {cost}; the roster isn't taken"
             raise DeskError(f"{told}. This is a fault of the desk", 3)
         return near_of(self.plan, how, answer.output, roster, cost)
 
@@ -134,16 +135,7 @@ class Repair:
         else:
             near = self.take(f"--keep {keep}" if keep else "without --keep", answer, keep)
             self.add(near)
-            if keep == KEEPS[0] and near.skills:
-                self.written(f"--keep {keep}, skills kept", with_skills(self.plan, near.roster))
-
-
-def with_skills(plan: Plan, roster: Roster) -> Roster:
-    """A roster in which nurses who have the shift of the plan have its skill, too, but on days on which minimums are missed so."""
-    stays = lambda was, now: was and now and was[0] == now[0]
-    kept = [[was if stays(was, now) else now for was, now in zip(*rows)] for rows in zip(plan.roster, roster)]
-    missed = {it.day for it in all_breaches(dataclasses.replace(plan, roster=kept)) if it.rule == "H2"}
-    return [[row[day] if day in missed else it for day, it in enumerate(of_kept)] for of_kept, row in zip(kept, roster)]
+            self.written("trimmed", Trimming(self.plan, near.roster).trimmed())
 
 
 def told(run: Run) -> str:
