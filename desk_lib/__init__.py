@@ -14,7 +14,7 @@
 | shortage | days that no roster can staff |
 | sheet, grid, page, views, plot | a roster to look at, on a terminal and in a browser |
 | calendar_file | a nurse's shifts as a calendar |
-| improve, polish, near, trimming, split, replacing, signals | rosters that are written, and what ends that early |
+| improve, polish, near, filling, trimming, split, replacing, signals | rosters that are written, and what ends that early |
 | outputs | what may not be written |
 | asks, asked_texts, gone | absences, fixed days, duties, pins and needs, and the texts with them |
 | why, who, swap | what it would cost to meet a request, who may take a shift, and a swap of two nurses' days |

@@ -48,9 +48,10 @@ search and in the log. What is told at the end is without. Changes count from th
 the program, and the file is written at its end.
 
 With --few a roster that may break what it may with --plan is repaired. Where it is enough that absent nurses don't
-come, nothing else changes. Else 'roster plan' looks for a roster with --keep from 100 down to 10, and without, and
-each is trimmed as well: what no hard rule asks for is taken back. The one with the fewest changed days is put into the
-file. All are told with their changes and penalties; '--plan --keep N' makes another of them.
+come, nothing else changes. Else each nurse who is missed may be one who changes on that day alone; and 'roster plan'
+looks for a roster with --keep from 100 down to 10, and without, and each is trimmed as well: what no hard rule asks for
+is taken back. The one with the fewest changed days is put into the file. All are told with their changes and penalties;
+'--plan --keep N' makes another of them.
 
 The file of --log ends with a line each for the time in seconds, for the searches of runs that ended, the floor and the
 seed where there are any, and for the version of roster. A file of --out or --log that is neither empty nor such a

@@ -1,14 +1,17 @@
 """The command `improve --few`: a roster that keeps the hard rules, and in which few days are other than in the one that was given.
 
-Where it is enough that those who are absent don't come, nothing else changes. Else `plan` looks for a roster, with --keep from high to
-low and then without: by --keep N each day on which a nurse has another shift than in the roster given, or is off, costs N more. What
-saves more than that changes even so, and skills for nothing; so each roster is trimmed, too: all is taken back for which no hard rule
-asks. The one with the fewest changes is put into the file, of these the cheapest, and all are told.
+Where it is enough that those who are absent don't come, nothing else changes. Else each nurse who is missed may be one who changes on
+that day alone (filling.py), the fewest changes that there can be. And `plan` looks for a roster, with --keep from high to low and then
+without: by --keep N each day on which a nurse has another shift than in the roster given, or is off, costs N more. What saves more
+than that changes even so, and skills for nothing; so each roster is trimmed, too: all is taken back for which no hard rule asks. The
+one with the fewest changes is put into the file, of these the cheapest, and all are told.
 """
 import contextlib
 import dataclasses
+import itertools
 
 from desk_lib import program
+from desk_lib.filling import Filling
 from desk_lib.floor import number_of, words_of
 from desk_lib.improve import NOT_FOUND, TRIES, Run
 from desk_lib.model import Plan, Roster, changed_days, changed_nurses, moved_days, solutions_of, without_absent
@@ -18,6 +21,8 @@ from desk_lib.tables import aligned
 from desk_lib.texts import DeskError, Text, Texts, plural, shown
 from desk_lib.trimming import Trimming
 
+# How many rosters are looked at in which each nurse who is missed is one who changes on that day alone.
+FILLINGS = 200
 # What a changed day costs more, from high to low; 0 is as without.
 KEEPS = (100, 50, 20, 10, 0)
 
@@ -110,6 +115,11 @@ class Repair:
             raise DeskError(f"{self.lacking}; give more searches by --polish, more --seconds, or need less")
 
     def searched(self, counts: list[int | None]) -> None:
+        if not self.found:
+            # (each of these has as few changes as there can be)
+            filling = Filling(self.plan, self.run.sought.first_week)
+            for roster in itertools.islice(filling.rosters(), FILLINGS):
+                self.written("one for each who is missed", roster)
         for searches in counts:
             of_searches = [] if searches is None else ["--searches", str(searches)]
             with contextlib.ExitStack() as stack:
