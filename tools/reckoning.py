@@ -168,10 +168,14 @@ def breaches(case, roster):
 # ---- what 'plan' begins with
 
 
+def without_absent_work(case, roster):
+    """The roster in which who is absent is off."""
+    return [[None if (number, day) in case.absences else choice for day, choice in enumerate(row)] for number, row in enumerate(roster)]
+
+
 def lacking(case, roster):
     """How many nurses the minimums miss, where absent ones don't count."""
-    here = [[None if (number, day) in case.absences else choice for day, choice in enumerate(row)] for number, row in enumerate(roster)]
-    covers = [cover(of_day) for of_day in zip(*here)]
+    covers = [cover(of_day) for of_day in zip(*without_absent_work(case, roster))]
     return sum(max(0, need[day].least - covers[day][at]) for at, need in case.needs.items() for day in days_of(case))
 
 
@@ -270,6 +274,62 @@ def cheapest_row(case, number, all_offers):
 def best_row(case, roster, number, first_week=0):
     """The first of the cheapest rows of a nurse that keep the hard rules and the days before a week."""
     return cheapest_row(case, number, offers_of(case, roster, number, first_week))[1]
+
+
+# ---- who may take a shift
+
+
+# An assignment: a day, a shift, and a skill or None for any.
+Asked = collections.namedtuple("Asked", "day shift skill")
+# What is told of a nurse: how many are missed, the penalty, her number, and on how many days her row is another choice.
+Taker = collections.namedtuple("Taker", "missed penalty number changed")
+
+
+def missed_on(case, day, covers):
+    return sum(max(0, need[day].least - covers[at]) for at, need in case.needs.items())
+
+
+def taking_offers(case, here, number, asked, first_week=0):
+    """For each day what a nurse may do in a row that has the assignment, in the order of choices, with its price: no place misses more
+    nurses than it does, and each nurse who is missed counts a million."""
+    offers = []
+    for day in days_of(case):
+        now = cover(row[day] for row in here)
+        free = choices_of(case, number, day) if day // 7 >= first_week else [here[number][day]]
+        if day == asked.day:
+            free = [it for it in free if it and it[0] == asked.shift and asked.skill in (None, it[1])]
+        covers = {it: cover(it if other == number else row[day] for other, row in enumerate(here)) for it in free}
+        keeps = lambda after: all(after[at] >= min(need[day].least, now[at]) for at, need in case.needs.items())
+        price = lambda it: 1_000_000 * missed_on(case, day, covers[it]) + staffing(case, day, covers[it]) + request_cost(case, number, day, it)
+        offers.append([(it, price(it)) for it in free if keeps(covers[it])])
+    return offers
+
+
+def takers(case, roster, asked, first_week, row_of):
+    """What is told of each nurse who has a row with the assignment, in order. `row_of` finds it among all rows of her offers."""
+    here, found = without_absent_work(case, roster), []
+    for number in range(len(case.nurses)):
+        row = row_of(case, number, taking_offers(case, here, number, asked, first_week))
+        if row is not None:
+            after = with_row(here, number, row)
+            changed = sum(a != b for a, b in zip(row, here[number]))
+            found.append(Taker(lacking(case, after), penalty(case, after), number, changed))
+    return sorted(found)
+
+
+def cheapest_taking_row(case, number, offers):
+    """The first of the cheapest rows of these offers, or None where there is none."""
+    try:
+        return cheapest_row(case, number, offers)[1]
+    except ValueError:
+        return None
+
+
+def who_lines(case, roster, asked, first_week=0, row_of=cheapest_taking_row):
+    """What 'who' writes."""
+    is_missed = lacking(case, roster) > 0
+    line = lambda it: f"{case.nurses[it.number].name} {it.penalty} changed {it.changed}" + f" missed {it.missed}" * is_missed
+    return "".join(f"{line(it)}\n" for it in takers(case, roster, asked, first_week, row_of))
 
 
 def with_row(roster, number, row):

@@ -1,0 +1,222 @@
+//! What a nurse is offered on each day.
+
+ghost use Rattle.std.specs.Prelude.{◌≡◌, ◌+◌, ◌*◌, ◌<◌, ◌≤◌, ◌++◌, if◌then◌else◌, length, true, Some, None};
+ghost use Rattle.std.specs.Option.{option_to_list};
+ghost use Rattle.roster_instance.specs.Choices.{shift_of};
+ghost use Rattle.roster_instance.specs.Limits.{most_shifts, most_skills};
+ghost use Rattle.roster_instance.specs.Meaning.{day_count, nurse_count, shift_count, skill_count};
+ghost use Rattle.roster_instance.specs.Rosters.{cover, is_choice_of};
+ghost use Rattle.roster_laws.specs.OneRow.{others};
+ghost use Rattle.roster_rules.specs.AllowedRows.{keeps_frozen_day};
+ghost use Rattle.roster_rules.specs.Penalties.{request_cost_on};
+ghost use Rattle.roster_rules.specs.Weights.{most_request};
+ghost use Rattle.roster_partial.specs.Workspaces.{SameRoom, fits_space};
+ghost use Rattle.roster_bound.specs.Days.{can_do};
+ghost use Rattle.roster_who.specs.Offers.{AreTakingOffers, can_take, gain_at, gain_of, is_needed, keeps_places, most_gain, offer_if_taking, shift_taking_offers, taking_offers};
+
+use crate::asked::{Asking, is_asked};
+use arrayvec::ArrayVec;
+use roster_costs::place;
+use roster_offers::{MOST_CHOICES, MOST_OFFERS, Offer, cheapest_by_shift, request_cost};
+use roster_partial::Workspace;
+use roster_rules::weights::STAFFING;
+use roster_rules::{Choice, Shift, Skill, choice_on, may_take};
+
+/// What each nurse who is missed counts in the choice of a row, in points.
+const MISSED: u32 = 1_000_000;
+
+/// What a nurse more is good for at most.
+const MOST_GAIN: u32 = MISSED + STAFFING;
+
+/// Puts the offers of each day, one for each shift, into a workspace in the place of others.
+pub(crate) fn offers_of_days(asking: &Asking<'_>, nurse: usize, workspace: &mut Workspace)
+    requires nurse { nurse < nurse_count asking.now.case.now }
+    requires fits { fits_space asking.now.case.now workspace.old ≡ true }
+    ensures offers { AreTakingOffers asking.now.case.now asking.now.from asking.now.roster.now
+        asking.now.asked nurse workspace.new.offers }
+    ensures same_room { SameRoom workspace.old workspace.new }
+    ensures fits { fits_space asking.now.case.now workspace.new ≡ true }
+{
+    asking.case.keeps_limits();
+    workspace.clear_offers();
+    for day in 0..asking.case.days() {
+        workspace.push_offers(offers_of_day(asking, nurse, day));
+    }
+}
+
+/// The offers of one day: to be off, and for each shift the cheapest, of equally cheap ones the first.
+fn offers_of_day(asking: &Asking<'_>, nurse: usize, day: u16) -> ArrayVec<Offer, MOST_OFFERS>
+    requires nurse { nurse < nurse_count asking.now.case.now }
+    requires day { day < day_count asking.now.case.now }
+    ensures offers { result.items ≡ shift_taking_offers asking.now.case.now asking.now.from
+        asking.now.roster.now asking.now.asked nurse day }
+{
+    asking.case.keeps_limits();
+    cheapest_by_shift(&choices(asking, nurse, day))
+}
+
+/// All choices of a day that a row with the assignment may have, each with its price.
+fn choices(asking: &Asking<'_>, nurse: usize, day: u16) -> ArrayVec<Offer, MOST_CHOICES>
+    requires nurse { nurse < nurse_count asking.now.case.now }
+    requires day { day < day_count asking.now.case.now }
+    ensures offers { result.items ≡ taking_offers asking.now.case.now asking.now.from
+        asking.now.roster.now asking.now.asked nurse day }
+{
+    let case = asking.case;
+    let shifts = case.shifts();
+    let skills = case.skills();
+    let requests = request_cost(case, nurse, day, None);
+    let mut offers = ArrayVec::new();
+    push_some(
+        &mut offers,
+        offered(asking, nurse, day, Choice::Off, requests),
+    );
+    for shift in 0..shifts {
+        let requests = request_cost(case, nurse, day, Some(Shift(shift)));
+        for skill in 0..skills {
+            let choice = Choice::Work(Shift(shift), Skill(skill));
+            push_some(&mut offers, offered(asking, nurse, day, choice, requests));
+        }
+    }
+    offers
+}
+
+fn push_some(offers: &mut ArrayVec<Offer, MOST_CHOICES>, offer: Option<Offer>)
+    requires { length offers.old.items < 1 + most_shifts * most_skills }
+    ensures items { offers.new.items ≡ offers.old.items ++ option_to_list offer }
+    ensures few { length offers.new.items ≤ length offers.old.items + 1 }
+{
+    if let Some(offer) = offer {
+        offers.push(offer);
+    }
+}
+
+/// The choice with its price, where a row with the assignment may have it, by what the requests cost with it.
+fn offered(
+    asking: &Asking<'_>,
+    nurse: usize,
+    day: u16,
+    choice: Choice,
+    requests: u32,
+) -> Option<Offer>
+    requires nurse { nurse < nurse_count asking.now.case.now }
+    requires day { day < day_count asking.now.case.now }
+    requires choice { is_choice_of asking.now.case.now choice ≡ true }
+    requires requests { requests ≡ request_cost_on asking.now.case.now nurse day
+        (shift_of choice) }
+    requires within { requests ≤ most_request }
+    ensures { result ≡ offer_if_taking asking.now.case.now asking.now.from asking.now.roster.now
+        asking.now.asked nurse day choice }
+{
+    let price = MOST_GAIN - gain_of(asking, nurse, day, choice) + requests;
+    if can_take(asking, nurse, day, choice) {
+        return Some(Offer { choice, price });
+    }
+    None
+}
+
+// ---- which choices are offered
+
+/// Whether a row with the assignment may have the choice on the day.
+fn can_take(asking: &Asking<'_>, nurse: usize, day: u16, choice: Choice) -> bool
+    requires nurse { nurse < nurse_count asking.now.case.now }
+    requires day { day < day_count asking.now.case.now }
+    requires choice { is_choice_of asking.now.case.now choice ≡ true }
+    ensures { result ≡ can_take asking.now.case.now asking.now.from asking.now.roster.now
+        asking.now.asked nurse day choice }
+{
+    can_do(asking, nurse, day, choice)
+        && keeps_places(asking, nurse, day, choice)
+        && (day != asking.asked.day || is_asked(asking.asked, choice))
+}
+
+/// Whether the nurse has the skill and isn't absent, and on a frozen day it is the present choice.
+fn can_do(asking: &Asking<'_>, nurse: usize, day: u16, choice: Choice) -> bool
+    requires nurse { nurse < nurse_count asking.now.case.now }
+    ensures { result ≡ can_do asking.now.case.now asking.now.from asking.now.roster.now nurse day
+        choice }
+{
+    may_take(asking.case, nurse, day, choice) && keeps_frozen_day(asking, nurse, day, choice)
+}
+
+fn keeps_frozen_day(asking: &Asking<'_>, nurse: usize, day: u16, choice: Choice) -> bool
+    ensures { result ≡ keeps_frozen_day asking.now.from asking.now.roster.now nurse day choice }
+{
+    day / 7 >= asking.from || choice == choice_on(asking.roster.row(nurse), day)
+}
+
+/// Whether no place of the day misses more nurses with the choice: who is needed where she works stays there.
+fn keeps_places(asking: &Asking<'_>, nurse: usize, day: u16, choice: Choice) -> bool
+    requires nurse { nurse < nurse_count asking.now.case.now }
+    requires day { day < day_count asking.now.case.now }
+    ensures { result ≡ keeps_places asking.now.case.now asking.now.roster.now nurse day choice }
+{
+    let present = choice_on(asking.roster.row(nurse), day);
+    !is_needed(asking, day, present) || choice == present
+}
+
+/// Whether no more nurses work at the place of a choice than its minimum needs.
+fn is_needed(asking: &Asking<'_>, day: u16, choice: Choice) -> bool
+    requires day { day < day_count asking.now.case.now }
+    requires choice { is_choice_of asking.now.case.now choice ≡ true }
+    ensures { result ≡ is_needed asking.now.case.now asking.now.roster.now day choice }
+{
+    match choice {
+        Choice::Off => false,
+        Choice::Work(shift, skill) => {
+            let need = asking.case.need(day, shift, skill);
+            cover(asking, day, shift, skill) <= need.minimum
+        }
+    }
+}
+
+// ---- at what prices
+
+/// What the nurse is good for with a choice, in points.
+fn gain_of(asking: &Asking<'_>, nurse: usize, day: u16, choice: Choice) -> u32
+    requires nurse { nurse < nurse_count asking.now.case.now }
+    requires day { day < day_count asking.now.case.now }
+    requires choice { is_choice_of asking.now.case.now choice ≡ true }
+    ensures gain { result ≡ gain_of asking.now.case.now asking.now.roster.now nurse day choice }
+    ensures within { result ≤ most_gain }
+{
+    match choice {
+        Choice::Off => 0,
+        Choice::Work(shift, skill) => {
+            let have = others(asking, nurse, day, shift, skill);
+            gain_at(asking, day, shift, skill, have)
+        }
+    }
+}
+
+/// What a nurse more is good for where so many work a shift with a skill.
+fn gain_at(asking: &Asking<'_>, day: u16, shift: Shift, skill: Skill, have: u16) -> u32
+    ensures gain { result ≡ gain_at asking.now.case.now day shift.0 skill.0 have }
+    ensures within { result ≤ most_gain }
+{
+    let need = asking.case.need(day, shift, skill);
+    MISSED * (have < need.minimum) as u32 + STAFFING * (have < need.optimum) as u32
+}
+
+/// How many of the other nurses work a shift with a skill on a day.
+fn others(asking: &Asking<'_>, nurse: usize, day: u16, shift: Shift, skill: Skill) -> u16
+    requires nurse { nurse < nurse_count asking.now.case.now }
+    requires day { day < day_count asking.now.case.now }
+    requires shift { shift.0 < shift_count asking.now.case.now }
+    requires skill { skill.0 < skill_count asking.now.case.now }
+    ensures { result ≡ others asking.now.roster.now nurse day shift.0 skill.0 }
+{
+    let own = choice_on(asking.roster.row(nurse), day) == Choice::Work(shift, skill);
+    cover(asking, day, shift, skill) - own as u16
+}
+
+/// How many nurses work a shift with a skill on a day.
+fn cover(asking: &Asking<'_>, day: u16, shift: Shift, skill: Skill) -> u16
+    requires day { day < day_count asking.now.case.now }
+    requires shift { shift.0 < shift_count asking.now.case.now }
+    requires skill { skill.0 < skill_count asking.now.case.now }
+    ensures { result ≡ cover asking.now.roster.now day shift.0 skill.0 }
+{
+    asking.case.keeps_limits();
+    asking.covers[day as usize][place(shift, skill)]
+}
