@@ -2,20 +2,22 @@
 
 | Module | What it holds |
 |---|---|
-| command_line | the words of the command line |
+| command_line, helps | the words of the command line, and its help |
 | given, commands | what a command works on, and what each does |
 | texts | the files, and the places in them: file, line, word |
 | grammar | words, sections and parts of the texts |
 | model | the case and the roster of texts that the program takes |
+| days | days as words name them |
 | program | how the program `roster` is found and called |
 | costs, tables, breaches | what each nurse costs by rule, and where a hard rule is broken |
 | check, findings, hidden, recovery, names, doubts | all that is wrong with texts, and what is hardly meant |
 | shortage | days that no roster can staff |
 | sheet, grid, page, views, plot | a roster to look at, on a terminal and in a browser |
 | calendar_file | a nurse's shifts as a calendar |
-| improve, polish, split, replacing, signals | rosters that are written, and what ends that early |
+| improve, polish, near, filling, trimming, split, replacing, signals | rosters that are written, and what ends that early |
 | outputs | what may not be written |
-| asks, gone, why | absences, pins and needs, and what it would cost to meet a request |
+| asks, asked_texts, gone | absences, fixed days, duties, pins and needs, and the texts with them |
+| why, who, swap | what it would cost to meet a request, who may take a shift, and a swap of two nurses' days |
 | next_month | the history that a roster leaves, and the folder of the next month |
 
 Every roster and every total is the program's. What is counted here is compared with the program before it is shown.

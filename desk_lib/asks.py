@@ -1,42 +1,45 @@
-"""Absences, pins and needs: a text of the planner's own, and the texts that the desk makes of it.
+"""Asks: a text of the planner's own, of what is to be another and what is to stay.
 
-    absent NURSE FROM [TO]      the nurse can't work on these days: a hard rule
-    gone NURSE FROM [TO]        as absent, and she isn't of the ward then: her contract is for the other days alone
-    off NURSE FROM [TO]         the nurse asks to be off on these days
-    pin NURSE DAY..             on these days the nurse does what the roster says now; a day may be FROM..TO
-    need DAY SHIFT SKILL N      the minimum of this day's shift and skill is N
-    start DATE                  week 0 begins on this Monday; from here on days may be dates
+    absent NURSE DAYS               the nurse can't work on these days: a hard rule
+    gone NURSE DAYS                 as absent, and she isn't of the ward then: her contract is for the other days alone
+    off NURSE DAYS                  the nurse asks to be off on these days
+    pin NURSE DAYS                  on these days the nurse is to do what the roster says now
+    fix NURSE DAYS                  she does, by a hard rule
+    duty NURSE DAY SHIFT [SKILL]    she has this shift then: it is put into the roster, and fixed
+    need DAY SHIFT SKILL N          the minimum of this day's shift and skill is N
+    today DAY                       all days before are past, and stay as they are for all nurses: a hard rule
+    start DATE                      week 0 begins on this Monday: days may be dates
 
-A day is the week and the weekday, as 0:Mon. What follows a '#' is a remark. An absence becomes a line of the section ABSENCES.
-A day off is asked for by an off request, and a pin by a wish or an off request: each costs 10 where it isn't met, and a roster
-may well not meet it. So each roster is looked at, and where it fails is told. desk_lib/gone.py has the contract of who is gone.
+desk_lib/days.py says how days are named. What follows a '#' is a remark. An absence becomes a line of the section ABSENCES, and a day
+that stays one of FIXED. A day off is asked for by an off request, and a pin by a wish or an off request: each costs 10 where it isn't
+met, and a roster may well not meet it. So each roster is looked at, and where it fails is told. desk_lib/gone.py has the contract of
+who is gone, and desk_lib/asked_texts.py the texts with all of it.
 """
-import collections
 import collections.abc
-import contextlib
 import dataclasses
 import datetime
 import typing
 
-from desk_lib import gone
-from desk_lib.findings import nearest
-from desk_lib.grammar import DAYS, MOST_OF, Part, Section
-from desk_lib.model import Choice, Plan, Roster, choice_name, day_in, day_place, monday_in
-from desk_lib.program import Program, plan_in
-from desk_lib.replacing import Replacement
-from desk_lib.texts import DeskError, Edit, Text, Texts, plural, shown
+from desk_lib.days import day_in, day_place, days_in, monday_in
+from desk_lib.findings import nearest, numbered
+from desk_lib.grammar import MOST_OF
+from desk_lib.model import Choice, Plan, Roster, choice_name
+from desk_lib.texts import DeskError, Text, plural, shown
 
-OFF, ON, ABSENT = b"SHIFT_OFF_REQUESTS", b"SHIFT_ON_REQUESTS", b"ABSENCES"
+# The form of each line, and how many words there are after the first one.
 FORMS = {
-    b"absent": "absent NURSE FROM [TO]",
-    b"gone": "gone NURSE FROM [TO]",
-    b"off": "off NURSE FROM [TO]",
-    b"pin": "pin NURSE DAY..",
-    b"need": "need DAY SHIFT SKILL N",
-    b"start": "start DATE",
+    b"absent": ("absent NURSE DAYS", 2, 999),
+    b"gone": ("gone NURSE DAYS", 2, 999),
+    b"off": ("off NURSE DAYS", 2, 999),
+    b"pin": ("pin NURSE DAYS", 2, 999),
+    b"fix": ("fix NURSE DAYS", 2, 999),
+    b"duty": ("duty NURSE DAY SHIFT [SKILL]", 3, 4),
+    b"need": ("need DAY SHIFT SKILL N", 4, 4),
+    b"today": ("today DAY", 1, 1),
+    b"start": ("start DATE", 1, 1),
 }
-# Those that name a first and a last day, and those by which the nurse can't work.
-SPANS, AWAY = (b"absent", b"gone", b"off"), ("absent", "gone")
+# Those by which the nurse can't work, those by which she does what the roster says now, and those that are hard rules of a day.
+AWAY, KEEPING, FIXING = ("absent", "gone"), ("pin", "fix"), ("fix", "duty")
 
 
 @dataclasses.dataclass(frozen=True)
@@ -50,63 +53,119 @@ class Ask:
 
     def remedy(self) -> str:
         """What keeps it."""
-        return "'desk improve --plan' looks for a roster that keeps it" if self.kind in AWAY else "change it by hand"
+        if self.kind in AWAY:
+            return "'desk improve --plan' looks for a roster that keeps it"
+        return "'desk improve --plan' puts it in" if self.kind == "duty" else "change it by hand"
+
+
+def lines_of(text: Text) -> list[tuple[int, list[bytes]]]:
+    """The lines that have words, with their numbers."""
+    lines = [it.partition(b"#")[0].split() for it in text.data.splitlines()]
+    return [(number, words) for number, words in enumerate(lines, 1) if words]
+
+
+def wrong(text: Text, line: int, told: str) -> DeskError:
+    return DeskError(f"{shown(text.name)}:{line}: {told}")
+
+
+def start_in(text: Text, start: datetime.date | None) -> datetime.date | None:
+    """The Monday of week 0: the one that is given, or that of a line 'start'."""
+    said = f"--start says {start}"
+    for line, (kind, *rest) in lines_of(text):
+        if kind == b"start" and len(rest) == 1:
+            try:
+                found = monday_in(shown(rest[0]))
+            except DeskError as why:
+                raise wrong(text, line, str(why)) from None
+            if start not in (None, found):
+                raise wrong(text, line, f"the first Monday is {found} here, and {said}; take one of them away")
+            start, said = found, f"line {line} says {found}"
+    return start
 
 
 class Asks:
     """The asks of a text, for a plan."""
 
-    def __init__(self, text: Text, plan: Plan):
-        self.name, self.plan = text.name, plan
+    def __init__(self, text: Text, plan: Plan, start: datetime.date | None = None, since: bytes = b""):
+        """`since` is the day that --from names."""
+        self.text, self.plan, self.start = text, plan, start
         self.nurses = {nurse.name: number for number, nurse in enumerate(plan.case.nurses)}
+        self.asks: list[Ask] = []
         self.of_days: dict[tuple[int, int], tuple[Choice, int]] = {}
         # (minimums, by the number of the word in the texts, with the line of the ask)
         self.needs: dict[int, tuple[bytes, int]] = {}
-        self.start: datetime.date | None = None
-        lines = [it.partition(b"#")[0].split() for it in text.data.splitlines()]
-        asks = [self.ask(number, words) for number, words in enumerate(lines, 1) if words]
-        self.asks = [it for it in asks if it]
-        self.absences = {(it.nurse, day) for it in self.asks if it.kind in AWAY for day in it.days}
-        self.gone = gone_days(it for it in self.asks if it.kind == "gone")
-        count, most = len(plan.case.contracts) + len(self.gone), MOST_OF[b"CONTRACTS"]
+        # (the roster with the duties in it; how many days are past, and which line says so)
+        self.roster: Roster = [[*row] for row in plan.roster]
+        self.past, self.past_by = 0, ""
+        # (how many days were read of each ask)
+        self.answers: list[str] = []
+        if since:
+            self.take_today(f"--from {shown(since)}", f"--from {shown(since)}", since)
+        for line, (kind, *rest) in lines_of(text):
+            self.take(line, kind, *rest)
+        self.check()
+
+    def wrong(self, line: int, told: str) -> DeskError:
+        return wrong(self.text, line, told)
+
+    def answer(self, line: int, told: str) -> None:
+        self.answers.append(f"{shown(self.text.name)}:{line}: {told}")
+
+    def take(self, line: int, kind: bytes, *rest: bytes) -> None:
+        """Takes a line."""
+        if kind not in FORMS:
+            raise self.wrong(line, f"'{shown(kind)}' stands here, and {' or '.join(map(shown, FORMS))} is due")
+        form, least, most = FORMS[kind]
+        if not least <= len(rest) <= most:
+            days = ", and days as 0:Mon..0:Wed" if "DAYS" in form else ""
+            raise self.wrong(line, f"the form of this line is '{form}', where a day is as 0:Mon{days}")
+        if kind == b"need":
+            self.take_need(line, *rest)
+        elif kind == b"today":
+            self.take_today(f"{shown(self.text.name)}:{line}", f"line {line}", *rest)
+        elif kind != b"start":
+            self.take_ask(self.ask(line, shown(kind), self.number(line, "nurse", rest[0], [*self.nurses]), *rest[1:]))
+
+    def check(self) -> None:
+        """Refuses what can't be together."""
+        for ask in self.asks:
+            for day in ask.days if ask.kind in AWAY else ():
+                if day < self.past and self.roster[ask.nurse][day]:
+                    works = choice_name(self.plan.case, self.roster[ask.nurse][day])
+                    told = f"the roster has {works} then, and the day is past by {self.past_by}"
+                    name = shown(self.plan.case.nurses[ask.nurse].name)
+                    raise self.wrong(ask.line, f"{ask.kind} {name} {day_place(day)}: {told}; let the line begin later")
+        count, most = len(self.plan.case.contracts) + len(self.gone), MOST_OF[b"CONTRACTS"]
         if self.gone and count > most:
             told = f"each nurse who is gone gets a contract of her own, and {count} contracts are more than {most}"
             raise self.wrong(max(it.line for it in self.asks if it.kind == "gone"), f"{told}; let fewer be gone")
 
-    def wrong(self, line: int, told: str) -> DeskError:
-        return DeskError(f"{shown(self.name)}:{line}: {told}")
+    # ---- one line
 
-    def ask(self, line: int, words: list[bytes]) -> Ask | None:
-        """What a line asks for, if it does."""
-        kind, *rest = words
-        if kind == b"start" and len(rest) == 1:
-            self.start = self.read(line, lambda: monday_in(shown(rest[0])))
-            return None
-        if kind not in FORMS:
-            raise self.wrong(line, f"'{shown(kind)}' stands here, and {' or '.join(map(shown, FORMS))} is due")
-        if kind == b"need" and len(rest) == 4:
-            self.need(line, *rest)
-            return None
-        if kind in (b"start", b"need") or len(rest) < 2 or kind in SPANS and len(rest) > 3:
-            raise self.wrong(line, f"the form of this line is '{FORMS[kind]}', where a day is as 0:Mon")
-        if rest[0] not in self.nurses:
-            raise self.wrong(line, f"the scenario has no nurse '{shown(rest[0])}'{nearest(rest[0], self.nurses)}")
-        nurse = self.nurses[rest[0]]
-        if kind in SPANS:
-            days = dict.fromkeys(self.span(line, rest[1], rest[-1]))
-        else:
-            ends = [it.partition(b"..") for it in rest[1:]]
-            spans = [self.span(line, first, last or first) for first, _, last in ends]
-            days = {day: self.kept(line, nurse, day) for span in spans for day in span}
-        for day, choice in days.items():
-            before = self.of_days.setdefault((nurse, day), (choice, line))
+    def ask(self, line: int, kind: str, nurse: int, *rest: bytes) -> Ask:
+        """What a line asks of a nurse."""
+        if kind == "duty":
+            return Ask(line, kind, nurse, self.duty(line, nurse, *rest))
+        days = self.read(line, lambda: days_in(rest, self.plan.case.weeks, self.start))
+        return Ask(line, kind, nurse, {day: self.kept(line, kind, nurse, day) if kind in KEEPING else None for day in days})
+
+    def take_ask(self, ask: Ask) -> None:
+        for day, choice in ask.days.items():
+            before = self.of_days.setdefault((ask.nurse, day), (choice, ask.line))
             if before[0] != choice:
-                raise self.wrong(line, f"{day_place(day)} is asked for otherwise in line {before[1]}; take one of them away")
-        return Ask(line, shown(kind), nurse, days)
+                told = f"{day_place(day)} is asked for otherwise in line {before[1]}"
+                raise self.wrong(ask.line, f"{told}; take one of them away")
+            if ask.kind == "duty":
+                self.roster[ask.nurse][day] = choice
+        self.asks.append(ask)
+        duty = "".join(f" {day_place(day)} {choice_name(self.plan.case, it)}" for day, it in ask.days.items() if ask.kind == "duty")
+        name = shown(self.plan.case.nurses[ask.nurse].name)
+        self.answer(ask.line, f"{ask.kind} {name}{duty}: {plural(len(ask.days), 'day')}")
 
-    def need(self, line: int, word: bytes, shift: bytes, skill: bytes, count: bytes) -> None:
+    def take_need(self, line: int, word: bytes, shift: bytes, skill: bytes, count: bytes) -> None:
         """Notes the minimum of a day's shift and skill."""
-        week, weekday = divmod(self.day(line, word), 7)
+        day = self.day(line, word)
+        week, weekday = divmod(day, 7)
         if not (count.isdigit() and len(count) <= 3):
             raise self.wrong(line, f"'{shown(count)}' is no number from 0 to 999")
         words = self.plan.words.words
@@ -119,22 +178,59 @@ class Asks:
         # (after the shift and the skill stand pairs of five words, of which the second is the minimum)
         before = self.needs.setdefault(at + 2 + 5 * weekday + 1, (count, line))
         if int(before[0]) != int(count):
-            raise self.wrong(line, f"{day_place(7 * week + weekday)} needs otherwise in line {before[1]}; take one of them away")
+            raise self.wrong(line, f"{day_place(day)} needs otherwise in line {before[1]}; take one of them away")
+        self.answer(line, f"need {day_place(day)} {shown(shift)} {shown(skill)} {int(count)}: 1 day")
 
-    def kept(self, line: int, nurse: int, day: int) -> Choice:
+    def take_today(self, place: str, by: str, word: bytes) -> None:
+        """Notes what day it is, by the line or the option that stands there."""
+        try:
+            day = day_in(word, self.plan.case.weeks, self.start)
+        except DeskError as why:
+            raise DeskError(f"{place}: {why}", why.status if by == place else 1) from None
+        if self.past_by and day != self.past:
+            raise DeskError(f"{place}: {day_place(self.past)} is today by {self.past_by}; take one of them away")
+        if day and not any(any(row[:day]) for row in self.roster):
+            told = f"nobody works before {day_place(day)} in the roster given, so nothing can be kept"
+            raise DeskError(f"{place}: {told}; give the roster of these days, or take this away")
+        self.past, self.past_by = day, by
+        self.answers.append(f"{place}: today is {day_place(day)}: {plural(day, 'day')} before it")
+
+    def duty(self, line: int, nurse: int, word: bytes, shift_word: bytes, skill_word: bytes | None = None) -> dict[int, Choice]:
+        """The day of a duty, and what it is. Where no skill is named it is the one that the nurse has then by the roster, or that of
+        her skills at which the shift lacks most."""
+        case, day = self.plan.case, self.day(line, word)
+        shift = self.number(line, "shift", shift_word, [it.name for it in case.shifts])
+        skills = sorted(case.nurses[nurse].skills)
+        if skill_word is None:
+            return {day: self.lacking_most(day, [(shift, skill) for skill in skills], self.plan.roster[nurse][day])}
+        skill = self.number(line, "skill", skill_word, case.skills)
+        if skill not in skills:
+            has = " or ".join(shown(case.skills[it]) for it in skills)
+            told = f"{shown(case.nurses[nurse].name)} hasn't the skill {shown(skill_word)}"
+            raise self.wrong(line, f"{told}; name {has or 'another nurse'}")
+        return {day: (shift, skill)}
+
+    def lacking_most(self, day: int, choices: list[Choice], now: Choice) -> Choice:
+        """Of these choices the one that is there now, or that of which the day lacks most: of the minimum, then of the optimum."""
+
+        def lacks(choice: Choice) -> tuple[bool, int, int]:
+            need = self.plan.case.needs[choice][day] if choice in self.plan.case.needs else (0, 0)
+            have = sum(row[day] == choice for row in self.roster)
+            return choice == now, max(0, need[0] - have), max(0, need[1] - have)
+
+        return max(choices, key=lacks)
+
+    def kept(self, line: int, kind: str, nurse: int, day: int) -> Choice:
         """What the roster says that a nurse does on a day. Where nobody works in that week there is no roster to keep."""
         week = slice(day // 7 * 7, day // 7 * 7 + 7)
         if not any(any(row[week]) for row in self.plan.roster):
             name = shown(self.plan.case.nurses[nurse].name)
-            told = f"pin {name} {day_place(day)}: nobody works in this week of the roster given, so nothing can be kept"
+            told = f"{kind} {name} {day_place(day)}: nobody works in this week of the roster given, so nothing can be kept"
             raise self.wrong(line, f"{told}; give a roster of that week, or take the line away")
         return self.plan.roster[nurse][day]
 
-    def span(self, line: int, first: bytes, last: bytes) -> range:
-        days = range(self.day(line, first), self.day(line, last) + 1)
-        if not days:
-            raise self.wrong(line, f"'{shown(first)}' is after '{shown(last)}'; write the first day first")
-        return days
+    def number(self, line: int, what: str, word: bytes, names: list[bytes]) -> int:
+        return self.read(line, lambda: numbered(what, word, names))
 
     def day(self, line: int, word: bytes) -> int:
         return self.read(line, lambda: day_in(word, self.plan.case.weeks, self.start))
@@ -146,74 +242,25 @@ class Asks:
         except DeskError as why:
             raise self.wrong(line, str(why)) from None
 
-    # ---- the week data
+    # ---- all lines
 
-    def lines(self, week: int) -> dict[bytes, list[bytes]]:
-        """The lines that a week gets, by the section."""
-        found: dict[bytes, list[bytes]] = collections.defaultdict(list)
-        case = self.plan.case
-        for (nurse, day), (choice, _) in sorted(self.of_days.items(), key=lambda it: it[0]):
-            if day // 7 == week:
-                is_absent, shift = (nurse, day) in self.absences, b"Any" if choice is None else case.shifts[choice[0]].name
-                words = [case.nurses[nurse].name, *([] if is_absent else [shift]), DAYS[day % 7]]
-                found[ABSENT if is_absent else OFF if choice is None else ON].append(b" ".join(words))
+    def days_of(self, *kinds: str) -> dict[tuple[int, int], Choice]:
+        """What asks of these kinds name: by the nurse and the day what she is to do then."""
+        return {(it.nurse, day): choice for it in self.asks if it.kind in kinds for day, choice in it.days.items()}
+
+    @property
+    def fixed(self) -> set[tuple[int, int]]:
+        """The nurses and days that stay as they are."""
+        past = {(nurse, day) for nurse in range(len(self.roster)) for day in range(self.past)}
+        return past.union(self.days_of(*FIXING))
+
+    @property
+    def gone(self) -> dict[int, set[int]]:
+        """The days on which nurses are gone, by the nurse."""
+        found: dict[int, set[int]] = {}
+        for nurse, day in self.days_of("gone"):
+            found.setdefault(nurse, set()).add(day)
         return found
-
-    def edits(self, part: Part, more: dict[bytes, list[bytes]], end: bytes) -> list[Edit]:
-        """What gives a week these lines, each after `end`. A section that it hasn't comes after the one before it."""
-        found, after = [], b""
-        for keyword in (ABSENT, ON, OFF):
-            new = b"".join(end + it for it in more[keyword])
-            if keyword in part:
-                found += self.edits_of(part[keyword], len(more[keyword]), new, after)
-                after = b""
-            elif new:
-                after = b"%s%s = %d%s%s" % (end, keyword, len(more[keyword]), new, after)
-        return found
-
-    def edits_of(self, section: Section, count: int, new: bytes, after: bytes) -> list[Edit]:
-        """What gives a section so many lines more, and sections after it. New lines come before those that are there."""
-        words, at = self.plan.words, section.at + 2
-        if not section.lines:
-            new, after = new + after, b""
-        found = [(words.offset(at), len(words.words[at]), b"%d%s" % (section.count + count, new))] if new else []
-        if after:
-            first, *rest = section.lines[-1]
-            found.append((words.offset(first + len(rest)) + len(words.words[first + len(rest)]), 0, after))
-        return found
-
-    def added_to(self, texts: Texts) -> Texts:
-        """The texts with all that is asked for. It stands in lines that are there, so that the others keep their numbers."""
-        weeks = self.plan.bundle.weeks
-        edits = [it for week, part in enumerate(weeks) for it in self.edits(part, self.lines(week), b" ")]
-        return texts.edited([*edits, *self.need_edits(), *self.contract_edits(b" ")])
-
-    def need_edits(self) -> list[Edit]:
-        words = self.plan.words
-        return [(words.offset(at), len(words.words[at]), count) for at, (count, _) in self.needs.items()]
-
-    def contract_edits(self, end: bytes) -> list[Edit]:
-        """What gives those who are gone contracts of their own, each after `end`."""
-        return gone.edits(self.plan, self.gone, end) if self.gone else []
-
-    def scenario(self, texts: Texts) -> bytes | None:
-        """The scenario with the contracts of those who are gone, where somebody is."""
-        end = self.plan.words.offset(self.plan.bundle.history[b"HISTORY"].at)
-        text = Text("", texts.joined[:end]).edited(0, self.contract_edits(b"\n"))
-        return text.data.rstrip() + b"\n" if self.gone else None
-
-    def week_data(self, texts: Texts) -> list[bytes]:
-        """The week data with all that is asked for, as texts of their own."""
-        bundle, found = self.plan.bundle, []
-        heads = [it[b"WEEK_DATA"].at for it in bundle.weeks] + [bundle.solutions[0][b"SOLUTION"].at]
-        for week, part in enumerate(bundle.weeks):
-            first, last = (self.plan.words.offset(it) for it in heads[week : week + 2])
-            edits = [*self.edits(part, self.lines(week), b"\n"), *self.need_edits()]
-            text = Text("", texts.joined[first:last]).edited(first, edits)
-            found.append(text.data.rstrip() + b"\n")
-        return found
-
-    # ---- a roster
 
     def failed(self, roster: Roster) -> list[str]:
         """Where a roster fails, a line for each line of the text, and how much is as it was asked for."""
@@ -224,37 +271,6 @@ class Asks:
             if days:
                 told = ", ".join(f"{day_place(day)} {choice_name(self.plan.case, roster[ask.nurse][day])}" for day in days)
                 name = shown(self.plan.case.nurses[ask.nurse].name)
-                found.append(f"{shown(self.name)}:{ask.line}: {ask.kind} {name} isn't kept: {told}; {ask.remedy()}")
+                found.append(f"{shown(self.text.name)}:{ask.line}: {ask.kind} {name} isn't kept: {told}; {ask.remedy()}")
         whole = sum(len(it.days) for it in self.asks)
-        return [*found, f"{shown(self.name)}: {whole - count} of {plural(whole, 'day')} as asked for"] if self.asks else []
-
-
-def gone_days(asks: collections.abc.Iterable[Ask]) -> dict[int, set[int]]:
-    """The days on which nurses are gone, by the nurse."""
-    found: dict[int, set[int]] = {}
-    for it in asks:
-        found.setdefault(it.nurse, set()).update(it.days)
-    return found
-
-
-def write_weeks(roster: Program, asks: Asks, texts: Texts, names: list[str], scenario_name: str) -> list[str]:
-    """Writes the week data with all that is asked for into files of these names, and the scenario where somebody is gone, once all
-    of them are read back: by the desk as the case that it passes on, and by the program, which answers the same to both. Returns
-    the names of what was written."""
-    plan, scenario = asks.plan, asks.scenario(texts)
-    history, first = (plan.words.offset(it.at) for it in (plan.bundle.history[b"HISTORY"], plan.bundle.weeks[0][b"WEEK_DATA"]))
-    solutions = Text("the solutions", texts.joined[plan.solutions_offset() :])
-    files = [*zip(names, asks.week_data(texts)), *([(scenario_name, scenario)] if scenario else [])]
-    with contextlib.ExitStack() as stack:
-        new = [stack.enter_context(Replacement(*it)) for it in files]
-        before = [Text(scenario_name, new[-1].read()), Text("the history", texts.joined[history:first])]
-        before = before if scenario else texts.before(first, []).texts
-        back = Texts([*before, *(Text(it.name, it.read()) for it in new[: len(names)]), solutions])
-        passed = asks.added_to(texts)
-        answers = (roster.call(["cost"], it.joined) for it in (back, passed))
-        if plan_in(back).case != plan_in(passed).case or next(answers) != next(answers):
-            told = f"{shown(names[0])}: read back they are other week data; nothing is replaced"
-            raise DeskError(f"{told}. This is a fault of the desk", 3)
-        for it in new:
-            it.put()
-    return [name for name, _ in files]
+        return [*found, f"{shown(self.text.name)}: {whole - count} of {plural(whole, 'day')} as asked for"] if self.asks else []

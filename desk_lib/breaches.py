@@ -4,9 +4,10 @@ import collections.abc
 import dataclasses
 import re
 
-from reckoning import cover
+from reckoning import cover, is_frozen
 
-from desk_lib.model import Plan, choice_name, day_name
+from desk_lib.days import day_name
+from desk_lib.model import Plan, Roster, choice_name
 from desk_lib.texts import Texts, shown
 
 
@@ -69,11 +70,29 @@ def absences(plan: Plan) -> collections.abc.Iterator[Breach]:
         if choice:
             name, works = shown(plan.case.nurses[number].name), choice_name(plan.case, choice)
             line = f"absent week {day // 7} {day_name(day)} {name}"
-            yield Breach(line, f"{name} is absent, and the roster has {works}", "absent", day, (number,))
+            fixed = ", and the day is fixed" if (number, day) in plan.case.fixed else ""
+            yield Breach(line, f"{name} is absent, and the roster has {works}{fixed}", "absent", day, (number,))
+
+
+def frozen_changes(plan: Plan, before: Roster, first_week: int) -> collections.abc.Iterator[Breach]:
+    """Frozen days on which the roster is another than before, by nurse and day."""
+    for number, (was, now) in enumerate(zip(before, plan.roster)):
+        for day, (old, new) in enumerate(zip(was, now)):
+            if old != new and is_frozen(plan.case, number, day, first_week):
+                line = f"frozen week {day // 7} {day_name(day)} {shown(plan.case.nurses[number].name)}"
+                yield Breach(line, f"the day is frozen, and was {choice_name(plan.case, old)}", "frozen", day, (number,))
 
 
 def all_breaches(plan: Plan) -> list[Breach]:
     return [*minimums(plan), *successions(plan), *skills(plan), *absences(plan)]
+
+
+def can_be_mended(plan: Plan, breach: Breach) -> bool:
+    """Whether days may change on which that depends: by 'roster plan', which changes no skill that a nurse lacks."""
+    if breach.rule == "H2":
+        return any((number, breach.day) not in plan.case.fixed for number in range(len(plan.roster)))
+    days = {breach.day, max(0, breach.day - 1)} if breach.rule == "H3" else {breach.day}
+    return breach.rule != "H4" and any((*breach.of, day) not in plan.case.fixed for day in days)
 
 
 def words_told(found: list[Breach]) -> list[str]:

@@ -3,6 +3,7 @@ import re
 import typing
 
 from desk_lib import breaches, hidden, names, program, shortage
+from desk_lib.asked_texts import Asked
 from desk_lib.asks import Asks
 from desk_lib.doubts import Doubts
 from desk_lib.findings import Finding, of_words
@@ -235,13 +236,13 @@ def of_roster(plan: Plan, texts: Texts, asks_of: AsksOf, line: str) -> tuple[lis
         raise DeskError(f"'roster cost' says '{line}', and the desk '{first}'; this is a fault of the desk", 3)
     misplaced = out_of_place(plan.words, plan.bundle.solutions)
     found = misplaced + breach_findings(plan, told) + failed(plan, asks_of(plan), len(texts.joined))
-    return found, PLAN if told and not misplaced and all(it.rule != "H4" for it in told) else ""
+    return found, PLAN if told and not misplaced and all(breaches.can_be_mended(plan, it) for it in told) else ""
 
 
 def of_shortages(plan: Plan, texts: Texts, asks_of: AsksOf) -> tuple[list[Finding], str]:
     """The days that no roster can staff, each at the minimum that is to be lowered first, and what comes next."""
     wanted, places = asks_of(plan), Places(plan)
-    asked = program.plan_in(wanted.added_to(texts)) if wanted else plan
+    asked = program.plan_in(Asked(wanted).added_to(texts)) if wanted else plan
     found = [places.of_need(it.day, it.met[0][0], it.line(plan.case)) for it in shortage.shortages(asked, 0)]
     return found, "" if found else "; there is no roster yet, and 'desk improve --plan' can make one"
 

@@ -7,68 +7,9 @@ import typing
 
 from desk_lib import commands as does
 from desk_lib import given, polish, program, signals
-from desk_lib.model import monday_in
+from desk_lib.days import is_day, monday_in
+from desk_lib.helps import ABOUT, CHECK, FILES, IMPROVE, NEXT, SWAP, WEEKS, WHO
 from desk_lib.texts import KINDS, DeskError, shown
-
-ABOUT = """\
-Looks at rosters, and makes better ones, with the program `roster`.
-
-Every roster and every total comes from `roster`, which is proved; the desk calls it, and adds nothing to what
-is proved. What the desk counts itself, as the costs by nurse, it compares with `roster cost`, and it stops where
-they differ. It writes no roster that `roster` didn't write and read back. 'why' alone shows a row of its own search,
-with what `roster` counts of it."""
-FILES = """\
-The files stand in the program's order (scenario, history, week data, solutions), or are named by --sce, --his,
---weeks and --sols; without a file, standard input is read. A table of 'desk csv' is taken where all solutions are
-due, also by --with, and as a spreadsheet saves it as CSV. --roster PROGRAM, or the variable DESK_ROSTER, names
-another program than the one of this repository. The status is that of roster: 0 for done, 1 for a refused input,
-2 for a wrong command line, 3 for a failed read or write, and 4 for too little memory.
-
---asks names a text of lines such as 'absent Ann 0:Mon 1:Sun' (she can't work on these days), 'gone Ann 2:Mon 3:Sun'
-(nor has she a contract then), 'off Ann 2:Sat 2:Sun' (she asks to be off), 'pin Ann 0:Mon 0:Wed..0:Fri' (she does what
-the roster says now) and 'need 2:Thu Night Trainee 1' (that day's minimum is 1); after a line such as
-'start 2026-11-02' days may be dates. An absence is a hard rule: a roster in which Ann works then is refused, and
-'improve --plan' looks for another. 'off' and 'pin' become off requests and wishes of 10 points each. All of it is in the
-week data that 'weeks' writes and in all totals. Where a roster fails it is told."""
-
-IMPROVE = """
-
-After each round the file is replaced at once, so that Ctrl-C leaves the roster of the last whole round. At the end
-it has the very bytes of one run of 'roster improve'. With --polish it has those of one run of 'roster polish' with
-as many searches and that seed, or a cheaper roster. Such a run writes nothing before its end, nor on Ctrl-C; so
-slices of polish go on beside it, from the roster in the file, and each that is cheaper is kept. The log has a line
-for each cheaper roster; it goes to standard error, and on a terminal it is one line that changes. Where something
-else writes the file meanwhile, that stays, and the roster is kept beside it. How many days change is no part of the
-penalty, and can't be kept small by it; it is told at the end, and by 'costs --with'.
-
-Where the roster in the file costs what a floor by --bound is, no roster that keeps the hard rules and the frozen days
-costs less. It is optimal, and the run ends: no further round is made, and runs of polish that go on are left.
-
-With --plan the roster given may break minimums, successions and absences on days that may change, and --sols may be
-left out: then nobody works yet. In the place of the rounds 'roster plan' looks for a roster that keeps the hard rules,
-with few searches and then with ever more, up to those that --polish says or as --seconds leaves time for. The log's
-line 'missing M' tells how many nurses the minimums miss before, absent ones aside. --polish and --seconds go on from
-that roster. Days that no roster can staff are told before it is looked for, with the minimums to lower.
-
-The file of --log ends with a line each for the time in seconds, for the searches of runs that ended, the floor and the
-seed where there are any, and for the version of roster. A file of --out or --log that is neither empty nor such a
-roster or log is replaced by --force alone."""
-
-
-CHECK = """
-
-What is taken, and hardly meant, is a warning, and leaves the status 0. The solutions may be left out: then the texts
-are those of a roster to come, and days that no roster can staff are told."""
-
-WEEKS = """
-
-Where somebody is gone, the scenario is written as well, with a contract of her own: PREFIX-scenario.txt."""
-
-NEXT = """
-
-The history has for each nurse the last shift and the runs that go on: of that shift, of working days or of days off.
-The totals, assignments and worked weekends, are 0, as where the competition begins: there a contract's limits hold for
-the weeks of one roster. With --carry they are those up to now, for a contract whose limits hold for longer."""
 
 # So many seeds are taken at once.
 MOST_SEEDS = 1000
@@ -91,6 +32,11 @@ def start_in(word: str) -> datetime.date:
         return monday_in(word)
     except DeskError as why:
         raise argparse.ArgumentTypeError(str(why)) from None
+
+
+def since_in(word: str) -> str:
+    """Reads the first week that may change, or the day that is today: that is looked up once the first Monday is known."""
+    return word if is_day(os.fsencode(word)) and ".." not in word else str(number_in(0, 52)(word))
 
 
 def seeds_in(word: str) -> list[int]:
@@ -132,7 +78,10 @@ def with_files(parser: argparse.ArgumentParser) -> None:
     for kind in KINDS:
         count = 1 if kind in ("sce", "his") else "+"
         files.add_argument(f"--{kind}", nargs=count, action="extend", metavar="FILE", help=told[kind])
-    parser.add_argument("--asks", metavar="FILE", help="absences, pins and needs (below)")
+    parser.add_argument("--asks", metavar="FILE", help="absences, duties, needs and the like (below)")
+    parser.add_argument(
+        "--start", type=start_in, metavar="DATE", help="the Monday of week 0, as 2026-11-02: days may be dates, and dates are shown"
+    )
     parser.add_argument("--roster", metavar="PROGRAM", help="the program roster, where it isn't that of this repository")
 
 
@@ -146,12 +95,9 @@ def with_other(parser: argparse.ArgumentParser, told: str) -> None:
     )
 
 
-def with_start(parser: argparse.ArgumentParser) -> None:
-    parser.add_argument("--start", type=start_in, metavar="DATE", help="the Monday of week 0, as 2026-11-02: dates are shown")
-
-
 def with_first_week(parser: argparse.ArgumentParser, told: str) -> None:
-    parser.add_argument("--from", dest="first_week", type=number_in(0, 52), default=0, metavar="V", help=told)
+    more = f"{told}; a day, as 1:Wed, or its date names its week, and is 'today' as by a line of --asks"
+    parser.add_argument("--from", dest="since", type=since_in, default="0", metavar="V", help=more)
 
 
 def command(
@@ -187,6 +133,13 @@ def add_improve(commands: typing.Any) -> None:
         action="store_true",
         help="in the place of rounds, ask 'roster plan' for a roster that keeps the hard rules, whatever the one given breaks",
     )
+    parser.add_argument(
+        "--few",
+        action="store_true",
+        help="repair the roster by as few changed days as are found: it may break what --plan may, and the rosters beside are told",
+    )
+    told = "each day on which a nurse has another shift than in the roster given, or is off, costs N more, 0 to 100"
+    parser.add_argument("--keep", type=number_in(0, 100), metavar="N", help=told)
     with_first_week(parser, "the days before week V stay as they are")
     parser.add_argument(
         "--bound",
@@ -241,12 +194,28 @@ def add_looks(commands: typing.Any) -> None:
     told = "lists the days that are other in a second roster, by nurse, as old > new"
     it = command(commands, "changes", does.run_changes, told)
     with_other(it, "the new one")
-    with_start(it)
-    it.set_defaults(first_week=0)
     with_files(it)
     it = command(commands, "why", does.run_why, "tells what it would cost to meet a nurse's request")
     it.add_argument("nurse", metavar="NURSE", help="the nurse")
     it.add_argument("day", metavar="DAY", help="the week and the day, as 0:Mon")
+    with_files(it)
+
+
+def add_shifts(commands: typing.Any) -> None:
+    """The commands on single shifts: who may take them, and what a swap of days is worth."""
+    it = command(commands, "who", does.run_who, "tables who may take the shifts that are open, or says why nobody may", WHO)
+    it.add_argument(
+        "--shift", action="append", metavar="'DAYS SHIFT [SKILL]'", help="an open shift, as '1:Wed Late Caretaker'; may be given again"
+    )
+    with_first_week(it, "the weeks before V are frozen")
+    with_files(it)
+    told = "says what a swap of two nurses' days breaks and costs, and writes the roster with it"
+    it = command(commands, "swap", does.run_swap, told, SWAP, {"out": "roster"})
+    it.add_argument("nurse", metavar="A", help="a nurse")
+    it.add_argument("other_nurse", metavar="B", help="another one")
+    it.add_argument("day", metavar="DAYS", help="the days, as 1:Tue 1:Fri or 1:Tue..1:Thu")
+    it.add_argument("--out", metavar="FILE", help="the file of the roster with the swap")
+    with_first_week(it, "the weeks before V are frozen")
     with_files(it)
 
 
@@ -256,7 +225,6 @@ def add_pages(commands: typing.Any) -> None:
     it = command(commands, "page", does.run_page, told, writes={"out": "page"})
     with_other(it, "it is shown, with what changed")
     with_first_week(it, "the weeks before V are frozen")
-    with_start(it)
     it.add_argument("--title", metavar="TEXT", help="what stands above it; else the name of the scenario")
     it.add_argument("--notice", action="store_true", help="for the wall: without penalties, minimums and requests")
     it.add_argument("--nurse", metavar="NAME", help="the month of this nurse alone")
@@ -266,7 +234,6 @@ def add_pages(commands: typing.Any) -> None:
     with_files(it)
     told = "writes the roster as CSV: a line for each nurse, and a column for each day"
     it = command(commands, "csv", does.run_csv, told, writes={"out": "table of the desk"})
-    with_start(it)
     with_out(it)
     with_files(it)
     told = "writes a nurse's shifts as a calendar, or all nurses' with --all"
@@ -276,7 +243,6 @@ def add_pages(commands: typing.Any) -> None:
     it.add_argument(
         "--time", action="append", metavar="TIMES", help="when a shift is, as Night=21:30-06:30; else it takes the whole day"
     )
-    with_start(it)
     with_out(it)
     with_files(it)
 
@@ -327,6 +293,7 @@ def parser_of() -> argparse.ArgumentParser:
     told = "tells all that is wrong with the texts, each with its file, line and word"
     with_files(command(commands, "check", does.run_check, told, CHECK))
     add_looks(commands)
+    add_shifts(commands)
     add_pages(commands)
     add_improve(commands)
     add_texts(commands)
@@ -344,6 +311,7 @@ def run(words: list[str]) -> int:
     # (files after an option are files, too)
     asked.files += more
     given.check_written(asked)
+    given.settle(asked)
     return asked.run(asked, program.find(asked.roster))
 
 

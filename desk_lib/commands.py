@@ -3,10 +3,12 @@ import argparse
 import os
 import time
 
-from desk_lib import asks, breaches, calendar_file, check, floor, grid, improve, next_month, outputs, page, plot, polish
-from desk_lib import program, replacing, shortage, split, tables, views
+from desk_lib import asked_texts, breaches, calendar_file, check, floor, grid, improve, near, next_month, outputs, page
+from desk_lib import plot, polish, program, replacing, shortage, split, swap, tables, views, who
 from desk_lib.costs import Costing
-from desk_lib.given import SOLUTIONS, asks_of, both_plans, costings, files_read, texts_of, write, write_bytes, write_text
+from desk_lib.days import day_in
+from desk_lib.given import SOLUTIONS, asks_of, both_plans, costings, files_read, texts_of, told_asks, write, write_bytes
+from desk_lib.given import write_text
 from desk_lib.model import Plan
 from desk_lib.program import Program
 from desk_lib.sheet import Sheet
@@ -15,13 +17,13 @@ from desk_lib.why import nurse_in, why_lines
 
 
 def run_check(asked: argparse.Namespace, roster: Program) -> int:
-    lines, status = check.check(roster, texts_of(asked), lambda plan: asks_of(asked, plan))
+    lines, status = check.check(roster, texts_of(asked), lambda plan: told_asks(asked, plan))
     write(lines)
     return status
 
 
 def run_costs(asked: argparse.Namespace, roster: Program) -> int:
-    if asked.first_week and not asked.bound:
+    if asked.since != "0" and not asked.bound:
         raise DeskError("--from: this is of the floor; ask for it by --bound", 2)
     pairs = both_plans(asked, roster)
     *before, costing = costings(asked, roster, pairs, asked.other is not None)
@@ -31,7 +33,7 @@ def run_costs(asked: argparse.Namespace, roster: Program) -> int:
         program.warn(line)
     if broken:
         program.warn(f"so the first roster breaks {plural(len(broken), 'hard rule')}, which no cost has a part of")
-    told = [] if least is None else floor.lines(costing.totals_by_rule()["total"], least, asked.first_week)
+    told = [] if least is None else floor.lines(costing.totals_by_rule()["total"], least, has_frozen(asked, costing.plan))
     write([tables.json_text(costing, old, least)] if asked.json else [*tables.cost_lines(costing, old), *told])
     return 0
 
@@ -79,13 +81,19 @@ def run_csv(asked: argparse.Namespace, roster: Program) -> int:
 def run_why(asked: argparse.Namespace, roster: Program) -> int:
     pairs = both_plans(asked, roster)
     [costing] = costings(asked, roster, pairs)
-    write(why_lines(roster, pairs[0][0], costing, asked.nurse, asked.day))
+    day = day_in(os.fsencode(asked.day), costing.case.weeks, asked.start)
+    write(why_lines(roster, pairs[0][0], costing, asked.nurse, day))
     return 0
 
 
 def floor_of(asked: argparse.Namespace, roster: Program, texts: Texts) -> int | None:
     """The floor by `bound`, where one is asked for."""
     return floor.found_by(roster, texts, asked.first_week)[1] if asked.bound else None
+
+
+def has_frozen(asked: argparse.Namespace, plan: Plan) -> bool:
+    """Whether some days are frozen."""
+    return bool(asked.first_week or plan.case.fixed)
 
 
 def check_search(asked: argparse.Namespace) -> None:
@@ -103,22 +111,41 @@ def check_search(asked: argparse.Namespace) -> None:
         raise DeskError("--rounds: with --plan there are no rounds; leave one of the two out", 2)
 
 
+def check_near(asked: argparse.Namespace) -> None:
+    """Refuses options that --few and --keep leave no place for."""
+
+    def leave(told: str, *options: str) -> None:
+        given = [f"--{it}" for it in options if getattr(asked, it) not in (None, False)]
+        if given:
+            raise DeskError(f"{told}; leave {' and '.join(given)} out", 2)
+
+    if asked.few:
+        leave("--few: it asks 'roster plan' with several --keep, by one seed", "plan", "rounds", "keep", "bound", "seeds", "slice")
+    if asked.keep is not None:
+        told = "--keep: changes count from the roster given, so there is one run of roster"
+        leave(f"{told}, by one seed, and no floor", "bound", "seeds", "slice")
+        if asked.seconds is not None and not asked.plan:
+            raise DeskError(f"{told}; say how long by --polish or --rounds, or look by --plan", 2)
+
+
 def run_improve(asked: argparse.Namespace, roster: Program) -> int:
     check_search(asked)
+    check_near(asked)
     end = None if asked.seconds is None else time.monotonic() + asked.seconds
     [(texts, plan)] = both_plans(asked, roster)
-    for it in ["plan"] * asked.plan + ["polish"] * (asked.polish is not None or end is not None):
+    for it in ["plan"] * (asked.plan or asked.few) + ["polish"] * (asked.polish is not None or end is not None):
         roster.must_know(it)
     if asked.first_week >= plan.case.weeks:
         told = f"--from {asked.first_week}: the roster has {plural(plan.case.weeks, 'week')}, so all days are frozen"
         program.warn(f"{told}, and nothing can change")
-    if asked.plan:
+    if asked.plan or asked.few:
         check_shortages(plan, asked.first_week)
     run = run_of(asked, roster, texts, plan)
-    seeds = asked.seeds or [1 if asked.seed is None else asked.seed]
+    seeds, told = asked.seeds or [1 if asked.seed is None else asked.seed], []
     wanted = asks_of(asked, plan)
-    improve.finish(run, seeds, lambda: search(asked, run, seeds, end, len(plan.case.nurses)))
-    for line in wanted.failed(program.plan_in(run.texts()).roster) if wanted else ():
+    improve.finish(run, seeds, lambda: told.extend(search(asked, run, seeds, end)))
+    failed = wanted.failed(program.plan_in(run.texts()).roster) if wanted else []
+    for line in [*told, *failed]:
         program.warn(line)
     return 0
 
@@ -136,24 +163,56 @@ def check_shortages(plan: Plan, first_week: int) -> None:
 
 def run_of(asked: argparse.Namespace, roster: Program, texts: Texts, plan: Plan) -> improve.Run:
     """A run that begins with the roster of the texts."""
-    before, progress = texts.before(plan.solutions_offset(), []), improve.Progress(asked.log, floor.Sought(asked.first_week))
-    run = improve.Run(roster, before, texts.joined[plan.solutions_offset() :], asked.out, progress)
+    sought = floor.Sought(asked.first_week, has_frozen(asked, plan))
+    run = improve.Run(roster, plan, texts, asked.out, improve.Progress(asked.log, sought), asked.keep)
     for it in texts.texts:
         if outputs.identity(it.name) == outputs.identity(asked.out):
             # (it may have changed since it was read)
-            run.there = it.given
+            run.there = it.read
     return run
 
 
-def search(asked: argparse.Namespace, run: improve.Run, seeds: list[int], end: float | None, nurses: int) -> None:
-    """All that `improve` makes, one after the other, of so many nurses."""
+def search(asked: argparse.Namespace, run: improve.Run, seeds: list[int], end: float | None) -> list[str]:
+    """All that `improve` makes, one after the other; returns what is told at the end."""
+    if asked.few:
+        return near.repair(run, asked.polish, seeds[0], end)
+    rounds = 100 if asked.rounds is None else asked.rounds
     if asked.plan:
         run.plan(asked.polish, seeds[0], end)
+    elif asked.keep is not None and asked.polish is not None:
+        run.whole(["polish", "--searches", str(asked.polish), "--seed", str(seeds[0])])
+    elif asked.keep is not None:
+        run.whole(["improve", "--rounds", str(rounds)])
+    if asked.keep is not None:
+        return [near.told(run)]
     is_optimal = asked.bound and run.seek_floor(asked.seconds)
     if not asked.plan:
-        run.rounds(0 if is_optimal else 100 if asked.rounds is None else asked.rounds, end)
+        run.rounds(0 if is_optimal else rounds, end)
     if asked.polish is not None or end is not None:
-        polish.go_on(run, polish.Course(asked.polish, seeds, asked.slice, end, nurses))
+        polish.go_on(run, polish.Course(asked.polish, seeds, asked.slice, end, len(run.start.case.nurses)))
+    return []
+
+
+def run_who(asked: argparse.Namespace, roster: Program) -> int:
+    roster.must_know("who")
+    [(texts, plan)] = both_plans(asked, roster)
+    write(who.who_lines(asked, roster, texts, plan))
+    return 0
+
+
+def run_swap(asked: argparse.Namespace, roster: Program) -> int:
+    if asked.out == "-":
+        raise DeskError("--out -: the roster goes into a file, and what is told to standard output; give the name of a file", 2)
+    words = swap.days_of(asked)
+    [(texts, plan)] = both_plans(asked, roster)
+    swapped = swap.swap_of(asked, roster, texts, plan, words)
+    write(swapped.lines())
+    refused = swap.refused(swapped, asked.out)
+    if refused:
+        raise refused
+    if asked.out:
+        swapped.write(asked.out)
+    return 0
 
 
 def run_history(asked: argparse.Namespace, roster: Program) -> int:
@@ -221,11 +280,11 @@ def run_weeks(asked: argparse.Namespace, roster: Program) -> int:
     texts = texts_of(asked)
     plan = program.taken(roster, texts)
     names, scenario = split.names(asked.prefix, plan.case.weeks), f"{asked.prefix}-scenario.txt"
-    wanted = asks_of(asked, plan)
+    wanted = told_asks(asked, plan)
     check_prefix(asked, [*names, *([scenario] if wanted and wanted.gone else [])])
     if not wanted:
         raise DeskError("weeks: --asks names the text of absences and pins", 2)
-    write(shown(it) for it in asks.write_weeks(roster, wanted, texts, names, scenario))
+    write(shown(it) for it in asked_texts.write_weeks(roster, wanted, texts, names, scenario))
     return 0
 
 

@@ -5,7 +5,7 @@ import difflib
 import functools
 
 from desk_lib.grammar import Words
-from desk_lib.texts import Place, shown
+from desk_lib.texts import DeskError, Place, shown
 
 
 @dataclasses.dataclass(frozen=True)
@@ -45,6 +45,14 @@ def nearest(word: bytes, known: collections.abc.Iterable[bytes]) -> str:
     """A clause that names the known words like this one, if there are any."""
     found = nearest_names(word, frozenset(known))
     return f"; nearest: {', '.join(found)}" if found else ""
+
+
+def numbered(what: str, word: bytes, names: list[bytes]) -> int:
+    """The number of a name of the scenario: of a nurse, a shift or a skill."""
+    if word not in names:
+        like = nearest(word, names) or ("" if what == "nurse" else f"; it has {', '.join(map(shown, names))}")
+        raise DeskError(f"the scenario has no {what} '{shown(word)}'{like}", 2)
+    return names.index(word)
 
 
 def also(count: int) -> str:

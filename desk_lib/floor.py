@@ -16,20 +16,20 @@ def number_of(line: bytes) -> int:
     return int(line.split(b" ")[-1])
 
 
-def optimal(first_week: int) -> str:
-    """What is proved of a roster that costs what the floor is."""
-    frozen = " and the frozen days" if first_week else ""
+def optimal(is_frozen: bool) -> str:
+    """What is proved of a roster that costs what the floor is; whether there are frozen days."""
+    frozen = " and the frozen days" if is_frozen else ""
     return f"optimal: no roster that keeps the hard rules{frozen} costs less"
 
 
-def told(total: int, floor: int, first_week: int) -> str:
+def told(total: int, floor: int, is_frozen: bool) -> str:
     """How a roster of this cost stands to a floor, in words."""
-    return optimal(first_week) if total == floor else f"{total - floor} above the floor {floor}"
+    return optimal(is_frozen) if total == floor else f"{total - floor} above the floor {floor}"
 
 
-def lines(total: int | None, floor: int, first_week: int) -> list[str]:
+def lines(total: int | None, floor: int, is_frozen: bool) -> list[str]:
     """The floor, and of a roster of this cost that it is optimal, where it is."""
-    return [f"floor {floor}", *[optimal(first_week)] * (total == floor)]
+    return [f"floor {floor}", *[optimal(is_frozen)] * (total == floor)]
 
 
 def words_of(first_week: int) -> list[str]:
@@ -48,8 +48,9 @@ def found_by(
 class Sought:
     """A floor that is looked for, as far as it is known by now."""
 
-    def __init__(self, first_week: int):
-        self.first_week = first_week
+    def __init__(self, first_week: int, is_frozen: bool):
+        """The days before a week are frozen; and whether there are frozen days at all."""
+        self.first_week, self.is_frozen = first_week, is_frozen
         self.known: int | None = None
         # (the run of `bound` beside a search)
         self.beside: Running | None = None
@@ -91,7 +92,7 @@ class Sought:
         floor = self.floor
         if floor is None:
             return ", no floor was found in the time for it" if self.is_wanted and not self.beside else ""
-        return f", {told(total, floor, self.first_week)}"
+        return f", {told(total, floor, self.is_frozen)}"
 
     def short_clause(self, total: int) -> str:
         """The same for a line that has no room for more."""
@@ -100,7 +101,7 @@ class Sought:
     def lines(self, total: int | None) -> list[str]:
         """The last lines of a log on a floor, and on a roster of this cost where there is one."""
         floor = self.floor
-        return [] if floor is None else lines(total, floor, self.first_week)
+        return [] if floor is None else lines(total, floor, self.is_frozen)
 
     def close(self) -> None:
         """Ends what goes on beside the search."""

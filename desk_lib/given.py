@@ -1,12 +1,16 @@
 """What a command works on, out of the words of the command line: the files, the plans and their costs; and where it writes."""
 import argparse
+import dataclasses
 import errno
 import os
 import sys
 import typing
 
-from desk_lib import asks, breaches, check, outputs, program, replacing, table_in
+from desk_lib import breaches, check, outputs, program, replacing, table_in
+from desk_lib.asked_texts import Asked
+from desk_lib.asks import Asks, start_in
 from desk_lib.costs import Costing
+from desk_lib.days import DATE, day_of
 from desk_lib.grammar import WORD
 from desk_lib.model import Plan, with_no_solutions
 from desk_lib.program import Program
@@ -143,9 +147,32 @@ def from_input() -> Texts:
         raise DeskError("standard input: read failed; name the files", 3) from why
 
 
-def asks_of(asked: argparse.Namespace, plan: Plan) -> asks.Asks | None:
-    """The absences and pins, where they are given."""
-    return asks.Asks(read_file(asked.asks), plan) if asked.asks else None
+def settle(asked: argparse.Namespace) -> None:
+    """Reads the text of asks, and what days are named by: the first Monday, which a line of it may say, and --from, which may name
+    a week or a day of it."""
+    asked.text = read_file(asked.asks) if asked.asks else Text("--from", b"")
+    asked.start = start_in(asked.text, asked.start)
+    word = os.fsencode(getattr(asked, "since", "0"))
+    asked.today = b"" if word.isdigit() else word
+    if DATE.fullmatch(word) and not asked.start:
+        raise DeskError(f"--from {shown(word)}: this is a date; name the Monday of week 0 by --start, or the day as 1:Wed", 2)
+    try:
+        asked.first_week = max(0, day_of(word, asked.start)) // 7 if asked.today else int(word)
+    except DeskError as why:
+        raise DeskError(f"--from {shown(word)}: {why}", 2) from None
+
+
+def asks_of(asked: argparse.Namespace, plan: Plan) -> Asks | None:
+    """What is asked for, by a text or by --from."""
+    return Asks(asked.text, plan, asked.start, asked.today) if asked.asks or asked.today else None
+
+
+def told_asks(asked: argparse.Namespace, plan: Plan) -> Asks | None:
+    """As `asks_of`; how many days were read of each is told."""
+    wanted = asks_of(asked, plan)
+    for line in wanted.answers if wanted else ():
+        program.warn(line)
+    return wanted
 
 
 def both_plans(asked: argparse.Namespace, roster: Program) -> list[tuple[Texts, Plan]]:
@@ -154,16 +181,16 @@ def both_plans(asked: argparse.Namespace, roster: Program) -> list[tuple[Texts, 
     The last is the one to show. What is wrong with it beside what the program tells comes on standard error."""
     texts, other = texts_of(asked), getattr(asked, "other", None)
     found = [(texts, program.taken(roster, texts))]
-    wanted = asks_of(asked, found[0][1])
+    wanted = told_asks(asked, found[0][1])
     if wanted:
-        texts = wanted.added_to(texts)
-        found = [(texts, program.taken(roster, texts))]
+        texts = Asked(wanted).added_to(texts)
+        found = [(texts, dataclasses.replace(program.taken(roster, texts), of_files=found[0][1].roster))]
     if other:
         found.append(with_second(roster, *found[0], other))
     for it, plan in found:
         for wrong in check.out_of_place(plan.words, plan.bundle.solutions):
             program.warn(f"{wrong.place}: {wrong.message}")
-    if wanted and asked.command != "improve":
+    if wanted and asked.command not in ("improve", "who"):
         for line in wanted.failed(found[-1][1].roster):
             program.warn(line)
     return found

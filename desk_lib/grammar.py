@@ -227,6 +227,7 @@ def request_line(cursor: Cursor) -> Line:
 
 
 def absence_line(cursor: Cursor) -> Line:
+    """A nurse and a day, of an absence or of a day that is fixed."""
     return cursor.name(), cursor.day()
 
 
@@ -257,17 +258,18 @@ READERS: dict[bytes, Reader] = {
     b"SHIFT_OFF_REQUESTS": counted("SHIFT_OFF_REQUESTS", request_line),
     b"SHIFT_ON_REQUESTS": counted("SHIFT_ON_REQUESTS", request_line),
     b"ABSENCES": counted("ABSENCES", absence_line),
+    b"FIXED": counted("FIXED", absence_line),
     b"SOLUTION": solution_head,
     b"ASSIGNMENTS": counted("ASSIGNMENTS", assignment_line),
 }
 SECTIONS_OF = {
     "scenario": b"SCENARIO WEEKS SKILLS SHIFT_TYPES FORBIDDEN_SHIFT_TYPES_SUCCESSIONS CONTRACTS NURSES".split(),
     "history": b"HISTORY NURSE_HISTORY".split(),
-    "week data": b"WEEK_DATA REQUIREMENTS SHIFT_OFF_REQUESTS SHIFT_ON_REQUESTS ABSENCES".split(),
+    "week data": b"WEEK_DATA REQUIREMENTS SHIFT_OFF_REQUESTS SHIFT_ON_REQUESTS ABSENCES FIXED".split(),
     "solution": b"SOLUTION ASSIGNMENTS".split(),
 }
 # Those that may be absent.
-OPTIONAL = {b"SHIFT_ON_REQUESTS", b"ABSENCES"}
+OPTIONAL = {b"SHIFT_ON_REQUESTS", b"ABSENCES", b"FIXED"}
 # A part that was read: its sections by their keywords.
 Part = dict[bytes, Section]
 

@@ -67,7 +67,7 @@ class Grid:
         return self.paint(text, code) + " " * (self.day - len(text))
 
     def heads(self, weeks: range) -> list[str]:
-        titles = [f"week {it}{', frozen' if it < self.sheet.first_week else ''}" for it in weeks]
+        titles = [", ".join(filter(None, [f"week {it}", self.sheet.frozen_part(it)])) for it in weeks]
         days = [self.padded(it.decode()[:2], BOLD if number > 4 else "") for number, it in enumerate(DAYS)]
         return [self.line("", [[cut(it, 7 * self.day)] for it in titles]), self.line("", [days] * len(weeks))]
 

@@ -6,8 +6,10 @@ import sys
 import time
 import typing
 
+from reckoning import moved_days
+
 from desk_lib.floor import Sought, number_of, words_of
-from desk_lib.model import changed_days
+from desk_lib.model import Plan, changed_days
 from desk_lib.program import Answer, Program, costs_by, plan_in, refusal
 from desk_lib.replacing import Replacement, bytes_of, keep_beside, read_back
 from desk_lib.signals import Interrupted, held_back, within_time
@@ -85,11 +87,13 @@ class Progress:
 class Run:
     """A run of the improver, whose roster is always in the file."""
 
-    def __init__(self, roster: Program, before: Texts, solutions: bytes, out: str, progress: Progress):
-        """`before` has all texts but the solutions."""
-        self.roster, self.before, self.solutions = roster, before, solutions
-        self.out, self.progress, self.sought = out, progress, progress.sought
-        self.first_week = words_of(self.sought.first_week)
+    def __init__(self, roster: Program, plan: Plan, texts: Texts, out: str, progress: Progress, keep: int | None = None):
+        """It begins with the plan of these texts. By `keep`, each day with another shift costs so much more."""
+        at = plan.solutions_offset()
+        self.roster, self.start, self.before, self.solutions = roster, plan, texts.before(at, []), texts.joined[at:]
+        self.out, self.progress, self.sought, self.keep = out, progress, progress.sought, keep
+        # (what each run of the program is told)
+        self.words = [*words_of(self.sought.first_week), *([] if keep is None else ["--keep", str(keep)])]
         # (the last line of the last log; and what the file has: what it costs, and after what)
         self.given, self.end, self.total, self.saved = self.texts(), b"", 0, ""
         # (what `polish` begins with; and what is told where nothing was put into the file)
@@ -107,19 +111,25 @@ class Run:
 
     def save(self, solutions: bytes, total: int, what: str) -> None:
         """Replaces the file, once the roster has been read back and costs what the log says."""
-        told = costs_by(self.roster, Texts([*self.before.texts, Text(self.out, solutions)]))["total"]
-        if told != total:
+        texts = Texts([*self.before.texts, Text(self.out, solutions)])
+        told, kept = costs_by(self.roster, texts)["total"], self.kept(texts)
+        if told != total - kept:
             raise DeskError(
                 (
-                    f"the log says {total}, and 'roster cost' {told}; {shown(self.out)} isn't replaced. This is a fault of"
+                    f"the log says {total}{f' less {kept} by --keep' if kept else ''}, and 'roster cost' {told};"
+                    f" {shown(self.out)} isn't replaced. This is a fault of"
                     " the desk"
                 ),
                 3,
             )
         with held_back(), read_back(self.roster, self.before, solutions, [(self.out, solutions)]) as (new,):
-            self.look(solutions, f"after {what}, which costs {total}")
+            self.look(solutions, f"after {what}, which costs {told}")
             new.put()
-            self.solutions, self.there, self.total, self.saved = solutions, solutions, total, what
+            self.solutions, self.there, self.total, self.saved = solutions, solutions, told, what
+
+    def kept(self, texts: Texts) -> int:
+        """What --keep adds in a log to the penalty of a roster."""
+        return self.keep * moved_days(self.start.roster, plan_in(texts).roster) if self.keep else 0
 
     def look(self, solutions: bytes, told: str) -> None:
         """Looks whether the file has what this run has put there, or what was there before. Else keeps the roster beside."""
@@ -143,8 +153,7 @@ class Run:
 
     def changes(self) -> str:
         """On how many days the roster is another than the one that was given."""
-        count = changed_days(plan_in(self.given).roster, plan_in(self.texts()).roster)
-        return f"{plural(count, 'day')} changed"
+        return f"{plural(changed_days(self.start.before, plan_in(self.texts()).roster), 'day')} changed"
 
     def told(self) -> str:
         return f"after {self.saved}, which costs {self.total}"
@@ -199,10 +208,16 @@ class Run:
         """Makes one round, or none."""
         began = time.monotonic()
         answer = self.roster.ask(
-            ["improve", "--rounds", str(count), *self.first_week], self.texts(), lambda it: self.tell(it, number)
+            ["improve", "--rounds", str(count), *self.words], self.texts(), lambda it: self.tell(it, number)
         )
         self.round_seconds.append(time.monotonic() - began)
         self.save(answer.output, number_of(answer.end()), f"round {number}" if count else "no round")
+        self.end = answer.end()
+
+    def whole(self, words: list[str]) -> None:
+        """Makes one run of the program from the roster given: by --keep, no run may go on from another one."""
+        answer = self.roster.ask([*words, *self.words], self.given, self.progress.line)
+        self.save(answer.output, number_of(answer.end()), words[0])
         self.end = answer.end()
 
     # ---- a roster of `plan`
@@ -228,7 +243,7 @@ class Run:
         self.progress.show_word("a roster that keeps the hard rules is looked for")
         for searches in counts:
             of_searches = [] if searches is None else ["--searches", str(searches)]
-            words = ["plan", "--seed", str(seed), *of_searches, *self.first_week]
+            words = ["plan", "--seed", str(seed), *of_searches, *self.words]
             answer = self.roster.call(words, self.given.joined)
             self.searches += self.unsaid() if searches is None else searches
             if answer.status == 0:
@@ -240,7 +255,7 @@ class Run:
 
     def unsaid(self) -> int:
         """How many searches the program takes where it isn't told how many."""
-        return max(SEARCHES_OF_A_NURSE * len(plan_in(self.given).case.nurses), LEAST_SEARCHES)
+        return max(SEARCHES_OF_A_NURSE * len(self.start.case.nurses), LEAST_SEARCHES)
 
     def tell(self, line: bytes, number: int) -> None:
         """Passes on a line of a round's log, with the number of that round."""

@@ -1,15 +1,11 @@
 """The case and the roster of texts that the program takes. Names are bytes, as they stand there."""
 import collections.abc
 import dataclasses
-import datetime
-import re
 
-from reckoning import Case, History, Limits, Nurse, Shift
+from reckoning import Case, History, Limits, Nurse, Shift, without_absent_work
 
-from desk_lib.grammar import ANY, DAY_OF, DAYS, Bundle, Cursor, Fault, Part, Words, read_part
-from desk_lib.texts import DeskError, Text, Texts, plural, shown
-
-DAY = re.compile(rb"(\d{1,3}):([A-Za-z]+)")
+from desk_lib.grammar import ANY, DAYS, Bundle, Cursor, Fault, Part, Words, read_part
+from desk_lib.texts import Text, Texts, shown
 
 # In the place of a file, and of an option: solutions in which nobody works.
 NO_SOLUTIONS = "no solutions"
@@ -28,6 +24,13 @@ class Plan:
     roster: Roster
     words: Words
     bundle: Bundle
+    # (the roster of the files, where duties were put into it since)
+    of_files: Roster | None = None
+
+    @property
+    def before(self) -> Roster:
+        """The roster of the files."""
+        return self.of_files or self.roster
 
     @property
     def days(self) -> int:
@@ -94,9 +97,9 @@ def requests_of(names: Numbers, weeks: list[Part], keyword: bytes) -> set[tuple[
     return found
 
 
-def absences_of(names: Numbers, weeks: list[Part]) -> set[tuple[int, int]]:
-    """The absences of all weeks: the nurse and the day."""
-    lines = [(week, line) for week, part in enumerate(weeks) if b"ABSENCES" in part for line in part[b"ABSENCES"].lines]
+def days_of(names: Numbers, weeks: list[Part], keyword: bytes) -> set[tuple[int, int]]:
+    """The absences of all weeks, or the fixed days: the nurse and the day."""
+    lines = [(week, line) for week, part in enumerate(weeks) if keyword in part for line in part[keyword].lines]
     return {(names.nurse(nurse), 7 * week + day) for week, (nurse, day) in lines}
 
 
@@ -127,48 +130,10 @@ def plan_of(words: Words, bundle: Bundle) -> Plan:
         needs=needs_of(names, bundle.weeks),
         requests=requests_of(names, bundle.weeks, b"SHIFT_OFF_REQUESTS"),
         wishes=requests_of(names, bundle.weeks, b"SHIFT_ON_REQUESTS"),
-        absences=absences_of(names, bundle.weeks),
+        absences=days_of(names, bundle.weeks, b"ABSENCES"),
+        fixed=days_of(names, bundle.weeks, b"FIXED"),
     )
     return Plan(case, roster_of(names, bundle.solutions), words, bundle)
-
-
-def day_name(day: int) -> str:
-    return DAYS[day % 7].decode()
-
-
-def day_place(day: int) -> str:
-    return f"week {day // 7} {day_name(day)}"
-
-
-def date_in(word: str) -> datetime.date:
-    """The date that a word names."""
-    try:
-        return datetime.date.fromisoformat(word)
-    except ValueError:
-        raise DeskError(f"'{shown(word)}' is no date, as 2026-11-02", 2) from None
-
-
-def monday_in(word: str) -> datetime.date:
-    """The Monday that a word names."""
-    date = date_in(word)
-    if date.weekday():
-        monday = date - datetime.timedelta(date.weekday())
-        raise DeskError(f"{word} is no Monday, on which weeks begin; that of its week is {monday}", 2)
-    return date
-
-
-def day_in(word: bytes, weeks: int, start: datetime.date | None = None) -> int:
-    """The day that a word names, as 0:Mon, or by its date where the first Monday is known."""
-    told = DAY.fullmatch(word)
-    if told and told[2] in DAY_OF:
-        day = 7 * int(told[1]) + DAY_OF[told[2]]
-    elif start and word[:4].isdigit():
-        day = (date_in(shown(word)) - start).days
-    else:
-        raise DeskError(f"'{shown(word)}' stands here, and a day is due, as 0:Mon", 2)
-    if not 0 <= day < 7 * weeks:
-        raise DeskError(f"'{shown(word)}': the scenario has {plural(weeks, 'week')}, and they count from 0", 2)
-    return day
 
 
 def choice_name(case: Case, choice: Choice) -> str:
@@ -179,6 +144,16 @@ def choice_name(case: Case, choice: Choice) -> str:
 def changed_days(before: Roster, after: Roster) -> int:
     """On how many days of all nurses two rosters differ."""
     return sum(was != now for rows in zip(before, after) for was, now in zip(*rows))
+
+
+def changed_nurses(before: Roster, after: Roster) -> int:
+    """How many nurses have another row."""
+    return sum(was != now for was, now in zip(before, after))
+
+
+def without_absent(plan: Plan) -> Roster:
+    """The roster of a plan in which those who are absent don't come."""
+    return without_absent_work(plan.case, plan.roster)
 
 
 def solution_pieces(case: Case, roster: Roster) -> collections.abc.Iterator[tuple[bytes, tuple[int, int] | None]]:

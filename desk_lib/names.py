@@ -116,8 +116,9 @@ class Names:
             for nurse, shift, _ in self.lines(part, keyword):
                 self.look_up(nurse, self.nurses, "nurse")
                 self.look_up(shift, {*self.shifts, ANY}, "shift")
-        for nurse, _ in self.lines(part, b"ABSENCES"):
-            self.look_up(nurse, self.nurses, "nurse")
+        for keyword in (b"ABSENCES", b"FIXED"):
+            for nurse, _ in self.lines(part, keyword):
+                self.look_up(nurse, self.nurses, "nurse")
 
     def of_solutions(self, parts: list[Found]) -> None:
         for week, found in enumerate(parts):

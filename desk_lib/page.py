@@ -9,6 +9,7 @@ from reckoning import SATURDAY, SUNDAY
 
 from desk_lib import floor as floors
 from desk_lib.costs import RULES, Costing
+from desk_lib.days import day_place
 from desk_lib.grammar import DAYS
 from desk_lib.model import Choice
 from desk_lib.plot import Plot, Point
@@ -91,8 +92,7 @@ class Page:
 
     def head(self) -> str:
         title, case, nurse = escaped(self.wanted.title), self.case, self.wanted.nurse
-        frozen = f", weeks before {self.sheet.first_week} frozen" if self.sheet.first_week else ""
-        told = f"{plural(case.weeks, 'week')}, {plural(len(case.nurses), 'nurse')}{frozen}{self.told_changes()}"
+        told = f"{plural(case.weeks, 'week')}, {plural(len(case.nurses), 'nurse')}{self.told_frozen()}{self.told_changes()}"
         name = "" if nurse is None else escaped(case.nurses[nurse].name)
         return f"""<!doctype html>
 <html lang="en">
@@ -126,6 +126,12 @@ class Page:
         items = "".join(f"<li>{it}</li>" for it in lines)
         return f'<div class="broken"><b>{head}</b><ul>{items}</ul></div>' if lines else ""
 
+    def told_frozen(self) -> str:
+        week, past = self.sheet.first_week, self.sheet.past
+        if past > 7 * week:
+            return f", days before {day_place(past)} frozen" if past < self.costing.plan.days else ", all days frozen"
+        return f", weeks before {week} frozen" if week else ""
+
     def told_changes(self) -> str:
         if not self.before:
             return ""
@@ -139,7 +145,7 @@ class Page:
         cards = [f'<li class="total"><span>penalty</span><b>{now["total"]}</b>{was("total")}</li>']
         if self.floor is not None:
             is_met = now["total"] == self.floor
-            told = floors.optimal(self.sheet.first_week) if is_met else f"{now['total'] - self.floor} above it"
+            told = floors.optimal(bool(self.sheet.past or self.case.fixed)) if is_met else f"{now['total'] - self.floor} above it"
             kind = ' class="optimal"' if is_met else ""
             cards.append(f"<li{kind}><span>floor of all rosters</span><b>{self.floor}</b><small>{told}</small></li>")
         cards += [f"<li><span>{rule} {MEANING[rule]}</span><b>{now[rule]}</b>{was(rule)}</li>" for rule in MEANING]
@@ -173,8 +179,8 @@ class Page:
             items.append('<span class="key request">!</span>a request that isn’t met')
         if sheet.broken:
             items.append('<span class="key bad">!!</span>a broken hard rule')
-        if sheet.first_week:
-            items.append('<span class="key frozen"></span>frozen week')
+        if sheet.first_week or self.case.fixed:
+            items.append(f'<span class="key frozen"></span>frozen {"day" if self.case.fixed else "week"}')
         return f'<ul class="legend">{"".join(f"<li>{it}</li>" for it in items)}</ul>'
 
     def block(self, weeks: range) -> str:
@@ -199,8 +205,8 @@ class Page:
         return f'<tbody class="cover">\n{rows}\n</tbody>'
 
     def week_name(self, week: int) -> str:
-        date = self.sheet.date(7 * week)
-        return f"Week {week}{f' from {date_name(date)}' if date else ''}{' (frozen)' if week < self.sheet.first_week else ''}"
+        date, part = self.sheet.date(7 * week), self.sheet.frozen_part(week)
+        return f"Week {week}{f' from {date_name(date)}' if date else ''}{f' ({part})' if part else ''}"
 
     def day_head(self, day: int) -> str:
         date = self.sheet.date(day)
@@ -209,14 +215,15 @@ class Page:
 
     def classes(self, day: int, *more: str) -> str:
         """The classes of a day's cell."""
-        found = ["monday"] * (day % 7 == 0) + ["weekend"] * (day % 7 > 4) + ["frozen"] * (day // 7 < self.sheet.first_week)
-        found += more
+        found = ["monday"] * (day % 7 == 0) + ["weekend"] * (day % 7 > 4)
+        found += ["frozen"] * (day < self.sheet.past and "frozen" not in more) + [*more]
         return f' class="{" ".join(found)}"' if found else ""
 
     def nurse(self, number: int, weeks: range) -> str:
         name = escaped(self.case.nurses[number].name)
         days = range(7 * weeks[0], 7 * weeks[-1] + 7)
-        cells = "".join(f"<td{self.classes(day)}>{self.cell(number, day)}</td>" for day in days)
+        held = lambda day: ["frozen"] * self.sheet.rows[number][day].is_frozen
+        cells = "".join(f"<td{self.classes(day, *held(day))}>{self.cell(number, day)}</td>" for day in days)
         return f'<tr><th scope="row" title="{name}">{name}</th>{cells}</tr>'
 
     def cell(self, number: int, day: int) -> str:

@@ -7,10 +7,10 @@ from desk_lib.texts import DeskError, shown
 WIDTH, HEIGHT, LEFT, RIGHT, TOP, BOTTOM = 720, 260, 56, 78, 24, 36
 # So far apart are texts beside each other, and below each other.
 BESIDE, BELOW = 22, 15
-LINE = re.compile(rb"(start|round|settled|stopped|fade|kick|slice|\d+)(?: (.*))? (\d+)", re.S)
-# Lines that don't tell what the roster costs: how many nurses the minimums miss, what a run by another seed comes to, and at the
+LINE = re.compile(rb"(start|round|settled|stopped|fade|kick|slice|few|\d+)(?: (.*))? (\d+)", re.S)
+# Lines that don't tell what the roster costs: how many nurses the minimums miss, what a changed day costs more, what a run by another seed comes to, and at the
 # end of the file of --log how the run was made.
-OTHER = re.compile(rb"(missing|seed|time|searches|floor|optimal:|version) \S.*", re.S)
+OTHER = re.compile(rb"(missing|keep|seed|time|searches|floor|optimal:|version) \S.*", re.S)
 
 
 @dataclasses.dataclass(frozen=True)

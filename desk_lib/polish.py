@@ -162,7 +162,7 @@ class Polish:
     def start(self, number: int, seed: int, searches: int, is_slice: bool) -> None:
         run = self.run
         texts = run.texts() if is_slice else run.begun
-        words = ["polish", "--searches", str(searches), "--seed", str(seed % SEEDS), *run.first_week]
+        words = ["polish", "--searches", str(searches), "--seed", str(seed % SEEDS), *run.words]
         running = run.roster.start(words, texts.joined, NICENESS if is_slice and self.whole_runs() else 0)
         job = Job(number, seed % SEEDS, searches, is_slice, texts, running)
         self.jobs.register(running.ran.stderr, selectors.EVENT_READ, job)

@@ -22,6 +22,7 @@ LINES = {
     b"SHIFT_OFF_REQUESTS": grammar.request_line,
     b"SHIFT_ON_REQUESTS": grammar.request_line,
     b"ABSENCES": grammar.absence_line,
+    b"FIXED": grammar.absence_line,
     b"ASSIGNMENTS": grammar.assignment_line,
 }
 # So many faults are told, and for the first of them a keyword is looked for that a word may be meant to be.

@@ -1,10 +1,14 @@
 """What a grid shows of a roster, on a terminal and on a page: the days of each nurse, and the cover of each day."""
 import dataclasses
 import datetime
+import functools
 
-from desk_lib.breaches import all_breaches, words_told
+from reckoning import is_frozen
+
+from desk_lib.breaches import all_breaches, frozen_changes, words_told
 from desk_lib.costs import Costing
-from desk_lib.model import Choice, Roster, choice_name, day_place
+from desk_lib.days import day_name, day_place
+from desk_lib.model import Choice, Roster, choice_name
 from desk_lib.texts import plural, shown
 
 SPARE = "0123456789"
@@ -18,7 +22,7 @@ def date_name(date: datetime.date) -> str:
 @dataclasses.dataclass(frozen=True)
 class Cell:
     """A day of a nurse: the choice, whether it is another than before, what of the requests it doesn't meet, whether the nurse
-    is absent, and in words the hard rules that it breaks."""
+    is absent, whether the day is frozen, and in words the hard rules that it breaks."""
 
     choice: Choice
     before: Choice
@@ -26,6 +30,7 @@ class Cell:
     breaks_request: bool
     misses_wish: bool
     is_absent: bool
+    is_frozen: bool
     broken: tuple[str, ...] = ()
 
 
@@ -59,7 +64,7 @@ class Sheet:
         self.costing, self.case, self.start = costing, costing.case, start
         self.weeks, self.first_week, self.is_compared = range(self.case.weeks), first_week, before is not None
         # (what the roster breaks; and what the other one breaks, where there is one)
-        self.breaches = all_breaches(costing.plan)
+        self.breaches = [*all_breaches(costing.plan), *frozen_changes(costing.plan, before or costing.plan.roster, first_week)]
         self.breaches_before = all_breaches(dataclasses.replace(costing.plan, roster=before)) if before else []
         self.broken: dict[tuple[int, int], tuple[str, ...]] = {}
         for it in self.breaches:
@@ -72,6 +77,17 @@ class Sheet:
             [self.cell(number, day, before) for day in range(costing.plan.days)] for number in range(len(self.case.nurses))
         ]
 
+    @functools.cached_property
+    def past(self) -> int:
+        """How many of the first days are frozen for all nurses."""
+        days = range(self.costing.plan.days)
+        return next((day for day in days if not all(row[day].is_frozen for row in self.rows)), len(days))
+
+    def frozen_part(self, week: int) -> str:
+        """How much of a week is frozen for all nurses, in words."""
+        count = self.past - 7 * week
+        return "frozen" if count >= 7 else f"frozen to {day_name(count - 1)}" if count > 0 else ""
+
     def changed(self) -> int:
         """How many days are other than before."""
         return sum(cell.is_changed for row in self.rows for cell in row)
@@ -80,8 +96,8 @@ class Sheet:
         row = self.costing.plan.roster[number]
         old = before[number][day] if before else row[day]
         asked, missed = self.costing.breaks_request(number, day, row), self.costing.misses_wish(number, day, row)
-        is_absent, broken = (number, day) in self.case.absences, self.broken.get((number, day), ())
-        return Cell(row[day], old, old != row[day], asked, missed, is_absent, broken)
+        is_absent, is_held = (number, day) in self.case.absences, is_frozen(self.case, number, day, self.first_week)
+        return Cell(row[day], old, old != row[day], asked, missed, is_absent, is_held, self.broken.get((number, day), ()))
 
     def date(self, day: int) -> datetime.date | None:
         return self.start + datetime.timedelta(day) if self.start else None
@@ -93,12 +109,12 @@ class Sheet:
 
     def told(self, number: int, day: int, without_requests: bool = False) -> str:
         """A day of a nurse in words."""
-        cell, is_frozen = self.rows[number][day], day // 7 < self.first_week
+        cell = self.rows[number][day]
         parts = [f"{shown(self.case.nurses[number].name)}, {self.day_name(day)}: {choice_name(self.case, cell.choice)}"]
         parts += [f"before: {choice_name(self.case, cell.before)}"] if cell.is_changed else []
         if not without_requests:
             parts += ["an off request isn't met"] * cell.breaks_request + ["a wish isn't met"] * cell.misses_wish
-        return "; ".join([*parts, *["absent"] * cell.is_absent, *cell.broken, *["frozen"] * is_frozen])
+        return "; ".join([*parts, *["absent"] * cell.is_absent, *cell.broken, *["frozen"] * cell.is_frozen])
 
     def told_breaches(self) -> list[str]:
         """What the roster breaks, or the one before, a line for each, below a line that says how many."""

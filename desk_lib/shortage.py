@@ -2,14 +2,15 @@
 
 A place is a shift and a skill. Nurses are matched to the places of one day at a time: each to one at most, of a skill that she
 has, unless she is absent. On a frozen day she takes what the roster says; and where the day before is known (the history's, or a
-frozen one), no shift that is forbidden after it.
+frozen one), no shift that is forbidden after it, nor one before a frozen day that may not follow it.
 """
 import dataclasses
+import itertools
 
-from reckoning import Case
+from reckoning import Case, is_frozen
 
-from desk_lib.grammar import DAYS
-from desk_lib.model import Plan, day_place
+from desk_lib.days import day_place, day_word
+from desk_lib.model import Plan
 from desk_lib.texts import shown
 
 At = tuple[int, int]
@@ -18,10 +19,10 @@ At = tuple[int, int]
 @dataclasses.dataclass(frozen=True)
 class Shortage:
     """Places of a day that together need more nurses than can come for them: how many come, and the minimums that can be met.
-    `is_after` says that the day before is known, so that not every nurse can take every shift."""
+    `is_beside` says that the day before or after is known, so that not every nurse can take every shift."""
 
     day: int
-    is_after: bool
+    is_beside: bool
     places: tuple[At, ...]
     needed: int
     coming: int
@@ -30,7 +31,7 @@ class Shortage:
     def line(self, case: Case) -> str:
         """It in words, with the lines of asks that lower the minimums."""
         asks = " and ".join(
-            f"need {self.day // 7}:{DAYS[self.day % 7].decode()} {place_name(case, at)} {least}" for at, least in self.met
+            f"need {day_word(self.day)} {place_name(case, at)} {least}" for at, least in self.met
         )
         return f"{day_place(self.day)} needs {self.needed} {self.named(case)}, {self.coming} can come: {asks}"
 
@@ -40,7 +41,7 @@ class Shortage:
         found = []
         for skill in sorted({skill for _, skill in self.places}):
             own = [at for at in self.places if at[1] == skill]
-            is_whole = not self.is_after and len(own) == sum(at[1] == skill for at in needed)
+            is_whole = not self.is_beside and len(own) == sum(at[1] == skill for at in needed)
             found += [shown(case.skills[skill])] if is_whole else [place_name(case, at) for at in own]
         return " or ".join(found)
 
@@ -99,14 +100,23 @@ class Matching:
 
 def able_on(plan: Plan, number: int, day: int, first_week: int, needed: dict[At, int]) -> list[At]:
     """The places of a day that a nurse can take."""
-    case, row, start = plan.case, plan.roster[number], 7 * first_week
-    nurse = case.nurses[number]
-    if day < start:
+    case, row, nurse = plan.case, plan.roster[number], plan.case.nurses[number]
+    if is_frozen(case, number, day, first_week):
         return [row[day]] if row[day] in needed else []
     if (number, day) in case.absences:
         return []
-    before = nurse.history.last if day == 0 else row[day - 1] and row[day - 1][0] if day == start else None
-    return [(shift, skill) for shift, skill in needed if skill in nurse.skills and (before, shift) not in case.forbidden]
+    before, after = beside(plan, number, day, first_week)
+    barred = lambda shift: (before, shift) in case.forbidden or (shift, after) in case.forbidden
+    return [(shift, skill) for shift, skill in needed if skill in nurse.skills and not barred(shift)]
+
+
+def beside(plan: Plan, number: int, day: int, first_week: int) -> list[int | None]:
+    """The shifts of a nurse on the day before and on the day after, where these are known."""
+    row, found = plan.roster[number], []
+    for other in (day - 1, day + 1):
+        is_known = 0 <= other < plan.days and is_frozen(plan.case, number, other, first_week)
+        found.append(row[other][0] if is_known and row[other] else None)
+    return [plan.case.nurses[number].history.last, found[1]] if day == 0 else found
 
 
 def shortages_on(plan: Plan, day: int, first_week: int) -> list[Shortage]:
@@ -114,14 +124,14 @@ def shortages_on(plan: Plan, day: int, first_week: int) -> list[Shortage]:
     needed = {at: limits[day].least for at, limits in case.needs.items() if limits[day].least}
     able = [able_on(plan, number, day, first_week, needed) for number in range(len(case.nurses))]
     matching, found = Matching(needed, able), []
+    is_beside = day in (0, 7 * first_week) or any(at in case.fixed for at in itertools.product(range(len(able)), (day - 1, day + 1)))
     for places in matching.short():
         have = {at: len(matching.at[at]) for at in places}
         met = tuple((at, have[at]) for at in places if have[at] < needed[at])
-        is_after = day in (0, 7 * first_week)
-        found.append(Shortage(day, is_after, tuple(places), sum(needed[at] for at in places), sum(have.values()), met))
+        found.append(Shortage(day, is_beside, tuple(places), sum(needed[at] for at in places), sum(have.values()), met))
     return found
 
 
 def shortages(plan: Plan, first_week: int) -> list[Shortage]:
-    """All of a plan of which the weeks before this one are frozen, by day."""
+    """All of a plan of which the weeks before this one are frozen, and its fixed days, by day."""
     return [it for day in range(plan.days) for it in shortages_on(plan, day, first_week)]

@@ -5,9 +5,10 @@ import re
 
 from reckoning import Case
 
+from desk_lib.days import day_place, monday_in
 from desk_lib.findings import nearest
 from desk_lib.grammar import Fault, Words, read_bundle
-from desk_lib.model import Choice, Roster, choice_name, day_place, monday_in, plan_of, solution_pieces, with_no_solutions
+from desk_lib.model import Choice, Roster, choice_name, plan_of, solution_pieces, with_no_solutions
 from desk_lib.texts import UTF8_MARK, DeskError, Origin, Place, Text, Texts, plural, shown
 
 # The first cell, what divides cells, and how the second cell begins, which names a day.

@@ -6,7 +6,8 @@ import json
 
 from desk_lib.breaches import all_breaches, words_told
 from desk_lib.costs import RULES, Costing
-from desk_lib.model import Plan, changed_days, choice_name, day_place
+from desk_lib.days import day_place
+from desk_lib.model import Plan, changed_days, choice_name
 from desk_lib.texts import columns, cut, shown
 
 NAME_WIDTH = 16

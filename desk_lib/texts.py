@@ -68,29 +68,40 @@ class Origin:
         _, first, length = self.parts[max(0, bisect.bisect_right(self.parts, at, key=lambda it: it[0]) - 1)]
         return first, length
 
+    def moved(self, at: int, count: int) -> "Origin":
+        """With so many bytes more in the text at one of them."""
+        return Origin(self.data, [(begin + count * (begin > at), first, length) for begin, first, length in self.parts])
+
 
 @dataclasses.dataclass(frozen=True)
 class Text:
     """A file: the name by which it was given, its bytes, and the option that named it, if one did. Where the bytes were made of
-    others, it has these, too."""
+    others, or edited, it has these, too."""
 
     name: str
     data: bytes
     kind: str = ""
     origin: Origin | None = None
+    before: bytes | None = None
 
     @property
     def given(self) -> bytes:
-        """The bytes of the file."""
+        """The bytes in which its places are."""
         return self.origin.data if self.origin else self.data
+
+    @property
+    def read(self) -> bytes:
+        """The bytes of the file."""
+        return self.given if self.before is None else self.before
 
     def edited(self, start: int, edits: list[Edit]) -> "Text":
         """The text, which begins at this byte of all texts, with those of the edits that are of it."""
-        data = self.data
+        data, origin = self.data, self.origin
         for at, length, new in sorted(edits, reverse=True):
             if start <= at < start + len(self.data) + (length == 0):
                 data = data[: at - start] + new + data[at - start + length :]
-        return dataclasses.replace(self, data=data)
+                origin = origin and origin.moved(at - start, len(new) - length)
+        return dataclasses.replace(self, data=data, origin=origin, before=self.read)
 
 
 @dataclasses.dataclass(frozen=True)

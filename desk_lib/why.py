@@ -9,9 +9,10 @@ import os
 import reckoning
 
 from desk_lib.costs import Costing
-from desk_lib.findings import nearest
+from desk_lib.days import day_place
+from desk_lib.findings import numbered
 from desk_lib.floor import number_of
-from desk_lib.model import Choice, Plan, choice_name, changed_days, day_in, day_place, solutions_of
+from desk_lib.model import Choice, Plan, choice_name, changed_days, solutions_of
 from desk_lib.program import Program, costs_by
 from desk_lib.tables import changed
 from desk_lib.texts import DeskError, Text, Texts, plural, shown
@@ -36,11 +37,7 @@ class Request:
 
 
 def nurse_in(plan: Plan, name: str) -> int:
-    names = [it.name for it in plan.case.nurses]
-    word = os.fsencode(name)
-    if word not in names:
-        raise DeskError(f"the scenario has no nurse '{shown(word)}'{nearest(word, names)}", 2)
-    return names.index(word)
+    return numbered("nurse", os.fsencode(name), [it.name for it in plan.case.nurses])
 
 
 def compare_best(roster: Program, texts: Texts, plan: Plan, nurse: int, offers: list) -> None:
@@ -52,10 +49,9 @@ def compare_best(roster: Program, texts: Texts, plan: Plan, nurse: int, offers: 
         raise DeskError(f"the best row makes {mine} by the desk and {best} by 'roster best'; this is a fault of the desk", 3)
 
 
-def why_lines(roster: Program, texts: Texts, costing: Costing, name: str, word: str) -> list[str]:
+def why_lines(roster: Program, texts: Texts, costing: Costing, name: str, day: int) -> list[str]:
     """What the command writes."""
-    plan = costing.plan
-    nurse, day = nurse_in(plan, name), day_in(os.fsencode(word), plan.case.weeks)
+    plan, nurse = costing.plan, nurse_in(costing.plan, name)
     request, now = Request(costing, nurse, day), plan.roster[nurse][day]
     head = f"{shown(name)}, {day_place(day)}: {choice_name(plan.case, now)}"
     if not request.told():
@@ -78,6 +74,8 @@ def barred(plan: Plan, met: list, nurse: int, day: int) -> str:
     """Why no row can be had, where these choices of the day would meet the request."""
     if (nurse, day) in plan.case.absences:
         return "this is a day of an absence"
+    if (nurse, day) in plan.case.fixed:
+        return "this day is fixed"
     if met:
         return "each has a forbidden succession, or breaks a minimum of another day"
     now = plan.roster[nurse][day]

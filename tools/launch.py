@@ -3,6 +3,7 @@ import dataclasses
 import os
 import resource
 import signal
+import subprocess
 
 # GNU time, which measures what it starts by the system's own count. This script itself is too large: what it starts begins with
 # its memory.
@@ -25,6 +26,12 @@ class Answer:
 
 class NoEnd(Exception):
     """The program did not end in time."""
+
+
+def answer(program, words, text):
+    """Status, output and log of a program, which may be several words, on this text."""
+    ran = subprocess.run([*program, *words], input=text, capture_output=True, text=True, timeout=60)
+    return ran.returncode, ran.stdout, ran.stderr
 
 
 def on_alarm(*_):

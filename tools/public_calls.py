@@ -6,7 +6,7 @@ import re
 
 TOP = os.path.dirname(os.path.dirname(os.path.realpath(__file__)))
 # The crates that a program of one's own calls, and what in these serves the crates of a search alone.
-CALLED = "text instance case state best rounds reports bound polish request joined commands"
+CALLED = "text instance case state best rounds reports bound polish who request joined commands"
 BETWEEN = """
     Area Span areas_of widen NurseDays Stretch is_forbidden LineCosts set_line fill_line Block::numbered Block::of_runs
     Block::last_number Block::with_weekends

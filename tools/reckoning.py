@@ -17,8 +17,10 @@ Nurse = collections.namedtuple("Nurse", "name contract skills history")
 History = collections.namedtuple("History", "assignments weekends last of_last working off")
 # Of a case `shifts` has the name and the limits of each, `skills` the names, `forbidden` the pairs of shifts, `needs` for each
 # shift and skill a minimum and an optimum for each day, `requests` and `wishes` a nurse, a shift or None for any, and a day,
-# `absences` a nurse and a day. A day counts from the first Monday.
-Case = collections.namedtuple("Case", "name weeks shifts skills forbidden contracts nurses needs requests wishes absences")
+# `absences` and `fixed` a nurse and a day. A day counts from the first Monday. `base` is a roster that is kept, at `keep` points for
+# each day that becomes another; the texts say neither.
+FIELDS = "name weeks shifts skills forbidden contracts nurses needs requests wishes absences fixed base keep"
+Case = collections.namedtuple("Case", FIELDS, defaults=(None, 0))
 Shift = collections.namedtuple("Shift", "name limits")
 
 
@@ -75,12 +77,30 @@ def own_cost(case, nurse, shifts):
     return sum(own_costs(case, nurse, shifts).values())
 
 
+def keeping(case, roster, points):
+    """The case in which each day that becomes another shift than in this roster, or off, costs so many points."""
+    return case._replace(base=roster, keep=points) if points else case
+
+
+def is_changed(case, number, day, choice):
+    """Whether a choice is another shift than in the roster that is kept, or off where that isn't."""
+    was = case.base[number][day]
+    return (was[0] if was else None) != (choice[0] if choice else None)
+
+
+def moved_days(before, after):
+    """On how many days of all nurses the shifts of two rosters differ: another skill alone is none."""
+    days = (pair for rows in zip(before, after) for pair in zip(*map(shifts_of, rows)))
+    return sum(was != now for was, now in days)
+
+
 def request_costs(case, number, day, choice):
-    """The off requests of the nurse of this number against a choice, and the wishes that it doesn't meet, by rule."""
+    """The off requests of the nurse of this number against a choice, the wishes that it doesn't meet, and what is kept, by rule."""
     asked = choice and any((number, shift, day) in case.requests for shift in (choice[0], None))
     wished = [shift for shift in (None, *range(len(case.shifts))) if (number, shift, day) in case.wishes]
     met = all(choice and shift in (choice[0], None) for shift in wished)
-    return {"S4": 10 if asked else 0, "S8": 0 if met else 10}
+    kept = {"S9": case.keep if is_changed(case, number, day, choice) else 0} if case.keep else {}
+    return {"S4": 10 if asked else 0, "S8": 0 if met else 10} | kept
 
 
 def request_cost(case, number, day, choice):
@@ -101,7 +121,7 @@ def meets_minimums(case, day, covers):
 
 def costs(case, roster):
     """What each rule costs, by its name, in the order of their numbers."""
-    found = dict.fromkeys((f"S{it}" for it in range(1, 9)), 0)
+    found = dict.fromkeys((f"S{it}" for it in range(1, 10 if case.keep else 9)), 0)
     found["S1"] = sum(staffing(case, day, cover(row[day] for row in roster)) for day in days_of(case))
     for number, (nurse, row) in enumerate(zip(case.nurses, roster)):
         parts = [own_costs(case, nurse, shifts_of(row)), *(request_costs(case, number, day, row[day]) for day in days_of(case))]
@@ -118,7 +138,8 @@ def penalty(case, roster):
 # ---- the hard rules
 
 
-Breach = collections.namedtuple("Breach", "rule day line")
+# Of a minimum that is missed `number` is None, else it is the nurse's.
+Breach = collections.namedtuple("Breach", "rule number day line")
 
 
 def follows(case, nurse, shifts):
@@ -135,7 +156,7 @@ def missed_minimums(case, roster):
             if covers[shift, skill] < need[day].least:
                 place = f"{case.shifts[shift].name} {case.skills[skill]}"
                 told = f"{place}: {covers[shift, skill]} of {need[day].least}"
-                yield Breach("H2", day, f"H2 week {day // 7} {DAYS[day % 7]} {told}")
+                yield Breach("H2", None, day, f"H2 week {day // 7} {DAYS[day % 7]} {told}")
 
 
 def breaks_succession(case, number, row, day):
@@ -157,7 +178,7 @@ def breaches_of_rows(case, roster):
         for number, row in enumerate(roster):
             for day in days_of(case):
                 if is_broken(case, number, row, day):
-                    yield Breach(rule, day, f"{rule} week {day // 7} {DAYS[day % 7]} {case.nurses[number].name}")
+                    yield Breach(rule, number, day, f"{rule} week {day // 7} {DAYS[day % 7]} {case.nurses[number].name}")
 
 
 def breaches(case, roster):
@@ -168,18 +189,31 @@ def breaches(case, roster):
 # ---- what 'plan' begins with
 
 
+def without_absent_work(case, roster):
+    """The roster in which who is absent is off."""
+    return [[None if (number, day) in case.absences else choice for day, choice in enumerate(row)] for number, row in enumerate(roster)]
+
+
 def lacking(case, roster):
     """How many nurses the minimums miss, where absent ones don't count."""
-    here = [[None if (number, day) in case.absences else choice for day, choice in enumerate(row)] for number, row in enumerate(roster)]
-    covers = [cover(of_day) for of_day in zip(*here)]
+    covers = [cover(of_day) for of_day in zip(*without_absent_work(case, roster))]
     return sum(max(0, need[day].least - covers[day][at]) for at, need in case.needs.items() for day in days_of(case))
 
 
+def is_unplannable(case, breach, first_week):
+    """Whether no free day can mend it: of a succession neither day is free, and on the day of a minimum no nurse is."""
+    stays = lambda number, day: is_frozen(case, number, day, first_week)
+    if breach.rule == "H2":
+        return all(stays(number, breach.day) for number in range(len(case.nurses)))
+    is_last = breach.rule == "H3" and breach.day > 0
+    return stays(breach.number, breach.day) and (not is_last or stays(breach.number, breach.day - 1))
+
+
 def unplannable(case, roster, first_week):
-    """What 'plan' can't mend: missing skills, and then what rows break before a week, and minimums missed there. In the order in which
+    """What 'plan' can't mend: missing skills, and then what rows break on frozen days, and minimums missed there. In the order in which
     it is told."""
     found = [*breaches_of_rows(case, roster), *missed_minimums(case, roster)]
-    frozen = [it for it in found if it.rule != "H4" and it.day // 7 < first_week]
+    frozen = [it for it in found if it.rule != "H4" and is_unplannable(case, it, first_week)]
     return [it for it in found if it.rule == "H4"] + frozen
 
 
@@ -193,14 +227,19 @@ def choices_of(case, number, day):
     return [None, *((shift, skill) for shift in range(len(case.shifts)) for skill in sorted(case.nurses[number].skills))]
 
 
+def is_frozen(case, number, day, first_week):
+    """Whether a day of a nurse stays: it is before the first week that may change, or fixed."""
+    return day // 7 < first_week or (number, day) in case.fixed
+
+
 def offers_of(case, roster, number, first_week=0):
-    """For each day what the minimums leave to a nurse, in the order of choices, with its price there. On the days before the first
-    week that may change that is the present choice alone."""
+    """For each day what the minimums leave to a nurse, in the order of choices, with its price there. On a frozen day that is the
+    present choice alone."""
     offers = []
     for day in days_of(case):
         choices = choices_of(case, number, day)
         others = [row[day] for other, row in enumerate(roster) if other != number]
-        free = choices if day // 7 >= first_week else [it for it in choices if it == roster[number][day]]
+        free = [it for it in choices if it == roster[number][day]] if is_frozen(case, number, day, first_week) else choices
         covers = {choice: cover([*others, choice]) for choice in free}
         offered = [choice for choice in free if meets_minimums(case, day, covers[choice])]
         offers.append([(it, staffing(case, day, covers[it]) + request_cost(case, number, day, it)) for it in offered])
@@ -268,8 +307,64 @@ def cheapest_row(case, number, all_offers):
 
 
 def best_row(case, roster, number, first_week=0):
-    """The first of the cheapest rows of a nurse that keep the hard rules and the days before a week."""
+    """The first of the cheapest rows of a nurse that keep the hard rules and the frozen days."""
     return cheapest_row(case, number, offers_of(case, roster, number, first_week))[1]
+
+
+# ---- who may take a shift
+
+
+# An assignment: a day, a shift, and a skill or None for any.
+Asked = collections.namedtuple("Asked", "day shift skill")
+# What is told of a nurse: how many are missed, the penalty, her number, and on how many days her row is another choice.
+Taker = collections.namedtuple("Taker", "missed penalty number changed")
+
+
+def missed_on(case, day, covers):
+    return sum(max(0, need[day].least - covers[at]) for at, need in case.needs.items())
+
+
+def taking_offers(case, here, number, asked, first_week=0):
+    """For each day what a nurse may do in a row that has the assignment, in the order of choices, with its price: no place misses more
+    nurses than it does, and each nurse who is missed counts a million."""
+    offers = []
+    for day in days_of(case):
+        now = cover(row[day] for row in here)
+        free = [here[number][day]] if is_frozen(case, number, day, first_week) else choices_of(case, number, day)
+        if day == asked.day:
+            free = [it for it in free if it and it[0] == asked.shift and asked.skill in (None, it[1])]
+        covers = {it: cover(it if other == number else row[day] for other, row in enumerate(here)) for it in free}
+        keeps = lambda after: all(after[at] >= min(need[day].least, now[at]) for at, need in case.needs.items())
+        of_day = lambda it: 1_000_000 * missed_on(case, day, covers[it]) + staffing(case, day, covers[it])
+        offers.append([(it, of_day(it) + request_cost(case, number, day, it)) for it in free if keeps(covers[it])])
+    return offers
+
+
+def takers(case, roster, asked, first_week, row_of):
+    """What is told of each nurse who has a row with the assignment, in order. `row_of` finds it among all rows of her offers."""
+    here, found = without_absent_work(case, roster), []
+    for number in range(len(case.nurses)):
+        row = row_of(case, number, taking_offers(case, here, number, asked, first_week))
+        if row is not None:
+            after = with_row(here, number, row)
+            changed = sum(a != b for a, b in zip(row, here[number]))
+            found.append(Taker(lacking(case, after), penalty(case, after), number, changed))
+    return sorted(found)
+
+
+def cheapest_taking_row(case, number, offers):
+    """The first of the cheapest rows of these offers, or None where there is none."""
+    try:
+        return cheapest_row(case, number, offers)[1]
+    except ValueError:
+        return None
+
+
+def who_lines(case, roster, asked, first_week=0, row_of=cheapest_taking_row):
+    """What 'who' writes."""
+    is_missed = lacking(case, roster) > 0
+    line = lambda it: f"{case.nurses[it.number].name} {it.penalty} changed {it.changed}" + f" missed {it.missed}" * is_missed
+    return "".join(f"{line(it)}\n" for it in takers(case, roster, asked, first_week, row_of))
 
 
 def with_row(roster, number, row):
@@ -291,19 +386,20 @@ def place_floor(need, worth):
 
 def nurse_floor(case, roster, number, worths, first_week=0):
     """The least that a nurse costs less what her places pay, over all rows with her skills and absences and without a forbidden
-    succession. On the days before a week she does what the roster says. And the first of the cheapest of these rows."""
+    succession. On frozen days she does what the roster says. And the first of the cheapest of these rows."""
     worth = lambda day, choice: worths[choice][day] if choice in worths else 0
-    free = lambda day: choices_of(case, number, day) if day // 7 >= first_week else [roster[number][day]]
+    free = lambda day: [roster[number][day]] if is_frozen(case, number, day, first_week) else choices_of(case, number, day)
     price = lambda day, choice: request_cost(case, number, day, choice) - worth(day, choice)
     return cheapest_row(case, number, [[(it, price(day, it)) for it in free(day)] for day in days_of(case)])
 
 
 def floor(case, roster, worths, first_week=0):
-    """No roster costs less that keeps the hard rules and the days before a week, as each penalty is a multiple of 5: what is paid to
-    the nurses is what they get. And the rows by which it is reckoned."""
+    """No roster costs less that keeps the hard rules and the frozen days: what is paid to the nurses is what they get. Each
+    penalty is a multiple of 5, unless a roster is kept at points that aren't. And the rows by which it is reckoned."""
     places = sum(place_floor(need, worth) for at in case.needs for need, worth in zip(case.needs[at], worths[at]))
     nurses = [nurse_floor(case, roster, number, worths, first_week) for number in range(len(case.nurses))]
-    return 5 * -(-max(0, places + sum(least for least, _ in nurses)) // 5), [row for _, row in nurses]
+    unit = 1 if case.keep % 5 else 5
+    return unit * -(-max(0, places + sum(least for least, _ in nurses)) // unit), [row for _, row in nurses]
 
 
 # ---- how worths go on from round to round: the program's own affair, told here for its tests. They are held in parts of a point. What
@@ -445,17 +541,22 @@ def cost_lines(case, roster):
     return "".join(f"{rule} {cost}\n" for rule, cost in [*found.items(), ("total", sum(found.values()))])
 
 
+def start_of(case, number):
+    """How a log begins."""
+    return f"keep {case.keep}\nstart {number}" if case.keep else f"start {number}"
+
+
 def best(case, roster, number, row):
     """What 'best' answers where this is the best row."""
     after = with_row(roster, number, row)
-    log = f"start {penalty(case, roster)}\nbest {case.nurses[number].name} {penalty(case, after)}\n"
+    log = f"{start_of(case, penalty(case, roster))}\nbest {case.nurses[number].name} {penalty(case, after)}\n"
     return solutions(case, after), log
 
 
 def improve(case, roster, rounds, first_week=0):
-    """What 'improve' answers with so many rounds, where the days before a week stay."""
+    """What 'improve' answers with so many rounds, where the frozen days stay."""
     total, log = penalty(case, roster), []
-    log.append(f"start {total}")
+    log.append(start_of(case, total))
     changed = True
     for number_of_round in range(1, rounds + 1):
         changed = False
@@ -474,7 +575,7 @@ def improve(case, roster, rounds, first_week=0):
 def bound(case, roster, rounds, first_week=0):
     """What 'bound' answers after so many rounds, or as soon as the bound is what the roster costs."""
     best, total = 0, penalty(case, roster)
-    log = [f"start {total}"]
+    log = [start_of(case, total)]
     for number, reached in enumerate(floors(case, roster, rounds, first_week), 1):
         if best == total:
             break
@@ -529,7 +630,7 @@ def scenario_of(words):
     for _ in range(words.number("NURSES", "=")):
         nurse, contract = words.names(2)
         nurses.append(Nurse(nurse, of_contract[contract], [skills.index(it) for it in words.names(words.number())], None))
-    return Case(name, weeks, shifts, skills, forbidden, contracts, nurses, {}, set(), set(), set())
+    return Case(name, weeks, shifts, skills, forbidden, contracts, nurses, {}, set(), set(), set(), set())
 
 
 def read(text):
@@ -538,7 +639,7 @@ def read(text):
     case = scenario_of(words)
     shift_of = {shift.name: number for number, shift in enumerate(case.shifts)}
     nurse_of = {nurse.name: number for number, nurse in enumerate(case.nurses)}
-    nurses, needs, requests, wishes, absences = list(case.nurses), {}, set(), set(), set()
+    nurses, needs, requests, wishes, absences, fixed = list(case.nurses), {}, set(), set(), set(), set()
     words.next("HISTORY", "0", case.name)
     for _ in nurses:
         number = nurse_of[words.next()]
@@ -556,13 +657,14 @@ def read(text):
             for _ in range(words.number(*(["SHIFT_ON_REQUESTS"] if asked is wishes else []), "=")):
                 nurse, shift, day = words.names(3)
                 asked.add((nurse_of[nurse], shift_of.get(shift), 7 * week + DAYS.index(day[:3])))
-        for _ in range(words.number("ABSENCES", "=") if words.left[0] == "ABSENCES" else 0):
-            nurse, day = words.names(2)
-            absences.add((nurse_of[nurse], 7 * week + DAYS.index(day[:3])))
+        for keyword, days in (("ABSENCES", absences), ("FIXED", fixed)):
+            for _ in range(words.number(keyword, "=") if words.left[0] == keyword else 0):
+                nurse, day = words.names(2)
+                days.add((nurse_of[nurse], 7 * week + DAYS.index(day[:3])))
     roster = [[None] * (7 * case.weeks) for _ in nurses]
     for week in range(case.weeks):
         words.next("SOLUTION")  # the week's number, which nothing depends on
         for _ in range(words.number(case.name, "ASSIGNMENTS", "=")):
             nurse, day, shift, skill = words.names(4)
             roster[nurse_of[nurse]][7 * week + DAYS.index(day[:3])] = shift_of[shift], case.skills.index(skill)
-    return case._replace(nurses=nurses, needs=needs, requests=requests, wishes=wishes, absences=absences), roster
+    return case._replace(nurses=nurses, needs=needs, requests=requests, wishes=wishes, absences=absences, fixed=fixed), roster

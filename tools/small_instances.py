@@ -50,8 +50,18 @@ def random_absences(rng, roster):
     return {*rng.sample(off, min(len(off), rng.choice([0, rng.randint(0, 6)])))}
 
 
-def random_instance(rng, with_absences=True):
-    """A case, and a roster that keeps its hard rules."""
+def random_fixed(rng, roster):
+    """Fixed days: none, any few, all of a nurse, or a day and those before for all."""
+    days, nurses = range(len(roster[0])), range(len(roster))
+    kind = rng.choice(["none", "few", "few", "nurse", "past"])
+    if kind == "few":
+        return {(rng.choice(nurses), rng.choice(days)) for _ in range(rng.randint(1, 8))}
+    number, last = rng.choice(nurses), rng.choice(days)
+    return {(it, day) for it in nurses for day in days if (kind == "nurse" and it == number) or (kind == "past" and day <= last)}
+
+
+def random_instance(rng, with_own=True):
+    """A case, and a roster that keeps its hard rules; with absences and fixed days, where sections of our own are wanted."""
     weeks, shifts, skills = rng.choice([1, 1, 2]), rng.randint(1, 3), rng.randint(1, 2)
     forbidden = {pair for pair in itertools.product(range(shifts), repeat=2) if rng.random() < 0.2}
     contracts = [
@@ -69,10 +79,11 @@ def random_instance(rng, with_absences=True):
         for _ in range(2)
     )
     of_shifts = [limits(rng, 5) for _ in range(shifts)]
-    absences = random_absences(rng, roster) if with_absences else set()
+    absences = random_absences(rng, roster) if with_own else set()
+    fixed = random_fixed(rng, roster) if with_own else set()
     shifts = [Shift(f"S{it}", limits) for it, limits in enumerate(of_shifts)]
     skills = [f"K{it}" for it in range(skills)]
-    return Case("small", weeks, shifts, skills, forbidden, contracts, nurses, needs, requests, wishes, absences), roster
+    return Case("small", weeks, shifts, skills, forbidden, contracts, nurses, needs, requests, wishes, absences, fixed), roster
 
 
 def first_week_of(rng, case):
@@ -87,8 +98,8 @@ def pairs(*them):
     return " ".join(f"({it.least},{it.greatest})" for it in them)
 
 
-def week_lines(case, week, with_absences):
-    """The week data. Where a week has no wishes, or no absences, every other one has no section of them."""
+def week_lines(case, week, with_own):
+    """The week data. Where a week has no wishes, no absences, or no fixed days, every other one has no section of them."""
     lines = ["WEEK_DATA", "small", "REQUIREMENTS"]
     lines += [f"S{at[0]} K{at[1]} {pairs(*need[7 * week : 7 * week + 7])}" for at, need in case.needs.items()]
     for keyword, asked in (("SHIFT_OFF_REQUESTS", case.requests), ("SHIFT_ON_REQUESTS", case.wishes)):
@@ -97,13 +108,14 @@ def week_lines(case, week, with_absences):
             continue
         lines += [f"{keyword} = {len(of_week)}"]
         lines += [f"N{number} {'Any' if shift is None else f'S{shift}'} {DAYS[day % 7]}" for number, shift, day in of_week]
-    of_week = sorted(it for it in case.absences if it[1] // 7 == week)
-    if with_absences and (of_week or week % 2 != len(case.requests) // 2 % 2):
-        lines += [f"ABSENCES = {len(of_week)}", *(f"N{number} {DAYS[day % 7]}" for number, day in of_week)]
+    for keyword, days, parity in (("ABSENCES", case.absences, len(case.requests) // 2), ("FIXED", case.fixed, len(case.wishes))):
+        of_week = sorted(it for it in days if it[1] // 7 == week)
+        if with_own and (of_week or week % 2 != parity % 2):
+            lines += [f"{keyword} = {len(of_week)}", *(f"N{number} {DAYS[day % 7]}" for number, day in of_week)]
     return lines
 
 
-def text_of(case, roster, with_absences=True):
+def text_of(case, roster, with_own=True):
     shift = lambda number, none: none if number is None else f"S{number}"
     lines = ["SCENARIO = small", f"WEEKS = {case.weeks}", f"SKILLS = {len(case.skills)}", *case.skills]
     lines += [f"SHIFT_TYPES = {len(case.shifts)}", *(f"{it.name} {pairs(it.limits)}" for it in case.shifts)]
@@ -121,5 +133,5 @@ def text_of(case, roster, with_absences=True):
     for it in case.nurses:
         past = it.history
         lines += [f"{it.name} {past.assignments} {past.weekends} {shift(past.last, 'None')} {past.of_last} {past.working} {past.off}"]
-    lines += [line for week in range(case.weeks) for line in week_lines(case, week, with_absences)]
+    lines += [line for week in range(case.weeks) for line in week_lines(case, week, with_own)]
     return "".join(f"{line}\n" for line in lines) + solutions(case, roster)

@@ -44,22 +44,31 @@ fn command_of(plan: &Plan) -> Command
     ensures show { (number : ℕ) → plan.now.work ≡ work.Show number → result ≡ command.Show }
     ensures cost { (bundles : ℕ) → plan.now.work ≡ work.Cost bundles → result ≡ command.Cost }
     ensures improve { (rounds : ℕ) → plan.now.work ≡ work.Improve rounds →
-        result ≡ command.Improve rounds 0 }
+        result ≡ command.Improve rounds 0 0 }
     ensures bound { (rounds : ℕ) → plan.now.work ≡ work.Bound rounds →
-        result ≡ command.Bound rounds 0 }
+        result ≡ command.Bound rounds 0 0 }
     ensures polish { (searches : ℕ) → plan.now.work ≡ work.Polish searches →
-        result ≡ command.Polish (Some searches) plan.now.size.seed 0 true }
+        result ≡ command.Polish (Some searches) plan.now.size.seed 0 true 0 }
 {
     match plan.work {
         Work::Show { .. } => Command::Show,
         Work::Cost { .. } => Command::Cost,
-        Work::Improve { rounds } => Command::Improve { rounds, from: 0 },
-        Work::Bound { rounds } => Command::Bound { rounds, from: 0 },
+        Work::Improve { rounds } => Command::Improve {
+            rounds,
+            from: 0,
+            keep: 0,
+        },
+        Work::Bound { rounds } => Command::Bound {
+            rounds,
+            from: 0,
+            keep: 0,
+        },
         Work::Polish { searches } => Command::Polish {
             searches: Some(searches),
             seed: plan.size.seed,
             from: 0,
             kicks: true,
+            keep: 0,
         },
     }
 }

@@ -26,98 +26,34 @@ use Rattle.roster_offers.specs.declared.offer.Offer.{Offer}
 use Rattle.roster_offers.specs.Offers.{offer_of}
 use Rattle.roster_offers.proofs.OfferLaws.{present_open}
 
--- the choices of a shift with the first skills, and those of the first shifts
-abbrev pub of_shift : ℕ → ℕ → List Choice
-of_shift s skills = map (λ k. Work (shift_at s) (skill_at k)) (range_with_len 0 skills)
-
-abbrev pub of_shifts : Meaning → ℕ → List Choice
-of_shifts c shifts = Off ∷ flat_map (λ s. of_shift s (skill_count c)) (range_with_len 0 shifts)
-
--- one skill more is looked up
-pub able_more : (skills : List Skill) (able : List Bool) (m : ℕ) (here : Bool) → m < length able → ((k : ℕ) → k < m → slice_index_or able k false ≡ list_any (λ own. own.0 == k) skills) → here ≡ list_any (λ own. own.0 == m) skills
-    → (k : ℕ) → k < m + 1 → slice_index_or (slice_set able m here) k false ≡ list_any (λ own. own.0 == k) skills
-able_more skills able m here inside before is k h = go (cases_eq k m)
-  where
-    go : (k ≡ m) ⊎ (k ≡ m → ⊥) → slice_index_or (slice_set able m here) k false ≡ list_any (λ own. own.0 == k) skills
-    go (inl e) = ap (λ j. slice_index_or (slice_set able m here) j false) e ∙ get_or-set_same able m here false inside ∙ is ∙ ap (λ j. list_any (λ own. own.0 == j) skills) (sym e)
-    go (inr e) = get_or-set_other able m k here false e ∙ before k (omega arith)
-
--- who is absent may work with no skill, and who isn't with the skills that the nurse has
-pub none_able : (k : ℕ) (own away : Bool) → k < 8 → away ≡ true → slice_index_or (replicate 8 false) k false ≡ (own && not away)
-none_able k own away few e = get_or-replicate 8 k false false few ∙ sym (and_right own (not away) (ap not e))
-
-pub and_here : (own away : Bool) → away ≡ false → own ≡ (own && not away)
-and_here true away e = sym (ap not e)
-and_here false away e = refl
-
 module _ (c : Meaning) (r : Rows) (n d : ℕ) where
-  -- ---- the list grows choice by choice
-
-  -- what is offered of these choices
-  abbrev pub offers_among : List Choice → List Offer
-  offers_among choices = map (offer_of c r n d) (filter (is_open c r n d) choices)
-
-  abbrev pub offered : Choice → Option Offer
-  offered choice = if is_open c r n d choice then Some (offer_of c r n d choice) else None
-
-  offers_both : (xs ys : List Choice) → offers_among (xs ++ ys) ≡ offers_among xs ++ offers_among ys
-  offers_both xs ys = ap (map (offer_of c r n d)) (filter-append (is_open c r n d) xs ys) ∙ map-append (offer_of c r n d) (filter (is_open c r n d) xs) (filter (is_open c r n d) ys)
-
-  offers_one : (x : Choice) → offers_among (x ∷ []) ≡ option_to_list (offered x)
-  offers_one x = go (is_open c r n d x)
-    where
-      go : (b : Bool) → map (offer_of c r n d) (if b then x ∷ [] else []) ≡ option_to_list (if b then Some (offer_of c r n d x) else None)
-      go true = refl
-      go false = refl
-
-  pub offers_begin : (new : List Offer) (o : Option Offer) → new ≡ [] ++ option_to_list o → o ≡ offered Off → new ≡ offers_among (of_shifts c 0)
-  offers_begin new o pushed is = pushed ∙ ap option_to_list is ∙ sym (offers_one Off)
-
-  pub offers_skill : (start old new : List Offer) (s k : ℕ) (o : Option Offer) → old ≡ start ++ offers_among (of_shift s k) → new ≡ old ++ option_to_list o → o ≡ offered (Work (shift_at s) (skill_at k)) → new ≡ start ++ offers_among (of_shift s (k + 1))
-  offers_skill start old new s k o so_far pushed is =
-      let x : Choice = Work (shift_at s) (skill_at k) in
-      let more : of_shift s (k + 1) ≡ of_shift s k ++ x ∷ [] = ap (map (λ j. Work (shift_at s) (skill_at j))) (range_with_len_more k) ∙ map-append (λ j. Work (shift_at s) (skill_at j)) (range_with_len 0 k) (k ∷ []) in
-      pushed
-      ∙ ap₂ (λ xs p. xs ++ option_to_list p) so_far is
-      ∙ append_assoc start (offers_among (of_shift s k)) (option_to_list (offered x))
-      ∙ ap (λ os. start ++ os) (ap (λ os. offers_among (of_shift s k) ++ os) (sym (offers_one x)) ∙ sym (offers_both (of_shift s k) (x ∷ [])) ∙ ap offers_among (sym more))
-
-  pub offers_shift : (start new : List Offer) (s k : ℕ) → k ≡ skill_count c → start ≡ offers_among (of_shifts c s) → new ≡ start ++ offers_among (of_shift s k) → new ≡ offers_among (of_shifts c (s + 1))
-  offers_shift start new s k all so_far is =
-      is
-      ∙ ap₂ (λ os m. os ++ offers_among (of_shift s m)) so_far all
-      ∙ sym (offers_both (of_shifts c s) (of_shift s (skill_count c)))
-      ∙ ap (λ xs. offers_among (Off ∷ xs)) (sym (flat_map-range_more (λ t. of_shift t (skill_count c)) s))
-
   -- ---- one choice
 
-  not_offered : (choice : Choice) (able : Bool) → able ≡ may_take c n d choice → able ≡ false → None ≡ offered choice
-  not_offered choice able able_is not_so =
-      ap (λ b. if b && meets c d (with_choice (others r n d) choice) then Some (offer_of c r n d choice) else None) (sym not_so ∙ able_is)
+  -- a choice where no minimum of the day is missed with it
+  abbrev offered : Choice → Option Offer
+  offered choice = if meets c d (with_choice (others r n d) choice) then Some (offer_of c r n d choice) else None
 
   pub offer_is : (choice : Choice) (least most asked : ℕ)
-      → may_take c n d choice ≡ true
       → least ≡ lacking c (minimum c d) (with_choice (others r n d) choice)
       → most ≡ lacking c (optimum c d) (with_choice (others r n d) choice)
       → asked ≡ request_cost_on c n d (shift_of choice)
       → (if least == 0 then Some (record { choice = choice; price = staffing_weight * most + asked }) else None) ≡ offered choice
-  offer_is choice least most asked able least_is most_is asked_is =
+  offer_is choice least most asked least_is most_is asked_is =
       let have : ℕ → ℕ → ℕ = with_choice (others r n d) choice in
-      let able_so : true ≡ may_take c n d choice = sym able in
       let met = ap (λ m. m == 0) least_is ∙ sym (meets-lacking c d have) in
       let staffed = ap (λ m. staffing_weight * m) most_is ∙ sym (staffing-lacking c d have) in
-      (λ i. if able_so i && met i then Some (record { choice = choice; price = staffed i + asked_is i }) else None)
+      (λ i. if met i then Some (record { choice = choice; price = staffed i + asked_is i }) else None)
 
-  -- a skill that the nurse lacks, or an absence
-  pub offers_skill_not : (start old : List Offer) (s k : ℕ) (able : Bool) → able ≡ may_take c n d (Work (shift_at s) (skill_at k)) → able ≡ false
-      → old ≡ start ++ offers_among (of_shift s k) → old ≡ start ++ offers_among (of_shift s (k + 1))
-  offers_skill_not start old s k able able_is not_so so_far =
-      offers_skill start old old s k None so_far (sym (append-nil old)) (not_offered (Work (shift_at s) (skill_at k)) able able_is not_so)
-
-  -- the only offer: one choice that is open
-  pub offer_alone : (choice now : Choice) (start items : List Offer) (o : Option Offer) → items ≡ start ++ option_to_list o → start ≡ [] → o ≡ offered choice → choice ≡ now → is_open c r n d now ≡ true → items ≡ offer_of c r n d now ∷ []
-  offer_alone choice now start items o pushed none is same is_so =
-      pushed ∙ (λ i. none i ++ option_to_list ((is ∙ ap offered same ∙ ap (λ b. if b then Some (offer_of c r n d now) else None) is_so) i))
+  -- the present one, by its price
+  pub present_is : (choice now : Choice) (most asked : ℕ)
+      → choice ≡ now
+      → most ≡ lacking c (optimum c d) (with_choice (others r n d) choice)
+      → asked ≡ request_cost_on c n d (shift_of choice)
+      → (record { choice = choice; price = staffing_weight * most + asked }) ≡ offer_of c r n d now
+  present_is choice now most asked same most_is asked_is =
+      let staffed = ap (λ m. staffing_weight * m) most_is ∙ sym (staffing-lacking c d (with_choice (others r n d) choice)) in
+      let by_price : (record { choice = choice; price = staffing_weight * most + asked }) ≡ offer_of c r n d choice = λ i. record { choice = choice; price = staffed i + asked_is i } in
+      by_price ∙ ap (offer_of c r n d) same
 
   -- ---- what the day lacks with the nurse
 

@@ -1,10 +1,12 @@
 -- Rows of which each choice is offered on its day.
-use Rattle.std.specs.Prelude.{◌≡◌, ◌↔◌, ℕ, ◌<◌, true, Contains, length}
+use Rattle.std.specs.Prelude.{◌≡◌, ◌↔◌, ℕ, ◌+◌, ◌*◌, ◌<◌, ◌≤◌, true, Contains, length}
 use Rattle.roster_instance.specs.Choices.{days_of}
-use Rattle.roster_instance.specs.Meaning.{Meaning, day_count}
+use Rattle.roster_instance.specs.Limits.{most_shifts, most_skills, most_small}
+use Rattle.roster_instance.specs.Meaning.{Meaning, day_count, minimum, optimum}
 use Rattle.roster_instance.specs.Rosters.{Row, Rows, choice_on}
 use Rattle.roster_rules.specs.HardRules.{keeps_successions}
-use Rattle.roster_laws.specs.OneRow.{MayBePutIn}
+use Rattle.roster_laws.specs.OneRow.{MayBePutIn, others}
+use Rattle.roster_laws.specs.Staffing.{lacking}
 use Rattle.roster_offers.specs.Offers.{offer_of, offers_of}
 
 -- each choice of the row, with its price, is among the offers of its day
@@ -18,3 +20,9 @@ IsOfferedRow c from r n row = IsOffered c from r n row × (keeps_successions c n
 -- a row of as many days may be put in exactly where that is so
 abbrev pub OffersTellRows : Meaning → ℕ → Rows → ℕ → Type 0
 OffersTellRows c from r n = (row : Row) → length row ≡ day_count c → MayBePutIn c from r n row ↔ IsOfferedRow c from r n row
+
+-- so many nurses does the day lack to its minimums and to its optimums without the nurse
+pub record LacksWithout (c : Meaning) (r : Rows) (n d least most : ℕ) : Type 0 where
+  pub minimum : least ≡ lacking c (minimum c d) (others r n d)
+  pub optimum : most ≡ lacking c (optimum c d) (others r n d)
+  pub within : most ≤ 1 + most_shifts * most_skills * most_small

@@ -9,7 +9,6 @@
 //! some searches are spared by what the last ones tell (`specs/Known.antt`).
 #![tactic(auto)]
 
-mod by_shift;
 mod last;
 mod laws;
 mod offer;

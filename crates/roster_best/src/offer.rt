@@ -15,13 +15,16 @@ ghost use Rattle.roster_rules.specs.HardRules.{may_take};
 ghost use Rattle.roster_rules.specs.Penalties.{request_cost_on};
 ghost use Rattle.roster_rules.specs.Weights.{most_request};
 ghost use Rattle.roster_laws.specs.OneRow.{is_open, others};
-ghost use Rattle.roster_laws.specs.Staffing.{lacking, with_choice};
-ghost use Rattle.roster_offers.specs.Offers.{offer_of, offers_of, open_offers};
+ghost use Rattle.roster_laws.specs.Staffing.{lacking, meets, with_choice};
+ghost use Rattle.roster_offers.specs.Offers.{offer_of, offers_of, shift_offers};
 
 use arrayvec::ArrayVec;
-use roster_case::{Case, Choice, Held, Shift, Skill};
-use roster_offers::{MOST_CHOICES, Offer, cost_of_requests, has_some_wish, request_cost};
-use roster_rules::is_able;
+use roster_case::{Choice, Held, Shift, Skill};
+use roster_offers::{
+    MOST_CHOICES, MOST_OFFERS, NurseDay, Offer, Offering, offers_by_shift, offers_of_choices,
+    request_cost,
+};
+use roster_rules::is_frozen;
 use roster_rules::weights::STAFFING;
 
 /// How many nurses a day lacks to its minimums and to its optimums, over all shifts and skills.
@@ -34,26 +37,52 @@ struct Lacking {
 /// What a nurse may do on a day while the others' rows stay, in the order of the choices: to be off, or to work a shift with one
 /// of the nurse's skills, where the nurse isn't absent; each only where no minimum of the day is missed with it. The price is that of the day's staffing with
 /// this choice, of an off request against it, and of a wish to work that it doesn't meet. The days of the weeks before week `from`
-/// are frozen: on these the nurse may do only what the roster says. Every `from` is allowed.
+/// are frozen, and the nurse's fixed days: on these the nurse may do only what the roster says. Every `from` is allowed.
 pub fn choices(held: &Held, nurse: usize, day: u16, from: u16) -> ArrayVec<Offer, MOST_CHOICES>
     requires nurse { nurse < nurse_count held.now.case }
     requires day { day < day_count held.now.case }
     ensures offers { result.items ≡ offers_of held.now.case from held.now.roster nurse day }
-    ensures frozen { is_frozen from day ≡ true →
+    ensures frozen { is_frozen held.now.case from nurse day ≡ true →
         result.items ≡ offer_of held.now.case held.now.roster nurse day
         (choice_on (row_of held.now.roster nurse) day) ∷ [] }
     ensures few { length result.items ≤ 1 + most_shifts * most_skills }
 {
     // The roster keeps the hard rules: so the present choice is one of those that are open.
     held.keeps_rules();
-    if day / 7 < from {
+    if is_frozen(held.case(), from, nurse, day) {
         return present_choice(held, nurse, day);
     }
-    open_choices(held, nurse, day)
+    let without = lacking_without(held, nurse, day);
+    let case = held.case();
+    offers_of_choices(&NurseDay { case, nurse, day }, &Beside { held, without })
 }
 
-/// What the roster says that the nurse does on the day.
-fn present_choice(held: &Held, nurse: usize, day: u16) -> ArrayVec<Offer, MOST_CHOICES>
+/// The offers of a nurse on a day that the search goes over: to be off, and for each shift the cheapest, of equally cheap ones the
+/// first.
+pub(crate) fn choices_by_shift(
+    held: &Held,
+    nurse: usize,
+    day: u16,
+    from: u16,
+) -> ArrayVec<Offer, MOST_OFFERS>
+    requires nurse { nurse < nurse_count held.now.case }
+    requires day { day < day_count held.now.case }
+    ensures offers { result.items ≡ shift_offers held.now.case from held.now.roster nurse day }
+    ensures few { length result.items ≤ 1 + most_shifts }
+{
+    // As in `choices`.
+    held.keeps_rules();
+    if !is_frozen(held.case(), from, nurse, day) {
+        let without = lacking_without(held, nurse, day);
+        let case = held.case();
+        return offers_by_shift(&NurseDay { case, nurse, day }, &Beside { held, without });
+    }
+    present_choice(held, nurse, day)
+}
+
+/// What the roster says that the nurse does on the day, alone.
+fn present_choice<const N: usize>(held: &Held, nurse: usize, day: u16) -> ArrayVec<Offer, N>
+    requires room { 0 < N }
     requires nurse { nurse < nurse_count held.now.case }
     requires day { day < day_count held.now.case }
     ensures offer { result.items ≡ offer_of held.now.case held.now.roster nurse day
@@ -63,75 +92,40 @@ fn present_choice(held: &Held, nurse: usize, day: u16) -> ArrayVec<Offer, MOST_C
     let without = lacking_without(held, nurse, day);
     let choice = held.row(nurse)[day as usize];
     let asked = request_cost(held.case(), nurse, day, choice.shift());
+    let lack = lacking_by(held, nurse, day, choice, without);
+    let price = STAFFING * lack.optimum + asked;
     let mut offers = ArrayVec::new();
-    push_some(
-        &mut offers,
-        offered(held, nurse, day, choice, without, asked),
-    );
+    offers.push(Offer { choice, price });
     offers
 }
 
-/// All that the nurse may do on the day where it isn't frozen. The others and the nurse's skills are looked at once for the day, and
-/// what the requests cost is reckoned once for each shift, not anew for each choice.
-#[tactic(auto, using(crate::proofs::OfferLemmas::offers_begin, crate::proofs::OfferLemmas::offers_skill, crate::proofs::OfferLemmas::offers_shift))]
-fn open_choices(held: &Held, nurse: usize, day: u16) -> ArrayVec<Offer, MOST_CHOICES>
-    requires nurse { nurse < nurse_count held.now.case }
-    requires day { day < day_count held.now.case }
-    ensures offers { result.items ≡ open_offers held.now.case held.now.roster nurse day }
-    ensures few { length result.items ≤ 1 + most_shifts * most_skills }
-{
-    let case = held.case();
-    let shifts = case.shifts();
-    let skills = case.skills();
-    let without = lacking_without(held, nurse, day);
-    let able = able_by_skill(case, nurse, day);
-    let wished = has_some_wish(case, nurse, day);
-    let asked = cost_of_requests(case, nurse, day, None, wished);
-    let mut offers = ArrayVec::new();
-    let off = offered(held, nurse, day, Choice::Off, without, asked);
-    push_some(&mut offers, off);
-    for shift in 0..shifts {
-        let asked = cost_of_requests(case, nurse, day, Some(Shift(shift)), wished);
-        for skill in 0..skills {
-            if able[skill as usize] {
-                let choice = Choice::Work(Shift(shift), Skill(skill));
-                let offer = offered(held, nurse, day, choice, without, asked);
-                push_some(&mut offers, offer);
-            }
-        }
-    }
-    offers
+/// What offers a nurse the choices of a day that miss no minimum of it while the others' rows stay, by what the day lacks without her.
+#[derive(Clone, Copy)]
+struct Beside<'a> {
+    held: &'a Held,
+    without: Lacking,
 }
 
-fn push_some(offers: &mut ArrayVec<Offer, MOST_CHOICES>, offer: Option<Offer>)
-    requires { length offers.old.items < 1 + most_shifts * most_skills }
-    ensures items { offers.new.items ≡ offers.old.items ++ option_to_list offer }
-    ensures few { length offers.new.items ≤ length offers.old.items + 1 }
-{
-    if let Some(offer) = offer {
-        offers.push(offer);
+impl Offering for Beside<'_> {
+    ghost use Rattle.std.specs.Prelude.{◌≡◌};
+    ghost use Rattle.roster_laws.specs.OneRow.{others, price as price_of};
+    ghost use Rattle.roster_laws.specs.Staffing.{meets, with_choice};
+    ghost use Rattle.roster_best.specs.Offers.{LacksWithout};
+
+    ghost Serves = { λ o c n d. (o.held.now.case ≡ c)
+        × LacksWithout c o.held.now.roster n d o.without.minimum o.without.optimum };
+
+    ghost is_open = { λ o n d choice. meets o.held.now.case d (with_choice
+        (others o.held.now.roster n d) choice) };
+
+    ghost price = { λ o n d choice. price_of o.held.now.case o.held.now.roster n d choice };
+
+    fn offer(&self, at: &NurseDay<'_>, choice: Choice, asked: u32) -> Option<Offer> {
+        offered(self.held, at.nurse, at.day, choice, self.without, asked)
     }
 }
 
-/// For each skill of the case whether the nurse has it and isn't absent on the day.
-fn able_by_skill(case: &Case, nurse: usize, day: u16) -> [bool; 8]
-    requires { nurse < nurse_count case.now }
-    ensures { (k : ℕ) → k < skill_count case.now →
-        slice_index_or result k false ≡ (list_any (λ own. own.0 == k)
-        (nurse_at case.now nurse).skills && not (is_absent case.now nurse day)) }
-{
-    case.keeps_limits();
-    let mut able = [false; 8];
-    if case.is_absent(nurse, day) {
-        return able;
-    }
-    for skill in 0..case.skills() {
-        able[skill as usize] = is_able(case.skills_of(nurse), Choice::Work(Shift(0), Skill(skill)));
-    }
-    able
-}
-
-/// A choice that the nurse may take with its price, where it is open, by what the day lacks without the nurse and what the
+/// A choice with its price, where no minimum of the day is missed with it, by what the day lacks without the nurse and what the
 /// requests cost.
 fn offered(
     held: &Held,
@@ -144,7 +138,6 @@ fn offered(
     requires nurse { nurse < nurse_count held.now.case }
     requires day { day < day_count held.now.case }
     requires choice { is_choice_of held.now.case choice ≡ true }
-    requires able { may_take held.now.case nurse day choice ≡ true }
     requires minimum { without.minimum ≡ lacking held.now.case (minimum held.now.case day)
         (others held.now.roster nurse day) }
     requires optimum { without.optimum ≡ lacking held.now.case (optimum held.now.case day)
@@ -152,8 +145,8 @@ fn offered(
     requires within { without.optimum ≤ 1 + most_shifts * most_skills * most_small }
     requires asked { asked ≡ request_cost_on held.now.case nurse day (shift_of choice) }
     requires asked_within { asked ≤ most_request }
-    ensures { result ≡ (if is_open held.now.case held.now.roster nurse day choice then Some
-        (offer_of held.now.case held.now.roster nurse day choice) else None) }
+    ensures { result ≡ (if meets held.now.case day (with_choice (others held.now.roster nurse day)
+        choice) then Some (offer_of held.now.case held.now.roster nurse day choice) else None) }
 {
     let lack = lacking_by(held, nurse, day, choice, without);
     offer_if(lack.minimum, choice, STAFFING * lack.optimum + asked)

@@ -14,8 +14,8 @@ ghost use Rattle.roster_partial.specs.Workspaces.{SameRoom, fits_space};
 ghost use Rattle.roster_best.specs.Known.{IsKnown};
 ghost use Rattle.roster_best.specs.Searches.{AreOffersOf, AreShiftOffers, CountsStanding};
 
-use crate::by_shift::choices_by_shift;
 use crate::last::LastSearches;
+use crate::offer::choices_by_shift;
 use roster_case::Held;
 use roster_partial::Workspace;
 use roster_state::{Meter, start};

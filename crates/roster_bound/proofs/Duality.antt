@@ -1,5 +1,5 @@
 -- What the places pay is what the nurses earn: so the least costs together are at most the penalty.
-use Rattle.std.proofs.Common.{◌≡◌, ◌∙◌, ◌+◌, ◌-◌, ◌*◌, ◌%◌, ◌||◌, ◌<◌, ◌≤◌, ◌&&◌, ◌==◌, ℕ, zero, suc, Bool, true, false, not, ap, arith, refl, sym, [], length, nat_lt, Contains, mul-add, if◌then◌else◌}
+use Rattle.std.proofs.Common.{◌≡◌, ◌∙◌, ◌+◌, ◌-◌, ◌*◌, ◌/◌, ◌%◌, ◌||◌, ◌<◌, ◌≤◌, ◌&&◌, ◌==◌, ℕ, zero, suc, Bool, true, false, not, ap, arith, refl, sym, [], length, nat_lt, Contains, mul-add, if◌then◌else◌}
 use Rattle.std.specs.List.{list_all}
 use Rattle.std.proofs.lemmas.Bool.{and_from, and_parts, eqb-true}
 use Rattle.roster_instance.specs.declared.choice.Choice.{Choice}
@@ -20,7 +20,7 @@ use Rattle.roster_laws.proofs.Allowed.{member_is_kept}
 use Rattle.roster_laws.specs.FrozenDays.{FrozenDaysStay}
 use Rattle.roster_rules.proofs.RunBounds.{sum_both}
 use Rattle.roster_laws.proofs.Below.{all_elim, all_true}
-use Rattle.roster_laws.proofs.Fives.{penalty_is}
+use Rattle.roster_laws.proofs.Fives.{five_is}
 use Rattle.roster_laws.proofs.SameRows.{same_choice_self}
 use Rattle.roster_laws.proofs.Keeps.{keeps_hard-parts}
 use Rattle.roster_laws.proofs.OneRow.{penalty-parts, requests_of_row}
@@ -110,14 +110,21 @@ put_together : (p f paid cost room staffing pen : ℕ) → p ≤ staffing + paid
 put_together p f paid cost room staffing pen h k e = omega arith
 
 -- a multiple of 5 that is not below a number isn't below the next multiple of 5 either
-pub rounded_below : (b pen : ℕ) → b ≤ pen → pen % 5 ≡ 0 → rounded_up b ≤ pen
-rounded_below b pen h five = omega (arith, h, five)
+five_below : (b pen : ℕ) → b ≤ pen → pen % 5 ≡ 0 → 5 * ((b + 4) / 5) ≤ pen
+five_below b pen h five = omega (arith, h, five)
+
+pub rounded_below : (c : Meaning) (r : Rows) (b : ℕ) → b ≤ penalty c r → rounded_up c b ≤ penalty c r
+rounded_below c r b h = go (c.keep % 5 == 0) refl
+  where
+    go : (fives : Bool) → (c.keep % 5 == 0) ≡ fives → (if fives then 5 * ((b + 4) / 5) else b) ≤ penalty c r
+    go true e = five_below b (penalty c r) h (five_is c (eqb-true (c.keep % 5) 0 e) r)
+    go false e = h
 
 -- on a frozen day the given choice keeps
-keeps_given : (from : ℕ) (given : Rows) (n d : ℕ) (x : Choice) → (is_frozen from d ≡ true → x ≡ choice_on (row_of given n) d) → keeps_frozen_day from given n d x ≡ true
-keeps_given from given n d x same = go (is_frozen from d) refl
+keeps_given : (c : Meaning) (from : ℕ) (given : Rows) (n d : ℕ) (x : Choice) → (is_frozen c from n d ≡ true → x ≡ choice_on (row_of given n) d) → keeps_frozen_day c from given n d x ≡ true
+keeps_given c from given n d x same = go (is_frozen c from n d) refl
   where
-    go : (b : Bool) → is_frozen from d ≡ b → (not b || same_choice x (choice_on (row_of given n) d)) ≡ true
+    go : (b : Bool) → is_frozen c from n d ≡ b → (not b || same_choice x (choice_on (row_of given n) d)) ≡ true
     go false e = refl
     go true e = ap (λ y. same_choice y (choice_on (row_of given n) d)) (same e) ∙ same_choice_self (choice_on (row_of given n) d)
 
@@ -159,7 +166,7 @@ module _ (c : Meaning) (from : ℕ) (given : Rows) (w : PlaceWorths) (are : AreW
     row = row_of r n
 
     frozen_kept : keeps_frozen_days c from given n (row_of r n) ≡ true
-    frozen_kept = all_true (day_count c) (λ d. keeps_frozen_day from given n d (choice_on (row_of r n) d)) (λ d h. keeps_given from given n d (choice_on (row_of r n) d) (stays n d h))
+    frozen_kept = all_true (day_count c) (λ d. keeps_frozen_day c from given n d (choice_on (row_of r n) d)) (λ d h. keeps_given c from given n d (choice_on (row_of r n) d) (stays n d h))
 
     pub worked : can_work c from given n (row_of r n) ≡ true
     worked =
@@ -209,8 +216,8 @@ module _ (c : Meaning) (from : ℕ) (given : Rows) (w : PlaceWorths) (are : AreW
       put_together (places_floor c w) (sum_below (nurse_count c) floor) (sum_below (nurse_count c) earns) (sum_below (nurse_count c) (λ n. nurse_cost c n (days_of_nurse r n))) (nurse_count c * (day_count c * most_worth)) (staffing_cost c r) (penalty c r)
       (omega (arith, places_below, paid)) rows_below (penalty-parts c r)
 
-  below : rounded_up (floors_together c from given w) ≤ penalty c r
-  below = rounded_below (floors_together c from given w) (penalty c r) together_below (penalty_is c r)
+  below : rounded_up c (floors_together c from given w) ≤ penalty c r
+  below = rounded_below c r (floors_together c from given w) together_below
 
 pub no_roster_below : (c : Meaning) (from : ℕ) (given : Rows) (w : PlaceWorths) → AreWorths w → IsLowerBound c from given (bound_by c from given w)
 unfolding bound_by

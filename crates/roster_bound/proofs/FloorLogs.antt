@@ -12,7 +12,7 @@ use Rattle.roster_rules.specs.HardRules.{keeps_hard}
 use Rattle.roster_rules.specs.Penalties.{penalty}
 use Rattle.roster_laws.proofs.Frozen.{stays_self}
 use Rattle.roster_rules.specs.Weights.{staffing_weight}
-use Rattle.roster_rules.specs.Improver.{line}
+use Rattle.roster_rules.specs.Improver.{line, start_word}
 use Rattle.roster_log.specs.declared.fault.LogFault.TheVariants.{LogFailed}
 use Rattle.roster_bound.specs.Floors.{FloorLine, FloorLogStops, IsFloorLog, IsRoundBound, RaisesFloor, Rises, floor_line, floor_text, last_line, no_line}
 use Rattle.roster_bound.specs.Worths.{AreWorths, IsLowerBound, PlaceWorths, asks_for_nurses, bound_by, first_bound, first_worths, most_worth}
@@ -30,8 +30,8 @@ rises_more before (y ∷ xs) x rises later more = (rises.0, rises.1, rises_more 
 
 -- ---- the first line
 
-pub first_text : (c : Meaning) (given : Rows) (total : ℕ) → total ≡ penalty c given → line (codes "start") total ≡ floor_text c given []
-first_text c given total e = ap (line (codes "start")) e ∙ sym (append-nil (line (codes "start") (penalty c given)))
+pub first_text : (c : Meaning) (given : Rows) (total : ℕ) → total ≡ penalty c given → line (start_word c) total ≡ floor_text c given []
+first_text c given total e = ap (line (start_word c)) e ∙ sym (append-nil (line (start_word c) (penalty c given)))
 
 -- ---- what a round tells, after so many others
 
@@ -130,7 +130,7 @@ pub record Going {W : Type 0} (contents : W → Option (List ℕ)) (c : Meaning)
 
 module _ {W : Type 0} (contents : W → Option (List ℕ)) (c : Meaning) (from : ℕ) (given : Rows) (old : Watched W) where
   first_line : List ℕ
-  first_line = line (codes "start") (penalty c given)
+  first_line = line (start_word c) (penalty c given)
 
   text_more : (xs : List FloorLine) (x : FloorLine) → floor_text c given xs ++ floor_line x ≡ floor_text c given (xs ++ x ∷ [])
   unfolding first_line
@@ -150,7 +150,7 @@ module _ {W : Type 0} (contents : W → Option (List ℕ)) (c : Meaning) (from :
         lines = some.0;
         is_log = some.1;
         sent = p.sent;
-        stops = StopsAt-append contents old new (line (codes "start") (penalty c given)) (flat_map floor_line some.0) p.sent (subst (λ text. StopsAt contents old new text p.sent) (append-nil (line (codes "start") (penalty c given))) p.stops);
+        stops = StopsAt-append contents old new (line (start_word c) (penalty c given)) (flat_map floor_line some.0) p.sent (subst (λ text. StopsAt contents old new text p.sent) (append-nil (line (start_word c) (penalty c given))) p.stops);
         counted = ap (λ f. LogFailed (sent_of f)) p.counted ∙ ap (λ n. LogFailed (saturated n)) (zero-add p.sent);
       }
 

@@ -13,6 +13,7 @@ use Rattle.roster_instance.specs.declared.choice.Choice.TheVariants.{Off}
 use Rattle.roster_rules.specs.AllowedRows.{first_least, keeps_frozen_day, keeps_frozen_days}
 use Rattle.roster_instance.specs.Choices.{all_choices, all_rows, days_of, shift_of}
 use Rattle.roster_rules.specs.HardRules.{breaks_succession, is_able, is_able_on, is_here, is_here_on, keeps_hard, keeps_successions, may_take}
+use Rattle.roster_instance.specs.Limits.{most_keep}
 use Rattle.roster_instance.specs.Meaning.{Meaning, day_count, nurse_at}
 use Rattle.roster_rules.specs.Prefix.{due, summary_of}
 use Rattle.roster_instance.specs.Rosters.{Row, Rows, choice_on, fits_case, is_choice_of, row_of}
@@ -53,14 +54,14 @@ module _ (c : Meaning) (from : ℕ) (given : Rows) (w : PlaceWorths) (n : ℕ) w
 
   -- ---- the offers of a day
 
-  price_within : (d : ℕ) (x : Choice) → price_by c w n d x ≤ most_price
-  price_within d x = omega (arith, request_on-within c n d (shift_of x))
+  price_within : c.keep ≤ most_keep → (d : ℕ) (x : Choice) → price_by c w n d x ≤ most_price
+  price_within few d x = omega (arith, request_on-within c n d (shift_of x) few)
 
-  offers_of_case : (d : ℕ) → All (IsOfferOf c) (offers_by_worth c from given w n d)
-  offers_of_case d =
+  offers_of_case : c.keep ≤ most_keep → (d : ℕ) → All (IsOfferOf c) (offers_by_worth c from given w n d)
+  offers_of_case few d =
       All-map (IsOfferOf c) (offer_at (price_by c w n) d) (filter (can d) (all_choices c))
       (All-filter (can d) (λ x. IsOfferOf c (offer_at (price_by c w n) d x)) (all_choices c)
-      (All-weaker (Contains (all_choices c)) (λ x. IsOfferOf c (offer_at (price_by c w n) d x)) (λ x member. record { choice = member_is_choice c x member; price = price_within d x }) (all_choices c) (All-contains_itself (all_choices c))))
+      (All-weaker (Contains (all_choices c)) (λ x. IsOfferOf c (offer_at (price_by c w n) d x)) (λ x member. record { choice = member_is_choice c x member; price = price_within few d x }) (all_choices c) (All-contains_itself (all_choices c))))
 
   -- ---- the rows
 
@@ -69,7 +70,7 @@ module _ (c : Meaning) (from : ℕ) (given : Rows) (w : PlaceWorths) (n : ℕ) w
       let D = day_count c in
       let able : ℕ → Bool = λ d. may_take c n d (choice_on row d) in
       let follows : ℕ → Bool = λ d. not (breaks_succession c n (days_of row) d) in
-      let stays : ℕ → Bool = λ d. keeps_frozen_day from given n d (choice_on row d) in
+      let stays : ℕ → Bool = λ d. keeps_frozen_day c from given n d (choice_on row d) in
       ap (λ b. (b && keeps_successions c n (days_of row) D) && keeps_frozen_days c from given n row) (sym (all_both D (is_able_on c n row) (is_here_on c n row)))
       ∙ ap (λ b. b && keeps_frozen_days c from given n row) (sym (all_both D able follows))
       ∙ sym (all_both D (λ d. able d && follows d) stays)
@@ -125,18 +126,18 @@ module _ (c : Meaning) (from : ℕ) (given : Rows) (w : PlaceWorths) (n : ℕ) w
         let member = member_is_kept (can d) (all_choices c) (choice_on own.row d) (choice_is_member c (choice_on own.row d) (own_of_case d within)) (can_do_own d within) in
         omega (arith, member.1, length-map (filter (can d) (all_choices c)) (offer_at (price_by c w n) d))
 
-    day_offers : (d : ℕ) → d < day_count c → AreDayOffers c n (shift_offers_by_worth c from given w n d)
-    day_offers d within = record {
-      of_case = by_shift_all (IsOfferOf c) (offers_by_worth c from given w n d) (offers_of_case d);
+    day_offers : c.keep ≤ most_keep → (d : ℕ) → d < day_count c → AreDayOffers c n (shift_offers_by_worth c from given w n d)
+    day_offers few d within = record {
+      of_case = by_shift_all (IsOfferOf c) (offers_by_worth c from given w n d) (offers_of_case few d);
       some = by_shift_some (offers_by_worth c from given w n d) (offers_some d within);
-      few = omega (arith, by_shift_fewer (offers_by_worth c from given w n d), offers_few_of c n can (price_by c w n) (λ e x is. (and_parts (is_able (nurse_at c n).skills x) (is_here c n e x) (and_parts (may_take c n e x) (keeps_frozen_day from given n e x) is).0).0) d);
+      few = omega (arith, by_shift_fewer (offers_by_worth c from given w n d), offers_few_of c n can (price_by c w n) (λ e x is. (and_parts (is_able (nurse_at c n).skills x) (is_here c n e x) (and_parts (may_take c n e x) (keeps_frozen_day c from given n e x) is).0).0) d);
     }
 
     -- ---- over a table of these offers
 
     module _ (table : List (ArrayVec Offer)) (are : AreWorthOffers c from given w n table) where
-      pub can_search : AreOffers c n table
-      can_search = record { days = omega (arith, are.days); each = λ day within. subst (AreDayOffers c n) (sym (are.each day within)) (day_offers day within) }
+      pub can_search : c.keep ≤ most_keep → AreOffers c n table
+      can_search few = record { days = omega (arith, are.days); each = λ day within. subst (AreDayOffers c n) (sym (are.each day within)) (day_offers few day within) }
 
       same_best : best_over c n (offers_on table) ≡ best
       same_best = best_over_same c n (offers_on table) (shift_offers_by_worth c from given w n) are.each

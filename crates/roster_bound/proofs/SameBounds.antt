@@ -85,5 +85,5 @@ module _ (c : Meaning) (from : ℕ) (given : Rows) (w v : PlaceWorths) (same : S
   pub bound_same : bound_by c from given w ≡ bound_by c from given v
   unfolding bound_by
   bound_same =
-      ap₂ (λ places nurses. rounded_up (places + nurses - nurse_count c * (day_count c * most_worth))) (places_same c w v same)
+      ap₂ (λ places nurses. rounded_up c (places + nurses - nurse_count c * (day_count c * most_worth))) (places_same c w v same)
       (sum_same (nurse_count c) (row_floor c from given w) (row_floor c from given v) (λ n inside. row_floor_same c w v same from given n))

@@ -1,5 +1,5 @@
 -- What a nurse is offered on each day by worths.
-use Rattle.std.specs.Prelude.{◌≡◌, ℕ, ◌<◌, Bool, ◌&&◌, if◌then◌else◌, List, length, None, Option, Some}
+use Rattle.std.specs.Prelude.{◌≡◌, ℕ, ◌<◌, Bool, ◌&&◌, List, length}
 use Rattle.arrayvec.specs.ArrayVec.{ArrayVec}
 use Rattle.roster_instance.specs.declared.choice.Choice.{Choice}
 use Rattle.roster_instance.specs.Meaning.{Meaning, day_count}
@@ -7,17 +7,13 @@ use Rattle.roster_instance.specs.Rosters.{Rows}
 use Rattle.roster_rules.specs.AllowedRows.{keeps_frozen_day}
 use Rattle.roster_rules.specs.HardRules.{may_take}
 use Rattle.roster_offers.specs.declared.offer.Offer.{Offer}
-use Rattle.roster_offers.specs.Offers.{cheapest_by_shift, offer_at, offers_by}
+use Rattle.roster_offers.specs.Offers.{cheapest_by_shift, offers_by}
 use Rattle.roster_offers.specs.Lists.{offers_on}
 use Rattle.roster_bound.specs.Worths.{PlaceWorths, price_by}
 
 -- the nurse has the skill, and on a frozen day it is the given choice
 abbrev pub can_do : Meaning → ℕ → Rows → (n d : ℕ) → Choice → Bool
-can_do c from given n d choice = may_take c n d choice && keeps_frozen_day from given n d choice
-
--- it with its price, where she can do it
-abbrev pub offer_if_able : Meaning → ℕ → Rows → PlaceWorths → (n d : ℕ) → Choice → Option Offer
-offer_if_able c from given w n d choice = if can_do c from given n d choice then Some (offer_at (price_by c w n) d choice) else None
+can_do c from given n d choice = may_take c n d choice && keeps_frozen_day c from given n d choice
 
 -- all that the nurse can do on a day, with its price
 abbrev pub offers_by_worth : Meaning → ℕ → Rows → PlaceWorths → (n d : ℕ) → List Offer

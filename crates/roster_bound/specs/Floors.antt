@@ -4,7 +4,7 @@ use Rattle.roster_text.specs.Io.{StopsAt, Watched, Writes, saturated}
 use Rattle.roster_instance.specs.Meaning.{Meaning}
 use Rattle.roster_instance.specs.Rosters.{Rows}
 use Rattle.roster_rules.specs.Penalties.{penalty}
-use Rattle.roster_rules.specs.Improver.{line}
+use Rattle.roster_rules.specs.Improver.{line, start_word}
 use Rattle.roster_log.specs.declared.fault.LogFault.{LogFault}
 use Rattle.roster_log.specs.declared.fault.LogFault.TheVariants.{LogFailed}
 use Rattle.roster_bound.specs.Worths.{AreWorths, IsLowerBound, PlaceWorths, bound_by, first_bound}
@@ -51,7 +51,7 @@ abbrev pub floor_line : FloorLine → List ℕ
 floor_line x = line (codes "round " ++ decimal x.round) x.bound
 
 abbrev pub floor_text : Meaning → Rows → List FloorLine → List ℕ
-floor_text c given lines = line (codes "start") (penalty c given) ++ flat_map floor_line lines
+floor_text c given lines = line (start_word c) (penalty c given) ++ flat_map floor_line lines
 
 -- ---- a writer that takes all, and one that stops
 

@@ -1,7 +1,7 @@
 -- A floor under the penalty of every roster. A place is a day, a shift and a skill. It pays its worth to each nurse that works there:
 -- what the places pay is what the nurses earn, so that pay changes no penalty. But then each place and each nurse has a least cost of
 -- its own, and no roster costs less than all of these together (our own, by weak duality).
-use Rattle.std.specs.Prelude.{◌≡◌, ℕ, ◌+◌, ◌-◌, ◌*◌, ◌/◌, ◌<◌, ◌≤◌, min, max, Bool, true, ◌&&◌, ◌||◌, nat_lt, if◌then◌else◌, List, length, filter, Option}
+use Rattle.std.specs.Prelude.{◌≡◌, ℕ, ◌+◌, ◌-◌, ◌*◌, ◌/◌, ◌%◌, ◌<◌, ◌≤◌, ◌==◌, min, max, Bool, true, ◌&&◌, ◌||◌, nat_lt, if◌then◌else◌, List, length, filter, Option}
 use Rattle.std.specs.Option.{option_map_or}
 use Rattle.roster_instance.specs.declared.choice.Choice.{Choice}
 use Rattle.roster_instance.specs.declared.choice.Choice.TheVariants.{Off, Work}
@@ -99,12 +99,12 @@ row_floor c from given w n = option_map_or (row_cost_by c w n) (floor_row c from
 abbrev pub floors_together : Meaning → ℕ → Rows → PlaceWorths → ℕ
 floors_together c from given w = places_floor c w + sum_below (nurse_count c) (row_floor c from given w) - nurse_count c * (day_count c * most_worth)
 
--- the next multiple of 5, which each penalty is
-abbrev pub rounded_up : ℕ → ℕ
-rounded_up n = 5 * ((n + 4) / 5)
+-- the next multiple of 5, which each penalty is, unless a roster is kept at a number of points that isn't one
+abbrev pub rounded_up : Meaning → ℕ → ℕ
+rounded_up c n = if c.keep % 5 == 0 then 5 * ((n + 4) / 5) else n
 
 unfoldable pub bound_by : Meaning → ℕ → Rows → PlaceWorths → ℕ
-bound_by c from given w = rounded_up (floors_together c from given w)
+bound_by c from given w = rounded_up c (floors_together c from given w)
 
 -- ---- the worths of the first round
 

@@ -9,17 +9,17 @@ ghost use Rattle.roster_bound.specs.Days.{AreWorthOffers, shift_offers_by_worth}
 ghost use Rattle.roster_bound.specs.Seen.{FitsSeen};
 ghost use Rattle.roster_bound.specs.Tables.{worths_of};
 ghost use Rattle.roster_bound.specs.Workspaces.{FitsRows};
-ghost use Rattle.roster_bound.specs.Worths.{HasRow, HaveRows, IsLowerBound, bound_by, floor_row, most_worth, row_floor};
+ghost use Rattle.roster_bound.specs.Worths.{HasRow, HaveRows, IsLowerBound, bound_by, floor_row, most_worth, rounded_up, row_floor};
 
 use crate::moves::count_row;
-use crate::offers::{Terms, choices};
+use crate::offers::{DayTerms, Terms};
 use crate::places::places_floor;
 use crate::seen::Seen;
 use crate::workspace::RowSpace;
 use crate::worths::MOST_WORTH;
 use arrayvec::ArrayVec;
-use roster_offers::{DayOffers, MOST_OFFERS, Offer, RowSearch, cheapest_by_shift};
-use roster_rules::Case;
+use roster_offers::{DayOffers, MOST_OFFERS, NurseDay, Offer, RowSearch, offers_by_shift};
+use roster_rules::{Case, is_frozen};
 use roster_state::{Meter, start};
 
 /// A floor by worths: no roster costs less that fits the case, keeps the hard rules and agrees with the given one on the days before week
@@ -55,8 +55,19 @@ pub fn lower_bound(
         seen.keep(case, nurse, rows.workspace.row(), floor, terms.worths);
         floors += floor;
     }
-    let together = floors.saturating_sub(most_earned(case));
-    5 * ((together + 4) / 5)
+    rounded_up(case, floors.saturating_sub(most_earned(case)))
+}
+
+/// The next number that a penalty can be.
+fn rounded_up(case: &Case, together: u64) -> u64
+    requires { together + 4 ≤ greatest_u64 }
+    ensures { result ≡ rounded_up case.now together }
+{
+    if case.keep() % 5 == 0 {
+        5 * ((together + 4) / 5)
+    } else {
+        together
+    }
 }
 
 /// What all nurses would earn at the most worth on each day.
@@ -122,6 +133,7 @@ pub fn offers_of_day(terms: &Terms<'_>, nurse: usize, day: u16) -> ArrayVec<Offe
     ensures offers { result.items ≡ shift_offers_by_worth terms.now.case.now terms.now.from
         terms.now.given.now (worths_of terms.now.worths.now) nurse day }
 {
-    terms.case.keeps_limits();
-    cheapest_by_shift(&choices(terms, nurse, day))
+    let case = terms.case;
+    let frozen = is_frozen(case, terms.from, nurse, day);
+    offers_by_shift(&NurseDay { case, nurse, day }, &DayTerms { terms, frozen })
 }

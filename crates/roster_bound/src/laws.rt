@@ -9,7 +9,7 @@ ghost use Rattle.roster_bound.specs.Worths.{AreWorths, HaveRows, IsLeast, IsLowe
 
 use roster_rules::{Case, Roster};
 
-/// Whatever the places pay, what places and nurses cost at least, rounded up to a multiple of 5, is a lower bound on the penalty of
+/// Whatever the places pay, what places and nurses cost at least, rounded up to a multiple of 5 where each penalty is one, is a lower bound on the penalty of
 /// each roster that fits the case, keeps the hard rules and agrees with the given one on the frozen days.
 pub fn no_roster_is_below_the_bound()
     ensures { (c : Meaning) (from : ℕ) (given : Rows) (w : PlaceWorths) → AreWorths w →
@@ -30,9 +30,11 @@ pub fn rows_are_had(case: &Case, given: &Roster, from: u16)
     ensures { HaveRows case.now from given.now }
 {}
 
-/// A bound may be rounded up to the next multiple of 5: each penalty is one.
+/// A bound may be rounded up to the next multiple of 5 where each penalty is one: unless a roster is kept at a number of points that
+/// isn't.
 pub fn bounds_are_rounded_up()
-    ensures fives { (c : Meaning) (r : Rows) → penalty c r % 5 ≡ 0 }
+    ensures fives { (c : Meaning) (r : Rows) → c.keep % 5 ≡ 0 → penalty c r % 5 ≡ 0 }
     ensures bounds { (c : Meaning) (from : ℕ) (given : Rows) (bound : ℕ) →
-        IsLowerBound c from given bound → IsLowerBound c from given (rounded_up bound) }
+        IsLowerBound c from given bound →
+        IsLowerBound c from given (rounded_up c bound) }
 {}

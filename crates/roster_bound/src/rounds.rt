@@ -18,7 +18,7 @@ use crate::moves::{Step, farthest, learn};
 use crate::offers::{Base, Terms};
 use crate::workspace::FloorWorkspace;
 use roster_case::{Case, Held};
-use roster_log::{LogFault, log_round, log_word};
+use roster_log::{LogFault, log_round, log_start};
 use roster_state::Meter;
 use roster_text::Watch;
 use std::io::Write;
@@ -107,7 +107,7 @@ fn raise_under<W: Write>(
     };
     workspace.begin(base.case);
     let mut best = 0;
-    let mut sent = log_word(log, 0, b"start", total)?;
+    let mut sent = log_start(log, 0, base.case, total)?;
     for rounds_before in 0..rounds {
         if best >= total {
             return Ok(best);

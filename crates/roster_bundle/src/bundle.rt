@@ -243,9 +243,9 @@ pub struct Request {
     pub day: Day,
 }
 
-/// An absence: a nurse doesn't work on a day.
+/// A nurse and a day, as absences and fixed days are listed.
 #[derive(Clone, Copy)]
-pub struct Absence {
+pub struct NurseDay {
     pub nurse: Token,
     pub day: Day,
 }
@@ -259,7 +259,9 @@ pub struct WeekData {
     /// The wishes to work, where the week has their section.
     pub on_requests: Option<Listed<Request>>,
     /// The absences, where the week has their section.
-    pub absences: Option<Listed<Absence>>,
+    pub absences: Option<Listed<NurseDay>>,
+    /// The days whose choice stays as the solution has it, where the week has their section.
+    pub fixed_days: Option<Listed<NurseDay>>,
 }
 
 /// A nurse works a shift with a skill on a day.

@@ -6,7 +6,7 @@ mod token;
 mod view;
 
 pub use bundle::{
-    Absence, Assignment, Bundle, Contract, Day, History, Items, Listed, Number, Nurse,
+    Assignment, Bundle, Contract, Day, History, Items, Listed, Number, Nurse, NurseDay,
     NurseHistory, Pair, Request, Requirement, Scenario, ShiftType, Solution, Succession, WeekData,
     WeekPairs,
 };

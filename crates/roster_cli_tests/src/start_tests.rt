@@ -286,16 +286,17 @@ fn asks_for_run(alloc: Global, words: &[&str], (rounds, from): (u16, u16), files
         command,
         files: given,
     } = request;
-    matches!(command, Command::Improve { rounds: some, from: first } if some == rounds && first == from)
+    matches!(command, Command::Improve { rounds: some, from: first, keep: 0 } if some == rounds && first == from)
         && given.iter().map(|it| it.as_str()).eq(files.iter().copied())
 }
 
-/// Whether the words ask for a bound by so many rounds from a week on.
-fn asks_for_bound(alloc: Global, words: &[&str], (rounds, from): (u16, u16)) -> bool {
+/// Whether the words ask for a bound by so many rounds from a week on, at so many points for what is kept.
+fn asks_for_bound(alloc: Global, words: &[&str], (rounds, from, keep): (u16, u16, u16)) -> bool {
     let Ok(request) = request_of(alloc, words) else {
         return false;
     };
-    matches!(request.command, Command::Bound { rounds: some, from: first } if some == rounds && first == from)
+    matches!(request.command, Command::Bound { rounds: some, from: first, keep: kept }
+        if some == rounds && first == from && kept == keep)
 }
 
 /// How a run of searches is asked for: how many, by which seed, from which week on, and whether with kicks alone.
@@ -306,8 +307,42 @@ fn asks_for_searches(alloc: Global, words: &[&str], (searches, seed, from, kicks
     let Ok(request) = request_of(alloc, words) else {
         return false;
     };
-    matches!(request.command, Command::Polish { searches: some, seed: begin, from: first, kicks: alone }
+    matches!(request.command, Command::Polish { searches: some, seed: begin, from: first, kicks: alone, keep: 0 }
         if some == searches && begin == seed && first == from && alone == kicks)
+}
+
+/// Whether the words ask who may take the shift of this name on this day, with a skill or with any, from a week on.
+fn asks_who(alloc: Global, words: &[&str], (day, shift, skill, from): Wanted<'_>) -> bool {
+    let Ok(request) = request_of(alloc, words) else {
+        return false;
+    };
+    let Command::Who {
+        day: on,
+        shift: of,
+        skill: with,
+        from: first,
+    } = &request.command
+    else {
+        return false;
+    };
+    let with = match with {
+        None => None,
+        Some(it) => Some(it.as_str()),
+    };
+    on.as_str() == day && of.as_str() == shift && with == skill && *first == from
+}
+
+/// An assignment as words ask for it: its day, its shift, its skill if one is named, and the first week.
+type Wanted<'a> = (&'a str, &'a str, Option<&'a str>, u16);
+
+#[test]
+fn assignments_of_words(rt: HostRuntime) {
+    let words = [
+        "roster", "who", "--shift", "Early", "--day", "1:Wed", "--skill", "Head", "--from", "1",
+    ];
+    assert!(rt; asks_who(rt.alloc(), &words, ("1:Wed", "Early", Some("Head"), 1)));
+    assert!(rt; asks_who(rt.alloc(), &words[..6], ("1:Wed", "Early", None, 0)));
+    assert!(rt; !asks_who(rt.alloc(), &words[..4], ("1:Wed", "Early", None, 0)));
 }
 
 #[test]
@@ -320,9 +355,12 @@ fn requests_of_words(rt: HostRuntime) {
     ];
     assert!(rt; asks_for_run(rt.alloc(), &frozen, (5, 52), &["a.txt"]));
     assert!(rt; asks_for_run(rt.alloc(), &frozen[..4], (100, 52), &[]));
-    let words = ["roster", "bound", "--rounds", "7", "--from", "3"];
-    assert!(rt; asks_for_bound(rt.alloc(), &words, (7, 3)));
-    assert!(rt; asks_for_bound(rt.alloc(), &words[..2], (100, 0)));
+    let words = [
+        "roster", "bound", "--rounds", "7", "--from", "3", "--keep", "100",
+    ];
+    assert!(rt; asks_for_bound(rt.alloc(), &words, (7, 3, 100)));
+    assert!(rt; asks_for_bound(rt.alloc(), &words[..6], (7, 3, 0)));
+    assert!(rt; asks_for_bound(rt.alloc(), &words[..2], (100, 0, 0)));
     let words = [
         "roster",
         "polish",

@@ -1,6 +1,7 @@
 -- Which fault a failing reader or writer gives, and what a bundle means.
-use Rattle.std.proofs.Common.{◌≡◌, ◌∙◌, ◌∷◌, [], ◌<◌, ℕ, arith, Err, List, Option, None, Some, Result, Ok, ap, length, lit<, refl, subst, sym, true≢false, is_some, false, true, Bool}
-use Rattle.std.specs.Prelude.{Contains, IfErr, IfSome, IsErrOf, OnOk, string_bytes}
+use Rattle.std.proofs.Common.{◌≡◌, ◌∙◌, ◌∷◌, ◌==◌, [], ◌<◌, ℕ, arith, if◌then◌else◌, Err, List, Option, None, Some, Result, Ok, ap, length, lit<, refl, subst, sym, true≢false, is_some, false, true, Bool}
+use Rattle.std.specs.Prelude.{Contains, IfErr, IfSome, IsErrOf, OnOk, option_map, string_bytes}
+use Rattle.std.specs.Borrow.{Bor}
 use Rattle.std.proofs.lemmas.List.{length-map}
 use Rattle.roster_text.specs.Grammar.{Spells}
 use Rattle.roster_text.specs.Io.{IsReadFault, Writes, counted, is_read_failure}
@@ -11,15 +12,15 @@ use Rattle.roster_text.specs.declared.fault.TextFault.{TextFault}
 use Rattle.roster_text.specs.declared.fault.TextFault.TheVariants as text
 use Rattle.roster_instance.specs.Bundles.{meaning_of, rows_of, week_meant}
 use Rattle.roster_instance.specs.Checking.{IsFirst}
-use Rattle.roster_instance.specs.Meaning.{Meaning, week_count}
+use Rattle.roster_instance.specs.Meaning.{Meaning, keeping, week_count}
 use Rattle.roster_instance.specs.Names.{nurse_names, shift_names, skill_names}
 use Rattle.roster_instance.specs.Refusals.{all_faults, case_faults, roster_faults}
 use Rattle.roster_instance.specs.declared.fault.CaseFault.{CaseFault}
 use Rattle.roster_instance.specs.declared.fault.CaseFault.TheVariants as case
 use Rattle.roster_instance.proofs.Sections.{IsFirst-after}
 use Rattle.roster_rules.specs.declared.fault.HardFault.{HardFault}
-use Rattle.roster_commands.specs.Answer.{Answers, Ends, Input, IsAllowed, IsAnswer, IsOutcomeOf, IsPlanReport, IsPolishReport, IsReportOf, IsUnheld, IsUnread, Leaves, LeavesLog, Logged, CommandEnd, Output, Report, Reports, SpellsInstance, StopsOutput, StopsReading, Untouched, best_report, bound_report, cost_report, improve_report, outcome_of, plain, plan_report, polish_report, roster_of, searches_for}
-use Rattle.roster_reports.specs.Lines.{Text, sizes_text}
+use Rattle.roster_commands.specs.Answer.{Answers, AskedNames, Ends, Input, IsAllowed, IsAnswer, IsKeptAt, IsOutcomeOf, IsPlanReport, IsPolishReport, IsReportIn, IsUnheld, IsUnread, Leaves, LeavesLog, Logged, CommandEnd, Output, Report, Reports, SpellsInstance, StopsOutput, StopsReading, Untouched, asked_by, best_report, bound_report, case_for, cost_report, improve_report, keep_of, outcome_of, plain, plan_report, polish_report, roster_of, searches_for, who_report}
+use Rattle.roster_reports.specs.Lines.{Text, nurse_of, sizes_text}
 use Rattle.roster_commands.specs.Lines.{status_of}
 use Rattle.roster_commands.specs.declared.fault.Fault.{Fault}
 use Rattle.roster_commands.specs.declared.fault.Fault.TheVariants as fault
@@ -34,6 +35,8 @@ use Rattle.roster_laws.proofs.Frozen.{stays_self}
 use Rattle.roster_polish.specs.Plans.{IsPlanned, missing}
 use Rattle.roster_polish.specs.Polished.{first_run}
 use Rattle.roster_polish.proofs.KickLogs.{unkicked, unkicked_text}
+use Rattle.roster_who.specs.Who.{takers, without_absent_work}
+use Rattle.roster_who.proofs.OrderLemmas.{some_order}
 use Rattle.roster_commands.proofs.FloorReports.{of_floors}
 
 -- ---- a bundle
@@ -72,7 +75,7 @@ status_listed (fault.Case (case.TooManyStates number name) nurse) = (1, lit< tt,
 status_listed (fault.Case (case.H1 number day) nurse) = (1, lit< tt, refl)
 status_listed (fault.Hard f names) = (1, lit< tt, refl)
 status_listed (fault.Unfound f names) = (1, lit< tt, refl)
-status_listed (fault.Nurse name) = (1, lit< tt, refl)
+status_listed (fault.Unknown thing name) = (1, lit< tt, refl)
 status_listed fault.Memory = (3, lit< tt, refl)
 status_listed fault.Workspace = (3, lit< tt, refl)
 status_listed fault.Output = (2, lit< tt, refl)
@@ -126,25 +129,30 @@ no_plan searches from alone c r nearest fits planned = record {
 }
 
 -- each command has a report
-some_report : (command : Command) (c : Meaning) (r : Rows) → (p : Report) × IsReportOf command c r p
+some_report : (command : Command) (c : Meaning) (r : Rows) → (p : Report) × IsReportIn command c r p
 some_report command.Show c r = (plain (weeks_text c r), refl)
 some_report command.Cost c r = (cost_report c r, refl)
 some_report command.Sizes c r = (plain (sizes_text c), refl)
-some_report (command.Best nurse from) c r = (best_report (string_bytes nurse) from c r, refl)
-some_report (command.Improve rounds from) c r = (improve_report rounds from c r, refl)
-some_report (command.Bound rounds from) c r = let some = some_log c from r rounds in (bound_report some.0 c r, of_floors rounds from c r some.0 some.1)
-some_report (command.Polish searches seed from kicks) c r = (kickless from c r, no_kick (searches_for c searches) from kicks c r)
-some_report (command.Plan searches seed from) c r = (unplanned from r c r, no_plan (searches_for c searches) from false c r r (λ e. e) (planned_self c from r))
+some_report (command.Best nurse from keep) c r = (best_report (string_bytes nurse) from c r, refl)
+some_report (command.Improve rounds from keep) c r = (improve_report rounds from c r, refl)
+some_report (command.Bound rounds from keep) c r = let some = some_log c from r rounds in (bound_report some.0 c r, of_floors rounds from c r some.0 some.1)
+some_report (command.Polish searches seed from kicks keep) c r = (kickless from c r, no_kick (searches_for c searches) from kicks c r)
+some_report (command.Who day shift skill from) c r =
+    let names : AskedNames = record { day = string_bytes day; shift = string_bytes shift; skill = option_map string_bytes skill } in
+    let some = some_order (takers c from (without_absent_work c r) (asked_by c names)) in
+    (who_report names from some.0 c r, record { listed = some.0; in_order = some.1; is = refl })
+some_report (command.Plan searches seed from keep) c r = (unplanned from r c r, no_plan (searches_for c searches) from false c r r (λ e. e) (planned_self c from r))
 
 pub refused_reading : {W L : Type 0} (output : Output W) (log : Output L) (command : Command) (source : Text) (f : Fault) → StopsReading source f → Untouched output → Untouched log
     → Answers output log command source (Some f)
 refused_reading output log command source (fault.Text f) h o l = (h, o, l)
 refused_reading output log command source (fault.Case f nurse) h o l =
-    let some = some_report command (meaning_of source h.bundle) (roster_of source h.bundle) in
+    let r = roster_of source h.bundle in
+    let some = some_report command (case_for command (meaning_of source h.bundle) r) r in
     record { bundle = h.bundle; spelled = h.spelled; report = some.0; is = some.1; ends = h.refused; left = o; logged = l }
 refused_reading output log command source (fault.Hard f names) h o l = absurd h
 refused_reading output log command source (fault.Unfound f names) h o l = absurd h
-refused_reading output log command source (fault.Nurse name) h o l = absurd h
+refused_reading output log command source (fault.Unknown thing name) h o l = absurd h
 refused_reading output log command source fault.Memory h o l = absurd h
 refused_reading output log command source fault.Workspace h o l = absurd h
 refused_reading output log command source fault.Output h o l = absurd h
@@ -152,11 +160,26 @@ refused_reading output log command source fault.Log h o l = absurd h
 
 -- ---- an instance, once it is read
 
+-- whatever roster a case keeps, the same rosters fit it
+pub fits_kept : (c : Meaning) (rows : Rows) (keep : ℕ) (r : Rows) → fits_case c r ≡ true → fits_case (keeping c rows keep) r ≡ true
+fits_kept c rows keep r fits = go (keep == 0)
+  where
+    go : (b : Bool) → fits_case (if b then c else record c { base = rows; keep = keep }) r ≡ true
+    go true = fits
+    go false = fits
+
+-- want of memory stops a reading, whatever else is so
+pub memory_stops : (source : Text) (i : Instance) (nurse : Bor Text) → SpellsInstance source i → nurse.now ≡ nurse_of source i.bundle case.Memory → StopsReading source (fault.Case case.Memory nurse)
+memory_stops source i nurse says is = record { bundle = i.bundle; spelled = says.spelled; refused = record { first = λ other. absurd (other refl); nurse_is = is } }
+
 module _ {W L : Type 0} (output : Output W) (log : Output L) (command : Command) (source : Text) (i : Instance) (says : SpellsInstance source i) where
-  report_meant : (p : Report) → IsReportOf command i.case i.roster p → IsAnswer command source i.bundle p
-  report_meant p is =
-      let roster = says.roster ∙ ap (λ m. rows_of source m i.bundle) says.case in
-      subst (λ m. IsReportOf command m (roster_of source i.bundle) p) says.case (subst (λ r. IsReportOf command i.case r p) roster is)
+  roster_meant : i.roster ≡ roster_of source i.bundle
+  roster_meant = says.roster ∙ ap (λ m. rows_of source m i.bundle) says.case
+
+  report_meant : (kept : Instance) → IsKeptAt i (keep_of command) kept → (p : Report) → IsReportIn command kept.case kept.roster p → IsAnswer command source i.bundle p
+  report_meant kept at p is =
+      let case_meant : kept.case ≡ keeping (meaning_of source i.bundle) (roster_of source i.bundle) (keep_of command) = at.case ∙ (λ j. keeping (says.case j) (roster_meant j) (keep_of command)) in
+      subst (λ m. IsReportIn command m (roster_of source i.bundle) p) case_meant (subst (λ r. IsReportIn command kept.case r p) (at.roster ∙ roster_meant) is)
 
   -- the roster of the bundle fits its case
   roster_fits : fits_case (meaning_of source i.bundle) (roster_of source i.bundle) ≡ true
@@ -171,14 +194,16 @@ module _ {W L : Type 0} (output : Output W) (log : Output L) (command : Command)
     as_taken (Some (fault.Case f nurse)) h o l = absurd h
     as_taken (Some (fault.Hard f names)) h o l = record { bundle = i.bundle; spelled = says.spelled; report = p; is = is; ends = record { taken = says.taken; fits = roster_fits; ends = h }; left = o; logged = l }
     as_taken (Some (fault.Unfound f names)) h o l = record { bundle = i.bundle; spelled = says.spelled; report = p; is = is; ends = record { taken = says.taken; fits = roster_fits; ends = h }; left = o; logged = l }
-    as_taken (Some (fault.Nurse name)) h o l = record { bundle = i.bundle; spelled = says.spelled; report = p; is = is; ends = record { taken = says.taken; fits = roster_fits; ends = h }; left = o; logged = l }
+    as_taken (Some (fault.Unknown thing name)) h o l = record { bundle = i.bundle; spelled = says.spelled; report = p; is = is; ends = record { taken = says.taken; fits = roster_fits; ends = h }; left = o; logged = l }
     as_taken (Some fault.Memory) h o l = record { bundle = i.bundle; spelled = says.spelled; report = p; is = is; ends = record { taken = says.taken; fits = roster_fits; ends = h }; left = o; logged = l }
     as_taken (Some fault.Workspace) h o l = record { bundle = i.bundle; spelled = says.spelled; report = p; is = is; ends = record { taken = says.taken; fits = roster_fits; ends = h }; left = o; logged = l }
     as_taken (Some fault.Output) h o l = record { bundle = i.bundle; spelled = says.spelled; report = p; is = is; ends = record { taken = says.taken; fits = roster_fits; ends = h }; left = o; logged = l }
     as_taken (Some fault.Log) h o l = record { bundle = i.bundle; spelled = says.spelled; report = p; is = is; ends = record { taken = says.taken; fits = roster_fits; ends = h }; left = o; logged = l }
 
-  pub answers : (outcome : CommandEnd) → Reports output log (IsReportOf command i.case i.roster) source i.bundle outcome → Answers output log command source outcome
-  answers outcome h = as_taken h.report (report_meant h.report h.is) outcome h.ends.ends h.ends.left h.logged
+  pub answers : (kept : Instance) → IsKeptAt i (keep_of command) kept → (outcome : CommandEnd) → Reports output log (IsReportIn command kept.case kept.roster) source kept.bundle outcome → Answers output log command source outcome
+  answers kept at outcome told =
+      let h = subst (λ b. Reports output log (IsReportIn command kept.case kept.roster) source b outcome) at.bundle told in
+      as_taken h.report (report_meant kept at h.report h.is) outcome h.ends.ends h.ends.left h.logged
 
 -- ---- a command for an instance
 
@@ -191,7 +216,7 @@ written_ends output p source b (Err (fault.Text f)) allowed ok err = absurd err
 written_ends output p source b (Err (fault.Case f nurse)) allowed ok err = absurd err
 written_ends output p source b (Err (fault.Hard f names)) allowed ok err = absurd err
 written_ends output p source b (Err (fault.Unfound f names)) allowed ok err = absurd err
-written_ends output p source b (Err (fault.Nurse name)) allowed ok err = absurd err
+written_ends output p source b (Err (fault.Unknown thing name)) allowed ok err = absurd err
 written_ends output p source b (Err fault.Memory) allowed ok err = absurd err
 written_ends output p source b (Err fault.Workspace) allowed ok err = absurd err
 written_ends output p source b (Err fault.Output) allowed ok err = record { ends = allowed; left = err }
@@ -205,7 +230,7 @@ written_log output log told text (Err (fault.Text f)) logged err = absurd err
 written_log output log told text (Err (fault.Case f nurse)) logged err = absurd err
 written_log output log told text (Err (fault.Hard f names)) logged err = absurd err
 written_log output log told text (Err (fault.Unfound f names)) logged err = absurd err
-written_log output log told text (Err (fault.Nurse name)) logged err = absurd err
+written_log output log told text (Err (fault.Unknown thing name)) logged err = absurd err
 written_log output log told text (Err fault.Memory) logged err = absurd err
 written_log output log told text (Err fault.Workspace) logged err = absurd err
 written_log output log told text (Err fault.Output) logged err = logged
@@ -224,7 +249,7 @@ silent_log output log p source b (Some (fault.Text f)) none e same = same
 silent_log output log p source b (Some (fault.Case f nurse)) none e same = same
 silent_log output log p source b (Some (fault.Hard f names)) none e same = same
 silent_log output log p source b (Some (fault.Unfound f names)) none e same = same
-silent_log output log p source b (Some (fault.Nurse name)) none e same = same
+silent_log output log p source b (Some (fault.Unknown thing name)) none e same = same
 silent_log output log p source b (Some fault.Memory) none e same = same
 silent_log output log p source b (Some fault.Workspace) none e same = same
 silent_log output log p source b (Some fault.Output) none e same = rw none same
@@ -237,7 +262,7 @@ unheld_ends output p source b (fault.Text f) held found known h same = absurd h
 unheld_ends output p source b (fault.Case f nurse) held found known h same = absurd h
 unheld_ends output p source b (fault.Hard f names) held found known h same = record { ends = h; left = same }
 unheld_ends output p source b (fault.Unfound f names) held found known h same = absurd h
-unheld_ends output p source b (fault.Nurse name) held found known h same = absurd h
+unheld_ends output p source b (fault.Unknown thing name) held found known h same = absurd h
 unheld_ends output p source b fault.Memory held found known h same = record { ends = (record { kept = h; found = found; known = known }, held); left = same }
 unheld_ends output p source b fault.Workspace held found known h same = absurd h
 unheld_ends output p source b fault.Output held found known h same = absurd h
@@ -250,7 +275,7 @@ unheld_log log told source b broken (fault.Text f) h same = absurd h
 unheld_log log told source b broken (fault.Case f nurse) h same = absurd h
 unheld_log log told source b broken (fault.Hard f names) h same = same
 unheld_log log told source b broken (fault.Unfound f names) h same = absurd h
-unheld_log log told source b broken (fault.Nurse name) h same = absurd h
+unheld_log log told source b broken (fault.Unknown thing name) h same = absurd h
 unheld_log log told source b broken fault.Memory h same = same
 unheld_log log told source b broken fault.Workspace h same = absurd h
 unheld_log log told source b broken fault.Output h same = absurd h

@@ -7,6 +7,7 @@ use Rattle.roster_rules.specs.Penalties.{penalty}
 use Rattle.roster_instance.specs.Rosters.{Row, Rows, with_row}
 use Rattle.roster_rules.proofs.FirstLeast.{only}
 use Rattle.roster_commands.specs.Answer.{number_of, unknown_in, with_best}
+use Rattle.roster_commands.specs.declared.fault.Thing.TheVariants as thing
 use Rattle.roster_reports.specs.Lines.{Text}
 
 module _ (c : Meaning) (from : ℕ) (r : Rows) (n : ℕ) (row : Row) (best : IsBestRow c from r n row) where
@@ -20,11 +21,11 @@ module _ (c : Meaning) (from : ℕ) (r : Rows) (n : ℕ) (row : Row) (best : IsB
 -- the nurse of a name that the case has
 module _ (c : Meaning) (name : Text) (n : ℕ) (found : Some n ≡ find_name c.nurse_names name) where
   pub known : unknown_in c name ≡ None
-  known = sym (ap (λ (o : Option ℕ). if is_some o then None else Some name) found)
+  known = sym (ap (λ (o : Option ℕ). if is_some o then None else Some (thing.Nurse, name)) found)
 
   pub numbered : n ≡ number_of c name
   numbered = ap (λ (o : Option ℕ). unwrap_or o 0) found
 
 -- and a name that it doesn't have
-pub unknown : (c : Meaning) (name : Text) → find_name c.nurse_names name ≡ None → unknown_in c name ≡ Some name
-unknown c name none = ap (λ (o : Option ℕ). if is_some o then None else Some name) none
+pub unknown : (c : Meaning) (name : Text) → find_name c.nurse_names name ≡ None → unknown_in c name ≡ Some (thing.Nurse, name)
+unknown c name none = ap (λ (o : Option ℕ). if is_some o then None else Some (thing.Nurse, name)) none

@@ -61,7 +61,7 @@ module _ (rounds from : ℕ) (c : Meaning) (r : Rows) where
     bound_ends bound (Err (fault.Case f nurse)) kept h ok err = absurd err
     bound_ends bound (Err (fault.Hard f names)) kept h ok err = absurd err
     bound_ends bound (Err (fault.Unfound f names)) kept h ok err = absurd err
-    bound_ends bound (Err (fault.Nurse name)) kept h ok err = absurd err
+    bound_ends bound (Err (fault.Unknown thing name)) kept h ok err = absurd err
     bound_ends bound (Err fault.Memory) kept h ok err = absurd err
     bound_ends bound (Err fault.Workspace) kept h ok err = absurd err
     bound_ends bound (Err fault.Log) kept h ok err = absurd err

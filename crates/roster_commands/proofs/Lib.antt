@@ -5,3 +5,5 @@ pub mod BestLemmas
 pub mod BoundLemmas
 pub mod PolishLemmas
 pub mod PlanLemmas
+pub mod WhoLemmas
+pub mod AskedLemmas

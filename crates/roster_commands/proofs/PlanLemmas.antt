@@ -26,7 +26,7 @@ module _ (searches from : ℕ) (alone : Bool) (c : Meaning) (r : Rows) {W L : Ty
   plan_refused (fault.Case f nurse) h o l = absurd h
   plan_refused (fault.Hard f names) h o l = record { report = unplanned from r c r; is = no_plan searches from alone c r r (λ e. e) (planned_self c from r); ends = record { ends = h; left = o }; logged = l }
   plan_refused (fault.Unfound f names) h o l = absurd h
-  plan_refused (fault.Nurse name) h o l = absurd h
+  plan_refused (fault.Unknown thing name) h o l = absurd h
   plan_refused fault.Memory h o l = absurd h
   plan_refused fault.Workspace h o l = absurd h
   plan_refused fault.Output h o l = absurd h
@@ -44,7 +44,7 @@ module _ (searches from : ℕ) (alone : Bool) (c : Meaning) (r : Rows) {W L : Ty
       plan_unfound (fault.Case f nurse) h o l = absurd h
       plan_unfound (fault.Hard f names) h o l = absurd h
       plan_unfound (fault.Unfound f names) h o l = record { report = unplanned from nearest c r; is = no_plan searches from alone c r nearest fits planned; ends = record { ends = (mendable, h); left = o }; logged = l }
-      plan_unfound (fault.Nurse name) h o l = absurd h
+      plan_unfound (fault.Unknown thing name) h o l = absurd h
       plan_unfound fault.Memory h o l = record {
         report = unplanned from nearest c r;
         is = no_plan searches from alone c r nearest fits planned;

@@ -78,7 +78,7 @@ module _ (searches from : ℕ) (alone : Bool) (c : Meaning) (r : Rows) where
     polish_ends few fewer last told (Err (fault.Case f nurse)) kept h ok err = absurd err
     polish_ends few fewer last told (Err (fault.Hard f names)) kept h ok err = absurd err
     polish_ends few fewer last told (Err (fault.Unfound f names)) kept h ok err = absurd err
-    polish_ends few fewer last told (Err (fault.Nurse name)) kept h ok err = absurd err
+    polish_ends few fewer last told (Err (fault.Unknown thing name)) kept h ok err = absurd err
     polish_ends few fewer last told (Err fault.Memory) kept h ok err = absurd err
     polish_ends few fewer last told (Err fault.Workspace) kept h ok err = absurd err
     polish_ends few fewer last told (Err fault.Log) kept h ok err = absurd err

@@ -3,9 +3,10 @@ use Rattle.std.proofs.Common.{◌≡◌, ◌≢◌, ◌⊎◌, ◌∙◌, ℕ, N
 use Rattle.std.proofs.lemmas.Bool.{cases_eq}
 use Rattle.roster_text.specs.Io.{Watched, one_more}
 use Rattle.roster_text.specs.declared.fault.TextFault.TheVariants as text
+use Rattle.roster_instance.specs.Bundles.{meaning_of}
 use Rattle.roster_instance.specs.declared.fault.CaseFault.{CaseFault}
 use Rattle.roster_instance.specs.declared.fault.CaseFault.TheVariants as case
-use Rattle.roster_commands.specs.Answer.{Input, IsLogFailed, IsSilent, Logged, Logs, Output, ReadsAndAnswers, StopsCommand, StopsLog, StopsRun, Tells, TellsOutput, Untouched}
+use Rattle.roster_commands.specs.Answer.{Input, IsLogFailed, IsSilent, Logged, Logs, Output, ReadsAndAnswers, StopsCommand, StopsLog, StopsRun, Tells, TellsOutput, Untouched, roster_of}
 use Rattle.roster_reports.specs.Lines.{Text}
 use Rattle.roster_commands.specs.Lines.{case_status, status_of}
 use Rattle.roster_commands.specs.declared.fault.Fault.{Fault}
@@ -61,19 +62,19 @@ module _ {R W L : Type 0} (input : Input R) (output : Output W) (log : Output L)
   cause (fault.Unfound f names) (inl h) = absurd h.0
   cause (fault.Hard f names) (inr h) = of_none (λ e. cc) h.read.failures h.answers.left
   cause (fault.Unfound f names) (inr h) = of_none (λ e. cc) h.read.failures h.answers.left
-  cause (fault.Nurse name) (inl h) = absurd h.0
-  cause (fault.Nurse name) (inr h) = of_none (λ e. cc) h.read.failures h.answers.left
+  cause (fault.Unknown thing name) (inl h) = absurd h.0
+  cause (fault.Unknown thing name) (inr h) = of_none (λ e. cc) h.read.failures h.answers.left
   cause fault.Memory (inl h) = absurd h.0
   cause fault.Workspace (inl h) = absurd h.0
   cause fault.Memory (inr h) = of_none (λ e. cc) h.read.failures h.answers.left
   cause fault.Workspace (inr h) = of_none (λ e. cc) h.read.failures h.answers.left
   cause fault.Output (inl h) = absurd h.0
-  cause fault.Output (inr h) = of_output refl h.read.failures h.answers.left.stops.failures (λ silent. subst (Logged log) (silent _ _ _ h.answers.is) h.answers.logged)
+  cause fault.Output (inr h) = of_output refl h.read.failures h.answers.left.stops.failures (λ silent. subst (Logged log) (silent (meaning_of h.bytes h.answers.bundle) (roster_of h.bytes h.answers.bundle) h.answers.report h.answers.is) h.answers.logged)
   cause fault.Log (inl h) = absurd h.0
-  cause fault.Log (inr h) = of_log refl h.read.failures h.answers.left (λ silent. subst (StopsLog log) (silent _ _ _ h.answers.is) h.answers.logged) (log_failed _ h.answers.logged)
+  cause fault.Log (inr h) = of_log refl h.read.failures h.answers.left (λ silent. subst (StopsLog log) (silent (meaning_of h.bytes h.answers.bundle) (roster_of h.bytes h.answers.bundle) h.answers.report h.answers.is) h.answers.logged) (log_failed _ h.answers.logged)
 
   pub silent_done : ReadsAndAnswers input output log command None → IsSilent command → Untouched log
-  silent_done done silent = subst (Logged log) (silent _ _ _ done.answers.is) done.answers.logged
+  silent_done done silent = subst (Logged log) (silent (meaning_of done.bytes done.answers.bundle) (roster_of done.bytes done.answers.bundle) done.answers.report done.answers.is) done.answers.logged
 
 module _ {R W L : Type 0} (input : Input R) (output : Output W) (log : Output L) (command : Command) (status : ℕ)
     (done : status ≡ 0 → ReadsAndAnswers input output log command None) (stops : (status ≡ 0 → ⊥) → StopsRun input output log command status) where

@@ -1,9 +1,13 @@
 -- What a run answers.
-use Rattle.std.specs.Prelude.{◌≡◌, ◌≢◌, ℕ, ◌*◌, ◌<◌, ◌≤◌, ◌⊎◌, max, Bool, true, false, List, [], IfSome, Ok, Err, Option, None, Some, Result, if◌then◌else◌, is_some, length, string_bytes, unwrap_or}
+use Rattle.std.specs.Prelude.{◌≡◌, ◌≢◌, ℕ, ◌*◌, ◌/◌, ◌%◌, ◌<◌, ◌≤◌, ◌⊎◌, ◌++◌, max, min, Bool, true, false, List, [], IfSome, Ok, Err, Option, None, Some, Result, codes, decimal, flat_map, if◌then◌else◌, is_some, length, map, nat_lt, option_and_then, option_map, string_bytes, unwrap_or}
+use Rattle.std.specs.Borrow.{Bor}
+use Rattle.std.specs.List.{range_with_len}
+use Rattle.std.specs.Option.{option_or}
 use Rattle.std.specs.Io.KnownBytes.{IsAtEnd}
 use Rattle.roster_text.specs.FirstFault.{IsFirstFault}
 use Rattle.roster_text.specs.Grammar.{Spells}
 use Rattle.roster_text.specs.Io.{Stops, Watched, Writes, one_more}
+use Rattle.roster_bundle.specs.Canonical.{weekday_text}
 use Rattle.roster_bundle.specs.Limits.{most_bytes}
 use Rattle.roster_bundle.specs.Token.{all_seen, line_at_end, tokens_of}
 use Rattle.roster_bundle.specs.declared.bundle.Bundle.{Bundle}
@@ -13,7 +17,8 @@ use Rattle.roster_rules.specs.AllowedRows.{best_row}
 use Rattle.roster_instance.specs.Bundles.{meaning_of, rows_of}
 use Rattle.roster_instance.specs.Faults.{first_fault}
 use Rattle.roster_rules.specs.HardRules.{hard_faults}
-use Rattle.roster_instance.specs.Meaning.{Meaning, nurse_count}
+use Rattle.roster_instance.specs.Limits.{most_keep}
+use Rattle.roster_instance.specs.Meaning.{Meaning, day_count, keeping, nurse_count, nurse_name, shift_at, skill_at}
 use Rattle.roster_instance.specs.Names.{find_name}
 use Rattle.roster_rules.specs.Penalties.{costs_of, penalty}
 use Rattle.roster_instance.specs.Refusals.{all_faults}
@@ -31,10 +36,16 @@ use Rattle.roster_rounds.specs.PutIn.{IsAccepted}
 use Rattle.roster_polish.specs.Plans.{IsPlanned, missing, unmendable}
 use Rattle.roster_polish.specs.Polished.{IsPolishing}
 use Rattle.roster_polish.specs.declared.run.Course.{Course}
-use Rattle.roster_reports.specs.Lines.{Text, bound_text, costs_text, nurse_of, sizes_text}
+use Rattle.roster_who.specs.Who.{AreInOrder, missed as missed_of, takers, without_absent_work}
+use Rattle.roster_who.specs.declared.asked.Asked.{Asked}
+use Rattle.roster_who.specs.declared.taker.Taker.{Taker}
+use Rattle.roster_reports.specs.Lines.{Text, bound_text, costs_text, nurse_of, sizes_text, taker_line}
 use Rattle.roster_commands.specs.Lines.{IsFirstBreach, best_log, fault_line, output_line, status_of}
 use Rattle.roster_commands.specs.declared.fault.Fault.{Fault}
 use Rattle.roster_commands.specs.declared.fault.Fault.TheVariants as fault
+use Rattle.roster_commands.specs.declared.asked.Asking.{Asking}
+use Rattle.roster_commands.specs.declared.fault.Thing.{Thing}
+use Rattle.roster_commands.specs.declared.fault.Thing.TheVariants as thing
 use Rattle.roster_commands.specs.declared.reading.Instance.{Instance}
 use Rattle.roster_request.specs.declared.request.Command.{Command}
 use Rattle.roster_request.specs.declared.request.Command.TheVariants as command
@@ -114,7 +125,7 @@ Leaves output text (Some (fault.Text f)) = Untouched output
 Leaves output text (Some (fault.Case f nurse)) = Untouched output
 Leaves output text (Some (fault.Hard f names)) = Untouched output
 Leaves output text (Some (fault.Unfound f names)) = Untouched output
-Leaves output text (Some (fault.Nurse name)) = Untouched output
+Leaves output text (Some (fault.Unknown thing name)) = Untouched output
 Leaves output text (Some fault.Memory) = Untouched output
 Leaves output text (Some fault.Workspace) = Untouched output
 Leaves output text (Some fault.Log) = Untouched output
@@ -129,7 +140,7 @@ LeavesLog log told (Some (fault.Text f)) = Untouched log
 LeavesLog log told (Some (fault.Case f nurse)) = Untouched log
 LeavesLog log told (Some (fault.Hard f names)) = Untouched log
 LeavesLog log told (Some (fault.Unfound f names)) = Untouched log
-LeavesLog log told (Some (fault.Nurse name)) = Untouched log
+LeavesLog log told (Some (fault.Unknown thing name)) = Untouched log
 LeavesLog log told (Some fault.Memory) = Untouched log
 LeavesLog log told (Some fault.Workspace) = Untouched log
 
@@ -156,8 +167,8 @@ pub record Report : Type 0 where
   pub broken : List HardFault
   -- where it looks for a roster, the breaches of the nearest one that it found
   pub unfound : List HardFault
-  -- the name of the nurse whom it is for, where the case has none of that name
-  pub unknown : Option Text
+  -- what it is asked for, where the case has nothing of that name
+  pub unknown : Option (Thing × Text)
   pub output : Text
   -- what it tells of its work, if it tells any
   pub log : Option Text
@@ -166,13 +177,20 @@ pub record Report : Type 0 where
 abbrev pub plain : Text → Report
 plain text = record { is_held = false; broken = []; unfound = []; unknown = None; output = text; log = None }
 
--- the number of the nurse of this name; it is asked for only where the case has one
-abbrev pub number_of : Meaning → Text → ℕ
-number_of c name = unwrap_or (find_name c.nurse_names name) 0
+-- the number of a name among these; it is asked for only where it is one of them
+abbrev pub number_among : List Text → Text → ℕ
+number_among names name = unwrap_or (find_name names name) 0
 
--- the name, where the case has no nurse of this name
-abbrev pub unknown_in : Meaning → Text → Option Text
-unknown_in c name = if is_some (find_name c.nurse_names name) then None else Some name
+-- the name, where it is none of these
+abbrev pub unknown_among : Thing → List Text → Text → Option (Thing × Text)
+unknown_among thing names name = if is_some (find_name names name) then None else Some (thing, name)
+
+-- the same of a nurse
+abbrev pub number_of : Meaning → Text → ℕ
+number_of c name = number_among c.nurse_names name
+
+abbrev pub unknown_in : Meaning → Text → Option (Thing × Text)
+unknown_in c name = unknown_among thing.Nurse c.nurse_names name
 
 -- the roster with the best row of this nurse from a week on put in
 abbrev pub with_best : Meaning → ℕ → Rows → ℕ → Rows
@@ -184,7 +202,7 @@ cost_report c r = record (plain (costs_text (costs_of c r))) { is_held = true; b
 
 -- the log of a search for that row: what the roster costs before, and what it costs with it
 abbrev pub log_with_best : Meaning → ℕ → Rows → ℕ → Text → Text
-log_with_best c from r n name = best_log (penalty c r) name (penalty c (with_best c from r n))
+log_with_best c from r n name = best_log c (penalty c r) name (penalty c (with_best c from r n))
 
 -- the best row of the nurse of this name from a week on
 abbrev pub best_report : Text → ℕ → Meaning → Rows → Report
@@ -254,26 +272,91 @@ pub record IsPlanReport (searches from : ℕ) (alone : Bool) (c : Meaning) (r : 
   pub run : IsAccepted c nearest → IsPolishing c from nearest (missing c r) searches alone settled last told
   pub is : p ≡ plan_report from nearest last told c r
 
+-- the names of days: each is its week and its weekday, as in 1:Wed
+abbrev pub day_name : ℕ → Text
+day_name d = decimal (d / 7) ++ codes ":" ++ weekday_text (d % 7)
+
+abbrev pub day_names : Meaning → List Text
+day_names c = map day_name (range_with_len 0 (day_count c))
+
+-- the names of an assignment: of its day, of its shift, and of a skill where one is named
+pub record AskedNames : Type 0 where
+  pub day : Text
+  pub shift : Text
+  pub skill : Option Text
+
+abbrev pub names_in : Asking → AskedNames
+names_in asking = record { day = asking.day.now; shift = asking.shift.now; skill = option_map (λ (name : Bor Text). name.now) asking.skill }
+
+-- the assignment of these names; it is asked for only where the case has them
+abbrev pub asked_by : Meaning → AskedNames → Asked
+asked_by c names = record {
+  day = number_among (day_names c) names.day;
+  shift = shift_at (number_among c.shift_names names.shift);
+  skill = option_map (λ name. skill_at (number_among c.skill_names name)) names.skill;
+}
+
+-- the first of the names that the case doesn't have
+abbrev pub unknown_asked : Meaning → AskedNames → Option (Thing × Text)
+unknown_asked c names =
+    option_or (unknown_among thing.Day (day_names c) names.day)
+    (option_or (unknown_among thing.Shift c.shift_names names.shift) (option_and_then (unknown_among thing.Skill c.skill_names) names.skill))
+
+-- a line for each who may take an assignment, with how many nurses are still missed where the roster misses some
+abbrev pub who_line : Meaning → ℕ → Taker → Text
+who_line c missed t = taker_line (nurse_name c t.nurse) t.penalty t.changed (if nat_lt 0 missed then Some t.missed else None)
+
+abbrev pub who_text : Meaning → ℕ → List Taker → Text
+who_text c missed listed = flat_map (who_line c missed) listed
+
+abbrev pub who_report : AskedNames → (from : ℕ) → List Taker → Meaning → Rows → Report
+who_report names from listed c r =
+    record (plain (who_text c (missed_of c (without_absent_work c r)) listed)) { is_held = true; broken = unmendable c from r; unknown = unknown_asked c names }
+
+-- it is of all who may take it, in order; what absent nurses work in the roster doesn't count
+pub record IsWhoReport (names : AskedNames) (from : ℕ) (c : Meaning) (r : Rows) (p : Report) : Type 0 where
+  pub listed : List Taker
+  pub in_order : AreInOrder (takers c from (without_absent_work c r) (asked_by c names)) listed
+  pub is : p ≡ who_report names from listed c r
+
 -- how many searches a run may make: as many as are asked for, or else 400 for each nurse, and 20,000 at least
 abbrev pub searches_for : Meaning → Option ℕ → ℕ
 searches_for c None = max (400 * nurse_count c) 20000
 searches_for c (Some searches) = searches
 
+-- how many points each day costs, by a command, that becomes another than in the given roster: as many as are asked for, at most the most
+abbrev pub keep_of : Command → ℕ
+keep_of (command.Best nurse from keep) = min keep most_keep
+keep_of (command.Improve rounds from keep) = min keep most_keep
+keep_of (command.Bound rounds from keep) = min keep most_keep
+keep_of (command.Polish searches seed from kicks keep) = min keep most_keep
+keep_of (command.Plan searches seed from keep) = min keep most_keep
+keep_of _ = 0
+
+-- the case for which it works: the given roster is kept at these points
+abbrev pub case_for : Command → Meaning → Rows → Meaning
+case_for command c r = keeping c r (keep_of command)
+
+-- it is what a command writes for a case, whatever roster that keeps
+abbrev pub IsReportIn : Command → Meaning → Rows → Report → Type 0
+IsReportIn command.Show c r p = p ≡ plain (weeks_text c r)
+IsReportIn command.Cost c r p = p ≡ cost_report c r
+IsReportIn command.Sizes c r p = p ≡ plain (sizes_text c)
+IsReportIn (command.Best nurse from keep) c r p = p ≡ best_report (string_bytes nurse) from c r
+IsReportIn (command.Improve rounds from keep) c r p = p ≡ improve_report rounds from c r
+IsReportIn (command.Bound rounds from keep) c r p = IsBoundReport rounds from c r p
+IsReportIn (command.Polish searches seed from kicks keep) c r p = IsPolishReport (searches_for c searches) from kicks c r p
+IsReportIn (command.Plan searches seed from keep) c r p = IsPlanReport (searches_for c searches) from false c r p
+IsReportIn (command.Who day shift skill from) c r p = IsWhoReport (record { day = string_bytes day; shift = string_bytes shift; skill = option_map string_bytes skill }) from c r p
+
 -- it is what a command asks of a case and its roster, and writes for them
 abbrev pub IsReportOf : Command → Meaning → Rows → Report → Type 0
-IsReportOf command.Show c r p = p ≡ plain (weeks_text c r)
-IsReportOf command.Cost c r p = p ≡ cost_report c r
-IsReportOf command.Sizes c r p = p ≡ plain (sizes_text c)
-IsReportOf (command.Best nurse from) c r p = p ≡ best_report (string_bytes nurse) from c r
-IsReportOf (command.Improve rounds from) c r p = p ≡ improve_report rounds from c r
-IsReportOf (command.Bound rounds from) c r p = IsBoundReport rounds from c r p
-IsReportOf (command.Polish searches seed from kicks) c r p = IsPolishReport (searches_for c searches) from kicks c r p
-IsReportOf (command.Plan searches seed from) c r p = IsPlanReport (searches_for c searches) from false c r p
+IsReportOf command c r p = IsReportIn command (case_for command c r) r p
 
 -- ---- the same of an instance that was read
 
 abbrev pub IsReportFor : Command → Instance → Report → Type 0
-IsReportFor command instance p = IsReportOf command instance.case instance.roster p
+IsReportFor command instance p = IsReportIn command instance.case instance.roster p
 
 abbrev pub IsBoundFor : (rounds from : ℕ) → Instance → Report → Type 0
 IsBoundFor rounds from instance p = IsBoundReport rounds from instance.case instance.roster p
@@ -283,6 +366,9 @@ IsPolishFor course instance p = IsPolishReport course.searches course.from cours
 
 abbrev pub IsPlanFor : Course → Instance → Report → Type 0
 IsPlanFor course instance p = IsPlanReport course.searches course.from course.kicks instance.case instance.roster p
+
+abbrev pub IsWhoFor : AskedNames → (from : ℕ) → Instance → Report → Type 0
+IsWhoFor names from instance p = IsWhoReport names from instance.case instance.roster p
 
 -- ---- what is refused
 
@@ -303,7 +389,7 @@ IsOutcomeOf p bytes b (Some fault.Output) = IsAllowed p
 IsOutcomeOf p bytes b (Some fault.Log) = IsAllowed p × (is_some p.log ≡ true)
 IsOutcomeOf p bytes b (Some (fault.Hard f names)) = IsFirstBreach bytes b p.broken (fault.Hard f names)
 IsOutcomeOf p bytes b (Some (fault.Unfound f names)) = (p.broken ≡ []) × IsFirstBreach bytes b p.unfound (fault.Hard f names)
-IsOutcomeOf p bytes b (Some (fault.Nurse name)) = (p.broken ≡ []) × (p.unknown ≡ Some name.now)
+IsOutcomeOf p bytes b (Some (fault.Unknown thing name)) = (p.broken ≡ []) × (p.unknown ≡ Some (thing, name.now))
 IsOutcomeOf p bytes b (Some fault.Memory) = IsAllowed p × (p.is_held ≡ true)
 IsOutcomeOf p bytes b (Some fault.Workspace) = (p.broken ≡ []) × (p.unknown ≡ None) × (p.is_held ≡ true)
 IsOutcomeOf p bytes b (Some (fault.Text f)) = ⊥
@@ -320,6 +406,12 @@ pub record Reports {W L : Type 0} (output : Output W) (log : Output L) (is_repor
   pub is : is_report report
   pub ends : Ends output report bytes b outcome
   pub logged : LeavesLog log report.log outcome
+
+-- the same of a command that tells nothing of its work
+pub record EndsBy {W : Type 0} (output : Output W) (is_report : Report → Type 0) (bytes : Text) (b : Bundle) (outcome : CommandEnd) : Type 0 where
+  pub report : Report
+  pub is : is_report report
+  pub ends : Ends output report bytes b outcome
 
 -- why a text was not all written, and what was written
 abbrev pub StopsOutput : {W : Type 0} → (W → Option (List ℕ)) → Watched W → Watched W → Text → Fault → Type 0
@@ -393,6 +485,12 @@ pub record SpellsInstance (bytes : Text) (instance : Instance) : Type 0 where
   pub case : instance.case ≡ meaning_of bytes instance.bundle
   pub roster : instance.roster ≡ rows_of bytes instance.case instance.bundle
   pub fitting : fits_case instance.case instance.roster ≡ true
+
+-- an instance with its roster kept at some points; what else it has stays
+pub record IsKeptAt (given : Instance) (keep : ℕ) (kept : Instance) : Type 0 where
+  pub bundle : kept.bundle ≡ given.bundle
+  pub case : kept.case ≡ keeping given.case given.roster keep
+  pub roster : kept.roster ≡ given.roster
 
 -- why the bytes are refused by every command
 abbrev pub StopsReading : Text → Fault → Type 0

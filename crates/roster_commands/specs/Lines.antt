@@ -6,11 +6,14 @@ use Rattle.roster_text.specs.declared.fault.TextFault.TheVariants as text
 use Rattle.roster_instance.specs.Faults.{first_fault}
 use Rattle.roster_instance.specs.declared.fault.CaseFault.{CaseFault}
 use Rattle.roster_instance.specs.declared.fault.CaseFault.TheVariants as case
-use Rattle.roster_rules.specs.Improver.{line}
+use Rattle.roster_instance.specs.Meaning.{Meaning}
+use Rattle.roster_rules.specs.Improver.{line, start_word}
 use Rattle.roster_rules.specs.declared.fault.HardFault.{HardFault}
 use Rattle.roster_reports.specs.Lines.{AreNamesOf, Text, case_line, hard_line, memory_line, text_line}
 use Rattle.roster_commands.specs.declared.fault.Fault.{Fault}
 use Rattle.roster_commands.specs.declared.fault.Fault.TheVariants as fault
+use Rattle.roster_commands.specs.declared.fault.Thing.{Thing}
+use Rattle.roster_commands.specs.declared.fault.Thing.TheVariants as thing
 
 -- the fault is the first of these breaches, with its names
 abbrev pub IsFirstBreach : Text → Bundle → List HardFault → Fault → Type 0
@@ -21,13 +24,20 @@ IsFirstBreach source b faults _ = ⊥
 abbrev pub output_line : Text
 output_line = codes "write failed\n"
 
+-- the line of a name that the case doesn't have
+abbrev pub unknown_line : Thing → Text → Text
+unknown_line thing.Nurse name = codes "unknown nurse " ++ name ++ codes "\n"
+unknown_line thing.Day name = codes "unknown day " ++ name ++ codes "\n"
+unknown_line thing.Shift name = codes "unknown shift " ++ name ++ codes "\n"
+unknown_line thing.Skill name = codes "unknown skill " ++ name ++ codes "\n"
+
 -- the line of a fault; a log that failed gets none
 abbrev pub fault_line : Fault → Text
 fault_line (fault.Text f) = text_line f
 fault_line (fault.Case f nurse) = case_line f nurse.now
 fault_line (fault.Hard f names) = hard_line f names
 fault_line (fault.Unfound f names) = codes "not found: " ++ hard_line f names
-fault_line (fault.Nurse name) = codes "unknown nurse " ++ name.now ++ codes "\n"
+fault_line (fault.Unknown thing name) = unknown_line thing name.now
 fault_line fault.Memory = memory_line
 fault_line fault.Workspace = memory_line
 fault_line fault.Output = output_line
@@ -36,8 +46,8 @@ fault_line fault.Log = []
 -- ---- the log of a command
 
 -- the log of a search for a nurse's best row: what the roster costs before, and what it costs with that row
-abbrev pub best_log : ℕ → Text → ℕ → Text
-best_log before name after = line (codes "start") before ++ line (codes "best " ++ name) after
+abbrev pub best_log : Meaning → ℕ → Text → ℕ → Text
+best_log c before name after = line (start_word c) before ++ line (codes "best " ++ name) after
 
 -- ---- statuses: 4 is want of memory, 3 a reader or a writer, 1 the input
 
@@ -55,7 +65,7 @@ status_of (fault.Text f) = text_status f
 status_of (fault.Case f nurse) = case_status f
 status_of (fault.Hard f names) = 1
 status_of (fault.Unfound f names) = 1
-status_of (fault.Nurse name) = 1
+status_of (fault.Unknown thing name) = 1
 status_of fault.Memory = 4
 status_of fault.Workspace = 4
 status_of fault.Output = 3

@@ -3,10 +3,10 @@
 ghost use Rattle.std.specs.Prelude.{◌≡◌, ◌≢◌, ◌⊎◌, Contains, [], ◌∷◌, codes};
 ghost use Rattle.roster_commands.specs.Answer.{Answers, FailsOnce, IsAnswered, IsLogFailed, IsSilent, Logs, StopsRun, TellsOutput, input_of, outcome_of, output_of};
 
-use crate::commands::report;
+use crate::commands::{keep_of, report};
 use crate::fault::Fault;
 use crate::lines::tell;
-use crate::reading::read_instance;
+use crate::reading::{keep_roster, read_instance};
 use roster_request::{Command, Request};
 use roster_text::{Watch, read_all};
 use std::alloc::Global;
@@ -80,6 +80,7 @@ fn report_bytes<'a, Out: Write, Log: Write>(
     ensures { Answers (output_of Out.contents output.old output.new)
         (output_of Log.contents log.old log.new) command.now source.now (outcome_of result) }
 {
-    let instance = read_instance(alloc, source)?;
+    let given = read_instance(alloc, source)?;
+    let instance = keep_roster(alloc, source, given, keep_of(command))?;
     report(alloc, command, source, instance, output, log)
 }

@@ -4,18 +4,18 @@ ghost use Rattle.std.specs.Prelude.{◌≡◌, ◌++◌, codes, ◌<◌, ◌≤�
 ghost use Rattle.roster_bundle.specs.Limits.{greatest_u64};
 ghost use Rattle.roster_text.specs.Io.{Stops, Writes};
 ghost use Rattle.roster_instance.specs.Meaning.{nurse_count};
-ghost use Rattle.roster_rules.specs.Improver.{line};
+ghost use Rattle.roster_rules.specs.Improver.{line, start_word};
 ghost use Rattle.roster_instance.specs.Rosters.{fits_case};
 ghost use Rattle.roster_commands.specs.Answer.{Ends, LeavesLog, best_report, log_with_best, outcome_of, output_of, with_best};
 ghost use Rattle.roster_laws.specs.Greatest.{extension_count};
 ghost use Rattle.roster_partial.specs.Workspaces.{fits_space};
 
-use crate::fault::Fault;
+use crate::fault::{Fault, Thing};
 use crate::held::hold;
 use crate::reading::Instance;
 use crate::weeks::show_weeks;
 use roster_best::{Workspace, best_row};
-use roster_case::{Held, first_hard};
+use roster_case::{Case, Held, first_hard};
 use roster_reports::names_of;
 use roster_rounds::search_has_room;
 use roster_state::Meter;
@@ -45,7 +45,7 @@ pub(crate) fn report_best<'a, Out: Write, Log: Write>(
         if let Some(fault) = first_hard(&instance.case, &instance.roster) {
             return Err(Fault::Hard(fault, names_of(source, &instance.bundle, fault)));
         }
-        return Err(Fault::Nurse(name));
+        return Err(Fault::Unknown(Thing::Nurse, name));
     };
     let mut meter = Meter::new(&mut instance.case);
     let mut held = hold(alloc, source, instance)?;
@@ -89,22 +89,37 @@ fn put_best_row<Log: Write>(
     ensures err { OnErr result (Stops Log.contents log.old log.new
         (log_with_best held.old.case from held.old.roster nurse name.now)) }
 {
-    write_start(held.total(), log)?;
+    write_start(held.case(), held.total(), log)?;
     let best = best_row(held, nurse, from, workspace, meter);
     write_best(name, best.total, log)?;
     held.replace_row(nurse, workspace.row());
     Ok(())
 }
 
-/// Writes what the roster costs before the search.
-fn write_start<Log: Write>(total: u64, log: &mut Watch<Log>) -> Result<(), WriteFault>
-    ensures ok { OnOk result (Writes Log.contents log.old log.new (line (codes "start") total)) }
-    ensures err { OnErr result (Stops Log.contents log.old log.new (line (codes "start") total)) }
+/// Writes what the roster costs before the search, and before that at how many points the case keeps it, where it does.
+fn write_start<Log: Write>(case: &Case, total: u64, log: &mut Watch<Log>) -> Result<(), WriteFault>
+    ensures ok { OnOk result (Writes Log.contents log.old log.new
+        (line (start_word case.now) total)) }
+    ensures err { OnErr result (Stops Log.contents log.old log.new
+        (line (start_word case.now) total)) }
 {
+    let keep = case.keep();
+    if keep == 0 {
+        return write_pieces(
+            log,
+            &[
+                Piece::Bytes(b"start "),
+                Piece::Number(total),
+                Piece::Bytes(b"\n"),
+            ],
+        );
+    }
     write_pieces(
         log,
         &[
-            Piece::Bytes(b"start "),
+            Piece::Bytes(b"keep "),
+            Piece::Number(keep as u64),
+            Piece::Bytes(b"\nstart "),
             Piece::Number(total),
             Piece::Bytes(b"\n"),
         ],

@@ -1,11 +1,13 @@
 //! What each command writes for an instance.
 
-ghost use Rattle.std.specs.Prelude.{◌≡◌, true, OnOk, IfErr};
+ghost use Rattle.std.specs.Prelude.{◌≡◌, ◌≤◌, true, OnOk, IfErr, option_map, string_bytes};
 ghost use Rattle.roster_text.specs.Io.{Writes};
+ghost use Rattle.roster_instance.specs.Limits.{most_keep};
 ghost use Rattle.roster_instance.specs.Rosters.{fits_case};
-ghost use Rattle.roster_commands.specs.Answer.{Ends, IsReportFor, Reports, StopsOutput, cost_report, outcome_of, output_of, searches_for};
+ghost use Rattle.roster_commands.specs.Answer.{Ends, IsReportFor, Reports, keep_of, StopsOutput, cost_report, names_in, outcome_of, output_of, searches_for};
 ghost use Rattle.roster_reports.specs.Lines.{sizes_text};
 
+use crate::asked::Asking;
 use crate::best::report_best;
 use crate::bound::report_bound;
 use crate::fault::Fault;
@@ -15,6 +17,7 @@ use crate::plan::report_plan;
 use crate::polish::report_polish;
 use crate::reading::Instance;
 use crate::weeks::show_weeks;
+use crate::who::report_who;
 use roster_case::Case;
 use roster_polish::Course;
 use roster_reports::{write_costs, write_sizes};
@@ -42,7 +45,7 @@ pub(crate) fn report<'a, Out: Write, Log: Write>(
         Command::Show => show_weeks(&instance.case, &instance.roster, output),
         Command::Cost => report_cost(alloc, source, instance, output),
         Command::Sizes => report_sizes(&instance.case, output),
-        Command::Best { nurse, from } => {
+        Command::Best { nurse, from, .. } => {
             report_best(
                 alloc,
                 nurse.as_bytes(),
@@ -53,10 +56,10 @@ pub(crate) fn report<'a, Out: Write, Log: Write>(
                 log,
             )
         }
-        Command::Improve { rounds, from } => {
+        Command::Improve { rounds, from, .. } => {
             report_improve(alloc, *rounds, *from, source, instance, output, log)
         }
-        Command::Bound { rounds, from } => {
+        Command::Bound { rounds, from, .. } => {
             report_bound(alloc, *rounds, *from, source, instance, output, log)
         }
         Command::Polish {
@@ -64,6 +67,7 @@ pub(crate) fn report<'a, Out: Write, Log: Write>(
             seed,
             from,
             kicks,
+            ..
         } => {
             let course = Course {
                 searches: searches_for(&instance.case, *searches),
@@ -77,6 +81,7 @@ pub(crate) fn report<'a, Out: Write, Log: Write>(
             searches,
             seed,
             from,
+            ..
         } => {
             let course = Course {
                 searches: searches_for(&instance.case, *searches),
@@ -86,8 +91,68 @@ pub(crate) fn report<'a, Out: Write, Log: Write>(
             };
             report_plan(alloc, &course, source, instance, output, log)
         }
+        Command::Who {
+            day,
+            shift,
+            skill,
+            from,
+        } => {
+            let asking = asking_of(day, shift, skill, *from);
+            report_who(alloc, asking, source, instance, output)
+        }
     }
 }
+
+/// What is asked for by these names, from a week on.
+fn asking_of<'a>(
+    day: &'a String,
+    shift: &'a String,
+    skill: &'a Option<String>,
+    from: u16,
+) -> Asking<'a>
+    ensures names { names_in result ≡ record {
+      day = string_bytes day.now;
+      shift = string_bytes shift.now;
+      skill = option_map string_bytes skill.now;
+    } }
+    ensures from { result.from ≡ from }
+{
+    Asking {
+        day: day.as_bytes(),
+        shift: shift.as_bytes(),
+        skill: bytes_if_given(skill),
+        from,
+    }
+}
+
+/// The bytes of a text, where one is given.
+fn bytes_if_given(text: &Option<String>) -> Option<&[u8]>
+    ensures { option_map (λ bytes. bytes.now) result ≡ option_map string_bytes text.now }
+{
+    match text {
+        None => None,
+        Some(text) => Some(text.as_bytes()),
+    }
+}
+
+/// At how many points a command keeps the given roster.
+pub(crate) fn keep_of(command: &Command) -> u16
+    ensures keep { result ≡ keep_of command.now }
+    ensures within { result ≤ most_keep }
+{
+    match command {
+        Command::Show | Command::Cost | Command::Sizes => 0,
+        Command::Best { keep, .. } => (*keep).min(MOST_KEEP),
+        Command::Improve { keep, .. } => (*keep).min(MOST_KEEP),
+        Command::Bound { keep, .. } => (*keep).min(MOST_KEEP),
+        Command::Polish { keep, .. } => (*keep).min(MOST_KEEP),
+        Command::Plan { keep, .. } => (*keep).min(MOST_KEEP),
+        Command::Who { .. } => 0,
+    }
+}
+
+/// The most points.
+const MOST_KEEP: u16 = 100;
 
 /// How many searches a run may make: as many as are asked for, or else so many for each nurse, and a number at least.
 fn searches_for(case: &Case, asked: Option<u32>) -> u32

@@ -4,6 +4,15 @@ use roster_case::{CaseFault, HardFault};
 use roster_reports::BreachNames;
 use roster_text::{TextFault, WriteFault};
 
+/// What a command is asked for by name.
+#[derive(Clone, Copy)]
+pub(crate) enum Thing {
+    Nurse,
+    Day,
+    Shift,
+    Skill,
+}
+
 /// Why a command stopped.
 #[derive(Clone, Copy)]
 pub(crate) enum Fault<'a> {
@@ -16,8 +25,8 @@ pub(crate) enum Fault<'a> {
     Hard(HardFault, BreachNames<'a>),
     /// No roster was found that keeps the hard rules. It is the first breach of the nearest one.
     Unfound(HardFault, BreachNames<'a>),
-    /// The case has no nurse of this name, for whom the command is.
-    Nurse(&'a [u8]),
+    /// The case has nothing of this kind and name, for which the command is.
+    Unknown(Thing, &'a [u8]),
     /// A growth was refused for what a command keeps of a roster that it holds. Nothing else is refused.
     Memory,
     /// A growth was refused for the workspace of its searches. Nothing is refused that can be told before these.

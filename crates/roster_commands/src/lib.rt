@@ -7,6 +7,7 @@
 #![tactic(auto)]
 
 mod answer;
+mod asked;
 mod best;
 mod bound;
 mod commands;
@@ -18,6 +19,7 @@ mod plan;
 mod polish;
 mod reading;
 mod weeks;
+mod who;
 
 pub use answer::run;
 pub use lines::{refuse, refuse_output};

@@ -1,12 +1,12 @@
 //! The line of each fault on the log, and its status.
 
-ghost use Rattle.std.specs.Prelude.{◌≡◌, OnOk, IfErr, codes};
+ghost use Rattle.std.specs.Prelude.{◌≡◌, ◌++◌, OnOk, IfErr, codes};
 ghost use Rattle.roster_text.specs.Io.{StopsIn, Writes};
 ghost use Rattle.roster_commands.specs.Answer.{Logs, Tells};
 ghost use Rattle.roster_reports.specs.Lines.{text_line};
-ghost use Rattle.roster_commands.specs.Lines.{fault_line, status_of, text_status};
+ghost use Rattle.roster_commands.specs.Lines.{fault_line, status_of, text_status, unknown_line};
 
-use crate::fault::Fault;
+use crate::fault::{Fault, Thing};
 use roster_case::CaseFault;
 use roster_reports::{write_case_line, write_hard_line, write_no_memory, write_text_line};
 use roster_text::{Piece, TextFault, Watch, WriteFault, write_pieces};
@@ -51,7 +51,7 @@ fn status_of(fault: Fault<'_>) -> u8
         | Fault::Case(_, _)
         | Fault::Hard(_, _)
         | Fault::Unfound(_, _)
-        | Fault::Nurse(_) => 1,
+        | Fault::Unknown(_, _) => 1,
     }
 }
 
@@ -65,16 +65,44 @@ fn write_line<Log: Write>(fault: Fault<'_>, log: &mut Watch<Log>) -> Result<(), 
         Fault::Case(fault, nurse) => write_case_line(fault, nurse, log),
         Fault::Hard(fault, names) => write_hard_line(b"", fault, names, log),
         Fault::Unfound(fault, names) => write_hard_line(b"not found: ", fault, names, log),
-        Fault::Nurse(name) => write_pieces(
-            log,
-            &[
-                Piece::Bytes(b"unknown nurse "),
-                Piece::Bytes(name),
-                Piece::Bytes(b"\n"),
-            ],
-        ),
+        Fault::Unknown(thing, name) => write_unknown(thing, name, log),
         Fault::Memory | Fault::Workspace => write_no_memory(log),
         Fault::Output => write_pieces(log, &[Piece::Bytes(b"write failed\n")]),
         Fault::Log => Ok(()),
     }
+}
+
+/// Writes that the case has nothing of this kind and name.
+fn write_unknown<Log: Write>(
+    thing: Thing,
+    name: &[u8],
+    log: &mut Watch<Log>,
+) -> Result<(), WriteFault>
+    ensures ok { OnOk result (Writes Log.contents log.old log.new (unknown_line thing name.now)) }
+    ensures err { IfErr result (StopsIn Log.contents log.old log.new
+        (unknown_line thing name.now)) }
+{
+    match thing {
+        Thing::Nurse => write_name(b"unknown nurse ", name, log),
+        Thing::Day => write_name(b"unknown day ", name, log),
+        Thing::Shift => write_name(b"unknown shift ", name, log),
+        Thing::Skill => write_name(b"unknown skill ", name, log),
+    }
+}
+
+/// Writes a line of some words and a name.
+fn write_name<'a, Log: Write>(
+    words: &'a [u8],
+    name: &'a [u8],
+    log: &mut Watch<Log>,
+) -> Result<(), WriteFault>
+    ensures ok { OnOk result (Writes Log.contents log.old log.new
+        (words.now ++ name.now ++ codes "\n")) }
+    ensures err { IfErr result (StopsIn Log.contents log.old log.new
+        (words.now ++ name.now ++ codes "\n")) }
+{
+    write_pieces(
+        log,
+        &[Piece::Bytes(words), Piece::Bytes(name), Piece::Bytes(b"\n")],
+    )
 }

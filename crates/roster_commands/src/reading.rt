@@ -1,11 +1,12 @@
 //! What the bytes of an input say: the bundle, and the case and the roster that it means.
 
-ghost use Rattle.std.specs.Prelude.{◌≡◌, ◌≢◌, true, [], Some, OnOk, IfOk, IfErr};
+ghost use Rattle.std.specs.Prelude.{◌≡◌, ◌≢◌, ◌≤◌, true, [], Some, OnOk, IfOk, IfErr};
 ghost use Rattle.roster_instance.specs.Bundles.{meaning_of, rows_of};
 ghost use Rattle.roster_instance.specs.Faults.{first_fault};
+ghost use Rattle.roster_instance.specs.Limits.{most_keep};
 ghost use Rattle.roster_instance.specs.Refusals.{all_faults};
 ghost use Rattle.roster_instance.specs.Rosters.{fits_case};
-ghost use Rattle.roster_commands.specs.Answer.{HasFault, SpellsBundle, SpellsInstance, StopsReading};
+ghost use Rattle.roster_commands.specs.Answer.{HasFault, IsKeptAt, SpellsBundle, SpellsInstance, StopsReading};
 
 use crate::fault::Fault;
 use roster_case::{Case, CaseFault, Roster};
@@ -63,6 +64,33 @@ pub(crate) fn read_instance<'a>(alloc: Global, source: &'a [u8]) -> Result<Insta
             roster,
         }),
         Err(fault) => Err(Fault::Case(fault, nurse_of(source, &bundle, fault))),
+    }
+}
+
+/// The instance with its roster kept at so many points. The fault is want of memory for that.
+pub(crate) fn keep_roster<'a>(
+    alloc: Global,
+    source: &'a [u8],
+    instance: Instance,
+    keep: u16,
+) -> Result<Instance, Fault<'a>>
+    requires says { SpellsInstance source.now instance }
+    requires few { keep ≤ most_keep }
+    ensures kept { IfOk result (IsKeptAt instance keep) }
+    ensures fitting { IfOk result (λ kept. fits_case kept.case kept.roster ≡ true) }
+    ensures refused { IfErr result (StopsReading source.now) }
+{
+    let (bundle, case, roster) = instance.into_parts();
+    match case.keeping(alloc, &roster, keep) {
+        Ok(case) => Ok(Instance {
+            bundle,
+            case,
+            roster,
+        }),
+        Err(_) => {
+            let fault = CaseFault::Memory;
+            Err(Fault::Case(fault, nurse_of(source, &bundle, fault)))
+        }
     }
 }
 

@@ -5,7 +5,7 @@ use Rattle.roster_instance.specs.Days.{Days}
 use Rattle.roster_instance.specs.Meaning.{Meaning}
 use Rattle.roster_instance.specs.Rosters.{Rows, days_of_nurse}
 use Rattle.roster_rules.specs.declared.penalties.Costs.{Costs}
-use Rattle.roster_rules.specs.Penalties.{free_run_cost, off_request_cost, shift_run_cost, split_cost, staffing_cost, totals_cost, weekends_cost, wish_cost, working_run_cost}
+use Rattle.roster_rules.specs.Penalties.{free_run_cost, keep_cost, off_request_cost, shift_run_cost, split_cost, staffing_cost, totals_cost, weekends_cost, wish_cost, working_run_cost}
 
 -- what the staffing of a day costs at most: 2^27
 abbrev pub most_staffing_of_day : ℕ
@@ -30,6 +30,7 @@ with_nurse c n days k = record {
   s6 = k.s6 + totals_cost c n days;
   s7 = k.s7 + weekends_cost c n days;
   s8 = k.s8 + wish_cost c n days;
+  s9 = k.s9 + keep_cost c n days;
 }
 
 -- staffing, and the costs of the nurses before one
@@ -43,6 +44,7 @@ costs_before c r n = record {
   s6 = sum_below n (λ m. totals_cost c m (days_of_nurse r m));
   s7 = sum_below n (λ m. weekends_cost c m (days_of_nurse r m));
   s8 = sum_below n (λ m. wish_cost c m (days_of_nurse r m));
+  s9 = sum_below n (λ m. keep_cost c m (days_of_nurse r m));
 }
 
 -- no sum but that of staffing is above what the rule costs for so many nurses at most
@@ -54,3 +56,4 @@ pub record AreWithin (k : Costs) (n : ℕ) : Type 0 where
   pub s6 : k.s6 ≤ most_of_rule * n
   pub s7 : k.s7 ≤ most_of_rule * n
   pub s8 : k.s8 ≤ most_of_rule * n
+  pub s9 : k.s9 ≤ most_of_rule * n

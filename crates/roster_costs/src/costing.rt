@@ -8,7 +8,7 @@ ghost use Rattle.roster_rules.specs.Room.{most_staffing, penalty_room};
 ghost use Rattle.roster_costs.specs.Sums.{AreWithin, with_nurse};
 ghost use Rattle.roster_instance.specs.Rosters.{fits_case};
 
-use crate::requests::{off_request_cost, wish_cost};
+use crate::requests::{keep_cost, off_request_cost, wish_cost};
 use crate::runs::{free_run_cost, shift_run_cost, working_run_cost};
 use crate::staffing::staffing_cost;
 use crate::totals::totals_cost;
@@ -56,6 +56,7 @@ pub fn nurse_cost(case: &Case, nurse: usize, row: &[Choice]) -> u32
         + free_run_cost(case, nurse, row)
         + off_request_cost(case, nurse, row)
         + wish_cost(case, nurse, row)
+        + keep_cost(case, nurse, row)
         + split_cost(case, nurse, row, weeks)
         + totals_cost(case, nurse, row)
         + weekends_cost(case, nurse, row, weeks);
@@ -95,4 +96,5 @@ fn add_nurse(costs: &mut Costs, case: &Case, nurse: usize, row: &[Choice])
     costs.s6 += totals_cost(case, nurse, row);
     costs.s7 += weekends_cost(case, nurse, row, weeks);
     costs.s8 += wish_cost(case, nurse, row);
+    costs.s9 += keep_cost(case, nurse, row);
 }

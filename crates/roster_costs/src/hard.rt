@@ -42,7 +42,7 @@ fn first_understaffed(case: &Case, roster: &Roster) -> Option<HardFault>
 
 /// The first place with too few nurses on the first so many days, by day, shift and skill.
 #[tactic(auto, using(roster_rules::proofs::HardLemmas::below_more))]
-pub fn first_understaffed_before(case: &Case, roster: &Roster, days: u16) -> Option<HardFault>
+fn first_understaffed_before(case: &Case, roster: &Roster, days: u16) -> Option<HardFault>
     requires fitting { fits_case case.now roster.now ≡ true }
     requires days { days ≤ day_count case.now }
     ensures { result ≡ first_fault (below days (λ d. below (shift_count case.now)
@@ -56,8 +56,8 @@ pub fn first_understaffed_before(case: &Case, roster: &Roster, days: u16) -> Opt
     None
 }
 
-/// The same of one day, whose nurses are counted once.
-fn understaffed_on(case: &Case, roster: &Roster, day: u16) -> Option<HardFault>
+/// The first place with too few nurses on a day, by shift and skill. The day's nurses are counted once.
+pub fn understaffed_on(case: &Case, roster: &Roster, day: u16) -> Option<HardFault>
     requires { fits_case case.now roster.now ≡ true }
     ensures { result ≡ first_fault (below (shift_count case.now)
         (λ s. below (skill_count case.now) (λ k. staffing_fault case.now roster.now day s k))) }

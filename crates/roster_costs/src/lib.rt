@@ -15,7 +15,6 @@ mod weekends;
 
 pub use costing::{costs, costs_with, nurse_cost};
 pub use hard::{
-    first_absent_before, first_hard, first_succession_before, first_understaffed_before,
-    first_unskilled,
+    first_absent_before, first_hard, first_succession_before, first_unskilled, understaffed_on,
 };
 pub use staffing::{covers, place, staffing_cost, staffing_cost_of_day};

@@ -5,11 +5,11 @@ ghost use Rattle.roster_instance.specs.Choices.{days_of};
 ghost use Rattle.roster_instance.specs.Limits.{most_days};
 ghost use Rattle.roster_instance.specs.Meaning.{nurse_count};
 ghost use Rattle.roster_costs.specs.Sums.{most_of_part};
-ghost use Rattle.roster_rules.specs.Penalties.{breaks_off_request, off_request_cost, wish_cost};
+ghost use Rattle.roster_rules.specs.Penalties.{breaks_off_request, keep_cost, off_request_cost, wish_cost};
 
 use roster_instance::{Case, Choice, Shift};
-use roster_rules::meets_wishes;
 use roster_rules::weights::{OFF_REQUEST, WISH};
+use roster_rules::{keep_cost_on, meets_wishes};
 
 /// S4. The points for each day with a shift that an off request names.
 pub(crate) fn off_request_cost(case: &Case, nurse: usize, row: &[Choice]) -> u64
@@ -49,6 +49,23 @@ pub(crate) fn wish_cost(case: &Case, nurse: usize, row: &[Choice]) -> u64
         if !meets_wishes(case, nurse, day as u16, choice.shift()) {
             cost += WISH as u64;
         }
+    }
+    cost
+}
+
+/// S9. The points for each day that becomes another than in the roster that is kept.
+pub(crate) fn keep_cost(case: &Case, nurse: usize, row: &[Choice]) -> u64
+    requires { length row.now ≤ most_days }
+    ensures cost { result ≡ keep_cost case.now nurse (days_of row.now) }
+    ensures within { result ≤ most_of_part }
+{
+    let keep = case.keep();
+    if keep == 0 {
+        return 0;
+    }
+    let mut cost = 0;
+    for (day, choice) in row.iter().enumerate() {
+        cost += keep_cost_on(case, nurse, day as u16, choice.shift()) as u64;
     }
     cost
 }

@@ -1,13 +1,13 @@
 //! Worked examples: what the definitions say of a small instance and of texts that differ from it in a few lines.
-#![tactic(auto, unfolding(roster_bundle::specs::Token::tokens_from, roster_bundle::specs::Token::token_at, roster_bundle::specs::Token::begins_at, roster_bundle::specs::Token::end_from, roster_bundle::specs::Token::is_separator, roster_bundle::specs::Token::is_mark, roster_bundle::specs::Token::is_word_byte, roster_bundle::specs::Token::follows_word_byte, roster_bundle::specs::Token::line_feeds, roster_text::specs::Reading::bundle_at, roster_text::specs::Reading::title_at, roster_text::specs::Reading::scenario_at, roster_text::specs::Reading::section_at, roster_text::specs::Reading::listed_at, roster_text::specs::Reading::times_at, roster_text::specs::Reading::shift_type_at, roster_text::specs::Reading::pair_at, roster_text::specs::Reading::until_with, roster_text::specs::Reading::succession_at, roster_text::specs::Reading::names_at, roster_text::specs::Reading::contract_at, roster_text::specs::Reading::nurse_at, roster_text::specs::Reading::history_at, roster_text::specs::Reading::nurse_history_at, roster_text::specs::Reading::week_data_at, roster_text::specs::Reading::requirement_at, roster_text::specs::Reading::week_pairs_at, roster_text::specs::Reading::solution_at, roster_text::specs::Reading::assignment_at, roster_text::specs::Reading::request_at, roster_text::specs::Reading::absence_at, roster_text::specs::Reading::optional_at, roster_instance::specs::Tables::table_of, roster_instance::specs::Bundles::requests_meant, roster_instance::specs::Bundles::absences_meant, roster_instance::specs::Bundles::meaning_of, roster_instance::specs::Bundles::rows_of, roster_instance::specs::Refusals::case_faults, roster_instance::specs::Refusals::roster_faults, roster_instance::specs::Sizes::state_count, roster_instance::specs::Sizes::choice_count, roster_rules::specs::HardRules::hard_faults, roster_rules::specs::Penalties::costs_of, roster_rules::specs::Penalties::penalty, roster_rules::specs::Runs::run_violations, roster_rules::specs::Runs::open_run))]
+#![tactic(auto, unfolding(roster_bundle::specs::Token::tokens_from, roster_bundle::specs::Token::token_at, roster_bundle::specs::Token::begins_at, roster_bundle::specs::Token::end_from, roster_bundle::specs::Token::is_separator, roster_bundle::specs::Token::is_mark, roster_bundle::specs::Token::is_word_byte, roster_bundle::specs::Token::follows_word_byte, roster_bundle::specs::Token::line_feeds, roster_text::specs::Reading::bundle_at, roster_text::specs::Reading::title_at, roster_text::specs::Reading::scenario_at, roster_text::specs::Reading::section_at, roster_text::specs::Reading::listed_at, roster_text::specs::Reading::times_at, roster_text::specs::Reading::shift_type_at, roster_text::specs::Reading::pair_at, roster_text::specs::Reading::until_with, roster_text::specs::Reading::succession_at, roster_text::specs::Reading::names_at, roster_text::specs::Reading::contract_at, roster_text::specs::Reading::nurse_at, roster_text::specs::Reading::history_at, roster_text::specs::Reading::nurse_history_at, roster_text::specs::Reading::week_data_at, roster_text::specs::Reading::requirement_at, roster_text::specs::Reading::week_pairs_at, roster_text::specs::Reading::solution_at, roster_text::specs::Reading::assignment_at, roster_text::specs::Reading::request_at, roster_text::specs::Reading::nurse_day_at, roster_text::specs::Reading::optional_at, roster_instance::specs::Tables::table_of, roster_instance::specs::Bundles::requests_meant, roster_instance::specs::Bundles::days_meant, roster_instance::specs::Bundles::meaning_of, roster_instance::specs::Bundles::rows_of, roster_instance::specs::Refusals::case_faults, roster_instance::specs::Refusals::roster_faults, roster_instance::specs::Sizes::state_count, roster_instance::specs::Sizes::choice_count, roster_rules::specs::HardRules::hard_faults, roster_rules::specs::Penalties::costs_of, roster_rules::specs::Penalties::penalty, roster_rules::specs::Runs::run_violations, roster_rules::specs::Runs::open_run))]
 
-ghost use Rattle.std.specs.Prelude.{◌≡◌, [], ◌∷◌, None, codes, take, true, false};
+ghost use Rattle.std.specs.Prelude.{◌≡◌, [], ◌∷◌, None, Some, codes, take, true, false};
 ghost use Rattle.roster_instance.specs.declared.fault.CaseFault.{CaseFault};
 ghost use Rattle.roster_rules.specs.declared.fault.HardFault.{HardFault};
 ghost use Rattle.roster_run_examples.specs.Mini.{mini, big, limits, is_among, early_on, early_but, free_week, all_free, ann, bob, costs, costs_with_wishes};
 ghost use Rattle.roster_examples.specs.MiniText.{mini_lines, two_weeks, line, line_after, solved, assigned, bob_on_monday_night, bob_early_on_tuesday, requested, eve_on_tuesday, with_late, absence_and_skill, short_early_run, four_and_three_days, night_needed, around_the_night, heads_wanted, case_in, roster_in, refusals_in, refusal_in, breaches_in, costs_in, total_in, sizes_in};
-ghost use Rattle.roster_instance.specs.Meaning.{shift_at, skill_at};
-ghost use Rattle.roster_rules.specs.Penalties.{penalty};
+ghost use Rattle.roster_instance.specs.Meaning.{keeping, shift_at, skill_at};
+ghost use Rattle.roster_rules.specs.Penalties.{keep_cost_on, penalty};
 ghost use Rattle.roster_instance.specs.Rosters.{fits_case};
 ghost use Rattle.roster_rules.specs.Runs.{run_violations, open_run};
 ghost use Rattle.roster_instance.specs.Sizes.{state_count, choice_count};
@@ -88,6 +88,19 @@ pub fn breaches_of_absences()
         (requested (codes "0 ABSENCES = 0 SHIFT_ON_REQUESTS = 0") mini_lines) ≡ None }
 {}
 
+/// The section of fixed days stands after the absences. What is fixed is no breach; a nurse of a line has to be known, and a line may stand
+/// twice.
+pub fn fixed_days_in_the_texts()
+    ensures work { breaches_in (requested (codes "0 ABSENCES = 1 Bob Wed FIXED = 1 Bob Tue")
+        bob_early_on_tuesday) ≡ Some [] }
+    ensures twice { refusals_in (requested (codes "0 FIXED = 2 Bob Tuesday Bob Tue") mini_lines)
+        ≡ Some [] }
+    ensures unknown { refusal_in (requested (codes "0 ABSENCES = 1 Bob Tue FIXED = 1")
+        eve_on_tuesday) ≡ Some (CaseFault.Unknown 37) }
+    ensures before_absences { refusals_in (requested (codes "0 FIXED = 0 ABSENCES = 0") mini_lines)
+        ≡ None }
+{}
+
 /// Each nurse has eight days off in a row, one of them before the first Monday, and three too many.
 pub fn penalties_of_an_empty_roster()
     ensures { costs_in mini_lines ≡ Some (costs 210 0 180 0 0 80 0) }
@@ -131,6 +144,18 @@ pub fn penalties_of_wishes()
     ensures unknown { refusal_in
         (requested (codes "0 SHIFT_ON_REQUESTS = 1 Eve Any Tue") mini_lines)
         ≡ Some (CaseFault.Unknown 36) }
+{}
+
+/// Each day of a nurse that is another than in the roster that is kept costs its points: a shift more, a shift less, or another one.
+pub fn penalties_with_a_kept_roster()
+    ensures five_days { penalty (keeping mini (early_but 1 ∷ free_week ∷ []) 7)
+        (early_but 4 ∷ early_on (4 ∷ 5 ∷ 6 ∷ []) ∷ []) ≡ 55 }
+    ensures no_day { penalty (keeping mini (early_but 4 ∷ early_on (4 ∷ 5 ∷ 6 ∷ []) ∷ []) 7)
+        (early_but 4 ∷ early_on (4 ∷ 5 ∷ 6 ∷ []) ∷ []) ≡ 20 }
+    ensures another_shift { keep_cost_on (keeping mini (early_but 1 ∷ free_week ∷ []) 7) ann 0
+        (Some (shift_at 1)) ≡ 7 }
+    ensures same_shift { keep_cost_on (keeping mini (early_but 1 ∷ free_week ∷ []) 7) ann 0
+        (Some (shift_at 0)) ≡ 0 }
 {}
 
 /// Days, off requests and assignments of a second week.

@@ -14,8 +14,8 @@ use roster_rules::Shift;
 use roster_rules::weights::{SHIFT_RUN, SPLIT};
 
 /// What a day costs at most, whatever comes after it, as floors are reckoned. With what the run of a shift misses a floor is at most
-/// 714,703,850. So it is within the bound of labels, as it has to be: a floor is the label of a coarser state.
-pub(crate) const MOST_LEAVE: u32 = 713_655_274;
+/// 714,740,250. So it is within the bound of labels, as it has to be: a floor is the label of a coarser state.
+pub(crate) const MOST_LEAVE: u32 = 713_691_674;
 
 /// What another shift costs that begins, whatever the run, and the place of its first floor.
 #[derive(Clone, Copy)]

@@ -9,23 +9,28 @@ use Rattle.roster_instance.specs.declared.fault.CaseFault.TheVariants.{TooManySt
 use Rattle.roster_instance.specs.declared.rules.Past.{Past}
 use Rattle.roster_instance.specs.declared.scenario.Scenario.{Scenario}
 use Rattle.roster_instance.specs.Bundles.{meaning_of, past_meant, week_meant}
-use Rattle.roster_instance.specs.CaseParts.{HasFewStates, IsScenarioOf, case_of, faults_after, known_of}
+use Rattle.roster_instance.specs.CaseParts.{HasFewStates, IsScenarioOf, case_of, case_with, faults_after, known_of}
 use Rattle.roster_instance.specs.Checking.{IsFirst}
 use Rattle.roster_instance.specs.Faults.{fault_if}
 use Rattle.roster_instance.specs.Meaning.{WeekFacts}
 use Rattle.roster_instance.specs.Names.{nurse_names, shift_names, skill_names}
 use Rattle.roster_instance.specs.Refusals.{known_in, case_faults, history_faults, scenario_faults, state_fault, week_faults}
 use Rattle.roster_instance.specs.Limits.{most_states}
+use Rattle.roster_instance.specs.Rosters.{Rows}
 use Rattle.roster_instance.specs.Sizes.{state_count}
 use Rattle.roster_instance.proofs.Sections.{IsFirst-after, IsFirst-front, both_none}
 
--- the number of states doesn't depend on the history, nor on the weeks
-pub states_alike : (s : Scenario) (past : List (Option Past)) (weeks : List WeekFacts) (n : ℕ) → state_count (case_of s past weeks) n ≡ state_count (case_of s [] []) n
+-- the number of states doesn't depend on the history, nor on the weeks, nor on a roster that is kept
+pub states_alike : (s : Scenario) (past : List (Option Past)) (weeks : List WeekFacts) (base : Rows) (keep n : ℕ) → state_count (case_with s past weeks base keep) n ≡ state_count (case_of s [] []) n
 unfolding state_count
-states_alike s past weeks n = refl
+states_alike s past weeks base keep n = refl
 
-pub few_states : (s : Scenario) (past : List (Option Past)) (weeks : List WeekFacts) → HasFewStates (case_of s [] []) → HasFewStates (case_of s past weeks)
-few_states s past weeks few = λ n within. subst (λ k. k ≤ most_states) (sym (states_alike s past weeks n)) (few n within)
+pub few_states : (s : Scenario) (past : List (Option Past)) (weeks : List WeekFacts) (base : Rows) (keep : ℕ) → HasFewStates (case_of s [] []) → HasFewStates (case_with s past weeks base keep)
+few_states s past weeks base keep few = λ n within. subst (λ k. k ≤ most_states) (sym (states_alike s past weeks base keep n)) (few n within)
+
+pub few_states_with : (s : Scenario) (past : List (Option Past)) (weeks : List WeekFacts) (base other : Rows) (keep more : ℕ) → HasFewStates (case_with s past weeks base keep) → HasFewStates (case_with s past weeks other more)
+few_states_with s past weeks base other keep more few =
+    λ n within. subst (λ k. k ≤ most_states) (states_alike s past weeks base keep n ∙ sym (states_alike s past weeks other more n)) (few n within)
 
 module _ (source : List ℕ) (b : Bundle) (s : Scenario) (is : IsScenarioOf source b s) where
   abbrev past_faults : List CaseFault
@@ -59,12 +64,14 @@ module _ (source : List ℕ) (b : Bundle) (s : Scenario) (is : IsScenarioOf sour
         nurses = is.facts_are i;
         past = there i;
         weeks = those i;
+        base = [];
+        keep = 0;
       }
 
   states_are : (n : ℕ) → state_count (case_of s [] []) n ≡ state_count (meaning_of source b) n
   states_are n =
       let past = past_meant source s.nurses s.shifts b.history.nurses in
-      sym (states_alike s past (weeks_in b.week_data) n) ∙ ap (λ c. state_count c n) (case_is past (weeks_in b.week_data) refl refl)
+      sym (states_alike s past (weeks_in b.week_data) [] 0 n) ∙ ap (λ c. state_count c n) (case_is past (weeks_in b.week_data) refl refl)
 
   -- what it gives is what the bundle's scenario gives
   known_same : known_of source s ≡ known_in source b

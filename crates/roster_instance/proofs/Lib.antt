@@ -9,7 +9,7 @@ pub mod WeekTableLemmas
 pub mod HistoryLemmas
 pub mod PutRows
 pub mod RequestLemmas
-pub mod AbsenceLemmas
+pub mod DayLemmas
 pub mod FlagLemmas
 pub mod ScenarioLemmas
 mod CaseLemmas

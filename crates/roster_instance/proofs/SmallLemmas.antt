@@ -1,5 +1,5 @@
 -- A case whose bundle has small numbers has small numbers.
-use Rattle.std.proofs.Common.{ℕ, zero, suc, Bool, true, false, List, [], ◌∷◌, All, IfSome, Option, Some, None, arith, codes, cond, get_or, map}
+use Rattle.std.proofs.Common.{◌≤◌, ℕ, zero, suc, Bool, true, false, List, [], ◌∷◌, All, IfSome, Option, Some, None, arith, codes, cond, get_or, lit≤, map}
 use Rattle.std.specs.Prelude.{find, option_map, unwrap_or}
 use Rattle.std.specs.Option.{option_map_or}
 use Rattle.std.specs.List.{range_with_len}
@@ -17,8 +17,10 @@ use Rattle.roster_instance.specs.declared.rules.Border.TheVariants.{Free, Workin
 use Rattle.roster_instance.specs.declared.rules.Need.{Need}
 use Rattle.roster_instance.specs.declared.rules.Past.{Past}
 use Rattle.roster_instance.specs.Bundles.{Names, border_meant, contract_meant, limits_of, line_meant, meaning_of, need_of, needs_of_week, place_of_need, shift_named, week_meant}
-use Rattle.roster_instance.specs.Meaning.{WeekFacts, no_contract, no_limits, no_need, no_past, no_week}
+use Rattle.roster_instance.specs.Limits.{most_keep}
+use Rattle.roster_instance.specs.Meaning.{Meaning, WeekFacts, no_contract, no_limits, no_need, no_past, no_week}
 use Rattle.roster_instance.specs.Names.{found, nurse_names, reads, shift_names, skill_names}
+use Rattle.roster_instance.specs.Rosters.{Rows}
 use Rattle.roster_instance.specs.Small.{AreSmall, HasSmallNumbers, HasSmallRules, IsSmallBorder, IsSmallNeed, IsSmallPast}
 use Rattle.roster_instance.specs.Tables.{item_at, table_of}
 use Rattle.roster_instance.proofs.FitLemmas.{get_or_of_map}
@@ -128,4 +130,15 @@ meaning_small source b small = record {
   past = λ n. past_small _ (cell_of_items IsSmallLine IsSmallPast (λ (h : NurseHistory). found source (nurse_names source b) h.nurse) (line_meant source (shift_names source b)) _ (line_small source (shift_names source b)) b.history.nurses small.history n);
   needs = λ d s k. get_or_of_items AreSmallNeeds NeedsSmall (week_meant source (shift_names source b) (skill_names source b) (nurse_names source b)) no_week (λ place w. no_need_small)
       (needs_small source (shift_names source b) (skill_names source b) (nurse_names source b)) b.week_data small.needs _ _ _;
+  keep = lit≤ tt;
+}
+
+-- whatever roster is kept, at few points
+pub small_with : (c : Meaning) (base : Rows) (keep : ℕ) → keep ≤ most_keep → HasSmallNumbers c → HasSmallNumbers (record c { base = base; keep = keep })
+small_with c base keep few small = record {
+  runs = small.runs;
+  contracts = small.contracts;
+  past = small.past;
+  needs = small.needs;
+  keep = few;
 }

@@ -2,12 +2,12 @@
 -- line stands, are our profile).
 use Rattle.std.specs.Prelude.{ℕ, ◌+◌, ◌*◌, ◌/◌, ◌%◌, Bool, not, ◌&&◌, ◌==◌, if◌then◌else◌, List, [], ◌∷◌, length, map, codes, Option, Some, None, option_and_then, option_map, slice_index_or, unwrap_or}
 use Rattle.std.specs.List.{list_any, range_with_len}
-use Rattle.roster_bundle.specs.declared.bundle.Absence.{Absence}
 use Rattle.roster_bundle.specs.declared.bundle.Assignment.{Assignment}
 use Rattle.roster_bundle.specs.declared.bundle.Bundle.{Bundle}
 use Rattle.roster_bundle.specs.declared.bundle.Contract.{Contract}
 use Rattle.roster_bundle.specs.declared.bundle.Listed.{Listed}
 use Rattle.roster_bundle.specs.declared.bundle.Nurse.{Nurse}
+use Rattle.roster_bundle.specs.declared.bundle.NurseDay.{NurseDay}
 use Rattle.roster_bundle.specs.declared.bundle.NurseHistory.{NurseHistory}
 use Rattle.roster_bundle.specs.declared.bundle.Request.{Request}
 use Rattle.roster_bundle.specs.declared.bundle.Pair.{Pair}
@@ -131,29 +131,30 @@ unfoldable pub requests_meant : List ℕ → Names → Names → List Request �
 requests_meant source nurses shifts qs = map (requests_at source nurses shifts qs) (range_with_len 0 (7 * length nurses))
 
 -- the place of a nurse and weekday
-abbrev pub place_of_absence : List ℕ → Names → Absence → Option ℕ
-place_of_absence source nurses a = option_map (λ n. 7 * n + weekday a.day) (found source nurses a.nurse)
+abbrev pub place_of_day : List ℕ → Names → NurseDay → Option ℕ
+place_of_day source nurses a = option_map (λ n. 7 * n + weekday a.day) (found source nurses a.nurse)
 
 -- a line has this place
-abbrev pub has_line : List ℕ → Names → List Absence → ℕ → Bool
-has_line source nurses lines p = list_any (λ a. is_at p (place_of_absence source nurses a)) lines
+abbrev pub has_line : List ℕ → Names → List NurseDay → ℕ → Bool
+has_line source nurses lines p = list_any (λ a. is_at p (place_of_day source nurses a)) lines
 
 -- for each nurse and weekday whether a line has them
-unfoldable pub absences_meant : List ℕ → Names → List Absence → List Bool
-absences_meant source nurses lines = map (has_line source nurses lines) (range_with_len 0 (7 * length nurses))
+unfoldable pub days_meant : List ℕ → Names → List NurseDay → List Bool
+days_meant source nurses lines = map (has_line source nurses lines) (range_with_len 0 (7 * length nurses))
 
 -- the lines of a section that may be absent: without it there are none
 abbrev pub lines_of : {T : Type 0} → Option (Listed T) → List T
 lines_of None = []
 lines_of (Some section) = section.items
 
--- a week: its needs, its requests and its absences
+-- a week: its needs, its requests, its absences and its fixed days
 abbrev pub week_meant : List ℕ → Names → Names → Names → WeekData → WeekFacts
 week_meant source shifts skills nurses w = record {
   needs = needs_meant source shifts skills w.requirements;
   off_requests = requests_meant source nurses shifts w.off_requests.items;
   wishes = requests_meant source nurses shifts (lines_of w.on_requests);
-  absences = absences_meant source nurses (lines_of w.absences);
+  absences = days_meant source nurses (lines_of w.absences);
+  fixed = days_meant source nurses (lines_of w.fixed_days);
 }
 
 -- ---- the case
@@ -172,6 +173,8 @@ meaning_of source b = record {
   nurses = map (nurse_meant source (contract_names source b) (skill_names source b)) b.scenario.nurses.items;
   past = past_meant source (nurse_names source b) (shift_names source b) b.history.nurses;
   weeks = map (week_meant source (shift_names source b) (skill_names source b) (nurse_names source b)) b.week_data;
+  base = [];
+  keep = 0;
 }
 
 -- ---- the roster, by the names of a case

@@ -13,6 +13,7 @@ use Rattle.roster_instance.specs.Meaning.{Meaning, WeekFacts, last_shift, no_req
 use Rattle.roster_instance.specs.Names.{contract_names, nurse_names, shift_names, skill_names}
 use Rattle.roster_instance.specs.Limits.{most_states}
 use Rattle.roster_instance.specs.Refusals.{Known, history_faults, state_fault, week_faults}
+use Rattle.roster_instance.specs.Rosters.{Rows}
 use Rattle.roster_instance.specs.Sizes.{state_count}
 use Rattle.roster_instance.specs.Small.{HasSmallNumbers}
 
@@ -64,7 +65,13 @@ case_of s past weeks = record {
   nurses = s.nurse_rules.items;
   past = past;
   weeks = weeks;
+  base = [];
+  keep = 0;
 }
+
+-- the same with a roster that is kept
+abbrev pub case_with : Scenario → List (Option Past) → List WeekFacts → Rows → ℕ → Meaning
+case_with s past weeks base keep = record (case_of s past weeks) { base = base; keep = keep }
 
 -- the faults after the scenario: of the history, of the weeks, and too many states
 abbrev pub faults_after : List ℕ → Bundle → Scenario → List CaseFault
@@ -81,10 +88,10 @@ HasFewStates c = (n : ℕ) → n < nurse_count c → state_count c n ≤ most_st
 abbrev pub HasKnownPast : Meaning → Type 0
 HasKnownPast c = (n : ℕ) → IfSome (last_shift (past_of c n).border) (λ s. s.0 < shift_count c)
 
--- what holds of the parts of each case: a week for each that the scenario counts, few states, small numbers, and a known
+-- what holds of the parts of each case: a week for each that the scenario counts, few states, small numbers, a known
 -- past
-pub record AreCaseParts (s : Scenario) (past : List (Option Past)) (weeks : List WeekFacts) : Type 0 where
+pub record AreCaseParts (s : Scenario) (past : List (Option Past)) (weeks : List WeekFacts) (base : Rows) (keep : ℕ) : Type 0 where
   pub all_weeks : length weeks ≡ s.weeks
-  pub few_states : HasFewStates (case_of s past weeks)
-  pub small : HasSmallNumbers (case_of s past weeks)
-  pub known_past : HasKnownPast (case_of s past weeks)
+  pub few_states : HasFewStates (case_with s past weeks base keep)
+  pub small : HasSmallNumbers (case_with s past weeks base keep)
+  pub known_past : HasKnownPast (case_with s past weeks base keep)

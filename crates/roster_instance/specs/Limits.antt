@@ -21,6 +21,10 @@ most_contracts = 64
 abbrev pub most_nurses : ℕ
 most_nurses = 400
 
+-- the most points for a day that becomes another than in a roster that is kept
+abbrev pub most_keep : ℕ
+most_keep = 100
+
 -- the most states of the search for a nurse
 abbrev pub most_states : ℕ
 most_states = 1048576

@@ -1,7 +1,8 @@
 -- What the four texts of an instance mean, apart from the roster. Shifts, skills, contracts and nurses are numbered
 -- from 0 in the order of the scenario.
-use Rattle.std.specs.Prelude.{ℕ, ◌+◌, ◌*◌, ◌/◌, ◌%◌, Bool, false, ◌||◌, List, [], length, replicate, Option, Some, None, slice_index_or, unwrap_or}
+use Rattle.std.specs.Prelude.{ℕ, ◌+◌, ◌*◌, ◌/◌, ◌%◌, Bool, false, ◌||◌, ◌==◌, if◌then◌else◌, List, [], length, replicate, Option, Some, None, slice_index_or, unwrap_or}
 use Rattle.std.specs.Option.{option_map_or}
+use Rattle.roster_instance.specs.declared.choice.Choice.{Choice}
 use Rattle.roster_instance.specs.declared.choice.Shift.{Shift}
 use Rattle.roster_instance.specs.declared.choice.Skill.{Skill}
 use Rattle.roster_instance.specs.declared.rules.Border.{Border}
@@ -18,15 +19,18 @@ pub record NurseFacts : Type 0 where
   pub skills : List Skill
 
 -- a week: at place 8 s + k the requirements of shift s and skill k from Monday to Sunday, where a line has them; at place
--- 7 n + w what the off requests of nurse n for weekday w name, what the wishes to work name, and whether the nurse is absent
+-- 7 n + w what the off requests of nurse n for weekday w name, what the wishes to work name, and whether the nurse is absent,
+-- and the day is fixed
 pub record WeekFacts : Type 0 where
   pub needs : List (Option (List Need))
   pub off_requests : List DayRequests
   pub wishes : List DayRequests
   pub absences : List Bool
+  pub fixed : List Bool
 
 -- `runs` has the days in a row of each shift; `successions`, for each shift that has such a line, which shifts may not
--- follow; `past` what stands in the history of each nurse
+-- follow; `past` what stands in the history of each nurse; `base` a row for each nurse of a roster that is kept, at so many points
+-- (`keep`) for each day that becomes another; the texts say neither
 pub record Meaning : Type 0 where
   pub name : List ℕ
   pub skill_names : List (List ℕ)
@@ -39,6 +43,8 @@ pub record Meaning : Type 0 where
   pub nurses : List NurseFacts
   pub past : List (Option Past)
   pub weeks : List WeekFacts
+  pub base : List (List Choice)
+  pub keep : ℕ
 
 -- ---- how many there are
 
@@ -86,7 +92,7 @@ abbrev pub no_requests : DayRequests
 no_requests = record { any = false; shifts = replicate 8 false }
 
 abbrev pub no_week : WeekFacts
-no_week = record { needs = []; off_requests = []; wishes = []; absences = [] }
+no_week = record { needs = []; off_requests = []; wishes = []; absences = []; fixed = [] }
 
 -- how many days in a row a shift is to be worked
 abbrev pub run_of_shift : Meaning → ℕ → Limits
@@ -147,6 +153,10 @@ has_wish_for_any c n d = (wishes_of c n d).any
 abbrev pub is_absent : Meaning → ℕ → ℕ → Bool
 is_absent c n d = slice_index_or (week_of c d).absences (7 * n + d % 7) false
 
+-- the nurse's choice on the day stays as the solution has it
+abbrev pub is_fixed : Meaning → ℕ → ℕ → Bool
+is_fixed c n d = slice_index_or (week_of c d).fixed (7 * n + d % 7) false
+
 -- ---- the history (profile: of a line whose last shift is `None` only the days off count, else only the two other runs)
 
 -- the shift of the day before the first Monday, if it was worked
@@ -161,3 +171,9 @@ abbrev pub forbids : List (Option (List Bool)) → Option Shift → Option Shift
 forbids successions (Some s) (Some t) = option_map_or (λ line. slice_index_or line t.0 false) (slice_index_or successions s.0 None) false
 forbids successions (Some s) None = false
 forbids successions None next = false
+
+-- ---- a roster that is kept
+
+-- the same case, in which each day of a nurse with another shift than in these rows costs so much more; at no points it is the case itself
+abbrev pub keeping : Meaning → List (List Choice) → ℕ → Meaning
+keeping c rows keep = if keep == 0 then c else record c { base = rows; keep = keep }

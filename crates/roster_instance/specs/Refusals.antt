@@ -2,13 +2,13 @@
 -- but for too many states, which stand after all others of the case and before those of the solutions.
 use Rattle.std.specs.Prelude.{ℕ, ◌+◌, ◌*◌, not, ◌&&◌, ◌||◌, ◌==◌, nat_lt, List, ◌++◌, length, map, flat_map, codes}
 use Rattle.std.specs.List.{enumerate_from, list_any}
-use Rattle.roster_bundle.specs.declared.bundle.Absence.{Absence}
 use Rattle.roster_bundle.specs.declared.bundle.Assignment.{Assignment}
 use Rattle.roster_bundle.specs.declared.bundle.Bundle.{Bundle}
 use Rattle.roster_bundle.specs.declared.bundle.Contract.{Contract}
 use Rattle.roster_bundle.specs.declared.bundle.History.{History}
 use Rattle.roster_bundle.specs.declared.bundle.Listed.{Listed}
 use Rattle.roster_bundle.specs.declared.bundle.Nurse.{Nurse}
+use Rattle.roster_bundle.specs.declared.bundle.NurseDay.{NurseDay}
 use Rattle.roster_bundle.specs.declared.bundle.NurseHistory.{NurseHistory}
 use Rattle.roster_bundle.specs.declared.bundle.Request.{Request}
 use Rattle.roster_bundle.specs.declared.bundle.Requirement.{Requirement}
@@ -170,8 +170,9 @@ requirement_faults source shifts skills earlier q =
 abbrev pub request_faults : List ℕ → Names → Names → Request → List CaseFault
 request_faults source nurses shifts q = unknown_fault source nurses q.nurse ++ unknown_unless source (codes "Any") shifts q.shift
 
-abbrev pub absence_faults : List ℕ → Names → Absence → List CaseFault
-absence_faults source nurses a = unknown_fault source nurses a.nurse
+-- of a line of absences or of fixed days
+abbrev pub day_faults : List ℕ → Names → NurseDay → List CaseFault
+day_faults source nurses a = unknown_fault source nurses a.nurse
 
 -- all refusals of a week's data, in the order of their text
 abbrev pub week_faults : Known → WeekData → List CaseFault
@@ -180,7 +181,8 @@ week_faults known w =
     ++ each (requirement_faults known.source known.shifts known.skills) w.requirements
     ++ flat_map (request_faults known.source known.nurses known.shifts) w.off_requests.items
     ++ flat_map (request_faults known.source known.nurses known.shifts) (lines_of w.on_requests)
-    ++ flat_map (absence_faults known.source known.nurses) (lines_of w.absences)
+    ++ flat_map (day_faults known.source known.nurses) (lines_of w.absences)
+    ++ flat_map (day_faults known.source known.nurses) (lines_of w.fixed_days)
 
 -- ---- the states: for the first nurse whose search would need too many
 

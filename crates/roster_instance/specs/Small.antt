@@ -7,7 +7,7 @@ use Rattle.roster_instance.specs.declared.rules.ContractRules.{ContractRules}
 use Rattle.roster_instance.specs.declared.rules.Limits.{Limits}
 use Rattle.roster_instance.specs.declared.rules.Need.{Need}
 use Rattle.roster_instance.specs.declared.rules.Past.{Past}
-use Rattle.roster_instance.specs.Limits.{most_shifts, most_skills, most_small, most_weeks}
+use Rattle.roster_instance.specs.Limits.{most_keep, most_shifts, most_skills, most_small, most_weeks}
 use Rattle.roster_instance.specs.Meaning.{Meaning, contract_of, need, past_of, run_of_shift, shift_count, skill_count, week_count}
 
 -- both numbers of a pair
@@ -38,12 +38,13 @@ pub record IsSmallPast (p : Past) : Type 0 where
   pub assignments : p.assignments ≤ most_small
   pub weekends : p.weekends ≤ most_small
 
--- all numbers of a case
+-- all numbers of a case, with that of a roster that is kept
 pub record HasSmallNumbers (c : Meaning) : Type 0 where
   pub runs : (s : ℕ) → AreSmall (run_of_shift c s)
   pub contracts : (n : ℕ) → HasSmallRules (contract_of c n)
   pub past : (n : ℕ) → IsSmallPast (past_of c n)
   pub needs : (d s k : ℕ) → IsSmallNeed (need c d s k)
+  pub keep : c.keep ≤ most_keep
 
 -- a case within the limits that keep penalties and labels low
 pub record IsSmall (c : Meaning) : Type 0 where

@@ -8,9 +8,11 @@ ghost use Rattle.roster_instance.specs.CaseParts.{case_of, faults_after, HasFewS
 ghost use Rattle.roster_instance.specs.Bundles.{meaning_of, past_meant, week_meant};
 ghost use Rattle.roster_instance.specs.Checking.{IsFirst};
 ghost use Rattle.roster_instance.specs.Faults.{first_fault};
-ghost use Rattle.roster_instance.specs.Limits.{most_days, most_nurses, most_shifts, most_skills, most_small, most_states, most_weeks};
-ghost use Rattle.roster_instance.specs.Meaning.{contract_of, day_count, has_off_request, is_absent, last_shift, need, nurse_at, nurse_count, nurse_name, past_of, run_of_shift, shift_count, skill_count, week_count, wishes_of, forbids};
+ghost use Rattle.roster_instance.specs.Limits.{most_days, most_keep, most_nurses, most_shifts, most_skills, most_small, most_states, most_weeks};
+ghost use Rattle.roster_instance.specs.Meaning.{contract_of, day_count, has_off_request, is_absent, is_fixed, keeping, last_shift, need, nurse_at, nurse_count, nurse_name, past_of, run_of_shift, shift_count, skill_count, week_count, wishes_of, forbids};
+ghost use Rattle.roster_instance.specs.Choices.{shift_of};
 ghost use Rattle.roster_instance.specs.Names.{find_name};
+ghost use Rattle.roster_instance.specs.Rosters.{choice_on, row_of};
 ghost use Rattle.roster_instance.specs.Refusals.{case_faults, state_fault};
 ghost use Rattle.roster_instance.specs.Sizes.{choice_count, greatest_of, state_count, cap};
 ghost use Rattle.roster_instance.specs.Small.{AreSmall, HasSmallNumbers, HasSmallRules, IsSmallNeed, IsSmallPast};
@@ -18,13 +20,14 @@ ghost use Rattle.roster_instance.specs.Small.{AreSmall, HasSmallNumbers, HasSmal
 use crate::choice::{Shift, Skill};
 use crate::fault::CaseFault;
 use crate::history::past_of;
+use crate::roster::{Roster, choice_on};
 use crate::rules::{Border, ContractRules, DayRequests, Limits, Need, Past};
 use crate::scenario::Scenario;
 use crate::sizes::{contract_of, greatest_cap, state_count};
 use crate::table::Table;
 use crate::week::{Week, weeks_of};
 use roster_bundle::{Bundle, Nurse};
-use std::alloc::Global;
+use std::alloc::{AllocError, Global};
 use std::marker::Model;
 
 /// The most states that the search for a nurse takes.
@@ -36,6 +39,9 @@ pub struct Case {
     scenario: Scenario,
     past: Table<Past>,
     weeks: Vec<Week>,
+    // The roster that is kept, and at how many points.
+    base: Roster,
+    keep: u16,
 }
 
 // By hand, so that who drops a case has one call to prove and not the drops of all its parts.
@@ -45,19 +51,21 @@ impl Drop for Case {
             scenario: _,
             past: _,
             weeks: _,
+            base: _,
+            keep: _,
         } = self;
     }
 }
 
 impl Model for Case {
-    ghost use Rattle.roster_instance.specs.CaseParts.{AreCaseParts, case_of};
+    ghost use Rattle.roster_instance.specs.CaseParts.{AreCaseParts, case_with};
     ghost use Rattle.roster_instance.specs.Meaning.{Meaning};
 
     ghost Value = { Meaning };
 
-    ghost view = { λ c. case_of c.scenario c.past c.weeks.items };
+    ghost view = { λ c. case_with c.scenario c.past c.weeks.items c.base c.keep };
 
-    ghost invariant = { λ c. AreCaseParts c.scenario c.past c.weeks.items };
+    ghost invariant = { λ c. AreCaseParts c.scenario c.past c.weeks.items c.base c.keep };
 }
 
 impl Case {
@@ -89,7 +97,30 @@ impl Case {
             scenario,
             past: told.past,
             weeks: told.weeks,
+            base: Roster::empty(alloc),
+            keep: 0,
         })
+    }
+
+    /// The same case, in which each day of a nurse costs so many points more where its shift, or that it is off, isn't what this
+    /// roster says. At no points it is the case itself; else the case has a copy of the roster, by one growth for the list and one for
+    /// each nurse. It stands in the place of a roster that was kept before.
+    ///
+    /// # Errors
+    ///
+    /// A growth was refused.
+    pub fn keeping(self, alloc: Global, roster: &Roster, keep: u16) -> Result<Case, AllocError>
+        requires { keep ≤ most_keep }
+        ensures { IfOk result (λ case. case ≡ keeping self roster.now keep) }
+    {
+        if keep == 0 {
+            return Ok(self);
+        }
+        let base = roster.copy(alloc)?;
+        let mut case = self;
+        case.base = base;
+        case.keep = keep;
+        Ok(case)
     }
 
     /// The parts that names are looked up in.
@@ -303,6 +334,34 @@ impl Case {
             Some(week) => week.is_absent(7 * nurse + day as usize % 7),
             None => false,
         }
+    }
+
+    /// Whether a nurse's choice on a day stays as the solution has it.
+    pub fn is_fixed(&self, nurse: usize, day: u16) -> bool
+        requires { nurse < nurse_count self.now }
+        ensures { result ≡ is_fixed self.now nurse day }
+    {
+        match self.weeks.get(day as usize / 7) {
+            Some(week) => week.is_fixed(7 * nurse + day as usize % 7),
+            None => false,
+        }
+    }
+
+    // ---- a roster that is kept
+
+    /// How many points each day costs that becomes another than in the roster that is kept; 0 where none is.
+    pub fn keep(&self) -> u16
+        ensures points { result ≡ self.now.keep }
+        ensures within { result ≤ most_keep }
+    {
+        self.keep
+    }
+
+    /// The shift of a nurse on a day in the roster that is kept; none where there is none.
+    pub fn kept_shift(&self, nurse: usize, day: u16) -> Option<Shift>
+        ensures { result ≡ shift_of (choice_on (row_of self.now.base nurse) day) }
+    {
+        choice_on(self.base.row(nurse), day).shift()
     }
 
     // ---- nurses

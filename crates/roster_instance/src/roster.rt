@@ -77,6 +77,15 @@ impl Roster {
         Ok(Roster { rows })
     }
 
+    /// One without nurses, which takes no memory.
+    pub(crate) fn empty(alloc: Global) -> Roster
+        ensures { result ≡ [] }
+    {
+        Roster {
+            rows: Vec::new(alloc),
+        }
+    }
+
     /// A copy, by one growth for the list and one for each nurse.
     ///
     /// # Errors

@@ -1,15 +1,15 @@
-//! The data of the weeks: requirements, off requests, wishes to work, and absences.
+//! The data of the weeks: requirements, off requests, wishes to work, absences, and fixed days.
 
 ghost use Rattle.std.specs.Prelude.{◌≡◌, ◌*◌, ◌<◌, ℕ, List, [], IfOk, IfErr, OnOk, codes, false, flat_map, length, map, replicate, slice_index_or, slice_set, true};
 ghost use Rattle.std.specs.Option.{option_map_or};
 ghost use Rattle.roster_bundle.specs.Weekdays.{weekday};
 ghost use Rattle.roster_bundle.specs.declared.bundle.WeekData.{WeekData};
 ghost use Rattle.roster_instance.specs.CaseParts.{known_of, requests_with, with_any, with_shift};
-ghost use Rattle.roster_instance.specs.Bundles.{absences_meant, lines_of, need_of, needs_meant, needs_of_week, requests_meant, week_meant};
+ghost use Rattle.roster_instance.specs.Bundles.{days_meant, lines_of, need_of, needs_meant, needs_of_week, requests_meant, week_meant};
 ghost use Rattle.roster_instance.specs.Checking.{IsFirst};
 ghost use Rattle.roster_instance.specs.Faults.{each};
 ghost use Rattle.roster_instance.specs.Meaning.{no_need, no_requests};
-ghost use Rattle.roster_instance.specs.Refusals.{Known, absence_faults, request_faults, requirement_faults, week_faults};
+ghost use Rattle.roster_instance.specs.Refusals.{Known, day_faults, request_faults, requirement_faults, week_faults};
 
 use crate::fault::CaseFault;
 use crate::history::check_instance;
@@ -17,17 +17,18 @@ use crate::rules::{DayRequests, Need};
 use crate::scenario::Scenario;
 use crate::section::{Section, add_all};
 use crate::table::Table;
-use roster_bundle::{Absence, Day, Listed, Pair, Request, Requirement, WeekData, WeekPairs};
+use roster_bundle::{Day, Listed, NurseDay, Pair, Request, Requirement, WeekData, WeekPairs};
 use std::alloc::{AllocError, Global};
 use std::marker::Model;
 
-/// A week: what each shift and skill needs, and for each nurse and weekday what the off requests and the wishes name, and
-/// whether the nurse is absent.
+/// A week: what each shift and skill needs, and for each nurse and weekday what the off requests and the wishes name,
+/// whether the nurse is absent, and whether the day is fixed.
 pub(crate) struct Week {
     needs: Table<[Need; 7]>,
     off_requests: Vec<DayRequests>,
     wishes: Vec<DayRequests>,
     absences: Vec<bool>,
+    fixed: Vec<bool>,
 }
 
 // By hand, so that who lets a week go has one call to prove.
@@ -38,6 +39,7 @@ impl Drop for Week {
             off_requests: _,
             wishes: _,
             absences: _,
+            fixed: _,
         } = self;
     }
 }
@@ -47,7 +49,7 @@ impl Model for Week {
 
     ghost Value = { WeekFacts };
 
-    ghost view = { λ w. record { needs = w.needs; off_requests = w.off_requests.items; wishes = w.wishes.items; absences = w.absences.items } };
+    ghost view = { λ w. record { needs = w.needs; off_requests = w.off_requests.items; wishes = w.wishes.items; absences = w.absences.items; fixed = w.fixed.items } };
 }
 
 impl Week {
@@ -91,6 +93,16 @@ impl Week {
     {
         match self.absences.get(place) {
             Some(absent) => *absent,
+            None => false,
+        }
+    }
+
+    /// Whether a place has a fixed day.
+    pub(crate) fn is_fixed(&self, place: usize) -> bool
+        ensures { result ≡ slice_index_or self.now.fixed place false }
+    {
+        match self.fixed.get(place) {
+            Some(fixed) => *fixed,
             None => false,
         }
     }
@@ -285,66 +297,66 @@ fn lines_of<T>(section: &Option<Listed<T>>) -> &[T]
     }
 }
 
-// ---- absences
+// ---- absences and fixed days
 
 #[derive(Drop)]
-struct AbsenceSection<'a> {
+struct DaySection<'a> {
     source: &'a [u8],
     scenario: &'a Scenario,
-    absences: Vec<bool>,
+    marks: Vec<bool>,
 }
 
-impl<'a> Section<Absence> for AbsenceSection<'a> {
+impl<'a> Section<NurseDay> for DaySection<'a> {
     ghost About = { Known };
 
     ghost about = { λ s. known_of s.source.now s.scenario.now };
 
-    ghost faults = { λ k earlier a. absence_faults k.source k.nurses a };
+    ghost faults = { λ k earlier a. day_faults k.source k.nurses a };
 
-    ghost built = { λ s earlier. s.absences.items ≡ absences_meant s.source.now s.scenario.now.nurses earlier };
+    ghost built = { λ s earlier. s.marks.items ≡ days_meant s.source.now s.scenario.now.nurses earlier };
 
-    fn add(&mut self, absence: &Absence) -> Result<(), CaseFault> {
-        let nurse = self.scenario.nurses.number(self.source, absence.nurse)?;
-        mark_absent(&mut self.absences, 7 * nurse + weekday(absence.day));
+    fn add(&mut self, line: &NurseDay) -> Result<(), CaseFault> {
+        let nurse = self.scenario.nurses.number(self.source, line.nurse)?;
+        mark(&mut self.marks, 7 * nurse + weekday(line.day));
         Ok(())
     }
 }
 
-fn mark_absent(absences: &mut [bool], place: usize)
-    ensures { absences.new ≡ slice_set absences.old place true }
+fn mark(marks: &mut [bool], place: usize)
+    ensures { marks.new ≡ slice_set marks.old place true }
 {
-    if place < absences.len() {
-        absences[place] = true;
+    if place < marks.len() {
+        marks[place] = true;
     }
 }
 
-/// So many places without an absence.
-fn no_absences(alloc: Global, places: usize) -> Result<Vec<bool>, AllocError>
-    ensures { IfOk result (λ absences. absences.items ≡ replicate places false) }
+/// So many places without a line.
+fn no_marks(alloc: Global, places: usize) -> Result<Vec<bool>, AllocError>
+    ensures { IfOk result (λ marks. marks.items ≡ replicate places false) }
 {
     vec![in alloc; false; places]
 }
 
-fn absences_of(
+fn marks_of(
     alloc: Global,
     source: &[u8],
     scenario: &Scenario,
-    lines: &[Absence],
+    lines: &[NurseDay],
 ) -> Result<Vec<bool>, CaseFault>
-    ensures meant { IfOk result (λ absences. absences.items ≡ absences_meant source.now
+    ensures meant { IfOk result (λ marks. marks.items ≡ days_meant source.now
         scenario.now.nurses lines.now) }
-    ensures none { OnOk result (flat_map (absence_faults source.now scenario.now.nurses)
+    ensures none { OnOk result (flat_map (day_faults source.now scenario.now.nurses)
         lines.now ≡ []) }
-    ensures first { IfErr result (IsFirst (flat_map (absence_faults source.now scenario.now.nurses)
+    ensures first { IfErr result (IsFirst (flat_map (day_faults source.now scenario.now.nurses)
         lines.now)) }
 {
-    let mut section = AbsenceSection {
+    let mut section = DaySection {
         source,
         scenario,
-        absences: no_absences(alloc, 7 * scenario.nurses.len())?,
+        marks: no_marks(alloc, 7 * scenario.nurses.len())?,
     };
     add_all(&mut section, lines)?;
-    Ok(section.absences)
+    Ok(section.marks)
 }
 
 // ---- weeks
@@ -386,17 +398,24 @@ impl<'a> Section<WeekData> for WeekSection<'a> {
             self.scenario,
             lines_of(&week.on_requests),
         )?;
-        let absences = absences_of(
+        let absences = marks_of(
             self.alloc,
             self.source,
             self.scenario,
             lines_of(&week.absences),
+        )?;
+        let fixed = marks_of(
+            self.alloc,
+            self.source,
+            self.scenario,
+            lines_of(&week.fixed_days),
         )?;
         self.weeks.push(Week {
             needs,
             off_requests,
             wishes,
             absences,
+            fixed,
         })?;
         Ok(())
     }

@@ -1,5 +1,5 @@
 -- The allowed rows, and the present one among them.
-use Rattle.std.proofs.Common.{◌≡◌, ◌∙◌, ◌<◌, ◌/◌, ◌&&◌, ◌||◌, not, ℕ, Bool, true, false, cond, ap, arith, refl, List, [], ◌∷◌, Contains, IsSome}
+use Rattle.std.proofs.Common.{◌≡◌, ◌∙◌, ◌<◌, ◌/◌, ◌&&◌, ◌||◌, not, ℕ, Bool, true, false, cond, ap, ap₂, arith, refl, List, [], ◌∷◌, Contains, IsSome}
 use Rattle.std.specs.List.{All, filter}
 use Rattle.std.proofs.lemmas.Bool.{and_from, and_parts, le-ltb}
 use Rattle.std.proofs.lemmas.List.{set-get_or}
@@ -10,6 +10,7 @@ use Rattle.roster_instance.specs.Meaning.{Meaning, day_count, nurse_count}
 use Rattle.roster_instance.specs.Rosters.{Row, Rows, choice_on, fits_case, is_row_of, row_of, with_row}
 use Rattle.roster_rules.specs.AllowedRows.{allowed_rows, best_row, first_least, is_frozen, keeps_frozen_day, keeps_frozen_days, penalty_with, row_keeps}
 use Rattle.roster_instance.proofs.RosterFacts.{row_fits}
+use Rattle.roster_laws.specs.FixedDays.{NothingIsFixed}
 use Rattle.roster_laws.proofs.AllRows.{member_is_row, row_is_member}
 use Rattle.roster_laws.proofs.Below.{all_true}
 use Rattle.roster_laws.proofs.SameRows.{same_choice_self}
@@ -77,7 +78,7 @@ module _ (c : Meaning) (from : ℕ) (r : Rows) (n : ℕ) where
 
   -- the present row agrees with itself
   pub present_stays : keeps_frozen_days c from r n (row_of r n) ≡ true
-  present_stays = all_true (day_count c) (λ d. keeps_frozen_day from r n d (choice_on (row_of r n) d)) (λ d h. or_second (not (is_frozen from d)) (same_choice_self (choice_on (row_of r n) d)))
+  present_stays = all_true (day_count c) (λ d. keeps_frozen_day c from r n d (choice_on (row_of r n) d)) (λ d h. or_second (not (is_frozen c from n d)) (same_choice_self (choice_on (row_of r n) d)))
 
   module _ (fitting : fits_case c r ≡ true) (kept : keeps_hard c r ≡ true) (inside : n < nurse_count c) where
     pub present_allowed : Contains (allowed_rows c from r n) (row_of r n)
@@ -86,12 +87,13 @@ module _ (c : Meaning) (from : ℕ) (r : Rows) (n : ℕ) where
     pub best_exists : IsSome (best_row c from r n)
     best_exists = some_least (penalty_with c r n) (allowed_rows c from r n) (row_of r n) present_allowed
 
--- ---- from week 0 on no day is frozen
+-- ---- from week 0 on no day is frozen, where none is fixed
 
-none_frozen : (c : Meaning) (r : Rows) (n : ℕ) (row : Row) → keeps_frozen_days c 0 r n row ≡ true
-none_frozen c r n row =
-    all_true (day_count c) (λ d. keeps_frozen_day 0 r n d (choice_on row d)) (λ d h. ap (λ b. not b || same_choice (choice_on row d) (choice_on (row_of r n) d)) (le-ltb (d / 7) 0 (omega arith)))
+none_frozen : (c : Meaning) → NothingIsFixed c → (r : Rows) (n : ℕ) (row : Row) → keeps_frozen_days c 0 r n row ≡ true
+none_frozen c nothing r n row =
+    all_true (day_count c) (λ d. keeps_frozen_day c 0 r n d (choice_on row d))
+    (λ d h. ap₂ (λ a b. not (a || b) || same_choice (choice_on row d) (choice_on (row_of r n) d)) (le-ltb (d / 7) 0 (omega arith)) (nothing n d))
 
-pub rows_from_week_0 : (c : Meaning) (r : Rows) (n : ℕ) → allowed_rows c 0 r n ≡ filter (λ row. keeps_hard c (with_row r n row)) (all_rows (all_choices c) (day_count c))
-rows_from_week_0 c r n =
-    λ i. filter (λ row. (ap (λ b. keeps_hard c (with_row r n row) && b) (none_frozen c r n row) ∙ and_true (keeps_hard c (with_row r n row))) i) (all_rows (all_choices c) (day_count c))
+pub rows_from_week_0 : (c : Meaning) → NothingIsFixed c → (r : Rows) (n : ℕ) → allowed_rows c 0 r n ≡ filter (λ row. keeps_hard c (with_row r n row)) (all_rows (all_choices c) (day_count c))
+rows_from_week_0 c nothing r n =
+    λ i. filter (λ row. (ap (λ b. keeps_hard c (with_row r n row) && b) (none_frozen c nothing r n row) ∙ and_true (keeps_hard c (with_row r n row))) i) (all_rows (all_choices c) (day_count c))

@@ -6,17 +6,17 @@ use Rattle.std.proofs.lemmas.List.Elements.{All-cons, All-nil}
 use Rattle.std.proofs.lemmas.List.Kept.{AllPairs-cons}
 use Rattle.roster_rules.specs.Improver.{BestRows, Entry, changed, changes, entries_from, entry, log_of, round, round_done, round_log, same_rows, settled, started, step, stopped}
 use Rattle.roster_instance.specs.Meaning.{Meaning, nurse_count}
-use Rattle.roster_rules.specs.Penalties.{penalty}
+use Rattle.roster_rules.specs.Penalties.{penalty, penalty_unit}
 use Rattle.roster_instance.specs.Rosters.{Rows}
 use Rattle.roster_laws.specs.Logs.{Descends, is_change}
 use Rattle.roster_laws.proofs.Runs.{entries-goes_on, entries-settled}
 use Rattle.roster_laws.proofs.SameRows.{same_rows_is}
-use Rattle.roster_laws.proofs.Steps.{falls_by_five}
+use Rattle.roster_laws.proofs.Steps.{falls_by_unit}
 
 -- from the penalty p the entries go down to q
 abbrev GoesDown : Meaning → ℕ → ℕ → List Entry → Type 0
 GoesDown c p q [] = q ≤ p
-GoesDown c p q (e ∷ es) = (penalty c e.roster ≤ p) × ((is_change e.event ≡ true → penalty c e.roster + 5 ≤ p) × GoesDown c (penalty c e.roster) q es)
+GoesDown c p q (e ∷ es) = (penalty c e.roster ≤ p) × ((is_change e.event ≡ true → penalty c e.roster + penalty_unit c ≤ p) × GoesDown c (penalty c e.roster) q es)
 
 module _ (c : Meaning) where
   from_above : (p m q : ℕ) (es : List Entry) → m ≤ p → GoesDown c m q es → GoesDown c p q es
@@ -50,7 +50,7 @@ module _ (c : Meaning) where
         let go : (b : Bool) → same_rows next r ≡ b → GoesDown c (penalty c r) end (cond b [] (entry (changed k n) next ∷ []) ++ changes c best k ns next) =
         elim [
           | true ↦ (λ e. subst (λ s. GoesDown c (penalty c s) end (changes c best k ns next)) (same_rows_is next r e) rest)
-          | false ↦ (λ e. (let fall = falls_by_five c best r n e in (omega (arith, fall), ((λ change. fall), rest))))
+          | false ↦ (λ e. (let fall = falls_by_unit c best r n e in (omega (arith, fall), ((λ change. fall), rest))))
         ] in
         go (same_rows next r) refl
 

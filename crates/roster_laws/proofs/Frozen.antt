@@ -10,7 +10,7 @@ use Rattle.roster_rules.specs.AllowedRows.{IsBestRow, allowed_rows, best_row, is
 use Rattle.roster_instance.specs.Choices.{same_choice}
 use Rattle.roster_rules.specs.HardRules.{keeps_hard}
 use Rattle.roster_rules.specs.Improver.{if_cheaper, run, step, step_with}
-use Rattle.roster_instance.specs.Meaning.{Meaning, day_count, nurse_count, week_count}
+use Rattle.roster_instance.specs.Meaning.{Meaning, day_count, is_fixed, nurse_count, week_count}
 use Rattle.roster_rules.specs.Penalties.{penalty}
 use Rattle.roster_instance.specs.Rosters.{Row, Rows, choice_on, fits_case, is_choice_of, is_row_of, row_of, with_row}
 use Rattle.roster_instance.proofs.RosterFacts.{row-length}
@@ -22,8 +22,8 @@ use Rattle.roster_laws.proofs.OneRow.{other_row, own_row}
 use Rattle.roster_laws.proofs.SameRows.{same_choice_is}
 
 -- the choice of a frozen day is the present one
-pub frozen_is : (from : ℕ) (r : Rows) (n d : ℕ) (choice : Choice) → keeps_frozen_day from r n d choice ≡ true → is_frozen from d ≡ true → choice ≡ choice_on (row_of r n) d
-frozen_is from r n d choice keeps frozen = same_choice_is choice (choice_on (row_of r n) d) (ap (λ b. not b || same_choice choice (choice_on (row_of r n) d)) (sym frozen) ∙ keeps)
+pub frozen_is : (c : Meaning) (from : ℕ) (r : Rows) (n d : ℕ) (choice : Choice) → keeps_frozen_day c from r n d choice ≡ true → is_frozen c from n d ≡ true → choice ≡ choice_on (row_of r n) d
+frozen_is c from r n d choice keeps frozen = same_choice_is choice (choice_on (row_of r n) d) (ap (λ b. not b || same_choice choice (choice_on (row_of r n) d)) (sym frozen) ∙ keeps)
 
 module _ (c : Meaning) (from : ℕ) where
   pub stays_self : (r : Rows) → FrozenDaysStay c from r r
@@ -42,7 +42,7 @@ module _ (c : Meaning) (from : ℕ) where
       go (inl inside) (inl same) =
           ap (λ k. choice_on (row_of (with_row r n row) k) d) same
           ∙ ap (λ own. choice_on own d) (own_row r n inside row)
-          ∙ frozen_is from r n d (choice_on row d) (all_elim (day_count c) (λ k. keeps_frozen_day from r n k (choice_on row k)) keeps d within) frozen
+          ∙ frozen_is c from r n d (choice_on row d) (all_elim (day_count c) (λ k. keeps_frozen_day c from r n k (choice_on row k)) keeps d within) (ap (λ k. is_frozen c from k d) (sym same) ∙ frozen)
           ∙ ap (λ k. choice_on (row_of r k) d) (sym same)
 
   pub best_stays : (r : Rows) (n : ℕ) (row : Row) → IsBestRow c from r n row → FrozenDaysStay c from r (with_row r n row)
@@ -69,13 +69,13 @@ module _ (c : Meaning) (from : ℕ) where
   -- ---- where all days are frozen
 
   module _ (all : week_count c ≤ from) where
-    each_frozen : (d : ℕ) → d < day_count c → is_frozen from d ≡ true
-    each_frozen d within = lt-ltb (d / 7) from (omega (arith, within, all))
+    each_frozen : (n d : ℕ) → d < day_count c → is_frozen c from n d ≡ true
+    each_frozen n d within = ap (λ b. b || is_fixed c n d) (lt-ltb (d / 7) from (omega (arith, within, all)))
 
     row_is_present : (r : Rows) (n : ℕ) (row : Row) → fits_case c r ≡ true → n < nurse_count c → (length row ≡ day_count c) → keeps_frozen_days c from r n row ≡ true → row ≡ row_of r n
     row_is_present r n row fits inside days keeps =
         ext_get_or Off row (row_of r n) (days ∙ sym (row-length c r n fits inside))
-        (λ d h. frozen_is from r n d (choice_on row d) (all_elim (day_count c) (λ k. keeps_frozen_day from r n k (choice_on row k)) keeps d (omega (arith, h, days))) (each_frozen d (omega (arith, h, days))))
+        (λ d h. frozen_is c from r n d (choice_on row d) (all_elim (day_count c) (λ k. keeps_frozen_day c from r n k (choice_on row k)) keeps d (omega (arith, h, days))) (each_frozen n d (omega (arith, h, days))))
 
     with_present : (r : Rows) (n : ℕ) (row : Row) → fits_case c r ≡ true → is_row_of c row ≡ true → keeps_frozen_days c from r n row ≡ true → with_row r n row ≡ r
     with_present r n row fits is keeps = go (cases_lt n (length r))

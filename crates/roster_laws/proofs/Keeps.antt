@@ -105,7 +105,7 @@ module _ (c : Meaning) (r : Rows) (keeps : keeps_hard c r ≡ true) (n : ℕ) (w
   allowed-with_row from =
       let open_on : ℕ → Bool = λ d. is_open c r n d (choice_on row d) in
       let follows : ℕ → Bool = λ d. not (breaks_succession c n (days_of row) d) in
-      let stays : ℕ → Bool = λ d. keeps_frozen_day from r n d (choice_on row d) in
+      let stays : ℕ → Bool = λ d. keeps_frozen_day c from r n d (choice_on row d) in
       ap (λ b. b && keeps_frozen_days c from r n row) keeps_hard-with_row
       ∙ sym (all_both (day_count c) (λ d. open_on d && follows d) stays)
       ∙ all_same (day_count c) (λ d. (open_on d && follows d) && stays d) (λ d. (open_on d && stays d) && follows d) (λ d h. last_two (open_on d) (follows d) (stays d))

@@ -15,3 +15,5 @@ pub mod Kept
 pub mod InOrder
 pub mod Frozen
 mod NobodyAbsent
+mod NothingFixed
+pub mod KeptRoster

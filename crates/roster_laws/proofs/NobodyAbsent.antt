@@ -2,11 +2,11 @@
 use Rattle.std.proofs.Common.{◌≡◌, ◌∙◌, ◌/◌, ◌*◌, ◌+◌, ◌%◌, ℕ, zero, suc, Bool, true, false, not, ap, refl, List, [], ◌∷◌, ◌++◌, Option, None, append-nil, flat_map, length, map, slice_index_or, filter, ◌&&◌}
 use Rattle.std.specs.List.{All, range_with_len}
 use Rattle.std.proofs.lemmas.List.Elements.{All-head, All-tail}
-use Rattle.roster_bundle.specs.declared.bundle.Absence.{Absence}
 use Rattle.roster_bundle.specs.declared.bundle.Bundle.{Bundle}
 use Rattle.roster_bundle.specs.declared.bundle.Listed.{Listed}
+use Rattle.roster_bundle.specs.declared.bundle.NurseDay.{NurseDay}
 use Rattle.roster_bundle.specs.declared.bundle.WeekData.{WeekData}
-use Rattle.roster_instance.specs.Bundles.{absences_meant, has_line, lines_of, meaning_of, week_meant}
+use Rattle.roster_instance.specs.Bundles.{days_meant, has_line, lines_of, meaning_of, week_meant}
 use Rattle.roster_instance.specs.Choices.{all_choices, all_rows}
 use Rattle.roster_instance.specs.Faults.{fault_if, is_none_of}
 use Rattle.roster_instance.specs.Meaning.{Meaning, day_count, no_week, nurse_count}
@@ -27,8 +27,8 @@ none_at (x ∷ xs) f all zero = all x
 none_at (x ∷ xs) f all (suc p) = none_at xs f all p
 
 module _ (source : List ℕ) (shifts skills nurses : List (List ℕ)) where
-  lineless : (section : Option (Listed Absence)) → section ≡ None → (p : ℕ) → slice_index_or (absences_meant source nurses (lines_of section)) p false ≡ false
-  unfolding absences_meant
+  pub lineless : (section : Option (Listed NurseDay)) → section ≡ None → (p : ℕ) → slice_index_or (days_meant source nurses (lines_of section)) p false ≡ false
+  unfolding days_meant
   lineless section none p = rw none (none_at (range_with_len 0 (7 * length nurses)) (has_line source nurses []) (λ q. refl) p)
 
   in_week : (weeks : List WeekData) → All HasNoSection weeks → (week p : ℕ) → slice_index_or (slice_index_or (map (week_meant source shifts skills nurses) weeks) week no_week).absences p false ≡ false

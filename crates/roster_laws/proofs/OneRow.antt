@@ -7,7 +7,7 @@ use Rattle.roster_instance.specs.declared.choice.Choice.TheVariants.{Off, Work}
 use Rattle.roster_instance.specs.Choices.{days_of, same_choice, shift_of}
 use Rattle.roster_instance.specs.Counting.{sum_below, one_if}
 use Rattle.roster_instance.specs.Meaning.{Meaning, day_count, nurse_count, shift_at, skill_at}
-use Rattle.roster_rules.specs.Penalties.{costs_of, free_run_cost, nurse_cost, off_request_cost, off_request_cost_on, over_nurses, own_cost, penalty, request_cost, request_cost_on, shift_run_cost, split_cost, staffing_cost, staffing_cost_by, totals_cost, weekends_cost, wish_cost, wish_cost_on, working_run_cost}
+use Rattle.roster_rules.specs.Penalties.{costs_of, free_run_cost, keep_cost, keep_cost_on, nurse_cost, off_request_cost, off_request_cost_on, over_nurses, own_cost, penalty, request_cost, request_cost_on, shift_run_cost, split_cost, staffing_cost, staffing_cost_by, totals_cost, weekends_cost, wish_cost, wish_cost_on, working_run_cost}
 use Rattle.roster_instance.specs.Rosters.{Row, Rows, choice_on, cover, days_of_nurse, row_of, with_row}
 use Rattle.roster_laws.specs.OneRow.{others, prices, rest_of}
 use Rattle.roster_laws.specs.Staffing.{with_choice}
@@ -16,9 +16,9 @@ use Rattle.roster_laws.proofs.Below.{sum_at}
 
 -- ---- the penalty is the staffing and each nurse's cost
 
-regroup : (m : ℕ) (w s f u p t e v : ℕ → ℕ) → sum_below m (λ n. w n + s n) + sum_below m f + sum_below m u + sum_below m p + sum_below m t + sum_below m e + sum_below m v ≡ sum_below m (λ n. (w n + s n + f n + p n + t n + e n) + (u n + v n))
-regroup zero w s f u p t e v = refl
-regroup (suc m) w s f u p t e v = omega (arith, regroup m w s f u p t e v)
+regroup : (m : ℕ) (w s f u p t e v k : ℕ → ℕ) → sum_below m (λ n. w n + s n) + sum_below m f + sum_below m u + sum_below m p + sum_below m t + sum_below m e + sum_below m v + sum_below m k ≡ sum_below m (λ n. (w n + s n + f n + p n + t n + e n) + (u n + v n + k n))
+regroup zero w s f u p t e v k = refl
+regroup (suc m) w s f u p t e v k = omega (arith, regroup m w s f u p t e v k)
 
 pub penalty-parts : (c : Meaning) (r : Rows) → penalty c r ≡ staffing_cost c r + over_nurses c r (nurse_cost c)
 unfolding penalty costs_of own_cost
@@ -26,7 +26,8 @@ penalty-parts c r =
     omega (
       arith,
       regroup (nurse_count c) (λ n. working_run_cost c n (days_of_nurse r n)) (λ n. shift_run_cost c n (days_of_nurse r n)) (λ n. free_run_cost c n (days_of_nurse r n)) (λ n. off_request_cost c n (days_of_nurse r n))
-          (λ n. split_cost c n (days_of_nurse r n)) (λ n. totals_cost c n (days_of_nurse r n)) (λ n. weekends_cost c n (days_of_nurse r n)) (λ n. wish_cost c n (days_of_nurse r n)),
+          (λ n. split_cost c n (days_of_nurse r n)) (λ n. totals_cost c n (days_of_nurse r n)) (λ n. weekends_cost c n (days_of_nurse r n)) (λ n. wish_cost c n (days_of_nurse r n))
+          (λ n. keep_cost c n (days_of_nurse r n)),
     )
 
 -- ---- what a row costs in requests is what each of its days does
@@ -35,9 +36,11 @@ pub requests_of_row : (c : Meaning) (n : ℕ) (row : Row) → request_cost c n (
 requests_of_row c n row =
     let off : ℕ → ℕ = λ d. off_request_cost_on c n d (shift_of (choice_on row d)) in
     let wished : ℕ → ℕ = λ d. wish_cost_on c n d (shift_of (choice_on row d)) in
-    let both : request_cost c n (days_of row) ≡ sum_below (length row) off + sum_below (length row) wished =
-    λ i. sum_below (length-map row shift_of i) (λ d. off_request_cost_on c n d (get_or-map shift_of row d Off i)) + sum_below (length-map row shift_of i) (λ d. wish_cost_on c n d (get_or-map shift_of row d Off i)) in
-    both ∙ sym (sum_both (length row) off wished)
+    let kept : ℕ → ℕ = λ d. keep_cost_on c n d (shift_of (choice_on row d)) in
+    let all : request_cost c n (days_of row) ≡ sum_below (length row) off + sum_below (length row) wished + sum_below (length row) kept =
+    λ i. sum_below (length-map row shift_of i) (λ d. off_request_cost_on c n d (get_or-map shift_of row d Off i)) + sum_below (length-map row shift_of i) (λ d. wish_cost_on c n d (get_or-map shift_of row d Off i))
+    + sum_below (length-map row shift_of i) (λ d. keep_cost_on c n d (get_or-map shift_of row d Off i)) in
+    all ∙ ap (λ m. m + sum_below (length row) kept) (sym (sum_both (length row) off wished)) ∙ sym (sum_both (length row) (λ d. off d + wished d) kept)
 
 -- ---- one row replaced
 

@@ -1,15 +1,17 @@
 -- The changes of a round: what they lower the penalty by, and a round without any.
 use Rattle.std.proofs.Common.{◌≡◌, ◌∙◌, ◌+◌, ◌*◌, ◌<◌, ◌≤◌, ℕ, zero, suc, Bool, true, false, cond, ap, arith, subst, sym, refl, List, [], ◌∷◌, ◌++◌, length, length-append}
 use Rattle.std.specs.List.{fold, range_with_len}
+use Rattle.std.proofs.Math.Nat.{mul-suc, mul-zero}
 use Rattle.std.proofs.lemmas.Bool.{true≢false}
 use Rattle.std.proofs.lemmas.List.Sums.{sum_by-append}
 use Rattle.roster_rules.specs.Improver.{BestRows, Entry, changed, changes, entry, round, round_done, round_log, same_rows, step}
 use Rattle.roster_instance.specs.Meaning.{Meaning, nurse_count}
-use Rattle.roster_rules.specs.Penalties.{penalty}
+use Rattle.roster_rules.specs.Penalties.{penalty, penalty_unit}
 use Rattle.roster_instance.specs.Rosters.{Rows}
 use Rattle.roster_laws.specs.Logs.{changes_in, is_change, is_round, rounds_in}
+use Rattle.roster_laws.proofs.Fives.{unit_is, within_times}
 use Rattle.roster_laws.proofs.SameRows.{same_rows_is, same_rows_self}
-use Rattle.roster_laws.proofs.Steps.{falls_by_five}
+use Rattle.roster_laws.proofs.Steps.{falls_by_unit}
 
 some_is_none : (n : ℕ) → suc n ≡ 0 → ⊥
 some_is_none n e = omega (arith, e)
@@ -60,16 +62,18 @@ module _ (c : Meaning) (best : BestRows) (k : ℕ) where
 
   -- ---- the changes of some nurses
 
-  changes_fall : (ns : List ℕ) (r : Rows) → penalty c (fold (step c best) r ns) + 5 * length (changes c best k ns r) ≤ penalty c r
-  changes_fall [] r = omega arith
+  changes_fall : (ns : List ℕ) (r : Rows) → penalty c (fold (step c best) r ns) + penalty_unit c * length (changes c best k ns r) ≤ penalty c r
+  changes_fall [] r = omega (arith, mul-zero (penalty_unit c))
   changes_fall (n ∷ ns) r =
       let next = step c best r n in
       let rest = changes c best k ns next in
-      let later : penalty c (fold (step c best) next ns) + 5 * length rest ≤ penalty c next = changes_fall ns next in
-      let go : (b : Bool) → same_rows next r ≡ b → penalty c (fold (step c best) next ns) + 5 * length (cond b [] (entry (changed k n) next ∷ []) ++ rest) ≤ penalty c r =
+      let later : penalty c (fold (step c best) next ns) + penalty_unit c * length rest ≤ penalty c next = changes_fall ns next in
+      let longer : length (entry (changed k n) next ∷ rest) ≡ suc (length rest) = omega arith in
+      let one_more : penalty_unit c * length (entry (changed k n) next ∷ rest) ≡ penalty_unit c * length rest + penalty_unit c = ap (λ m. penalty_unit c * m) longer ∙ mul-suc (penalty_unit c) (length rest) in
+      let go : (b : Bool) → same_rows next r ≡ b → penalty c (fold (step c best) next ns) + penalty_unit c * length (cond b [] (entry (changed k n) next ∷ []) ++ rest) ≤ penalty c r =
       elim [
         | true ↦ (λ e. omega (arith, later, ap (penalty c) (same_rows_is next r e)))
-        | false ↦ (λ e. omega (arith, later, falls_by_five c best r n e))
+        | false ↦ (λ e. omega (arith, later, one_more, falls_by_unit c best r n e))
       ] in
       go (same_rows next r) refl
 
@@ -106,7 +110,7 @@ module _ (c : Meaning) (best : BestRows) (k : ℕ) where
 
   -- ---- a round
 
-  pub round_falls : (r : Rows) → penalty c (round c best r) + 5 * change_count r ≤ penalty c r
+  pub round_falls : (r : Rows) → penalty c (round c best r) + penalty_unit c * change_count r ≤ penalty c r
   unfolding round
   round_falls r = changes_fall (range_with_len 0 (nurse_count c)) r
 
@@ -115,7 +119,7 @@ module _ (c : Meaning) (best : BestRows) (k : ℕ) where
   round_stays r none = ap (λ s. same_rows s r) (none_changes (range_with_len 0 (nurse_count c)) r none) ∙ same_rows_self r
 
   pub stays_none : (r : Rows) → same_rows (round c best r) r ≡ true → change_count r ≡ 0
-  stays_none r same = omega (arith, round_falls r, ap (penalty c) (same_rows_is (round c best r) r same))
+  stays_none r same = omega (arith, round_falls r, within_times (penalty_unit c) (change_count r) (unit_is c), ap (penalty c) (same_rows_is (round c best r) r same))
 
   pub moves_some : (r : Rows) → same_rows (round c best r) r ≡ false → 0 < change_count r
   moves_some r differs =

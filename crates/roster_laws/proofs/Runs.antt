@@ -1,11 +1,11 @@
 -- Laws of runs, by induction on the rounds that are left.
 use Rattle.std.proofs.Common.{◌≡◌, ◌∙◌, ◌+◌, ◌*◌, ◌<◌, ◌≤◌, ◌⊎◌, ℕ, zero, suc, true, false, inl, inr, ap, arith, sym, refl, List, [], ◌∷◌, ◌++◌, append_assoc, zero-add}
 use Rattle.std.specs.List.{All}
-use Rattle.std.proofs.Math.Nat.{mul-le-mul_left}
+use Rattle.std.proofs.Math.Nat.{mul-add, mul-le-mul_left, mul-zero}
 use Rattle.std.proofs.lemmas.Bool.{cases_Bool, true≢false}
 use Rattle.roster_rules.specs.Improver.{BestRows, Entry, Run, entries_from, entry, log_of, round, round_log, run, same_rows, settled, started, step}
 use Rattle.roster_instance.specs.Meaning.{Meaning, nurse_count}
-use Rattle.roster_rules.specs.Penalties.{penalty}
+use Rattle.roster_rules.specs.Penalties.{penalty, penalty_unit}
 use Rattle.roster_instance.specs.Rosters.{Rows}
 use Rattle.roster_rules.specs.AllowedRows.{allowed_rows, best_row, penalty_with}
 use Rattle.roster_laws.specs.Logs.{EndsWith, changes_in, ending, rounds_in}
@@ -157,19 +157,22 @@ module _ (c : Meaning) (best : BestRows) where
       → changes_in (entries_from c best k (suc m) r) ≡ changes_in (round_log c best k r) + changes_in (entries_from c best (k + 1) m (round c best r))
   changes_in-goes_on k m r differs = ap changes_in (entries-goes_on k m r differs) ∙ changes_in-append (round_log c best k r) (entries_from c best (k + 1) m (round c best r))
 
-  run_falls : (k m : ℕ) (r : Rows) → penalty c (run c best m r).roster + 5 * changes_in (entries_from c best k m r) ≤ penalty c r
-  run_falls k zero r = rw (run-stopped r) (omega arith)
+  run_falls : (k m : ℕ) (r : Rows) → penalty c (run c best m r).roster + penalty_unit c * changes_in (entries_from c best k m r) ≤ penalty c r
+  run_falls k zero r = rw (run-stopped r) (omega (arith, mul-zero (penalty_unit c)))
   run_falls k (suc m) r =
-      let go : (same_rows (round c best r) r ≡ true) ⊎ (same_rows (round c best r) r ≡ false) → penalty c (run c best (suc m) r).roster + 5 * changes_in (entries_from c best k (suc m) r) ≤ penalty c r =
+      let go : (same_rows (round c best r) r ≡ true) ⊎ (same_rows (round c best r) r ≡ false) → penalty c (run c best (suc m) r).roster + penalty_unit c * changes_in (entries_from c best k (suc m) r) ≤ penalty c r =
       elim [
-        | inl same ↦ rw (run-settled m r same, changes_in-settled k m r same) (omega arith)
-        | inr differs ↦ rw (run-goes_on m r differs, changes_in-goes_on k m r differs) (omega (arith, changes_in-round c best k r, round_falls c best k r, run_falls (k + 1) m (round c best r)))
+        | inl same ↦ rw (run-settled m r same, changes_in-settled k m r same) (omega (arith, mul-zero (penalty_unit c)))
+        | inr differs ↦ rw (run-goes_on m r differs, changes_in-goes_on k m r differs) (omega (arith, mul-add (penalty_unit c) (changes_in (round_log c best k r)) (changes_in (entries_from c best (k + 1) m (round c best r))), ap (λ n. penalty_unit c * n) (changes_in-round c best k r), round_falls c best k r, run_falls (k + 1) m (round c best r)))
       ] in
       go (cases_Bool (same_rows (round c best r) r))
 
-  pub fall : (rounds : ℕ) (r : Rows) → penalty c (run c best rounds r).roster + 5 * changes_in (log_of c best rounds r) ≤ penalty c r
+  started_alone : (r : Rows) → changes_in (entry started r ∷ []) ≡ 0
+  started_alone r = refl
+
+  pub fall : (rounds : ℕ) (r : Rows) → penalty c (run c best rounds r).roster + penalty_unit c * changes_in (log_of c best rounds r) ≤ penalty c r
   unfolding log_of
-  fall rounds r = rw (changes_in-append (entry started r ∷ []) (entries_from c best 1 rounds r)) (omega (arith, run_falls 1 rounds r))
+  fall rounds r = rw (changes_in-append (entry started r ∷ []) (entries_from c best 1 rounds r)) (omega (arith, run_falls 1 rounds r, ap (λ n. penalty_unit c * n) (started_alone r)))
 
   -- each round of a run that is not settled changes something
   changes_some : (k m : ℕ) (r : Rows) → (run c best m r).is_settled ≡ false → m ≤ changes_in (entries_from c best k m r)
@@ -183,13 +186,13 @@ module _ (c : Meaning) (best : BestRows) where
       ] in
       go (cases_Bool (same_rows (round c best r) r))
 
-  pub settles : (rounds : ℕ) (r : Rows) → penalty c r < 5 * rounds → (run c best rounds r).is_settled ≡ true
+  pub settles : (rounds : ℕ) (r : Rows) → penalty c r < penalty_unit c * rounds → (run c best rounds r).is_settled ≡ true
   settles rounds r long =
       let go : ((run c best rounds r).is_settled ≡ true) ⊎ ((run c best rounds r).is_settled ≡ false) → (run c best rounds r).is_settled ≡ true =
       elim [
         | inl end ↦ end
-        | inr open_end ↦ absurd (too_many (penalty c r) (5 * rounds) (5 * changes_in (entries_from c best 1 rounds r)) (penalty c (run c best rounds r).roster) long
-            (mul-le-mul_left 5 (changes_some 1 rounds r open_end)) (run_falls 1 rounds r))
+        | inr open_end ↦ absurd (too_many (penalty c r) (penalty_unit c * rounds) (penalty_unit c * changes_in (entries_from c best 1 rounds r)) (penalty c (run c best rounds r).roster) long
+            (mul-le-mul_left (penalty_unit c) (changes_some 1 rounds r open_end)) (run_falls 1 rounds r))
       ] in
       go (cases_Bool (run c best rounds r).is_settled)
 

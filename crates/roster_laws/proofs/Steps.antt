@@ -1,23 +1,19 @@
 -- A step changes nothing, or makes the roster cheaper.
-use Rattle.std.proofs.Common.{◌≡◌, ◌∙◌, ◌+◌, ◌<◌, ◌≤◌, ◌⊎◌, ◌%◌, ℕ, Bool, true, false, not, cond, inl, inr, ap, arith, sym, refl, List, [], ◌∷◌, Option, Some, None, nat_lt}
+use Rattle.std.proofs.Common.{◌≡◌, ◌∙◌, ◌+◌, ◌<◌, ◌≤◌, ◌⊎◌, ℕ, Bool, true, false, not, cond, inl, inr, ap, arith, sym, refl, List, [], ◌∷◌, Option, Some, None, nat_lt}
 use Rattle.std.specs.List.{All}
 use Rattle.std.proofs.lemmas.Bool.{false_from_ne_true, le-ltb, lt-ltb, ltb-false, ltb-true, true≢false}
 use Rattle.std.proofs.lemmas.List.Elements.{All-append, All-cons, All-nil}
 use Rattle.roster_rules.specs.Improver.{BestRows, if_cheaper, same_rows, step, step_with}
 use Rattle.roster_instance.specs.Meaning.{Meaning}
-use Rattle.roster_rules.specs.Penalties.{penalty}
+use Rattle.roster_rules.specs.Penalties.{penalty, penalty_unit}
 use Rattle.roster_instance.specs.Rosters.{Row, Rows, with_row}
 use Rattle.roster_rules.specs.AllowedRows.{IsBestRow, allowed_rows, best_row, first_least, penalty_with}
 use Rattle.roster_rules.proofs.FirstLeast.{found, only}
-use Rattle.roster_laws.proofs.Fives.{penalty_is}
+use Rattle.roster_laws.proofs.Fives.{by_unit, penalty_is, unit_is}
 use Rattle.roster_laws.proofs.SameRows.{same_rows_is, same_rows_self}
 
 no_less : (p q : ℕ) → p < q → p ≡ q → ⊥
 no_less p q h e = omega (arith, h, e)
-
--- two multiples of 5 that differ do so by 5
-by_five : (p q : ℕ) → p % 5 ≡ 0 → q % 5 ≡ 0 → p < q → p + 5 ≤ q
-by_five p q e f less = omega (arith, e, f, less)
 
 if_cheaper_falls : (c : Meaning) (r new : Rows) → (if_cheaper c r new ≡ r) ⊎ (penalty c (if_cheaper c r new) < penalty c r)
 if_cheaper_falls c r new =
@@ -47,13 +43,13 @@ module _ (c : Meaning) (best : BestRows) (r : Rows) (n : ℕ) where
       ] in
       go step_falls
 
-  -- and then by 5 at least
-  pub falls_by_five : same_rows (step c best r n) r ≡ false → penalty c (step c best r n) + 5 ≤ penalty c r
-  falls_by_five differs =
-      let go : (step c best r n ≡ r) ⊎ (penalty c (step c best r n) < penalty c r) → penalty c (step c best r n) + 5 ≤ penalty c r =
+  -- and then by a unit at least
+  pub falls_by_unit : same_rows (step c best r n) r ≡ false → penalty c (step c best r n) + penalty_unit c ≤ penalty c r
+  falls_by_unit differs =
+      let go : (step c best r n ≡ r) ⊎ (penalty c (step c best r n) < penalty c r) → penalty c (step c best r n) + penalty_unit c ≤ penalty c r =
       elim [
         | inl same ↦ elim (true≢false (sym (same_rows_self r) ∙ ap (λ s. same_rows s r) (sym same) ∙ differs)) [ ]
-        | inr less ↦ by_five (penalty c (step c best r n)) (penalty c r) (penalty_is c (step c best r n)) (penalty_is c r) less
+        | inr less ↦ by_unit (penalty_unit c) (penalty c (step c best r n)) (penalty c r) (unit_is c) (penalty_is c (step c best r n)) (penalty_is c r) less
       ] in
       go step_falls
 

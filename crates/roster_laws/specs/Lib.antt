@@ -6,3 +6,5 @@ pub mod Greatest
 pub mod RowOrder
 pub mod Settled
 pub mod Absences
+pub mod FixedDays
+pub mod Kept

@@ -3,7 +3,7 @@ use Rattle.std.specs.Prelude.{◌≡◌, ℕ, ◌+◌, ◌≤◌, Bool, true, fa
 use Rattle.roster_rules.specs.Improver.{BestRows, Entry, Event, Run, changed, log_of, round_done, run, settled, stopped}
 use Rattle.roster_instance.specs.Meaning.{Meaning}
 use Rattle.roster_rules.specs.HardRules.{keeps_hard}
-use Rattle.roster_rules.specs.Penalties.{penalty}
+use Rattle.roster_rules.specs.Penalties.{penalty, penalty_unit}
 use Rattle.roster_instance.specs.Rosters.{Rows, fits_case}
 
 -- ---- what is counted: the steps that replaced a row, and the rounds that were made
@@ -64,7 +64,7 @@ EndKeeps c r = (fits_case c r.roster ≡ true) × (keeps_hard c r.roster ≡ tru
 
 -- ---- from an entry to a later one the penalty doesn't rise, and to a change it falls
 
--- from an entry to a later one the penalty doesn't rise, and to a change it falls by 5 at least
+-- from an entry to a later one the penalty doesn't rise, and to a change it falls by a unit at least
 pub record Descends (c : Meaning) (e later : Entry) : Type 0 where
   pub never_rises : penalty c later.roster ≤ penalty c e.roster
-  pub falls : is_change later.event ≡ true → penalty c later.roster + 5 ≤ penalty c e.roster
+  pub falls : is_change later.event ≡ true → penalty c later.roster + penalty_unit c ≤ penalty c e.roster

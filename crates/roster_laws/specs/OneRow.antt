@@ -20,7 +20,7 @@ rest_of c r n = sum_below (nurse_count c) (λ m. if m == n then 0 else nurse_cos
 abbrev pub others : Rows → ℕ → ℕ → ℕ → ℕ → ℕ
 others r n d s k = cover (with_row r n []) d s k
 
--- S1, S4, S8: the price of a choice on a day: that day's staffing with it, and the nurse's own requests
+-- S1, S4, S8, S9: the price of a choice on a day: that day's staffing with it, and the nurse's own requests
 abbrev pub price : Meaning → Rows → ℕ → ℕ → Choice → ℕ
 price c r n d choice = staffing_cost_by c d (with_choice (others r n d) choice) + request_cost_on c n d (shift_of choice)
 
@@ -62,7 +62,7 @@ MayBePutIn c from r n row = (row_keeps c r n row ≡ true) × (keeps_frozen_days
 
 -- a choice is offered where it is open, and on a frozen day it is the present one
 abbrev pub is_offered : Meaning → ℕ → Rows → ℕ → ℕ → Choice → Bool
-is_offered c from r n d choice = is_open c r n d choice && keeps_frozen_day from r n d choice
+is_offered c from r n d choice = is_open c r n d choice && keeps_frozen_day c from r n d choice
 
 -- each choice of a row is offered on its day, and may follow the one before it
 abbrev pub is_offered_row : Meaning → ℕ → Rows → ℕ → Row → ℕ → Bool

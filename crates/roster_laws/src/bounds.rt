@@ -8,7 +8,7 @@ ghost use Rattle.roster_instance.specs.Small.{IsSmall};
 ghost use Rattle.roster_rules.specs.Penalties.{penalty};
 ghost use Rattle.roster_rules.specs.Room.{most_penalty, penalty_room};
 
-/// In a case within the limits no roster costs more than 7,303,207,120 points, which is below 2^33.
+/// In a case within the limits no roster costs more than 7,317,767,120 points, which is below 2^33.
 pub fn penalties_are_low()
     ensures { (c : Meaning) → IsSmall c → nurse_count c ≤ most_nurses
         → (r : Rows) → fits_case c r ≡ true

@@ -1,10 +1,10 @@
 //! Runs of the improver and their logs. Where a law says nothing of the best rows, it holds for each way to choose them.
 
-ghost use Rattle.std.specs.Prelude.{◌≡◌, ℕ, ◌+◌, ◌*◌, ◌<◌, ◌≤◌, ◌%◌, ◌↔◌, suc, nat_lt, not, true, false, All, AllPairs};
+ghost use Rattle.std.specs.Prelude.{◌≡◌, ℕ, ◌+◌, ◌*◌, ◌<◌, ◌≤◌, ◌%◌, ◌⊎◌, ◌↔◌, suc, nat_lt, not, true, false, All, AllPairs};
 ghost use Rattle.roster_rules.specs.HardRules.{keeps_hard};
 ghost use Rattle.roster_rules.specs.Improver.{BestRows, entry, log_of, round, run, same_rows, step};
 ghost use Rattle.roster_instance.specs.Meaning.{Meaning, nurse_count, week_count};
-ghost use Rattle.roster_rules.specs.Penalties.{penalty};
+ghost use Rattle.roster_rules.specs.Penalties.{penalty, penalty_unit};
 ghost use Rattle.roster_instance.specs.Rosters.{Row, Rows, fits_case, with_row};
 ghost use Rattle.roster_rules.specs.AllowedRows.{IsBestRow, allowed_rows, best_row, penalty_with};
 ghost use Rattle.roster_laws.specs.FrozenDays.{FrozenDaysStay};
@@ -62,22 +62,26 @@ pub fn last_round_tells()
         RoundChanges c best (run c best k r).roster (run c best (suc k) r).roster }
 {}
 
-/// Each penalty is a multiple of 5, as the weights are. So a step that changes the roster makes it cheaper by 5 at least, and
-/// five times the changes are at most the fall.
+/// Each penalty is a multiple of 5, as the weights are, unless a roster is kept at a number of points that isn't. So a step that
+/// changes the roster makes it cheaper by 5 at least, or by 1, and so many times the changes are at most the fall.
 pub fn changes_are_few()
-    ensures fives { (c : Meaning) (r : Rows) → penalty c r % 5 ≡ 0 }
+    ensures multiples { (c : Meaning) (r : Rows) → penalty c r % penalty_unit c ≡ 0 }
+    ensures unit { (c : Meaning) → (penalty_unit c ≡ 5) ⊎ (penalty_unit c ≡ 1) }
+    ensures five { (c : Meaning) → c.keep % 5 ≡ 0 → penalty_unit c ≡ 5 }
     ensures changed { (c : Meaning) (best : BestRows) (r : Rows) (n : ℕ) →
         not (same_rows (step c best r n) r) ≡ nat_lt (penalty c (step c best r n)) (penalty c r) }
-    ensures by_five { (c : Meaning) (best : BestRows) (r : Rows) (n : ℕ) →
-        same_rows (step c best r n) r ≡ false → penalty c (step c best r n) + 5 ≤ penalty c r }
+    ensures by_unit { (c : Meaning) (best : BestRows) (r : Rows) (n : ℕ) →
+        same_rows (step c best r n) r ≡ false → penalty c (step c best r n)
+        + penalty_unit c ≤ penalty c r }
     ensures fall { (c : Meaning) (best : BestRows) (rounds : ℕ) (r : Rows) →
         (end_of c best rounds r).total
-        + 5 * (end_of c best rounds r).changes ≤ penalty c r }
+        + penalty_unit c * (end_of c best rounds r).changes ≤ penalty c r }
     ensures settles { (c : Meaning) (best : BestRows) (rounds : ℕ) (r : Rows) →
-        penalty c r < 5 * rounds → (run c best rounds r).is_settled ≡ true }
+        penalty c r < penalty_unit c * rounds → (run c best rounds r).is_settled ≡ true }
 {}
 
-/// Along the log no penalty is above an earlier one, and that of a change is below each earlier one by 5 at least.
+/// Along the log no penalty is above an earlier one, and that of a change is below each earlier one by a unit at
+/// least.
 pub fn penalty_never_rises()
     ensures { (c : Meaning) (best : BestRows) (rounds : ℕ) (r : Rows) →
         AllPairs (Descends c) (log_of c best rounds r) }

@@ -8,6 +8,7 @@ ghost use Rattle.roster_rules.specs.Improver.{same_row};
 ghost use Rattle.roster_instance.specs.Meaning.{Meaning, day_count, nurse_count};
 ghost use Rattle.roster_instance.specs.Rosters.{Row, Rows, fits_case, is_row_of, row_of, with_row};
 ghost use Rattle.roster_rules.specs.AllowedRows.{allowed_rows, best_row, keeps_frozen_days, row_keeps};
+ghost use Rattle.roster_laws.specs.FixedDays.{NothingIsFixed};
 ghost use Rattle.roster_laws.specs.RowOrder.{IsEarlier};
 
 /// All rows are just those of the case, each once, and in their order.
@@ -22,7 +23,7 @@ pub fn all_rows_are_the_rows_of_the_case()
 
 /// The allowed rows of a nurse from a week on are exactly the rows of the case with which the roster keeps the hard rules and the
 /// nurse's frozen days. The present row is one where the roster keeps the hard rules, so that there is a best row. From week 0 on
-/// no day is frozen: they are all rows with which the roster keeps the hard rules.
+/// no day is frozen, where none is fixed: they are all rows with which the roster keeps the hard rules.
 pub fn allowed_rows_keep_the_hard_rules()
     ensures members { (c : Meaning) (from : ℕ) (r : Rows) (n : ℕ) (row : Row) →
         Contains (allowed_rows c from r n) row ↔
@@ -32,7 +33,7 @@ pub fn allowed_rows_keep_the_hard_rules()
         Contains (allowed_rows c from r n) (row_of r n) }
     ensures best { (c : Meaning) (from : ℕ) (r : Rows) (n : ℕ) → fits_case c r ≡ true →
         keeps_hard c r ≡ true → n < nurse_count c → IsSome (best_row c from r n) }
-    ensures from_week_0 { (c : Meaning) (r : Rows) (n : ℕ) →
+    ensures from_week_0 { (c : Meaning) → NothingIsFixed c → (r : Rows) (n : ℕ) →
         allowed_rows c 0 r n ≡ filter (λ row. keeps_hard c (with_row r n row))
         (all_rows (all_choices c) (day_count c)) }
 {}

@@ -5,4 +5,4 @@ mod fault;
 mod lines;
 
 pub use fault::LogFault;
-pub use lines::{log_change, log_round, log_word};
+pub use lines::{log_change, log_round, log_start, log_word};

@@ -2,10 +2,41 @@
 
 ghost use Rattle.std.specs.Prelude.{◌++◌, IfErr, IfOk, codes, decimal};
 ghost use Rattle.roster_text.specs.Io.{BreaksIn, Sends};
-ghost use Rattle.roster_rules.specs.Improver.{line};
+ghost use Rattle.roster_rules.specs.Improver.{line, start_word};
 
+use roster_rules::Case;
 use roster_text::{Piece, Watch, WriteFault, send_pieces};
 use std::io::Write;
+
+/// The first line of a run of this case: what the given roster costs, or another number. Where the case keeps a roster, a line of its
+/// own before it says at how many points.
+pub fn log_start<W: Write>(
+    log: &mut Watch<W>,
+    sent: usize,
+    case: &Case,
+    number: u64,
+) -> Result<usize, WriteFault>
+    ensures ok { IfOk result (λ after. Sends W.contents log.old log.new sent after
+        (line (start_word case.now) number)) }
+    ensures err { IfErr result (BreaksIn W.contents log.old log.new sent
+        (line (start_word case.now) number)) }
+{
+    let keep = case.keep();
+    if keep == 0 {
+        return log_word(log, sent, b"start", number);
+    }
+    send_pieces(
+        log,
+        sent,
+        &[
+            Piece::Bytes(b"keep "),
+            Piece::Number(keep as u64),
+            Piece::Bytes(b"\nstart "),
+            Piece::Number(number),
+            Piece::Bytes(b"\n"),
+        ],
+    )
+}
 
 /// A line of one word and the penalty.
 pub fn log_word<W: Write>(

@@ -1,5 +1,5 @@
 -- One offer for each shift, the first of the cheapest: the best row is the same, and a day has few offers.
-use Rattle.std.proofs.Common.{◌≡◌, ◌∙◌, ◌+◌, ◌<◌, ◌≤◌, ◌⊎◌, ℕ, suc, zero, Bool, true, false, inl, inr, ap, append_assoc, arith, if◌then◌else◌, refl, subst, sym, List, [], ◌∷◌, ◌++◌, drop, filter, length, map, slice_index_or, take, Option, Some, None, IsSome, Contains, is_some}
+use Rattle.std.proofs.Common.{◌≡◌, ◌∙◌, ◌+◌, ◌<◌, ◌≤◌, ◌⊎◌, ℕ, suc, zero, Bool, true, false, inl, inr, ap, append_assoc, arith, if◌then◌else◌, refl, subst, sym, List, [], ◌∷◌, ◌++◌, drop, filter, length, map, slice_index_or, take, Option, Some, None, IsSome, IfSome, Contains, is_some}
 use Rattle.std.specs.List.{All, flat_map, range_with_len}
 use Rattle.std.specs.Option.{option_to_list}
 use Rattle.std.proofs.lemmas.Bool.{cases_lt, eq-eqb, eqb-true, le-ltb, lt-ltb, true≢false}
@@ -18,7 +18,7 @@ use Rattle.roster_state.specs.Step.{step_of}
 use Rattle.roster_offers.specs.declared.offer.Offer.{Offer}
 use Rattle.roster_offers.specs.Cheapest.{Priced, cheaper, cheapest, raised}
 use Rattle.roster_offers.specs.ByStates.{best_after}
-use Rattle.roster_offers.specs.Offers.{best_of_offers, cheapest_by_shift, dearer, in_front, offer_at, offer_step, offers_by, same_shift, shift_offers}
+use Rattle.roster_offers.specs.Offers.{best_of_offers, cheaper_offer, cheapest_by_shift, dearer, in_front, offer_at, offer_step, offers_by, same_shift, shift_offers}
 use Rattle.roster_offers.proofs.Cheapest.{grouped, keeps_first, takes_second}
 
 -- ---- the same shift
@@ -29,7 +29,7 @@ same_is None (Some t) e = elim (true≢false (sym e)) [ ]
 same_is (Some s) None e = elim (true≢false (sym e)) [ ]
 same_is (Some s) (Some t) e = ap (λ m. Some (shift_at m)) (eqb-true s.0 t.0 e)
 
-same_self : (s : Option Shift) → same_shift s s ≡ true
+pub same_self : (s : Option Shift) → same_shift s s ≡ true
 same_self None = refl
 same_self (Some s) = eq-eqb s.0 s.0 refl
 
@@ -277,6 +277,45 @@ by_shift_push : (xs : List Offer) (x : Offer) → cheapest_by_shift (xs ++ x ∷
 unfolding cheapest_by_shift
 by_shift_push [] x = refl
 by_shift_push (y ∷ xs) x = ap (in_front y) (by_shift_push xs x) ∙ front_last y (cheapest_by_shift xs) x
+
+-- offers of a shift that none before them has
+front_apart : (s : Option Shift) (x : Offer) (ys bs : List Offer) → same_shift (shift x) s ≡ false → All (λ y. shift y ≡ s) bs → in_front x (ys ++ bs) ≡ in_front x ys ++ bs
+front_apart s x [] [] e all = refl
+front_apart s x [] (b ∷ bs) e all = front_other x b bs (ap (same_shift (shift x)) (All-head (λ y. shift y ≡ s) b bs all) ∙ e)
+front_apart s x (a ∷ ys) bs e all = go (alike x a) refl (cases_lt a.price x.price)
+  where
+    go : (b : Bool) → alike x a ≡ b → (a.price < x.price) ⊎ (x.price ≤ a.price) → in_front x (a ∷ ys ++ bs) ≡ in_front x (a ∷ ys) ++ bs
+    go false o h = front_other x a (ys ++ bs) o ∙ ap (λ os. os ++ bs) (sym (front_other x a ys o))
+    go true o (inl h) = front_second x a (ys ++ bs) o h ∙ ap (λ os. os ++ bs) (sym (front_second x a ys o h))
+    go true o (inr h) = front_first x a (ys ++ bs) o h ∙ ap (λ os. os ++ bs) (sym (front_first x a ys o h))
+
+pub by_shift_apart : (s : Option Shift) (xs ys : List Offer) → All (λ x. same_shift (shift x) s ≡ false) xs → All (λ y. shift y ≡ s) ys → cheapest_by_shift (xs ++ ys) ≡ cheapest_by_shift xs ++ cheapest_by_shift ys
+unfolding cheapest_by_shift
+by_shift_apart s [] ys none all = refl
+by_shift_apart s (x ∷ xs) ys none all =
+    ap (in_front x) (by_shift_apart s xs ys (All-tail (λ z. same_shift (shift z) s ≡ false) x xs none) all)
+    ∙ front_apart s x (cheapest_by_shift xs) (cheapest_by_shift ys) (All-head (λ z. same_shift (shift z) s ≡ false) x xs none) (by_shift_all (λ y. shift y ≡ s) ys all)
+
+-- of offers for one shift the cheapest, and one more
+pub by_shift_two : (s : Option Shift) → same_shift s s ≡ true → (xs : List Offer) (old o : Option Offer) → option_to_list old ≡ cheapest_by_shift xs → All (λ x. shift x ≡ s) xs → IfSome o (λ x. shift x ≡ s)
+    → option_to_list (cheaper_offer old o) ≡ cheapest_by_shift (xs ++ option_to_list o)
+by_shift_two s self xs None None is all one = is ∙ ap cheapest_by_shift (sym (append-nil xs))
+by_shift_two s self xs (Some z) None is all one = is ∙ ap cheapest_by_shift (sym (append-nil xs))
+by_shift_two s self xs None (Some x) is all one = sym (by_shift_push xs x ∙ ap (λ os. put_last os x) (sym is))
+by_shift_two s self xs (Some z) (Some x) is all one = go (cases_lt x.price z.price)
+  where
+    with_it : cheapest_by_shift (xs ++ x ∷ []) ≡ in_front z (x ∷ [])
+    with_it = by_shift_push xs x ∙ ap (λ os. put_last os x) (sym is)
+
+    of_it : shift z ≡ s
+    of_it = All-head (λ y. shift y ≡ s) z [] (subst (All (λ y. shift y ≡ s)) (sym is) (by_shift_all (λ y. shift y ≡ s) xs all))
+
+    same : alike z x ≡ true
+    same = ap (λ t. same_shift t (shift x)) of_it ∙ ap (same_shift s) one ∙ self
+
+    go : (x.price < z.price) ⊎ (z.price ≤ x.price) → option_to_list (cheaper_offer (Some z) (Some x)) ≡ cheapest_by_shift (xs ++ x ∷ [])
+    go (inl h) = ap (λ b. option_to_list (if b then Some x else Some z)) (lt-ltb x.price z.price h) ∙ sym (with_it ∙ front_second z x [] same h)
+    go (inr h) = ap (λ b. option_to_list (if b then Some x else Some z)) (le-ltb x.price z.price h) ∙ sym (with_it ∙ front_first z x [] same h)
 
 put_after : (front : List Offer) (last x : Offer) → put_last (front ++ last ∷ []) x ≡ front ++ in_front last (x ∷ [])
 put_after [] last x = refl

@@ -1,3 +1,4 @@
+pub mod AbleLemmas
 pub mod Cheapest
 pub mod RowsByStates
 pub mod RowCosts
@@ -5,6 +6,7 @@ pub mod ByOffers
 pub mod Best
 pub mod OfferLaws
 pub mod ByShift
+pub mod Among
 pub mod ListLaws
 pub mod LowRows
 pub mod RiseLaws

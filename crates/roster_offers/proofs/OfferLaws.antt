@@ -123,7 +123,7 @@ offered_able : (c : Meaning) (from : ℕ) (r : Rows) (n d : ℕ) (x : Choice) �
 offered_able c from r n d x e =
     let may : Bool = may_take c n d x in
     let met : Bool = meets c d (with_choice (others r n d) x) in
-    (and_parts (is_able (nurse_at c n).skills x) (is_here c n d x) (and_parts may met (and_parts (may && met) (keeps_frozen_day from r n d x) e).0).0).0
+    (and_parts (is_able (nurse_at c n).skills x) (is_here c n d x) (and_parts may met (and_parts (may && met) (keeps_frozen_day c from r n d x) e).0).0).0
 
 module _ (c : Meaning) (from : ℕ) (r : Rows) (n d : ℕ) where
   pub offers_few : length (offers_of c from r n d) ≤ choice_count c n
@@ -138,7 +138,7 @@ module _ (c : Meaning) (from : ℕ) (r : Rows) (n d : ℕ) where
         omega (arith, sum_within (shift_count c) (most_skills * (staffing_weight * most_small)) (λ s. sum_below (skill_count c) (place s)) (λ s h. of_shift s))
 
     price_within : (x : Choice) → price c r n d x ≤ most_price
-    price_within x = omega (arith, staffing_within (with_choice (others r n d) x), request_on-within c n d (shift_of x))
+    price_within x = omega (arith, staffing_within (with_choice (others r n d) x), request_on-within c n d (shift_of x) small.keep)
 
     pub offers_of_case : All (IsOfferOf c) (offers_of c from r n d)
     offers_of_case =
@@ -159,8 +159,8 @@ module _ (c : Meaning) (from : ℕ) (r : Rows) (n d : ℕ) where
 
     present_offered : is_offered c from r n d present ≡ true
     present_offered =
-        and_from (is_open c r n d present) (keeps_frozen_day from r n d present) present_open
-        (all_elim (day_count c) (λ k. keeps_frozen_day from r n k (choice_on (row_of r n) k)) (present_stays c from r n) d day)
+        and_from (is_open c r n d present) (keeps_frozen_day c from r n d present) present_open
+        (all_elim (day_count c) (λ k. keeps_frozen_day c from r n k (choice_on (row_of r n) k)) (present_stays c from r n) d day)
 
     pub present_of_case : is_choice_of c present ≡ true
     present_of_case =
@@ -177,9 +177,9 @@ module _ (c : Meaning) (from : ℕ) (r : Rows) (n d : ℕ) where
     offers_some = omega (arith, length-map offered_choices (offer_of c r n d), some_offered)
 
     -- on a frozen day it is the only one
-    pub offers_frozen : is_frozen from d ≡ true → offers_of c from r n d ≡ offer_of c r n d present ∷ []
+    pub offers_frozen : is_frozen c from n d ≡ true → offers_of c from r n d ≡ offer_of c r n d present ∷ []
     offers_frozen frozen =
-        let is_present : (x : Choice) → is_offered c from r n d x ≡ true → x ≡ present = λ x e. frozen_is from r n d x (and_parts (is_open c r n d x) (keeps_frozen_day from r n d x) e).1 frozen in
+        let is_present : (x : Choice) → is_offered c from r n d x ≡ true → x ≡ present = λ x e. frozen_is c from r n d x (and_parts (is_open c r n d x) (keeps_frozen_day c from r n d x) e).1 frozen in
         let few : length offered_choices ≤ 1 =
         omega (
           arith,
@@ -191,5 +191,5 @@ module _ (c : Meaning) (from : ℕ) (r : Rows) (n d : ℕ) where
         ap (map (offer_of c r n d)) (only_one present offered_choices some_offered few (All-weaker (λ x. is_offered c from r n d x ≡ true) (λ x. x ≡ present) is_present offered_choices (filter_passes (is_offered c from r n d) (all_choices c))))
 
   -- on another day all that is open is offered
-  pub offers_free : is_frozen from d ≡ false → offers_of c from r n d ≡ open_offers c r n d
+  pub offers_free : is_frozen c from n d ≡ false → offers_of c from r n d ≡ open_offers c r n d
   offers_free free = λ i. map (offer_of c r n d) (filter (λ x. (ap (λ b. is_open c r n d x && (not b || same_choice x (choice_on (row_of r n) d))) free ∙ and_true (is_open c r n d x)) i) (all_choices c))

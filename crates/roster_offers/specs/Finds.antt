@@ -49,4 +49,4 @@ TellsThePenalty c from r n =
 -- on each frozen day one choice is offered, the present one
 abbrev pub OffersThePresent : Meaning → ℕ → Rows → ℕ → Type 0
 OffersThePresent c from r n =
-    (d : ℕ) → d < day_count c → is_frozen from d ≡ true → offers_of c from r n d ≡ offer_of c r n d (choice_on (row_of r n) d) ∷ []
+    (d : ℕ) → d < day_count c → is_frozen c from n d ≡ true → offers_of c from r n d ≡ offer_of c r n d (choice_on (row_of r n) d) ∷ []

@@ -13,7 +13,7 @@ use Rattle.roster_offers.specs.Offers.{best_of_offers, choices_of}
 
 -- ---- an offer of a day
 
--- what an offer costs at most: 1,918,100
+-- what an offer costs at most: 1,918,200
 abbrev pub most_price : ℕ
 most_price = most_shifts * most_skills * staffing_weight * most_small + most_request
 
@@ -51,7 +51,7 @@ no_row = 1073741824
 
 -- no label of a state from which a row goes on is above that
 abbrev pub most_label : ℕ
-most_label = 714703850
+most_label = 714740250
 
 -- the best row over all days of these offers, with its cost
 abbrev pub best_over : Meaning → ℕ → (ℕ → List Offer) → Priced (List Offer)

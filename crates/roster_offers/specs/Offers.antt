@@ -1,11 +1,13 @@
 -- What is offered to a nurse, each choice with its price, and the search over it from state to state (our own).
-use Rattle.std.specs.Prelude.{ℕ, ◌+◌, ◌==◌, ◌&&◌, Bool, true, false, not, nat_lt, if◌then◌else◌, List, [], ◌∷◌, filter, length, map, Option, Some, None, option_map}
+use Rattle.std.specs.Prelude.{◌≡◌, ℕ, ◌+◌, ◌<◌, ◌==◌, ◌&&◌, Bool, true, false, not, nat_lt, if◌then◌else◌, List, [], ◌∷◌, filter, length, map, Option, Some, None, option_map, slice_index_or}
+use Rattle.std.specs.List.{list_any, range_with_len}
 use Rattle.roster_instance.specs.declared.choice.Choice.{Choice}
+use Rattle.roster_instance.specs.declared.choice.Choice.TheVariants.{Work}
 use Rattle.roster_instance.specs.declared.choice.Shift.{Shift}
 use Rattle.roster_instance.specs.Choices.{all_choices, all_rows, days_of, shift_of}
 use Rattle.roster_instance.specs.Counting.{all_below, sum_below}
-use Rattle.roster_rules.specs.HardRules.{breaks_succession}
-use Rattle.roster_instance.specs.Meaning.{Meaning, day_count}
+use Rattle.roster_rules.specs.HardRules.{breaks_succession, may_take}
+use Rattle.roster_instance.specs.Meaning.{Meaning, day_count, is_absent, nurse_at, shift_at, skill_at, skill_count}
 use Rattle.roster_rules.specs.Penalties.{own_cost}
 use Rattle.roster_rules.specs.Prefix.{Summary, summary_of}
 use Rattle.roster_instance.specs.Rosters.{Row, Rows, choice_on}
@@ -24,6 +26,18 @@ offer_at price d choice = record { choice = choice; price = price d choice }
 -- the offers of a day
 abbrev pub offers_by : Meaning → (ℕ → Choice → Bool) → (ℕ → Choice → ℕ) → ℕ → List Offer
 offers_by c offered price d = map (offer_at price d) (filter (offered d) (all_choices c))
+
+-- the nurse may take the choice, and it is open besides
+abbrev pub takes : Meaning → ℕ → (ℕ → Choice → Bool) → ℕ → Choice → Bool
+takes c n is_open d choice = may_take c n d choice && is_open d choice
+
+-- what is offered of such choices, each at its price
+abbrev pub offers_open : Meaning → ℕ → (ℕ → Choice → Bool) → (ℕ → Choice → ℕ) → ℕ → List Offer
+offers_open c n is_open price d = offers_by c (takes c n is_open) price d
+
+-- the list tells of each skill whether the nurse may work with it on the day
+abbrev pub TellsSkills : Meaning → (n d : ℕ) → List Bool → Type 0
+TellsSkills c n d able = (k : ℕ) → k < skill_count c → slice_index_or able k false ≡ (list_any (λ own. own.0 == k) (nurse_at c n).skills && not (is_absent c n d))
 
 -- each of a row's first choices is offered on its day, and may follow the one before it, the first one the history's last shift
 abbrev pub offered_row_by : Meaning → ℕ → (ℕ → Choice → Bool) → Row → ℕ → Bool
@@ -73,6 +87,23 @@ in_front x (y ∷ ys) = if same_shift (shift_of x.choice) (shift_of y.choice) th
 unfoldable pub cheapest_by_shift : List Offer → List Offer
 cheapest_by_shift [] = []
 cheapest_by_shift (x ∷ xs) = in_front x (cheapest_by_shift xs)
+
+-- the cheaper of two offers for one shift, of equally cheap ones the first
+abbrev pub cheaper_offer : Option Offer → Option Offer → Option Offer
+cheaper_offer None other = other
+cheaper_offer (Some x) None = Some x
+cheaper_offer (Some x) (Some y) = if nat_lt y.price x.price then Some y else Some x
+
+-- a shift with each of the first skills, and what is offered of some choices
+abbrev pub with_skills : (shift skills : ℕ) → List Choice
+with_skills s skills = map (λ k. Work (shift_at s) (skill_at k)) (range_with_len 0 skills)
+
+abbrev pub offers_among : (Choice → Bool) → (Choice → Offer) → List Choice → List Offer
+offers_among keep offer choices = map offer (filter keep choices)
+
+-- the cheapest of a shift of those that are offered
+abbrev pub cheapest_with : Meaning → ℕ → (ℕ → Choice → Bool) → (ℕ → Choice → ℕ) → (d shift : ℕ) → List Offer
+cheapest_with c n is_open price d s = cheapest_by_shift (offers_among (takes c n is_open d) (offer_at price d) (with_skills s (skill_count c)))
 
 -- the cheapest offers of a nurse on a day
 abbrev pub shift_offers : Meaning → ℕ → Rows → ℕ → ℕ → List Offer

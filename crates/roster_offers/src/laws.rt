@@ -53,7 +53,7 @@ pub fn best_row_is_found_by_states()
         keeps_hard c r ≡ true → (n : ℕ) → n < nurse_count c → TellsThePenalty c from r n }
 {}
 
-/// In a case with small numbers a label, what the best row of some days costs from a state on, is at most 714,703,850, below that of no
+/// In a case with small numbers a label, what the best row of some days costs from a state on, is at most 714,740,250, below that of no
 /// row, whatever the state and the offers are.
 pub fn labels_are_low()
     ensures { (c : Meaning) → HasSmallNumbers c → (n : ℕ) (offers : ℕ → List Offer)
@@ -75,7 +75,7 @@ pub fn offers_are_few()
         0 < length (offers_of c from r n d) }
     ensures frozen { (c : Meaning) (from : ℕ) (r : Rows) → fits_case c r ≡ true →
         keeps_hard c r ≡ true → (n : ℕ) → n < nurse_count c → OffersThePresent c from r n }
-    ensures free { (c : Meaning) (from : ℕ) (r : Rows) (n d : ℕ) → is_frozen from d ≡ false →
+    ensures free { (c : Meaning) (from : ℕ) (r : Rows) (n d : ℕ) → is_frozen c from n d ≡ false →
         offers_of c from r n d ≡ open_offers c r n d }
 {}
 

@@ -10,16 +10,18 @@
 #![tactic(auto)]
 
 mod by_shift;
+mod day;
 mod laws;
 mod lists;
 mod offer;
 mod requests;
 
 pub use by_shift::cheapest_by_shift;
+pub use day::{NurseDay, Offering, offers_by_shift, offers_of_choices};
 pub use laws::{
     best_row_is_found_by_states, cheapest_offered_row_is_found, cheapest_row_is_found_by_states,
     cost_rises_with_prices, offers_are_few, one_offer_for_each_shift_is_enough,
 };
 pub use lists::{DayOffers, MOST_DAYS, RowSearch};
 pub use offer::{MOST_CHOICES, MOST_OFFERS, Offer};
-pub use requests::{cost_of_requests, has_some_wish, request_cost};
+pub use requests::{can_cost_more, cost_of_requests, request_cost};

@@ -1,35 +1,51 @@
 //! What a nurse's own requests cost on a day.
 
-ghost use Rattle.std.specs.Prelude.{◌≡◌, ◌+◌, ◌<◌, ◌≤◌, false, not, None, Option};
+ghost use Rattle.std.specs.Prelude.{◌≡◌, ◌+◌, ◌<◌, ◌≤◌, ◌||◌, ◌==◌, false, not, None, Option};
 ghost use Rattle.roster_instance.specs.declared.choice.Shift.{Shift};
 ghost use Rattle.roster_instance.specs.Meaning.{nurse_count};
-ghost use Rattle.roster_rules.specs.Penalties.{meets_wishes, off_request_cost_on, request_cost_on, wish_cost_on};
+ghost use Rattle.roster_rules.specs.Penalties.{keep_cost_on, meets_wishes, off_request_cost_on, request_cost_on, wish_cost_on};
 ghost use Rattle.roster_rules.specs.Weights.{most_request, off_request_weight, wish_weight};
 
 use roster_rules::weights::{OFF_REQUEST, WISH};
-use roster_rules::{Case, Shift, meets_wishes};
+use roster_rules::{Case, Shift, keep_cost_on, meets_wishes};
 
-/// What the requests of a day cost, where it is known whether there is some wish to work: mostly there is none.
+/// What the requests of a day cost, where it is known whether more than off requests can: mostly they can't.
 pub fn cost_of_requests(
     case: &Case,
     nurse: usize,
     day: u16,
     shift: Option<Shift>,
-    wished: bool,
+    more: bool,
 ) -> u32
     requires nurse { nurse < nurse_count case.now }
-    requires wished { wished ≡ false → wish_cost_on case.now nurse day shift ≡ 0 }
+    requires more { more ≡ false → wish_cost_on case.now nurse day shift
+        + keep_cost_on case.now nurse day shift ≡ 0 }
     ensures cost { result ≡ request_cost_on case.now nurse day shift }
     ensures within { result ≤ most_request }
 {
-    if wished {
+    if more {
         return request_cost(case, nurse, day, shift);
     }
     off_request_cost(case, nurse, day, shift)
 }
 
+/// Whether more than off requests can cost something on the day: a roster is kept, or the nurse has a wish to work then.
+#[tactic(auto, using(roster_rules::proofs::KeptLemmas::free_at_no_points))]
+pub fn can_cost_more(case: &Case, nurse: usize, day: u16) -> bool
+    requires { nurse < nurse_count case.now }
+    ensures more { result ≡ (not (case.now.keep == 0)
+        || not (meets_wishes case.now nurse day None)) }
+    ensures free { (shift : Option Shift) → result ≡ false → wish_cost_on case.now nurse day shift
+        + keep_cost_on case.now nurse day shift ≡ 0 }
+{
+    if case.keep() != 0 {
+        return true;
+    }
+    has_some_wish(case, nurse, day)
+}
+
 /// Whether the nurse has a wish to work on the day: one that a day off doesn't meet. Without one, no wish costs anything there.
-pub fn has_some_wish(case: &Case, nurse: usize, day: u16) -> bool
+fn has_some_wish(case: &Case, nurse: usize, day: u16) -> bool
     requires { nurse < nurse_count case.now }
     ensures some { result ≡ not (meets_wishes case.now nurse day None) }
     ensures free { (shift : Option Shift) → result ≡ false →
@@ -49,7 +65,9 @@ pub fn request_cost(case: &Case, nurse: usize, day: u16, shift: Option<Shift>) -
     ensures cost { result ≡ request_cost_on case.now nurse day shift }
     ensures within { result ≤ most_request }
 {
-    off_request_cost(case, nurse, day, shift) + wish_cost(case, nurse, day, shift)
+    off_request_cost(case, nurse, day, shift)
+        + wish_cost(case, nurse, day, shift)
+        + keep_cost_on(case, nurse, day, shift)
 }
 
 /// S4. The points for an off request against the shift of a day, if one is worked.

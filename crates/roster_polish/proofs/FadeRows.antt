@@ -8,7 +8,7 @@ use Rattle.roster_instance.specs.Choices.{all_choices, all_rows, days_of}
 use Rattle.roster_instance.specs.Faults.{first_fault, is_none_of}
 use Rattle.roster_instance.specs.Meaning.{Meaning, day_count, nurse_count}
 use Rattle.roster_instance.specs.Rosters.{Row, Rows, choice_on, fits_case, is_choice_of, is_row_of, row_of, with_row}
-use Rattle.roster_rules.specs.AllowedRows.{keeps_frozen_day, keeps_frozen_days}
+use Rattle.roster_rules.specs.AllowedRows.{is_frozen, keeps_frozen_day, keeps_frozen_days}
 use Rattle.roster_rules.specs.HardRules.{hard_faults, keeps_absences, keeps_hard, keeps_skills, keeps_successions}
 use Rattle.roster_rules.specs.declared.fault.HardFault.{HardFault}
 use Rattle.roster_rules.proofs.FirstLeast as least
@@ -45,7 +45,7 @@ put_stays c from given r n row stays keeps m d within frozen = go (cases_lt n (l
     go (inl inside) (inl same) =
         ap (λ k. choice_on (row_of (with_row r n row) k) d) same
         ∙ ap (λ own. choice_on own d) (own_row r n inside row)
-        ∙ frozen_is from given n d (choice_on row d) (all_elim (day_count c) (λ k. keeps_frozen_day from given n k (choice_on row k)) keeps d within) frozen
+        ∙ frozen_is c from given n d (choice_on row d) (all_elim (day_count c) (λ k. keeps_frozen_day c from given n k (choice_on row k)) keeps d within) (ap (λ k. is_frozen c from k d) (sym same) ∙ frozen)
         ∙ ap (λ k. choice_on (row_of given k) d) (sym same)
 
 -- a row of the case is as long as that in whose place it is put

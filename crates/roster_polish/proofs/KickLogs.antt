@@ -12,7 +12,7 @@ use Rattle.roster_instance.specs.Meaning.{Meaning}
 use Rattle.roster_instance.specs.Rosters.{Rows}
 use Rattle.roster_rules.specs.Penalties.{penalty}
 use Rattle.roster_rules.specs.AllowedRows.{best_row}
-use Rattle.roster_rules.specs.Improver.{line}
+use Rattle.roster_rules.specs.Improver.{line, start_word}
 use Rattle.roster_laws.specs.FrozenDays.{FrozenDaysStay}
 use Rattle.roster_laws.proofs.Frozen.{stays_self, steps_stay}
 use Rattle.roster_laws.proofs.Kept.{IsKept, run_keeps, step_keeps}
@@ -65,24 +65,24 @@ held_fade c (Some faded) rest r more = held_later (record { text = fade_line c f
 
 -- at the line after some kicks
 held_after : (c : Meaning) (given : Rows) (start : ℕ) (fade : Option Rows) (xs : List KickLine) (x : Told) (rest : List Told) (more : ℕ) → more < length x.text
-    → held_at (length (kicks_text c start fade xs) + more) (told_start start given ∷ (told_fade c fade ++ (map (told_kick c) xs ++ x ∷ rest))) given ≡ x.roster
+    → held_at (length (kicks_text c start fade xs) + more) (told_start c start given ∷ (told_fade c fade ++ (map (told_kick c) xs ++ x ∷ rest))) given ≡ x.roster
 held_after c given start fade xs x rest more inside =
-    let first : List ℕ = line (codes "start") start in
+    let first : List ℕ = line (start_word c) start in
     let kicks : List ℕ = flat_map (kick_line c) xs in
     let those : List Told = told_fade c fade ++ (map (told_kick c) xs ++ x ∷ rest) in
     let size : length (first ++ (fade_text c fade ++ kicks)) + more ≡ length first + (length (fade_text c fade) + (length kicks + more)) = omega (arith, length-append first (fade_text c fade ++ kicks), length-append (fade_text c fade) kicks) in
-    ap (λ m. held_at m (told_start start given ∷ those) given) size ∙ held_later (told_start start given) those given (length (fade_text c fade) + (length kicks + more))
+    ap (λ m. held_at m (told_start c start given ∷ those) given) size ∙ held_later (told_start c start given) those given (length (fade_text c fade) + (length kicks + more))
     ∙ held_fade c fade (map (told_kick c) xs ++ x ∷ rest) given (length kicks + more) ∙ held_kicks c xs (x ∷ rest) given more ∙ held_here x rest given more inside
 
 told_more : (c : Meaning) (given : Rows) (start : ℕ) (fade : Option Rows) (xs : List KickLine) (x : KickLine) (settled : Bool) (last : Rows)
-    → told_start start given ∷ (told_fade c fade ++ (map (told_kick c) xs ++ told_kick c x ∷ told_last c settled last ∷ [])) ≡ told_lines c given start fade (xs ++ x ∷ []) settled last
+    → told_start c start given ∷ (told_fade c fade ++ (map (told_kick c) xs ++ told_kick c x ∷ told_last c settled last ∷ [])) ≡ told_lines c given start fade (xs ++ x ∷ []) settled last
 told_more c given start fade xs x settled last =
-    ap (λ those. told_start start given ∷ (told_fade c fade ++ those)) (sym (append_assoc (map (told_kick c) xs) (told_kick c x ∷ []) (told_last c settled last ∷ [])) ∙ ap (λ those. those ++ told_last c settled last ∷ []) (sym (map-append (told_kick c) xs (x ∷ []))))
+    ap (λ those. told_start c start given ∷ (told_fade c fade ++ those)) (sym (append_assoc (map (told_kick c) xs) (told_kick c x ∷ []) (told_last c settled last ∷ [])) ∙ ap (λ those. those ++ told_last c settled last ∷ []) (sym (map-append (told_kick c) xs (x ∷ []))))
 
 -- ---- the first line
 
-pub first_text : (c : Meaning) (start : ℕ) → line (codes "start") start ≡ kicks_text c start None []
-first_text c start = sym (append-nil (line (codes "start") start))
+pub first_text : (c m : Meaning) (start : ℕ) → m ≡ c → line (start_word m) start ≡ kicks_text c start None []
+first_text c m start same = ap (λ (x : Meaning). line (start_word x) start) same ∙ sym (append-nil (line (start_word c) start))
 
 -- the log of a run that keeps neither a fade nor a kick
 abbrev pub unkicked_text : Meaning → ℕ → ℕ → Rows → List ℕ
@@ -148,7 +148,7 @@ module _ (c : Meaning) (from : ℕ) (given : Rows) (start : ℕ) (alone : Bool) 
 
   module _ {W : Type 0} (contents : W → Option (List ℕ)) (old : Watched W) where
     first_line : List ℕ
-    first_line = line (codes "start") start
+    first_line = line (start_word c) start
 
     text_more : (fade : Option Rows) (xs : List KickLine) (x : KickLine) → kicks_text c start fade xs ++ kick_line c x ≡ kicks_text c start fade (xs ++ x ∷ [])
     unfolding first_line
@@ -181,7 +181,7 @@ module _ (c : Meaning) (from : ℕ) (given : Rows) (start : ℕ) (alone : Bool) 
       sent = p.sent;
       stops = StopsAt-append contents old new (kicks_text c start None []) (last_line c (first_run c from given).is_settled first) p.sent p.stops;
       counted = ap (λ f. LogFailed (sent_of f)) p.counted ∙ ap (λ n. LogFailed (saturated n)) (zero-add p.sent);
-      held = sym (held_here (told_start start given) (told_last c (first_run c from given).is_settled first ∷ []) given p.sent (subst (λ text. p.sent < length text) (append-nil (line (codes "start") start)) p.stops.left));
+      held = sym (held_here (told_start c start given) (told_last c (first_run c from given).is_settled first ∷ []) given p.sent (subst (λ text. p.sent < length text) (append-nil (line (start_word c) start)) p.stops.left));
       reached = record { accepted = accepted; stays = stays_self c from given };
     }
 
@@ -234,7 +234,7 @@ module _ (c : Meaning) (from : ℕ) (given : Rows) (start : ℕ) (alone : Bool) 
             stops = StopsAt-append contents old new (kicks_text c start (Some next) []) (last_line c true next) (length (kicks_text c start None []) + q.sent)
                 (subst (λ text. StopsAt contents old new text (length (kicks_text c start None []) + q.sent)) fade_more (StopsAt-after contents old mid new (kicks_text c start None []) (fade_line c next) q.sent sends.writes q.stops));
             counted = ap (λ f. LogFailed (sent_of f)) q.counted ∙ ap LogFailed count;
-            held = sym (ap (λ m. held_at m whole given) size ∙ held_later (told_start start given) (told_fade c (Some next) ++ told_last c true next ∷ []) given q.sent
+            held = sym (ap (λ m. held_at m whole given) size ∙ held_later (told_start c start given) (told_fade c (Some next) ++ told_last c true next ∷ []) given q.sent
                 ∙ held_here (record { text = fade_line c next; roster = next }) (told_last c true next ∷ []) given q.sent q.stops.left);
             reached = faded.reached;
           }

@@ -10,7 +10,7 @@ use Rattle.roster_instance.specs.declared.choice.Choice.{Choice}
 use Rattle.roster_instance.specs.Choices.{all_choices, all_rows, days_of, same_choice}
 use Rattle.roster_instance.specs.Limits.{most_shifts, most_skills}
 use Rattle.roster_instance.specs.Small.{HasSmallNumbers}
-use Rattle.roster_instance.specs.Meaning.{Meaning, day_count, nurse_at, nurse_count, shift_count, skill_count}
+use Rattle.roster_instance.specs.Meaning.{Meaning, day_count, is_fixed, nurse_at, nurse_count, shift_count, skill_count}
 use Rattle.roster_instance.specs.Rosters.{Row, Rows, choice_on, fits_case, is_choice_of, is_row_of, row_of, with_row}
 use Rattle.roster_rules.specs.AllowedRows.{is_frozen, keeps_frozen_day, keeps_frozen_days, row_keeps}
 use Rattle.roster_rules.specs.HardRules.{breaks_succession, is_able, is_here, keeps_hard, may_take}
@@ -53,14 +53,19 @@ pub open_of_case : (c : Meaning) (r : Rows) (n from d : ℕ) (those : List Offer
 open_of_case c r n from d those place e small shifts skills is within =
     (All-get_or (IsOfferOf c) those place e within (subst (All (IsOfferOf c)) (sym is) (offers_of_case c from r n d small shifts skills))).choice
 
+still_frozen : (before before_later stays : Bool) → (before ≡ true → before_later ≡ true) → (before || stays) ≡ true → (before_later || stays) ≡ true
+still_frozen true before_later stays later e = ap (λ b. b || stays) (later refl)
+still_frozen false true stays later e = refl
+still_frozen false false stays later e = e
+
 -- what is frozen before a week is frozen before a later one
-frozen_later : (from later : ℕ) (r : Rows) (n d : ℕ) (x : Choice) → from ≤ later → keeps_frozen_day later r n d x ≡ true → keeps_frozen_day from r n d x ≡ true
-frozen_later from later r n d x below keeps = go (cases_Bool (is_frozen from d))
+frozen_later : (c : Meaning) (from later : ℕ) (r : Rows) (n d : ℕ) (x : Choice) → from ≤ later → keeps_frozen_day c later r n d x ≡ true → keeps_frozen_day c from r n d x ≡ true
+frozen_later c from later r n d x below keeps = go (cases_Bool (is_frozen c from n d))
   where
-    go : (is_frozen from d ≡ true) ⊎ (is_frozen from d ≡ false) → keeps_frozen_day from r n d x ≡ true
+    go : (is_frozen c from n d ≡ true) ⊎ (is_frozen c from n d ≡ false) → keeps_frozen_day c from r n d x ≡ true
     go (inr thawed) = ap (λ b. not b || same_choice x (choice_on (row_of r n) d)) thawed
     go (inl frozen) =
-        let later_too : is_frozen later d ≡ true = lt-ltb (d / 7) later (omega (arith, ltb-true (d / 7) from frozen, below)) in
+        let later_too : is_frozen c later n d ≡ true = still_frozen (nat_lt (d / 7) from) (nat_lt (d / 7) later) (is_fixed c n d) (λ before. lt-ltb (d / 7) later (omega (arith, ltb-true (d / 7) from before, below))) frozen in
         ap (λ b. not b || same_choice x (choice_on (row_of r n) d)) (frozen ∙ sym later_too) ∙ keeps
 
 from_below : (a b : ℕ) (within : Bool) → a ≤ (if within then a else max a b)
@@ -82,7 +87,7 @@ module _ (c : Meaning) (r : Rows) (n : ℕ) (kick : Kick) where
   able : (d : ℕ) (x : Choice) → offered d x ≡ true → is_able (nurse_at c n).skills x ≡ true
   able d x is =
       (and_parts (is_able (nurse_at c n).skills x) (is_here c n d x)
-      (and_parts (may_take c n d x) (meets c d (with_choice (others r n d) x)) (and_parts (is_open c r n d x) (keeps_frozen_day (from_on kick d) r n d x) is).0).0).0
+      (and_parts (may_take c n d x) (meets c d (with_choice (others r n d) x)) (and_parts (is_open c r n d x) (keeps_frozen_day c (from_on kick d) r n d x) is).0).0).0
 
   priced_of_case : (d : ℕ) → All (IsOfferOf c) (offers_by c offered priced d)
   priced_of_case d =
@@ -102,8 +107,8 @@ module _ (c : Meaning) (r : Rows) (n : ℕ) (kick : Kick) where
     offered_own : (d : ℕ) → d < day_count c → (offered d (choice_on own d) && not (breaks_succession c n (days_of own) d)) ≡ true
     offered_own d day =
         let parts = and_parts (is_open c r n d (choice_on own d)) (not (breaks_succession c n (days_of own) d)) (all_elim (day_count c) (λ k. is_open c r n k (choice_on own k) && not (breaks_succession c n (days_of own) k)) open_row d day) in
-        let stays = all_elim (day_count c) (λ k. keeps_frozen_day (from_on kick d) r n k (choice_on own k)) (present_stays c (from_on kick d) r n) d day in
-        and_from (offered d (choice_on own d)) (not (breaks_succession c n (days_of own) d)) (and_from (is_open c r n d (choice_on own d)) (keeps_frozen_day (from_on kick d) r n d (choice_on own d)) parts.0 stays) parts.1
+        let stays = all_elim (day_count c) (λ k. keeps_frozen_day c (from_on kick d) r n k (choice_on own k)) (present_stays c (from_on kick d) r n) d day in
+        and_from (offered d (choice_on own d)) (not (breaks_succession c n (days_of own) d)) (and_from (is_open c r n d (choice_on own d)) (keeps_frozen_day c (from_on kick d) r n d (choice_on own d)) parts.0 stays) parts.1
 
     own_row_offered : offered_row_by c n offered own (day_count c) ≡ true
     own_row_offered = all_true (day_count c) (λ d. offered d (choice_on own d) && not (breaks_succession c n (days_of own) d)) offered_own
@@ -147,9 +152,9 @@ module _ (c : Meaning) (r : Rows) (n : ℕ) (kick : Kick) where
       each d day =
           let x : Choice = choice_on row d in
           let parts = and_parts (offered d x) (not (breaks_succession c n (days_of row) d)) (all_elim (day_count c) (λ k. offered k (choice_on row k) && not (breaks_succession c n (days_of row) k)) passes d day) in
-          let can = and_parts (is_open c r n d x) (keeps_frozen_day (from_on kick d) r n d x) parts.0 in
-          let stays = frozen_later kick.from (from_on kick d) r n d x (from_below kick.from (d / 7 + 1) (not (nat_lt (d / 7) kick.first) && nat_lt (d / 7) kick.last)) can.1 in
-          and_from (is_offered c kick.from r n d x) (not (breaks_succession c n (days_of row) d)) (and_from (is_open c r n d x) (keeps_frozen_day kick.from r n d x) can.0 stays) parts.1
+          let can = and_parts (is_open c r n d x) (keeps_frozen_day c (from_on kick d) r n d x) parts.0 in
+          let stays = frozen_later c kick.from (from_on kick d) r n d x (from_below kick.from (d / 7 + 1) (not (nat_lt (d / 7) kick.first) && nat_lt (d / 7) kick.last)) can.1 in
+          and_from (is_offered c kick.from r n d x) (not (breaks_succession c n (days_of row) d)) (and_from (is_open c r n d x) (keeps_frozen_day c kick.from r n d x) can.0 stays) parts.1
 
       both : (keeps_hard c (with_row r n row) && keeps_frozen_days c kick.from r n row) ≡ true
       both =

@@ -33,12 +33,12 @@ pub record AreFaded (base : Base) (kicking_old kicking : Kicking) (space_old spa
 abbrev pub spared : (searches nurses : ℕ) → ℕ
 spared searches nurses = max (searches / 100 * 3) (10 * nurses)
 
--- so many passes over all nurses, in which one of four is searched, take what is left but for so many searches; they are four times as
+-- so many passes over all nurses take what is left but for so many searches where one of sixteen is searched; they are sixteen times as
 -- many as where all are searched, and these no part of a pass less
 pub record TakesAllBut (kept left nurses passes : ℕ) : Type 0 where
-  pub within : passes * nurses ≤ 4 * (left - kept)
-  pub all : 4 * (left - kept) < (passes + 4) * nurses
-  pub whole : passes ≡ 4 * (passes / 4)
+  pub within : passes * nurses ≤ 16 * (left - kept)
+  pub all : 16 * (left - kept) < (passes + 16) * nurses
+  pub whole : passes ≡ 16 * (passes / 16)
 
 -- ---- who is left out of a pass
 

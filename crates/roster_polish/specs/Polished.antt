@@ -7,7 +7,7 @@ use Rattle.roster_rules.specs.Penalties.{penalty}
 use Rattle.roster_laws.specs.FrozenDays.{FrozenDaysStay}
 use Rattle.roster_rounds.specs.PutIn.{IsAccepted}
 use Rattle.roster_rules.specs.AllowedRows.{best_row}
-use Rattle.roster_rules.specs.Improver.{Run, line, round, run, same_rows}
+use Rattle.roster_rules.specs.Improver.{Run, line, round, run, same_rows, start_word}
 use Rattle.roster_log.specs.declared.fault.LogFault.{LogFault}
 use Rattle.roster_log.specs.declared.fault.LogFault.TheVariants.{LogFailed}
 use Rattle.roster_best.specs.Known.{IsKnown}
@@ -120,7 +120,7 @@ abbrev pub kick_line : Meaning → KickLine → List ℕ
 kick_line c x = line (codes "kick " ++ decimal x.kick) (penalty c x.roster)
 
 abbrev pub kicks_text : Meaning → ℕ → Option Rows → List KickLine → List ℕ
-kicks_text c start fade lines = line (codes "start") start ++ (fade_text c fade ++ flat_map (kick_line c) lines)
+kicks_text c start fade lines = line (start_word c) start ++ (fade_text c fade ++ flat_map (kick_line c) lines)
 
 abbrev pub last_line : Meaning → Bool → Rows → List ℕ
 last_line c settled r = line (if settled then codes "settled" else codes "stopped") (penalty c r)
@@ -139,14 +139,14 @@ told_fade c (Some r) = record { text = fade_line c r; roster = r } ∷ []
 abbrev pub told_kick : Meaning → KickLine → Told
 told_kick c x = record { text = kick_line c x; roster = x.roster }
 
-abbrev pub told_start : ℕ → Rows → Told
-told_start start given = record { text = line (codes "start") start; roster = given }
+abbrev pub told_start : Meaning → ℕ → Rows → Told
+told_start c start given = record { text = line (start_word c) start; roster = given }
 
 abbrev pub told_last : Meaning → Bool → Rows → Told
 told_last c settled last = record { text = last_line c settled last; roster = last }
 
 abbrev pub told_lines : Meaning → Rows → ℕ → Option Rows → List KickLine → Bool → Rows → List Told
-told_lines c given start fade lines settled last = told_start start given ∷ (told_fade c fade ++ (map (told_kick c) lines ++ told_last c settled last ∷ []))
+told_lines c given start fade lines settled last = told_start c start given ∷ (told_fade c fade ++ (map (told_kick c) lines ++ told_last c settled last ∷ []))
 
 -- where so many bytes went out, the roster of the first line that didn't wholly go out
 abbrev pub held_at : ℕ → List Told → Rows → Rows

@@ -28,9 +28,6 @@ use roster_case::Held;
 use roster_costs::first_hard;
 use roster_state::Meter;
 
-/// How many nurses have their turn in a fade for each search that it may make. Those who can gain little are left out.
-pub(crate) const VISITS: u64 = 4;
-
 /// How many passes a fade makes besides where places are below their minimums: two, and two, and two again.
 const MORE_PASSES: u64 = 6;
 
@@ -114,7 +111,7 @@ pub(crate) fn fade_rows(
     let before = kicking.searches.left;
     let length = Length {
         passes: kicking.passes,
-        searches: (kicking.passes / VISITS).saturating_mul(base.case.nurses() as u64),
+        searches: (kicking.passes / kicking.turns.max(1)).saturating_mul(base.case.nurses() as u64),
     };
     space.begin_fade(base.case, base.given);
     for pass in 0..length.passes.saturating_add(MORE_PASSES) {

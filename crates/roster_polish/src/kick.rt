@@ -22,12 +22,14 @@ use roster_case::Held;
 use roster_offers::RowSearch;
 use roster_state::Meter;
 
-/// What a fade and kicks take: searches, and random numbers; and how many passes the fade makes, none where there is no fade.
+/// What a fade and kicks take: searches, and random numbers; how many passes the fade makes, none where there is no fade, and in how
+/// many of them each nurse may be searched once.
 #[derive(Clone, Copy)]
 pub(crate) struct Kicking {
     pub(crate) searches: Searches,
     pub(crate) random: Random,
     pub(crate) passes: u64,
+    pub(crate) turns: u64,
 }
 
 /// What is drawn for a kick: whether its prices are those by worths, its weeks, how many of a hundred prices are raised, and by how

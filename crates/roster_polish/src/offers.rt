@@ -59,7 +59,7 @@ fn price(kick: &Kick<'_>, case: &Case, nurse: usize, day: u16, offer: Offer) -> 
 }
 
 /// The greatest price of an offer.
-const MOST_PRICE: u64 = 1_918_100;
+const MOST_PRICE: u64 = 1_918_200;
 
 /// What the nurse earns less than the most on the day, and what the requests cost.
 fn price_by_worth(kick: &Kick<'_>, case: &Case, nurse: usize, day: u16, choice: Choice) -> u32

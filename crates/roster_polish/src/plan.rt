@@ -2,7 +2,6 @@
 
 ghost use Rattle.std.specs.Prelude.{◌≡◌, ◌+◌, ◌-◌, ◌*◌, ◌^◌, ◌<◌, ◌≤◌, [], false, true, if◌then◌else◌, min, nat_lt};
 ghost use Rattle.roster_bundle.specs.Limits.{greatest_u64};
-ghost use Rattle.roster_instance.specs.Faults.{first_fault};
 ghost use Rattle.roster_instance.specs.Meaning.{day_count, minimum};
 ghost use Rattle.roster_instance.specs.Rosters.{fits_case};
 ghost use Rattle.roster_rules.specs.HardRules.{keeps_hard};
@@ -10,7 +9,7 @@ ghost use Rattle.roster_bound.specs.Worths.{HaveRows};
 ghost use Rattle.roster_laws.specs.FrozenDays.{FrozenDaysStay};
 ghost use Rattle.roster_laws.specs.Staffing.{lacking};
 ghost use Rattle.roster_polish.specs.Fades.{AreFaded, AreMade};
-ghost use Rattle.roster_polish.specs.Plans.{IsNoFarther, IsPlanned, frozen_count, keeps_rows, missing, missing_before, present, unmendable};
+ghost use Rattle.roster_polish.specs.Plans.{IsNoFarther, IsPlanned, keeps_rows, missing, missing_before, present, unmendable};
 ghost use Rattle.roster_polish.specs.Polished.{FitsPolish};
 ghost use Rattle.roster_polish.specs.Settled.{Spends, extensions_of};
 
@@ -23,16 +22,16 @@ use crate::space::PolishSpace;
 use roster_bound::{
     Base, Fading, MOST_WORTH, MOVES, Pace, WHOLE, improve_worths, lacks_nurses, raise_missed,
 };
-use roster_case::{Case, Choice, HardFault, Roster, Shift, Skill};
-use roster_costs::{
-    first_absent_before, first_hard, first_succession_before, first_understaffed_before,
-    first_unskilled,
-};
+use roster_case::{Case, Choice, Roster, Shift, Skill};
+use roster_costs::{first_absent_before, first_hard, first_succession_before};
 use roster_rules::choice_on;
 use roster_state::Meter;
 
 /// How many passes the first fade makes. Each later one makes twice as many as that before.
 const FIRST_PASSES: u64 = 120;
+
+/// In so many of them each nurse may be searched once: a fade that only has to keep the hard rules ends sooner.
+const TURNS: u64 = 4;
 
 /// How many passes mend the rows of a fade at most, and from which of them on a missing nurse outweighs all else.
 const MENDING_PASSES: u32 = 60;
@@ -59,32 +58,6 @@ const MOST_ROUNDS: u32 = 30;
 
 /// Of the searches this part goes into these rounds, at most.
 const ROUNDS_PART: u32 = 4;
-
-/// The first breach for which no roster is looked for: a skill that a nurse lacks; or else, of the frozen weeks, a forbidden succession,
-/// work of an absent nurse, or a minimum that is missed.
-pub fn first_unmendable(case: &Case, roster: &Roster, from: u16) -> Option<HardFault>
-    requires { fits_case case.now roster.now ≡ true }
-    ensures { result ≡ first_fault (unmendable case.now from roster.now) }
-{
-    let days = frozen_days(case, from);
-    match first_unskilled(case, roster) {
-        Some(fault) => Some(fault),
-        None => match first_succession_before(case, roster, days) {
-            Some(fault) => Some(fault),
-            None => match first_absent_before(case, roster, days) {
-                Some(fault) => Some(fault),
-                None => first_understaffed_before(case, roster, days),
-            },
-        },
-    }
-}
-
-/// How many days the frozen weeks have.
-fn frozen_days(case: &Case, from: u16) -> u16
-    ensures { result ≡ frozen_count case.now from }
-{
-    7 * from.min(case.weeks())
-}
 
 /// How many nurses all minimums miss, where absent ones don't count.
 pub fn missing(case: &Case, roster: &Roster) -> u64
@@ -224,6 +197,7 @@ fn begin_plan(
         },
         random: Random::of_seed(course.seed),
         passes: FIRST_PASSES,
+        turns: TURNS,
     }
 }
 

@@ -9,7 +9,7 @@ ghost use Rattle.roster_polish.specs.Fades.{TakesAllBut, spared};
 ghost use Rattle.roster_polish.specs.Polished.{FitsPolish, GivenLogStops, PolishLogStops, Polishes, PolishesGiven, first_searches, settling_searches};
 ghost use Rattle.roster_polish.specs.Settled.{extensions_of};
 
-use crate::fade::{VISITS, try_fade};
+use crate::fade::try_fade;
 use crate::kick::{Kicking, try_kick};
 use crate::log::log_kick;
 use crate::random::Random;
@@ -18,7 +18,7 @@ use crate::settle::settle_first;
 use crate::space::PolishSpace;
 use roster_bound::{Base, MOVES, Pace, improve_worths, rows_are_had};
 use roster_case::Held;
-use roster_log::{LogFault, log_word};
+use roster_log::{LogFault, log_start, log_word};
 use roster_state::Meter;
 use roster_text::Watch;
 use std::io::Write;
@@ -104,7 +104,7 @@ pub fn polish_found<W: Write>(
     ensures fits { FitsPolish held.old.case space.new }
 {
     held.keeps_rules();
-    let mut sent = log_word(log, 0, b"start", start)?;
+    let mut sent = log_start(log, 0, held.case(), start)?;
     let mut settled = settle_first(held, course.from, space, meter);
     let mut kicking = begin(held, course, space, meter);
     if try_fade(held, &mut kicking, space, meter) {
@@ -176,8 +176,12 @@ fn begin(held: &Held, course: &Course, space: &mut PolishSpace, meter: &mut Mete
         },
         random: Random::of_seed(course.seed),
         passes: passes_within(course, left, nurses),
+        turns: TURNS,
     }
 }
+
+/// In so many passes of a fade each nurse may be searched once: mostly she can gain little.
+const TURNS: u64 = 16;
 
 /// How many rounds over all nurses the worths are improved: a hundred, or as many as take one of so many parts of the searches.
 pub(crate) fn rounds_within(searches: u32, parts: u32, nurses: u32) -> u32
@@ -191,7 +195,7 @@ pub(crate) fn rounds_within(searches: u32, parts: u32, nurses: u32) -> u32
 }
 
 /// How many passes over all nurses a fade makes: none for kicks alone, or else as many as take the searches that are left where one nurse
-/// of four is searched in each, but for 3 of a hundred of all, or for ten searches of each nurse where that is more. Below 25
+/// of sixteen is searched in each, but for 3 of a hundred of all, or for ten searches of each nurse where that is more. Below 25
 /// searches of each nurse it may end below a minimum: then half of all searches are kept for kicks.
 fn passes_within(course: &Course, left: u32, nurses: u32) -> u64
     requires some { 0 < nurses }
@@ -208,9 +212,9 @@ fn passes_within(course: &Course, left: u32, nurses: u32) -> u64
     let spare = (course.searches / 100 * 3).max(10 * nurses);
     let each = left.saturating_sub(spare) / nurses;
     if each >= MANY_SEARCHES {
-        return VISITS * each as u64;
+        return TURNS * each as u64;
     }
-    VISITS * (left.saturating_sub(course.searches / 2) / nurses) as u64
+    TURNS * (left.saturating_sub(course.searches / 2) / nurses) as u64
 }
 
 /// So many searches of each nurse lead from the worths to the true prices without haste.

@@ -10,7 +10,7 @@ ghost use Rattle.roster_bound.specs.Days.{AreWorthOffers};
 ghost use Rattle.roster_bound.specs.Tables.{worths_of};
 ghost use Rattle.roster_bound.specs.Worths.{HasRow, floor_row};
 ghost use Rattle.roster_partial.specs.Workspaces.{fits_space};
-ghost use Rattle.roster_polish.specs.Fades.{gain_since, is_left_out};
+ghost use Rattle.roster_polish.specs.Fades.{is_left_out};
 
 use arrayvec::ArrayVec;
 use roster_best::{LastSearches, Workspace};
@@ -99,6 +99,7 @@ fn search_offered(
     ensures fits { fits_space terms.now.case.now workspace.new ≡ true }
     ensures known { IsKnown terms.now.case.now last.new }
 {
+    terms.case.keeps_limits();
     let cost = workspace.search_offers(terms.case, nurse, meter);
     last.remember(terms.case, nurse, workspace.offers(), cost);
 }
@@ -121,26 +122,6 @@ fn is_left_out(
     ensures { result ≡ is_left_out terms.now.case.now terms.now.from terms.now.given.now
         (worths_of terms.now.worths.now) last.now nurse row.now }
 {
-    last.knows(nurse) && gain(terms, nurse, row, offers, last) <= LEAST_GAIN
-}
-
-/// By how many points a nurse's row, which is the one that her last search found, can be cheaper at most.
-fn gain(
-    terms: &Terms<'_>,
-    nurse: usize,
-    row: &[Choice],
-    offers: &[ArrayVec<Offer, MOST_OFFERS>],
-    last: &LastSearches,
-) -> u64
-    requires own { HasRow terms.now.case.now terms.now.from terms.now.given.now nurse }
-    requires nurse { nurse < nurse_count terms.now.case.now }
-    requires row { is_row_of terms.now.case.now row.now ≡ true }
-    requires offers { AreWorthOffers terms.now.case.now terms.now.from terms.now.given.now
-        (worths_of terms.now.worths.now) nurse offers.now }
-    requires known { IsKnown terms.now.case.now last.now }
-    ensures { result ≡ gain_since terms.now.case.now terms.now.from terms.now.given.now
-        (worths_of terms.now.worths.now) last.now nurse row.now }
-{
     let case = terms.case;
     case.keeps_limits();
     let mut gain = 0;
@@ -153,5 +134,5 @@ fn gain(
         let here = offers[day as usize].as_slice();
         gain += last.most_gain(case, nurse, day, present, here);
     }
-    gain
+    last.knows(nurse) && gain <= LEAST_GAIN
 }

@@ -1,5 +1,5 @@
 -- The lines of faults and reports.
-use Rattle.std.specs.Prelude.{◌≡◌, ℕ, ◌*◌, ◌/◌, ◌%◌, ◌++◌, List, [], codes, decimal, flat_map, slice_index_or}
+use Rattle.std.specs.Prelude.{◌≡◌, ℕ, ◌*◌, ◌/◌, ◌%◌, ◌++◌, List, [], codes, decimal, flat_map, slice_index_or, Option, Some, None}
 use Rattle.std.specs.List.{range_with_len}
 use Rattle.roster_bundle.specs.Canonical.{weekday_text}
 use Rattle.roster_bundle.specs.Limits.{most_bytes}
@@ -94,6 +94,12 @@ costs_text k =
 -- the report of a bound: what the roster costs, and what no roster costs less than
 abbrev pub bound_text : ℕ → ℕ → Text
 bound_text total bound = line (codes "roster") total ++ line (codes "bound") bound
+
+-- the line of a nurse who may take an assignment: what the roster costs with her row, on how many days that is another choice, and, where
+-- nurses are missed, how many still are
+abbrev pub taker_line : Text → (penalty changed : ℕ) → Option ℕ → Text
+taker_line name penalty changed None = name ++ codes " " ++ decimal penalty ++ codes " changed " ++ decimal changed ++ codes "\n"
+taker_line name penalty changed (Some missed) = name ++ codes " " ++ decimal penalty ++ codes " changed " ++ decimal changed ++ codes " missed " ++ decimal missed ++ codes "\n"
 
 -- a name and the sizes of a search of so many states, days and choices a day: its states, labels in two tables, pointers, and
 -- steps at most

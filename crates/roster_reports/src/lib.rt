@@ -9,6 +9,7 @@ mod cost;
 mod faults;
 mod names;
 mod sizes;
+mod taker;
 mod weeks;
 
 pub use bound::write_bound;
@@ -16,4 +17,5 @@ pub use cost::write_costs;
 pub use faults::{write_case_line, write_hard_line, write_no_memory, write_text_line};
 pub use names::{BreachNames, names_of, nurse_of};
 pub use sizes::write_sizes;
+pub use taker::write_taker;
 pub use weeks::write_weeks;

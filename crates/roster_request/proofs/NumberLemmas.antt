@@ -14,8 +14,8 @@ use Rattle.clap.specs.declared.parser.matches.Found.{Found}
 use Rattle.clap.proofs.CallerReads.{signed_reads}
 use Rattle.clap.proofs.ValueTestLemmas.{accepts-Accepts}
 use Rattle.clap.proofs.WalkLemmas.{one_text-rows}
-use Rattle.roster_request.specs.Limits.{most_from, most_rounds, most_searches, most_seed}
-use Rattle.roster_request.specs.CommandLine.{HasFrom, HasNumber, HasRounds, HasSearches, HasSeed, IsNumberOf, Meets, program, with_from, with_rounds, with_searches}
+use Rattle.roster_request.specs.Limits.{most_from, most_keep, most_rounds, most_searches, most_seed}
+use Rattle.roster_request.specs.CommandLine.{HasFrom, HasKeep, HasNumber, HasRounds, HasSearches, HasSeed, IsNumberOf, Meets, program, with_from, with_keep, with_rounds, with_searches}
 use Rattle.roster_request.proofs.OptionLemmas.{AllHave, FirstPasses, HasIfGiven, HasValue, meets_if_given, meets_value, there_by_default}
 
 passed : (t : Bool) (k : ErrorKind) → cond t [] (k ∷ []) ≡ [] → t ≡ true
@@ -71,6 +71,9 @@ meets_seed = meets_number (codes "seed") most_seed (codes "1") with_searches ref
 
 pub meets_from : (words : List Text) → fault_of program words ≡ [] → Meets with_from HasFrom (subcommand_of program words)
 meets_from = meets_number (codes "from") most_from (codes "0") with_from refl refl
+
+pub meets_keep : (words : List Text) → fault_of program words ≡ [] → Meets with_keep HasKeep (subcommand_of program words)
+meets_keep = meets_number (codes "keep") most_keep (codes "0") with_keep refl refl
 
 -- ---- the number
 

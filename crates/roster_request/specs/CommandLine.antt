@@ -1,5 +1,5 @@
 -- What the words of a command line ask for, by clap's reading of them.
-use Rattle.std.specs.Prelude.{◌≡◌, ◌≢◌, ◌⊎◌, ◌<◌, ◌≤◌, ◌^◌, ℕ, pos, Bool, true, false, not, List, [], ◌∷◌, map, Option, Some, unwrap_or, codes, string_bytes, None, is_some, IfSome}
+use Rattle.std.specs.Prelude.{◌≡◌, ◌≢◌, ◌⊎◌, ◌<◌, ◌≤◌, ◌^◌, ℕ, pos, Bool, true, false, not, List, [], ◌∷◌, map, Option, Some, option_map, unwrap_or, codes, string_bytes, None, is_some, IfSome}
 use Rattle.std.specs.List.{fold, list_any}
 use Rattle.std.specs.Str.Parse.{IsNumeral, digits_value, without_leading_plus}
 use Rattle.clap.specs.Lexer.{usize_max}
@@ -14,7 +14,7 @@ use Rattle.roster_request.specs.declared.request.Command.TheVariants as command
 use Rattle.roster_request.specs.declared.request.CliFault.{CliFault}
 use Rattle.roster_request.specs.declared.request.CliFault.TheVariants as fault
 use Rattle.roster_request.specs.declared.request.Request.{Request}
-use Rattle.roster_request.specs.Limits.{most_from, most_rounds, most_searches, most_seed}
+use Rattle.roster_request.specs.Limits.{most_from, most_keep, most_rounds, most_searches, most_seed}
 
 -- any number of files
 abbrev pub files_rule : Rule
@@ -31,9 +31,24 @@ value_rule name = record (new_rule name) {
   value_names = 1;
 }
 
--- a nurse's name, which has to be given
+-- one that has to be given
+abbrev pub given_rule : Text → Rule
+given_rule name = record (value_rule name) { required = true }
+
+-- a nurse's name
 abbrev pub nurse_rule : Rule
-nurse_rule = record (value_rule (codes "nurse")) { required = true }
+nurse_rule = given_rule (codes "nurse")
+
+-- a day, as a week and a weekday
+abbrev pub day_rule : Rule
+day_rule = given_rule (codes "day")
+
+-- the names of a shift and of a skill, which may be left out
+abbrev pub shift_rule : Rule
+shift_rule = given_rule (codes "shift")
+
+abbrev pub skill_rule : Rule
+skill_rule = value_rule (codes "skill")
 
 -- a number from 0 to the greatest, and what it is where it isn't given
 abbrev pub number_rule : Text → ℕ → Text → Rule
@@ -62,6 +77,10 @@ kicks_rule = record (new_rule (codes "kicks")) { long = Some (codes "kicks"); ac
 abbrev pub from_rule : Rule
 from_rule = number_rule (codes "from") most_from (codes "0")
 
+-- how many points a day costs that becomes another
+abbrev pub keep_rule : Rule
+keep_rule = number_rule (codes "keep") most_keep (codes "0")
+
 -- a command that reads files
 abbrev pub command_of : Text → App
 command_of name = with_rule (new_app name) files_rule
@@ -76,7 +95,11 @@ searching name = with_rule (with_rule (new_app name) searches_rule) seed_rule
 
 -- the command `plan`
 abbrev pub plan : App
-plan = own_command_of (searches_rule ∷ seed_rule ∷ from_rule ∷ []) (codes "plan")
+plan = own_command_of (searches_rule ∷ seed_rule ∷ from_rule ∷ keep_rule ∷ []) (codes "plan")
+
+-- the command `who`
+abbrev pub who : App
+who = own_command_of (day_rule ∷ shift_rule ∷ skill_rule ∷ from_rule ∷ []) (codes "who")
 
 -- the program before its commands: it has a version, and one of its commands is wanted
 abbrev pub bare : App
@@ -89,9 +112,9 @@ bare = record {
 abbrev pub commands : List Shape
 commands =
     (command_of (codes "show")).top ∷ (command_of (codes "cost")).top ∷ (command_of (codes "sizes")).top
-    ∷ (own_command_of (nurse_rule ∷ from_rule ∷ []) (codes "best")).top ∷ (own_command_of (rounds_rule ∷ from_rule ∷ []) (codes "improve")).top
-    ∷ (own_command_of (rounds_rule ∷ from_rule ∷ []) (codes "bound")).top ∷ (own_command_of (searches_rule ∷ seed_rule ∷ kicks_rule ∷ from_rule ∷ []) (codes "polish")).top
-    ∷ plan.top ∷ []
+    ∷ (own_command_of (nurse_rule ∷ from_rule ∷ keep_rule ∷ []) (codes "best")).top ∷ (own_command_of (rounds_rule ∷ from_rule ∷ keep_rule ∷ []) (codes "improve")).top
+    ∷ (own_command_of (rounds_rule ∷ from_rule ∷ keep_rule ∷ []) (codes "bound")).top ∷ (own_command_of (searches_rule ∷ seed_rule ∷ kicks_rule ∷ from_rule ∷ keep_rule ∷ []) (codes "polish")).top
+    ∷ plan.top ∷ who.top ∷ []
 
 -- the program's definition for clap
 abbrev pub program : App
@@ -102,21 +125,21 @@ abbrev pub name_of : Command → Text
 name_of command.Show = codes "show"
 name_of command.Cost = codes "cost"
 name_of command.Sizes = codes "sizes"
-name_of (command.Best nurse from) = codes "best"
-name_of (command.Improve rounds from) = codes "improve"
-name_of (command.Bound rounds from) = codes "bound"
-name_of (command.Polish searches seed from kicks) = codes "polish"
-name_of (command.Plan searches seed from) = codes "plan"
+name_of (command.Best nurse from keep) = codes "best"
+name_of (command.Improve rounds from keep) = codes "improve"
+name_of (command.Bound rounds from keep) = codes "bound"
+name_of (command.Polish searches seed from kicks keep) = codes "polish"
+name_of (command.Plan searches seed from keep) = codes "plan"
+name_of (command.Who day shift skill from) = codes "who"
 
 -- it is the name of one of these commands
 abbrev pub IsNameOf : List Shape → Text → Type 0
 IsNameOf [] name = ⊥
 IsNameOf (first ∷ rest) name = (name ≡ first.name) ⊎ IsNameOf rest name
 
--- where a command was met that is for a nurse, its matches have the nurse's name
-abbrev pub HasNurse : Option (Text × List Row) → Type 0
-HasNurse None = Unit {0}
-HasNurse (Some met) = met.0 ≡ codes "best" → is_some (first_of (codes "nurse") met.1) ≡ true
+-- there is a text for an argument of this name
+abbrev pub IsGiven : Text → List Row → Type 0
+IsGiven name rows = is_some (first_of name rows) ≡ true
 
 -- the text that clap has for an argument of this name, as it was given and as it is read, is a number from 0 to the greatest
 pub record HasNumber (name : Text) (most : ℕ) (rows : List Row) : Type 0 where
@@ -136,20 +159,34 @@ HasSeed rows = HasNumber (codes "seed") most_seed rows
 abbrev pub HasFrom : List Row → Type 0
 HasFrom rows = HasNumber (codes "from") most_from rows
 
+abbrev pub HasKeep : List Row → Type 0
+HasKeep rows = HasNumber (codes "keep") most_keep rows
+
 -- it is one of these names
 abbrev pub IsOneOf : List Text → Text → Type 0
 IsOneOf [] name = ⊥
 IsOneOf (first ∷ rest) name = (name ≡ first) ⊎ IsOneOf rest name
 
--- the commands with a number of rounds, those that may have one of searches, and those that leave some weeks as they are
+-- the commands for a nurse, and those for an assignment
+abbrev pub with_nurse : List Text
+with_nurse = codes "best" ∷ []
+
+abbrev pub with_assignment : List Text
+with_assignment = codes "who" ∷ []
+
+-- the commands with a number of rounds, those that may have one of searches, those that may keep the given roster, and those that leave
+-- some weeks as they are
 abbrev pub with_rounds : List Text
 with_rounds = codes "improve" ∷ codes "bound" ∷ []
 
 abbrev pub with_searches : List Text
 with_searches = codes "polish" ∷ codes "plan" ∷ []
 
+abbrev pub with_keep : List Text
+with_keep = codes "best" ∷ codes "polish" ∷ codes "plan" ∷ with_rounds
+
 abbrev pub with_from : List Text
-with_from = codes "best" ∷ codes "polish" ∷ codes "plan" ∷ with_rounds
+with_from = codes "best" ∷ codes "polish" ∷ codes "plan" ∷ codes "who" ∷ with_rounds
 
 -- where one of these commands was met, its matches have the number, or may have it
 abbrev pub Meets : List Text → (List Row → Type 0) → Option (Text × List Row) → Type 0
@@ -181,21 +218,24 @@ pub record IsFlag (name : Text) (is_given : Bool) (rows : List Row) : Type 0 whe
 
 -- the command's own arguments are those among its matches
 abbrev pub HasArguments : Command → List Row → Type 0
-HasArguments (command.Best nurse from) rows = (first_of (codes "nurse") rows ≡ Some (string_bytes nurse)) × IsNumberOf (codes "from") from rows
-HasArguments (command.Improve rounds from) rows = IsNumberOf (codes "rounds") rounds rows × IsNumberOf (codes "from") from rows
-HasArguments (command.Bound rounds from) rows = IsNumberOf (codes "rounds") rounds rows × IsNumberOf (codes "from") from rows
-HasArguments (command.Polish searches seed from kicks) rows =
-    IsNumberIfGiven (codes "searches") searches rows × IsNumberOf (codes "seed") seed rows × IsNumberOf (codes "from") from rows × IsFlag (codes "kicks") kicks rows
-HasArguments (command.Plan searches seed from) rows = IsNumberIfGiven (codes "searches") searches rows × IsNumberOf (codes "seed") seed rows × IsNumberOf (codes "from") from rows
+HasArguments (command.Best nurse from keep) rows = (first_of (codes "nurse") rows ≡ Some (string_bytes nurse)) × IsNumberOf (codes "from") from rows × IsNumberOf (codes "keep") keep rows
+HasArguments (command.Improve rounds from keep) rows = IsNumberOf (codes "rounds") rounds rows × IsNumberOf (codes "from") from rows × IsNumberOf (codes "keep") keep rows
+HasArguments (command.Bound rounds from keep) rows = IsNumberOf (codes "rounds") rounds rows × IsNumberOf (codes "from") from rows × IsNumberOf (codes "keep") keep rows
+HasArguments (command.Polish searches seed from kicks keep) rows =
+    IsNumberIfGiven (codes "searches") searches rows × IsNumberOf (codes "seed") seed rows × IsNumberOf (codes "from") from rows × IsFlag (codes "kicks") kicks rows × IsNumberOf (codes "keep") keep rows
+HasArguments (command.Plan searches seed from keep) rows = IsNumberIfGiven (codes "searches") searches rows × IsNumberOf (codes "seed") seed rows × IsNumberOf (codes "from") from rows × IsNumberOf (codes "keep") keep rows
+HasArguments (command.Who day shift skill from) rows =
+    (first_of (codes "day") rows ≡ Some (string_bytes day)) × (first_of (codes "shift") rows ≡ Some (string_bytes shift)) × (first_of (codes "skill") rows ≡ option_map string_bytes skill) × IsNumberOf (codes "from") from rows
 HasArguments _ rows = Unit {0}
 
--- the rounds or searches of a command that has some are within their limit, and its first week within that of weeks
+-- the rounds or searches of a command that has some are within their limit, and so are its first week and its points
 abbrev pub IsInRange : Command → Type 0
-IsInRange (command.Best nurse from) = from ≤ most_from
-IsInRange (command.Improve rounds from) = (rounds ≤ most_rounds) × (from ≤ most_from)
-IsInRange (command.Bound rounds from) = (rounds ≤ most_rounds) × (from ≤ most_from)
-IsInRange (command.Polish searches seed from kicks) = IfSome searches (λ n. n ≤ most_searches) × (from ≤ most_from)
-IsInRange (command.Plan searches seed from) = IfSome searches (λ n. n ≤ most_searches) × (from ≤ most_from)
+IsInRange (command.Best nurse from keep) = (from ≤ most_from) × (keep ≤ most_keep)
+IsInRange (command.Improve rounds from keep) = (rounds ≤ most_rounds) × (from ≤ most_from) × (keep ≤ most_keep)
+IsInRange (command.Bound rounds from keep) = (rounds ≤ most_rounds) × (from ≤ most_from) × (keep ≤ most_keep)
+IsInRange (command.Polish searches seed from kicks keep) = IfSome searches (λ n. n ≤ most_searches) × (from ≤ most_from) × (keep ≤ most_keep)
+IsInRange (command.Plan searches seed from keep) = IfSome searches (λ n. n ≤ most_searches) × (from ≤ most_from) × (keep ≤ most_keep)
+IsInRange (command.Who day shift skill from) = from ≤ most_from
 IsInRange _ = Unit {0}
 
 -- the command that was met, by its name and its matches, is that of the request, with its arguments and its files

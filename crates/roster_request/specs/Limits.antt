@@ -16,3 +16,7 @@ most_seed = 4294967295
 -- the greatest first week that may change: with it all days of the longest case are frozen
 abbrev pub most_from : ℕ
 most_from = 52
+
+-- the most points for a day that becomes another than in the given roster
+abbrev pub most_keep : ℕ
+most_keep = 100

@@ -3,12 +3,13 @@
 ghost use Rattle.std.specs.Prelude.{◌≡◌, [], ◌∷◌, codes, drop, IfOk, IsOkAnd, false, true};
 ghost use Rattle.std.specs.List.{fold};
 ghost use Rattle.clap.specs.Words.{app_of, new_app, rule_of, with_rule, with_subcommand};
-ghost use Rattle.roster_request.specs.CommandLine.{bare, command_of, commands, files_rule, from_rule, kicks_rule, number_rule, nurse_rule, own_command_of, plan, program, rounds_rule, searches_rule, searching, seed_rule, value_rule};
+ghost use Rattle.roster_request.specs.CommandLine.{bare, command_of, commands, files_rule, from_rule, given_rule, keep_rule, kicks_rule, number_rule, own_command_of, nurse_rule, plan, program, rounds_rule, searches_rule, searching, seed_rule, skill_rule, value_rule, who};
 
 use crate::texts::{
     ABOUT, BEST, BEST_HELP, BOUND, BOUND_HELP, COST, COST_HELP, EXAMPLES, FIRST_WEEK, IMPROVE,
-    IMPROVE_HELP, KICKS_ALONE, NURSE_NAME, PLAN, PLAN_HELP, POLISH, POLISH_HELP, ROUND_COUNT,
-    SEARCH_COUNT, SEED_NUMBER, SHOW, SHOW_HELP, SIZES, SIZES_HELP, TEXTS,
+    IMPROVE_HELP, KEPT_POINTS, KICKS_ALONE, NURSE_NAME, PLAN, PLAN_HELP, POLISH, POLISH_HELP,
+    ROUND_COUNT, SEARCH_COUNT, SEED_NUMBER, SHIFT_NAME, SHOW, SHOW_HELP, SIZES, SIZES_HELP,
+    SKILL_NAME, TEXTS, WEEK_AND_DAY, WHO, WHO_HELP,
 };
 use clap::builder::ValueParser;
 use clap::{Arg, ArgAction, Command};
@@ -19,6 +20,13 @@ pub(crate) const FILES: &str = "FILE";
 
 /// The name by which the nurse of a command is asked for.
 pub(crate) const NURSE: &str = "nurse";
+
+/// The names by which the parts of an assignment are asked for.
+pub(crate) const DAY: &str = "day";
+
+pub(crate) const SHIFT: &str = "shift";
+
+pub(crate) const SKILL: &str = "skill";
 
 /// The name by which kicks alone are asked for.
 pub(crate) const KICKS: &str = "kicks";
@@ -66,6 +74,15 @@ pub(crate) const FROM: NumberOption = NumberOption {
     help: FIRST_WEEK,
 };
 
+/// How many points each day costs that becomes another than in the given roster.
+pub(crate) const KEEP: NumberOption = NumberOption {
+    name: "keep",
+    value: "N",
+    most: 100,
+    default: "0",
+    help: KEPT_POINTS,
+};
+
 /// A command with the parts that were made so far, or that there was no memory for one of them.
 type Made<'a> = Result<Command<'a>, AllocError>;
 
@@ -90,7 +107,8 @@ fn with_search_commands<'a>(alloc: Global, program: Made<'a>) -> Made<'a>
     let bound = rounds_command(alloc, "bound", BOUND, BOUND_HELP);
     let with_bound = with_command(with_improve, bound);
     let with_polish = with_command(with_bound, polish_command(alloc));
-    with_command(with_polish, plan_command(alloc))
+    let with_plan = with_command(with_polish, plan_command(alloc));
+    with_command(with_plan, who_command(alloc))
 }
 
 /// The program before its commands.
@@ -139,16 +157,29 @@ fn with_command<'a>(program: Made<'a>, command: Made<'a>) -> Made<'a>
 
 /// The command `best`.
 fn best_command<'a>(alloc: Global) -> Made<'a>
-    ensures { IfOk result (λ c. app_of c ≡ own_command_of (nurse_rule ∷ from_rule ∷ [])
+    ensures { IfOk result (λ c. app_of c ≡ own_command_of (nurse_rule ∷ from_rule ∷ keep_rule ∷ [])
         (codes "best")) }
 {
-    let with_nurse = command(alloc, "best", BEST, BEST_HELP).arg(nurse_arg(alloc));
+    let nurse = given_arg(alloc, NURSE, "NAME", NURSE_NAME);
+    let with_nurse = command(alloc, "best", BEST, BEST_HELP).arg(nurse);
     with_weeks(alloc, with_nurse)
+}
+
+/// The command `who`.
+fn who_command<'a>(alloc: Global) -> Made<'a>
+    ensures { IfOk result (λ c. app_of c ≡ who) }
+{
+    let command = Ok(command(alloc, "who", WHO, WHO_HELP));
+    let with_day = with_given(alloc, command, DAY, "V:DAY", WEEK_AND_DAY);
+    let with_shift = with_given(alloc, with_day, SHIFT, "NAME", SHIFT_NAME);
+    let with_from = with_number(alloc, with_skill(alloc, with_shift), FROM);
+    with_files(alloc, with_from)
 }
 
 /// A command that makes rounds.
 fn rounds_command<'a>(alloc: Global, name: &'a str, about: &'a str, help: &'a str) -> Made<'a>
-    ensures { IfOk result (λ c. app_of c ≡ own_command_of (rounds_rule ∷ from_rule ∷ []) name.now) }
+    ensures { IfOk result (λ c. app_of c ≡ own_command_of (rounds_rule ∷ from_rule ∷ keep_rule ∷ [])
+        name.now) }
 {
     let command = Ok(command(alloc, name, about, help));
     with_weeks(alloc, with_number(alloc, command, ROUNDS))
@@ -157,7 +188,7 @@ fn rounds_command<'a>(alloc: Global, name: &'a str, about: &'a str, help: &'a st
 /// The command `polish`.
 fn polish_command<'a>(alloc: Global) -> Made<'a>
     ensures { IfOk result (λ c. app_of c ≡ own_command_of
-        (searches_rule ∷ seed_rule ∷ kicks_rule ∷ from_rule ∷ []) (codes "polish")) }
+        (searches_rule ∷ seed_rule ∷ kicks_rule ∷ from_rule ∷ keep_rule ∷ []) (codes "polish")) }
 {
     let searching = searching_command(alloc, "polish", POLISH, POLISH_HELP);
     with_weeks(alloc, with_kicks(alloc, searching))
@@ -187,12 +218,36 @@ fn command<'a>(alloc: Global, name: &'a str, about: &'a str, help: &'a str) -> C
     Command::new(alloc, name).about(about).after_help(help)
 }
 
-/// A command with a first week that may change, and the files, as its last arguments.
+/// A command with a first week that may change, points for what is kept, and the files, as its last arguments.
 fn with_weeks<'a>(alloc: Global, command: Made<'a>) -> Made<'a>
     ensures { IfOk result (λ c. IsOkAnd command.entry
-        (λ before. app_of c ≡ with_rule (with_rule (app_of before) from_rule) files_rule)) }
+        (λ before. app_of c ≡ with_rule (with_rule (with_rule (app_of before) from_rule)
+        keep_rule) files_rule)) }
 {
-    with_files(alloc, with_number(alloc, command, FROM))
+    let with_from = with_number(alloc, command, FROM);
+    with_files(alloc, with_number(alloc, with_from, KEEP))
+}
+
+/// A command with one more value that has to be given.
+fn with_given<'a>(
+    alloc: Global,
+    command: Made<'a>,
+    name: &'a str,
+    value: &'a str,
+    help: &'a str,
+) -> Made<'a>
+    ensures { IfOk result (λ c. IsOkAnd command.entry
+        (λ before. app_of c ≡ with_rule (app_of before) (given_rule name.now))) }
+{
+    command?.arg(given_arg(alloc, name, value, help))
+}
+
+/// A command that may be given the name of a skill.
+fn with_skill<'a>(alloc: Global, command: Made<'a>) -> Made<'a>
+    ensures { IfOk result (λ c. IsOkAnd command.entry
+        (λ before. app_of c ≡ with_rule (app_of before) skill_rule)) }
+{
+    command?.arg(skill_arg(alloc))
 }
 
 /// A command with one more number that may be left out.
@@ -241,14 +296,20 @@ fn files_arg<'a>(alloc: Global) -> Arg<'a>
         .help(TEXTS)
 }
 
-/// A nurse's name, which has to be given.
-fn nurse_arg<'a>(alloc: Global) -> Arg<'a>
-    ensures rule { rule_of result ≡ nurse_rule }
+/// A value that has to be given.
+fn given_arg<'a>(alloc: Global, name: &'a str, value: &'a str, help: &'a str) -> Arg<'a>
+    ensures rule { rule_of result ≡ given_rule name.now }
     ensures local { result.global ≡ false }
 {
-    value_arg(alloc, NURSE, "NAME")
-        .required(true)
-        .help(NURSE_NAME)
+    value_arg(alloc, name, value).required(true).help(help)
+}
+
+/// The name of a skill, which may be left out.
+fn skill_arg<'a>(alloc: Global) -> Arg<'a>
+    ensures rule { rule_of result ≡ skill_rule }
+    ensures local { result.global ≡ false }
+{
+    value_arg(alloc, SKILL, "NAME").help(SKILL_NAME)
 }
 
 /// Kicks alone.

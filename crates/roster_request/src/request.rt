@@ -4,7 +4,8 @@ ghost use Rattle.std.specs.Prelude.{◌≡◌};
 
 use std::alloc::{AllocError, AllocFailed};
 
-/// What the program is to do.
+/// What the program is to do. Where it changes rows or bounds what they cost, `keep` is how many points each day of a nurse costs that
+/// becomes another than in the given roster: another shift, or off.
 #[derive(Debug, Drop)]
 pub enum Command {
     /// Writes the solutions that it was given, in canonical form.
@@ -18,18 +19,21 @@ pub enum Command {
     Best {
         nurse: String,
         from: u16,
+        keep: u16,
     },
     /// Writes the solutions after a run of the improver of at most so many rounds. The weeks before week `from`
     /// stay as they are.
     Improve {
         rounds: u16,
         from: u16,
+        keep: u16,
     },
     /// Writes a number that no roster costs less than: none that keeps the hard rules and the weeks before week `from` as they stand.
     /// It is the last that rises in so many rounds.
     Bound {
         rounds: u16,
         from: u16,
+        keep: u16,
     },
     /// Writes the solutions after a run that settles the roster, fades it, unless `kicks` asks for kicks alone, and then kicks nurses out
     /// of their rows, again and again, as long as so many searches allow; where no number is given, the case says how many. The seed
@@ -39,12 +43,22 @@ pub enum Command {
         seed: u32,
         from: u16,
         kicks: bool,
+        keep: u16,
     },
     /// Looks for solutions that keep the hard rules, from whatever solutions it was given, and settles and polishes them as `Polish`
     /// does, with those of so many searches that are left. The weeks before week `from` stay as they are.
     Plan {
         searches: Option<u32>,
         seed: u32,
+        from: u16,
+        keep: u16,
+    },
+    /// Writes who may take an assignment: the shift of this name on this day, with the skill of this name, or with any of a nurse's where
+    /// none is named. The weeks before week `from` stay as they are.
+    Who {
+        day: String,
+        shift: String,
+        skill: Option<String>,
         from: u16,
     },
 }

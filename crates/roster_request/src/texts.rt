@@ -2,8 +2,8 @@
 
 pub(crate) const ABOUT: &str =
     "Reads the texts of a nurse rostering instance, and writes its rosters, what they cost, how \
-    much a search takes, the rosters with the best row of a nurse, better rosters or new ones, or \
-    what no roster costs less than.";
+    much a search takes, the rosters with the best row of a nurse, better rosters or new ones, \
+    what no roster costs less than, or who may take a shift.";
 
 pub(crate) const TEXTS: &str =
     "The texts of the instance: the scenario, the history, and then the weeks and the rosters, in \
@@ -74,6 +74,10 @@ pub(crate) const NURSE_NAME: &str = "The nurse of this name in the scenario, let
 pub(crate) const FIRST_WEEK: &str =
     "The first week that may change, 0 to 52: the weeks before it stay as they stand";
 
+pub(crate) const KEPT_POINTS: &str =
+    "Each day of a nurse that becomes another than in the given roster costs so many points more, \
+     0 to 100";
+
 pub(crate) const BEST: &str = "Put a nurse's best row into the rosters, and write them";
 
 pub(crate) const BEST_HELP: &str =
@@ -89,8 +93,13 @@ lines, what the roster costs before, and what it costs with the row:
   best Ann 180
 
 With --from V the weeks 0 to V - 1 are frozen: the nurse's days in them stay as
-they stand, and the row is the best of those that keep them. All weeks are read,
-and count for what the roster costs. Where V is above the last week, all stays.
+they stand, and so do those of the section FIXED; the row is the best of those
+that keep them. All weeks are read, and count for what the roster costs. Where V
+is above the last week, all stays.
+
+With --keep N each day of a nurse that becomes another than in the given roster,
+another shift or off, costs N points more: the roster stays much as it is. Then
+the log begins with a line 'keep N', and its numbers are with these points.
 
 What isn't promised: that this is the best roster, since the others' rows stay;
 that it is best for two nurses at once; how long the search takes. For its
@@ -131,8 +140,13 @@ The last line begins with one of two words:
            there was none to make. More rounds may make the rosters cheaper.
 
 With --from V the weeks 0 to V - 1 are frozen: each nurse's days in them stay as
-they stand, as where these weeks are published. All weeks are read, and count for
-what the roster costs. Where V is above the last week, all stays.
+they stand, as where these weeks are published, and so do those of the section
+FIXED. All weeks are read, and count for what the roster costs. Where V is above
+the last week, all stays.
+
+With --keep N each day of a nurse that becomes another than in the given roster,
+another shift or off, costs N points more: the roster stays much as it is. Then
+the log begins with a line 'keep N', and its numbers are with these points.
 
 What isn't promised: that these are the best rosters of all, settled or not,
 since two rows changed at once may still save something; how long the run takes.
@@ -167,8 +181,12 @@ Where it comes to be what the roster costs, the run ends: no roster of these is
 cheaper.
 
 With --from V the weeks 0 to V - 1 are frozen: the bound is for those rosters in
-which each nurse's days in them are as they stand. Where V is above the last
-week, that is the given roster alone.
+which each nurse's days in them, and those of the section FIXED, are as they
+stand. Where V is above the last week, that is the given roster alone.
+
+With --keep N each day of a nurse that becomes another than in the given roster,
+another shift or off, costs N points more, and the bound is for what rosters
+cost with these points. Then the log begins with a line 'keep N'.
 
 What isn't promised: how near the bound is to the cheapest roster; how long the
 run takes. For its memory and the greatest number of steps for a nurse see
@@ -228,8 +246,12 @@ With --kicks it is up to a half to find prices, and the others for kicks. With
 by Ctrl-C leaves no rosters, as they are written at its end.
 
 With --from V the weeks 0 to V - 1 are frozen: each nurse's days in them stay as
-they stand. All weeks are read, and count for what the roster costs. Where V is
-above the last week, all stays.
+they stand, and so do those of the section FIXED. All weeks are read, and count
+for what the roster costs. Where V is above the last week, all stays.
+
+With --keep N each day of a nurse that becomes another than in the given roster,
+another shift or off, costs N points more: the roster stays much as it is. Then
+the log begins with a line 'keep N', and its numbers are with these points.
 
 What isn't promised: how cheap the rosters get, for which see 'roster bound';
 how long the run takes. For its memory and the greatest number of steps for a
@@ -254,7 +276,7 @@ fallen ill. Refused as ever are a second shift on a day, and a skill that the
 nurse lacks.
 
 Where the given roster breaks a hard rule, the run gives all nurses new rows in
-the weeks that may change, whatever is given there: fade after fade, until no
+the days that may change, whatever is given there: fade after fade, until no
 minimum is missed or no search is left. Then it settles the roster and polishes
 it as 'roster polish' does, with the searches that are left. The rosters written
 keep all hard rules.
@@ -279,9 +301,14 @@ several seeds. A run that is ended by Ctrl-C leaves no rosters, as they are
 written at its end.
 
 With --from V the weeks 0 to V - 1 are frozen: each nurse's days in them stay as
-they stand. All weeks are read, and count for what the roster costs. Where V is
-above the last week, all stays. Where a frozen week breaks a hard rule, that is
-told, and no roster is looked for.
+they stand, and so do those of the section FIXED. All weeks are read, and count
+for what the roster costs. Where V is above the last week, all stays. Where the
+days that stay break a hard rule by themselves, that is told, and no roster is
+looked for.
+
+With --keep N each day of a nurse that becomes another than in the given roster,
+another shift or off, costs N points more: the roster stays much as it is. Then
+the log begins with a line 'keep N', and its numbers are with these points.
 
 What isn't promised: that a roster is found where there is one; how cheap the
 rosters get, for which see 'roster bound'; how long the run takes. For its
@@ -291,6 +318,53 @@ Examples:
   roster plan examples/ward.txt > new.txt
   roster plan --searches 200000 --seed 7 examples/ward.txt > new.txt
   roster plan --from 2 examples/ward.txt > new.txt
+  roster plan --keep 50 examples/ward.txt > new.txt
+
+The files are read one after another, in the order given. Without a file, the
+texts are read from standard input.";
+
+pub(crate) const WEEK_AND_DAY: &str =
+    "The day of the shift: the number of its week, from 0, and Mon to Sun, as in 1:Wed";
+
+pub(crate) const SHIFT_NAME: &str = "The shift of this name in the scenario, letter for letter";
+
+pub(crate) const SKILL_NAME: &str =
+    "The skill of this name in the scenario; if it is not given, any that the nurse has";
+
+pub(crate) const WHO: &str = "Write who may take a shift, and what the roster costs then";
+
+pub(crate) const WHO_HELP: &str =
+    "A line is written for each nurse who may take the shift on that day, while the
+rows of the others stay as they are:
+  Ann 1250 changed 2
+says that the roster costs 1250 with the best row of Ann's that has the shift,
+and that this row is another choice than her present one on 2 days. She may take
+it where she has such a row: one with the skill on each day, with no forbidden
+succession and no work in an absence, and with which no minimum is missed that
+was met. The best is the first of the cheapest, as for 'roster best'.
+
+The roster may miss minimums. What absent nurses work in it doesn't count. Then a
+nurse who is missed counts 1000000 in the choice of the row, so that it fills
+other gaps where it can, and each line says how many are missed with it:
+  Ann 1250 changed 2 missed 0
+Who is needed where she works isn't told: her shift would be missed then. First
+stand those with the fewest missed, of these the cheapest first, and of equally
+cheap ones who comes first in the scenario. Where nobody may take the shift,
+nothing is written.
+
+Refused as ever are a second shift on a day, and a skill that the nurse lacks.
+
+With --from V the weeks 0 to V - 1 are frozen: the nurses' days in them stay as
+they stand, and where they break a hard rule, that is told. All weeks are read,
+and count for what the roster costs. Where V is above the last week, all stays.
+
+What isn't promised: that no better roster has the shift, since the others' rows
+stay; how long it takes. For its memory and its greatest number of steps for a
+nurse see 'roster sizes'.
+
+Examples:
+  roster who --day 1:Wed --shift Early examples/ward.txt
+  roster who --day 2:Sat --shift Late --skill HeadNurse --from 2 examples/ward.txt
 
 The files are read one after another, in the order given. Without a file, the
 texts are read from standard input.";
@@ -304,5 +378,6 @@ pub(crate) const EXAMPLES: &str = "Examples:
   roster bound examples/ward.txt
   roster polish examples/ward.txt > better.txt
   roster plan examples/ward.txt > new.txt
+  roster who --day 1:Wed --shift Early examples/ward.txt
 
 'roster COMMAND --help' says more about a command.";

@@ -1,11 +1,14 @@
 //! From words to a request.
 
-ghost use Rattle.std.specs.Prelude.{◌≡◌, ◌≢◌, ◌≤◌, [], Some, codes, IfOk, IfErr, IfSome, OnOk, IsSomeAnd, is_some, true, map, string_bytes};
+ghost use Rattle.std.specs.Prelude.{◌≡◌, ◌≢◌, ◌≤◌, [], Some, codes, IfOk, IfErr, IfSome, OnOk, IsSomeAnd, map, option_map, string_bytes};
 ghost use Rattle.clap.specs.Words.{fault_of, first_of, found_of, kind_of, rows_of, subcommand_rows_of};
-ghost use Rattle.roster_request.specs.CommandLine.{HasArguments, HasFrom, HasNumber, HasNurse, HasRounds, HasSearches, HasSeed, HasText, IsAsked, IsAskedIn, IsFlag, IsInRange, IsNameOf, IsNumberIfGiven, IsNumberOf, IsOneOf, Meets, Refuses, TellsKind, commands, files_in, name_of, program, with_from, with_rounds, with_searches};
-ghost use Rattle.roster_request.specs.Limits.{most_from, most_rounds, most_searches};
+ghost use Rattle.roster_request.specs.CommandLine.{HasArguments, HasFrom, HasKeep, HasNumber, HasRounds, HasSearches, HasSeed, HasText, IsAsked, IsAskedIn, IsFlag, IsGiven, IsInRange, IsNameOf, IsNumberIfGiven, IsNumberOf, IsOneOf, Meets, Refuses, TellsKind, commands, files_in, name_of, program, with_assignment, with_from, with_keep, with_nurse, with_rounds, with_searches};
+ghost use Rattle.roster_request.specs.Limits.{most_from, most_keep, most_rounds, most_searches};
 
-use crate::program::{FILES, FROM, KICKS, NURSE, NumberOption, ROUNDS, SEARCHES, SEED, program};
+use crate::program::{
+    DAY, FILES, FROM, KEEP, KICKS, NURSE, NumberOption, ROUNDS, SEARCHES, SEED, SHIFT, SKILL,
+    program,
+};
 use crate::request::{CliFault, Command, Request};
 use crate::texts::EXAMPLES;
 use clap::ArgMatches;
@@ -17,7 +20,7 @@ use std::convert::AsStr;
 pub fn request_of<S: AsStr>(alloc: Global, words: &[S]) -> Result<Request, CliFault>
     // The command with its arguments, and the files, are those that clap's matches give for the words.
     ensures request { IfOk result (IsAsked (map S.text words.now)) }
-    // The rounds and the searches of a run, and the first week that may change, are within their limits.
+    // The rounds and the searches of a run, the first week that may change, and the points are within their limits.
     ensures range { IfOk result (λ r. IsInRange r.command) }
     ensures faultless { OnOk result (fault_of program (map S.text words.now) ≡ []) }
     ensures refusal { IfErr result (Refuses (map S.text words.now)) }
@@ -31,11 +34,15 @@ pub fn request_of<S: AsStr>(alloc: Global, words: &[S]) -> Result<Request, CliFa
 
 fn request_in(alloc: Global, matches: &ArgMatches<'_>) -> Result<Request, CliFault>
     requires met { IsSomeAnd (subcommand_rows_of matches.now) (λ met. IsNameOf commands met.0) }
-    requires nurse { HasNurse (subcommand_rows_of matches.now) }
+    requires nurse { Meets with_nurse (IsGiven (codes "nurse")) (subcommand_rows_of matches.now) }
+    requires day { Meets with_assignment (IsGiven (codes "day")) (subcommand_rows_of matches.now) }
+    requires shift { Meets with_assignment (IsGiven (codes "shift"))
+        (subcommand_rows_of matches.now) }
     requires rounds { Meets with_rounds HasRounds (subcommand_rows_of matches.now) }
     requires searches { Meets with_searches HasSearches (subcommand_rows_of matches.now) }
     requires seed { Meets with_searches HasSeed (subcommand_rows_of matches.now) }
     requires from { Meets with_from HasFrom (subcommand_rows_of matches.now) }
+    requires keep { Meets with_keep HasKeep (subcommand_rows_of matches.now) }
     ensures request { IfOk result (IsAskedIn (subcommand_rows_of matches.now)) }
     ensures range { IfOk result (λ r. IsInRange r.command) }
     ensures memory { IfErr result (λ e. e ≡ CliFault.Memory) }
@@ -52,13 +59,18 @@ fn request_in(alloc: Global, matches: &ArgMatches<'_>) -> Result<Request, CliFau
 /// The command of this name, with its own arguments.
 fn command_in(alloc: Global, name: &str, given: &ArgMatches<'_>) -> Result<Command, AllocError>
     requires name { IsNameOf commands name.now }
-    requires nurse { name.now ≡ codes "best" → is_some
-        (first_of (codes "nurse") (rows_of (found_of given.now))) ≡ true }
+    requires nurse { IsOneOf with_nurse name.now →
+        IsGiven (codes "nurse") (rows_of (found_of given.now)) }
+    requires day { IsOneOf with_assignment name.now →
+        IsGiven (codes "day") (rows_of (found_of given.now)) }
+    requires shift { IsOneOf with_assignment name.now →
+        IsGiven (codes "shift") (rows_of (found_of given.now)) }
     requires rounds { IsOneOf with_rounds name.now → HasRounds (rows_of (found_of given.now)) }
     requires searches { IsOneOf with_searches name.now →
         HasSearches (rows_of (found_of given.now)) }
     requires seed { IsOneOf with_searches name.now → HasSeed (rows_of (found_of given.now)) }
     requires from { IsOneOf with_from name.now → HasFrom (rows_of (found_of given.now)) }
+    requires keep { IsOneOf with_keep name.now → HasKeep (rows_of (found_of given.now)) }
     ensures name { IfOk result (λ command. name_of command ≡ name.now) }
     ensures arguments { IfOk result (λ command. HasArguments command
         (rows_of (found_of given.now))) }
@@ -69,42 +81,68 @@ fn command_in(alloc: Global, name: &str, given: &ArgMatches<'_>) -> Result<Comma
         "cost" => Ok(Command::Cost),
         "sizes" => Ok(Command::Sizes),
         "best" => Ok(Command::Best {
-            nurse: given_nurse(alloc, given)?,
+            nurse: given_text(alloc, given, NURSE)?,
             from: from_of(given),
+            keep: keep_of(given),
         }),
         "improve" => Ok(Command::Improve {
             rounds: rounds_of(given),
             from: from_of(given),
+            keep: keep_of(given),
         }),
         "bound" => Ok(Command::Bound {
             rounds: rounds_of(given),
             from: from_of(given),
+            keep: keep_of(given),
         }),
         "polish" => Ok(Command::Polish {
             searches: searches_of(given),
             seed: seed_of(given),
             from: from_of(given),
             kicks: kicks_of(given),
+            keep: keep_of(given),
         }),
         "plan" => Ok(Command::Plan {
             searches: searches_of(given),
             seed: seed_of(given),
+            from: from_of(given),
+            keep: keep_of(given),
+        }),
+        "who" => Ok(Command::Who {
+            day: given_text(alloc, given, DAY)?,
+            shift: given_text(alloc, given, SHIFT)?,
+            skill: text_if_given(alloc, given, SKILL)?,
             from: from_of(given),
         }),
         _ => unreachable!(),
     }
 }
 
-/// The nurse's name, which `clap` asks for.
-fn given_nurse(alloc: Global, given: &ArgMatches<'_>) -> Result<String, AllocError>
-    requires { is_some (first_of (codes "nurse") (rows_of (found_of given.now))) ≡ true }
-    ensures { IfOk result (λ nurse. first_of (codes "nurse") (rows_of (found_of given.now)) ≡ Some
-        (string_bytes nurse)) }
+/// The text of an argument that `clap` asks for.
+fn given_text(alloc: Global, given: &ArgMatches<'_>, name: &str) -> Result<String, AllocError>
+    requires { IsGiven name.now (rows_of (found_of given.now)) }
+    ensures { IfOk result (λ text. first_of name.now (rows_of (found_of given.now)) ≡ Some
+        (string_bytes text)) }
 {
-    let Some(nurse) = given.get_str(NURSE) else {
+    let Some(text) = given.get_str(name) else {
         unreachable!()
     };
-    String::from_str(alloc, nurse)
+    String::from_str(alloc, text)
+}
+
+/// The text of an argument, where it is given.
+fn text_if_given(
+    alloc: Global,
+    given: &ArgMatches<'_>,
+    name: &str,
+) -> Result<Option<String>, AllocError>
+    ensures { IfOk result (λ text. first_of name.now (rows_of (found_of given.now))
+        ≡ option_map string_bytes text) }
+{
+    match given.get_str(name) {
+        None => Ok(None),
+        Some(text) => Ok(Some(String::from_str(alloc, text)?)),
+    }
 }
 
 /// The number of rounds.
@@ -147,6 +185,15 @@ fn from_of(given: &ArgMatches<'_>) -> u16
     ensures range { result ≤ most_from }
 {
     number_of(given, FROM) as u16
+}
+
+/// How many points a day costs that becomes another.
+fn keep_of(given: &ArgMatches<'_>) -> u16
+    requires { HasKeep (rows_of (found_of given.now)) }
+    ensures keep { IsNumberOf (codes "keep") result (rows_of (found_of given.now)) }
+    ensures range { result ≤ most_keep }
+{
+    number_of(given, KEEP) as u16
 }
 
 /// The number of an option, which `clap` has read in its range, or has by its default.

@@ -4,7 +4,7 @@ use Rattle.std.specs.List.{fold, range_with_len}
 use Rattle.std.proofs.lemmas.Bool.{not-true, not-false}
 use Rattle.roster_text.specs.declared.fault.WriteFault.{WriteFault}
 use Rattle.roster_text.specs.Io.{Watched, Sends, BreaksIn}
-use Rattle.roster_rules.specs.Improver.{BestRows, round_log, entry, started, changed, round_done, settled, stopped, step, round, changes, line, line_of, same_rows}
+use Rattle.roster_rules.specs.Improver.{BestRows, round_log, entry, started, changed, round_done, settled, stopped, step, round, changes, line, line_of, same_rows, start_word}
 use Rattle.roster_instance.specs.Limits.{most_nurses}
 use Rattle.roster_instance.specs.Meaning.{Meaning, nurse_count, nurse_name}
 use Rattle.roster_rules.specs.Penalties.{penalty}
@@ -103,8 +103,8 @@ module _ {W : Type 0} (contents : W → Option (List ℕ)) (c : Meaning) (best :
 
 -- ---- the lines of one word
 
-pub start_line : (c : Meaning) (r : Rows) (total : ℕ) → total ≡ penalty c r → line (codes "start") total ≡ line_of c (entry started r)
-start_line c r total e = rw e refl
+pub start_line : (c m : Meaning) (r : Rows) (total : ℕ) → m ≡ c → total ≡ penalty c r → line (start_word m) total ≡ line_of c (entry started r)
+start_line c m r total same e = ap (λ (x : Meaning). line (start_word x) total) same ∙ ap (line (start_word c)) e
 
 pub settled_line : (c : Meaning) (r : Rows) (total : ℕ) → total ≡ penalty c r → line (codes "settled") total ≡ line_of c (entry settled r)
 settled_line c r total e = rw e refl

@@ -13,7 +13,7 @@ ghost use Rattle.roster_rounds.specs.RunLogs.{BreaksAmong, LogStops, Ran, RoundM
 use crate::outcome::Outcome;
 use crate::steps::Steps;
 use roster_case::Held;
-use roster_log::{LogFault, log_change, log_round, log_word};
+use roster_log::{LogFault, log_change, log_round, log_start, log_word};
 use roster_state::Meter;
 use roster_text::{Watch, WriteFault};
 use std::io::Write;
@@ -72,7 +72,7 @@ fn make_rounds<W: Write, S: Steps>(
     ensures same_room { SameRoom (S.space steps.old) (S.space steps.new) }
     ensures ready { S.IsReady held.old.case steps.new }
 {
-    let mut sent = log_word(log, 0, b"start", held.total())?;
+    let mut sent = log_start(log, 0, held.case(), held.total())?;
     let mut changes = 0;
     for rounds_before in 0..rounds {
         let plan = RoundPlan {

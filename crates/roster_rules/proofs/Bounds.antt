@@ -4,9 +4,9 @@ use Rattle.std.proofs.Common.{◌≡◌, sym, arith, ℕ, Bool, ◌+◌, ◌-◌
 use Rattle.roster_instance.specs.declared.choice.Shift.{Shift}
 use Rattle.roster_instance.specs.Counting.{sum_below}
 use Rattle.roster_instance.specs.Days.{Days, shift_on, works, days_worked, saturday, worked_weekends, weekends_begun, weekends_ended, split_weekends, one_alone}
-use Rattle.roster_instance.specs.Limits.{most_days, most_nurses, most_shifts, most_skills, most_small, most_weeks}
+use Rattle.roster_instance.specs.Limits.{most_days, most_keep, most_nurses, most_shifts, most_skills, most_small, most_weeks}
 use Rattle.roster_instance.specs.Meaning.{Meaning, week_count, day_count, shift_count, skill_count, nurse_count, run_of_shift, past_of, contract_of, optimum}
-use Rattle.roster_rules.specs.Penalties.{staffing_cost, staffing_cost_of_day, working_run_cost, shift_run_cost, free_run_cost, breaks_off_request, meets_wishes, off_request_cost, request_cost, request_cost_on, wish_cost, wish_cost_on, split_cost, totals_cost, weekends_cost, over_nurses, costs_of, total_cost}
+use Rattle.roster_rules.specs.Penalties.{staffing_cost, staffing_cost_of_day, working_run_cost, shift_run_cost, free_run_cost, breaks_off_request, meets_wishes, off_request_cost, is_kept, keep_cost, keep_cost_on, request_cost, request_cost_on, wish_cost, wish_cost_on, split_cost, totals_cost, weekends_cost, over_nurses, costs_of, total_cost}
 use Rattle.roster_rules.specs.Room.{most_penalty, most_staffing, penalty_room}
 use Rattle.roster_rules.specs.Weights.{staffing_weight, working_run_weight, shift_run_weight, free_run_weight, most_request, off_request_weight, split_weight, assignment_weight, weekend_weight, wish_weight}
 use Rattle.roster_instance.specs.Rosters.{Rows, days_of_nurse, cover, fits_case}
@@ -63,6 +63,9 @@ most_off_requests = off_request_weight * most_days
 abbrev most_wishes : ℕ
 most_wishes = wish_weight * most_days
 
+abbrev most_kept : ℕ
+most_kept = most_keep * most_days
+
 abbrev most_split : ℕ
 most_split = split_weight * most_weeks
 
@@ -77,9 +80,13 @@ unless_within : (met : Bool) → (if met then 0 else wish_weight) ≤ wish_weigh
 unless_within true = omega arith
 unless_within false = omega arith
 
-pub request_on-within : (c : Meaning) (n d : ℕ) (shift : Option Shift) → request_cost_on c n d shift ≤ most_request
-request_on-within c n d shift =
-    omega (arith, where_within (breaks_off_request c n d shift) off_request_weight off_request_weight (omega arith), unless_within (meets_wishes c n d shift))
+kept_within : (kept : Bool) (keep : ℕ) → keep ≤ most_keep → (if kept then 0 else keep) ≤ most_keep
+kept_within true keep few = omega arith
+kept_within false keep few = few
+
+pub request_on-within : (c : Meaning) (n d : ℕ) (shift : Option Shift) → c.keep ≤ most_keep → request_cost_on c n d shift ≤ most_request
+request_on-within c n d shift few =
+    omega (arith, where_within (breaks_off_request c n d shift) off_request_weight off_request_weight (omega arith), unless_within (meets_wishes c n d shift), kept_within (is_kept c n d shift) c.keep few)
 
 module _ (c : Meaning) (n : ℕ) (days : Days) (small : HasSmallNumbers c) (few : length days ≤ most_days) where
   pub both_run_costs-within : working_run_cost c n days + free_run_cost c n days ≤ most_working_and_free
@@ -96,8 +103,11 @@ module _ (c : Meaning) (n : ℕ) (days : Days) (small : HasSmallNumbers c) (few 
   pub wish_cost-within : wish_cost c n days ≤ most_wishes
   wish_cost-within = omega (arith, sum_within (length days) wish_weight (λ d. wish_cost_on c n d (shift_on days d)) (λ d h. unless_within (meets_wishes c n d (shift_on days d))))
 
-  pub request_cost-within : request_cost c n days ≤ most_off_requests + most_wishes
-  request_cost-within = omega (arith, off_request_cost-within, wish_cost-within)
+  pub keep_cost-within : keep_cost c n days ≤ most_kept
+  keep_cost-within = omega (arith, sum_within (length days) most_keep (λ d. keep_cost_on c n d (shift_on days d)) (λ d h. kept_within (is_kept c n d (shift_on days d)) c.keep small.keep))
+
+  pub request_cost-within : request_cost c n days ≤ most_off_requests + most_wishes + most_kept
+  request_cost-within = omega (arith, off_request_cost-within, wish_cost-within, keep_cost-within)
 
   pub split_cost-within : split_cost c n days ≤ most_split
   split_cost-within =
@@ -114,7 +124,7 @@ module _ (c : Meaning) (n : ℕ) (days : Days) (small : HasSmallNumbers c) (few 
       let count : worked_weekends days ≤ weekends_begun days = count_within (weekends_begun days) (λ v. works days (saturday v) || works days (saturday v + 1)) in
       omega (arith, (small.past n).weekends)
 
-  -- in numbers at most 16,512,565
+  -- in numbers at most 16,548,965
   pub parts-within : working_run_cost c n days + shift_run_cost c n days + free_run_cost c n days + request_cost c n days + split_cost c n days + totals_cost c n days + weekends_cost c n days < 4294967296
   parts-within = omega (arith, both_run_costs-within, shift_run_cost-within, request_cost-within, split_cost-within, totals_cost-within, weekends_cost-within)
 
@@ -126,7 +136,7 @@ over_nurses-within c r rule m each few = sum_within (nurse_count c) m (λ n. rul
 both_rules : (c : Meaning) (r : Rows) (rule other : ℕ → Days → ℕ) → over_nurses c r rule + over_nurses c r other ≡ over_nurses c r (λ n days. rule n days + other n days)
 both_rules c r rule other = sym (sum_both (nurse_count c) (λ n. rule n (days_of_nurse r n)) (λ n. other n (days_of_nurse r n)))
 
--- in numbers 698,181,120, and 16,512,565 for each of 400 nurses: 7,303,207,120
+-- in numbers 698,181,120, and 16,548,965 for each of 400 nurses: 7,317,767,120
 pub penalty-at_most : (c : Meaning) (r : Rows) → HasSmallNumbers c → shift_count c ≤ most_shifts → skill_count c ≤ most_skills → week_count c ≤ most_weeks → nurse_count c ≤ most_nurses → fits_case c r ≡ true → total_cost (costs_of c r) ≤ most_penalty
 unfolding costs_of
 penalty-at_most c r small shifts skills weeks nurses fit =
@@ -139,7 +149,8 @@ penalty-at_most c r small shifts skills weeks nurses fit =
     let total = over_nurses-within c r (totals_cost c) most_totals (λ n days d. totals_cost-within c n days small d) few in
     let weekends = over_nurses-within c r (weekends_cost c) most_weekends (λ n days d. weekends_cost-within c n days small d) few in
     let wishes = over_nurses-within c r (wish_cost c) most_wishes (λ n days d. wish_cost-within c n days small d) few in
-    omega (arith, staffing_cost-within c r small shifts skills (omega arith), together, runs, off_requests, splits, total, weekends, wishes)
+    let kept = over_nurses-within c r (keep_cost c) most_kept (λ n days d. keep_cost-within c n days small d) few in
+    omega (arith, staffing_cost-within c r small shifts skills (omega arith), together, runs, off_requests, splits, total, weekends, wishes, kept)
 
 pub penalty-within : (c : Meaning) (r : Rows) → HasSmallNumbers c → shift_count c ≤ most_shifts → skill_count c ≤ most_skills → week_count c ≤ most_weeks → nurse_count c ≤ most_nurses → fits_case c r ≡ true → total_cost (costs_of c r) < penalty_room
 penalty-within c r small shifts skills weeks nurses fit = omega (arith, penalty-at_most c r small shifts skills weeks nurses fit)

@@ -9,3 +9,4 @@ pub mod RunBounds
 pub mod Bounds
 pub mod HardLemmas
 pub mod RowFits
+pub mod KeptLemmas

@@ -4,21 +4,21 @@ use Rattle.roster_instance.specs.declared.choice.Choice.{Choice}
 use Rattle.roster_instance.specs.Choices.{all_choices, all_rows, same_choice}
 use Rattle.roster_instance.specs.Counting.{all_below}
 use Rattle.roster_rules.specs.HardRules.{keeps_hard}
-use Rattle.roster_instance.specs.Meaning.{Meaning, day_count}
+use Rattle.roster_instance.specs.Meaning.{Meaning, day_count, is_fixed}
 use Rattle.roster_rules.specs.Penalties.{penalty}
 use Rattle.roster_instance.specs.Rosters.{Row, Rows, choice_on, is_row_of, row_of, with_row}
 
--- the days of the weeks before week `from` are frozen
-abbrev pub is_frozen : ℕ → ℕ → Bool
-is_frozen from d = nat_lt (d / 7) from
+-- frozen are the days of the weeks before week `from`, and the nurse's fixed days
+abbrev pub is_frozen : Meaning → ℕ → ℕ → ℕ → Bool
+is_frozen c from n d = nat_lt (d / 7) from || is_fixed c n d
 
 -- on a frozen day the choice is the nurse's present one
-abbrev pub keeps_frozen_day : ℕ → Rows → ℕ → ℕ → Choice → Bool
-keeps_frozen_day from r n d choice = not (is_frozen from d) || same_choice choice (choice_on (row_of r n) d)
+abbrev pub keeps_frozen_day : Meaning → ℕ → Rows → ℕ → ℕ → Choice → Bool
+keeps_frozen_day c from r n d choice = not (is_frozen c from n d) || same_choice choice (choice_on (row_of r n) d)
 
 -- the row agrees with the nurse's present one on each frozen day
 abbrev pub keeps_frozen_days : Meaning → ℕ → Rows → ℕ → Row → Bool
-keeps_frozen_days c from r n row = all_below (day_count c) (λ d. keeps_frozen_day from r n d (choice_on row d))
+keeps_frozen_days c from r n row = all_below (day_count c) (λ d. keeps_frozen_day c from r n d (choice_on row d))
 
 -- all rows, in order, with which the roster keeps the hard rules and the nurse's frozen days
 abbrev pub allowed_rows : Meaning → ℕ → Rows → ℕ → List Row

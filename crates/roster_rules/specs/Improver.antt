@@ -1,5 +1,5 @@
 -- The improver: steps, rounds, runs, and the log of a run (our own).
-use Rattle.std.specs.Prelude.{ℕ, zero, suc, ◌+◌, Bool, true, false, ◌&&◌, nat_lt, if◌then◌else◌, List, [], ◌∷◌, ◌++◌, codes, decimal, Option, Some, None}
+use Rattle.std.specs.Prelude.{ℕ, zero, suc, ◌+◌, Bool, true, false, ◌&&◌, ◌==◌, nat_lt, if◌then◌else◌, List, [], ◌∷◌, ◌++◌, codes, decimal, Option, Some, None}
 use Rattle.std.specs.List.{fold, range_with_len}
 use Rattle.roster_instance.specs.Choices.{same_choice}
 use Rattle.roster_instance.specs.Meaning.{Meaning, nurse_count, nurse_name}
@@ -98,9 +98,13 @@ entries_from c best k (suc rounds) r =
 unfoldable pub log_of : Meaning → BestRows → ℕ → Rows → List Entry
 log_of c best rounds r = entry started r ∷ entries_from c best 1 rounds r
 
+-- the word of the first line; where a roster is kept, a line of its own before it says at how many points
+abbrev pub start_word : Meaning → List ℕ
+start_word c = if c.keep == 0 then codes "start" else codes "keep " ++ decimal c.keep ++ codes "\nstart"
+
 -- how an event is written
 abbrev pub event_text : Meaning → Event → List ℕ
-event_text c started = codes "start"
+event_text c started = start_word c
 event_text c (changed k n) = decimal k ++ codes " " ++ nurse_name c n
 event_text c (round_done k) = codes "round " ++ decimal k
 event_text c settled = codes "settled"

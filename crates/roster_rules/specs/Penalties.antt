@@ -1,14 +1,15 @@
 -- The penalties of the soft rules with their weights, and the penalty of a roster (INRC-II; totals and weekends are counted
--- once, at the end of the horizon, with the history's: our profile; wishes to work are our own rule).
-use Rattle.std.specs.Prelude.{ℕ, ◌+◌, ◌-◌, ◌*◌, Bool, false, not, ◌&&◌, ◌||◌, ◌==◌, if◌then◌else◌, length, Option, Some, None, is_some}
+-- once, at the end of the horizon, with the history's: our profile; wishes to work, and a roster that is kept, are our own rules).
+use Rattle.std.specs.Prelude.{ℕ, ◌+◌, ◌-◌, ◌*◌, ◌%◌, Bool, true, false, not, ◌&&◌, ◌||◌, ◌==◌, if◌then◌else◌, length, Option, Some, None, is_some}
 use Rattle.roster_instance.specs.declared.choice.Shift.{Shift}
 use Rattle.roster_rules.specs.declared.penalties.Costs.{Costs}
 use Rattle.roster_instance.specs.declared.rules.Border.{Border}
 use Rattle.roster_instance.specs.declared.rules.Border.TheVariants.{Free, Working}
+use Rattle.roster_instance.specs.Choices.{shift_of}
 use Rattle.roster_instance.specs.Counting.{all_below, sum_below}
 use Rattle.roster_instance.specs.Days.{Days, shift_on, works, is_off, is_shift, has_shift, days_worked, worked_weekends, split_weekends}
 use Rattle.roster_instance.specs.Meaning.{Meaning, day_count, shift_count, skill_count, nurse_count, run_of_shift, past_of, contract_of, has_off_request, has_wish, has_wish_for_any, optimum}
-use Rattle.roster_instance.specs.Rosters.{Rows, days_of_nurse, cover}
+use Rattle.roster_instance.specs.Rosters.{Rows, choice_on, cover, days_of_nurse, row_of}
 use Rattle.roster_rules.specs.Runs.{run_violations}
 use Rattle.roster_rules.specs.Weights.{staffing_weight, working_run_weight, shift_run_weight, free_run_weight, off_request_weight, split_weight, assignment_weight, weekend_weight, wish_weight}
 
@@ -90,6 +91,26 @@ wish_cost_on c n d shift = if meets_wishes c n d shift then 0 else wish_weight
 abbrev pub wish_cost : Meaning → ℕ → Days → ℕ
 wish_cost c n days = sum_below (length days) (λ d. wish_cost_on c n d (shift_on days d))
 
+-- ---- a roster that is kept (our own rule): so many points for each day that becomes another
+
+-- both are off, or work the same shift, with whatever skill
+abbrev pub same_shift : Option Shift → Option Shift → Bool
+same_shift None None = true
+same_shift None (Some t) = false
+same_shift (Some s) None = false
+same_shift (Some s) (Some t) = s.0 == t.0
+
+-- the day is what it is in the roster that is kept
+abbrev pub is_kept : Meaning → ℕ → ℕ → Option Shift → Bool
+is_kept c n d shift = same_shift (shift_of (choice_on (row_of c.base n) d)) shift
+
+abbrev pub keep_cost_on : Meaning → ℕ → ℕ → Option Shift → ℕ
+keep_cost_on c n d shift = if is_kept c n d shift then 0 else c.keep
+
+-- S9: all days of a nurse together
+abbrev pub keep_cost : Meaning → ℕ → Days → ℕ
+keep_cost c n days = sum_below (length days) (λ d. keep_cost_on c n d (shift_on days d))
+
 -- ---- weekends and totals
 
 -- S5: points for each weekend of which exactly one day is worked, where the contract wants whole weekends
@@ -125,12 +146,12 @@ weekends_cost c n days = weekend_weight * (weekends_of c n days - (contract_of c
 unfoldable pub own_cost : Meaning → ℕ → Days → ℕ
 own_cost c n days = working_run_cost c n days + shift_run_cost c n days + free_run_cost c n days + split_cost c n days + totals_cost c n days + weekends_cost c n days
 
--- what the nurse's requests cost on a day, and on all days: off requests and wishes to work
+-- what the nurse's requests cost on a day, and on all days: off requests, wishes to work, and to keep what a roster says
 abbrev pub request_cost_on : Meaning → ℕ → ℕ → Option Shift → ℕ
-request_cost_on c n d shift = off_request_cost_on c n d shift + wish_cost_on c n d shift
+request_cost_on c n d shift = off_request_cost_on c n d shift + wish_cost_on c n d shift + keep_cost_on c n d shift
 
 abbrev pub request_cost : Meaning → ℕ → Days → ℕ
-request_cost c n days = off_request_cost c n days + wish_cost c n days
+request_cost c n days = off_request_cost c n days + wish_cost c n days + keep_cost c n days
 
 -- all that a nurse's row costs, apart from staffing
 abbrev pub nurse_cost : Meaning → ℕ → Days → ℕ
@@ -151,12 +172,17 @@ costs_of c r = record {
   s6 = over_nurses c r (totals_cost c);
   s7 = over_nurses c r (weekends_cost c);
   s8 = over_nurses c r (wish_cost c);
+  s9 = over_nurses c r (keep_cost c);
 }
 
 -- the sum of all rules
 abbrev pub total_cost : Costs → ℕ
-total_cost k = k.s1 + k.s2 + k.s3 + k.s4 + k.s5 + k.s6 + k.s7 + k.s8
+total_cost k = k.s1 + k.s2 + k.s3 + k.s4 + k.s5 + k.s6 + k.s7 + k.s8 + k.s9
 
 -- the roster's penalty
 unfoldable pub penalty : Meaning → Rows → ℕ
 penalty c r = total_cost (costs_of c r)
+
+-- each penalty is a multiple of so much: of 5, as the weights are, where what a roster that is kept costs on a day is one too
+unfoldable pub penalty_unit : Meaning → ℕ
+penalty_unit c = if c.keep % 5 == 0 then 5 else 1

@@ -9,7 +9,7 @@ most_staffing = most_days * most_shifts * most_skills * staffing_weight * most_s
 
 -- no penalty is above that
 abbrev pub most_penalty : ℕ
-most_penalty = 7303207120
+most_penalty = 7317767120
 
 -- each is below 2^33
 abbrev pub penalty_room : ℕ

@@ -1,5 +1,6 @@
 -- The weights of the soft rules (INRC-II): the penalty points for each that is missing or too many.
 use Rattle.std.specs.Prelude.{ℕ, ◌+◌}
+use Rattle.roster_instance.specs.Limits.{most_keep}
 
 -- a nurse missing to the optimum of a day, shift and skill
 abbrev pub staffing_weight : ℕ
@@ -37,6 +38,6 @@ weekend_weight = 30
 abbrev pub wish_weight : ℕ
 wish_weight = 10
 
--- what the requests of a nurse cost on a day at most
+-- what the requests of a nurse cost on a day at most, with what a roster that is kept costs
 abbrev pub most_request : ℕ
-most_request = off_request_weight + wish_weight
+most_request = off_request_weight + wish_weight + most_keep

@@ -9,6 +9,8 @@
 
 mod able;
 mod fault;
+mod frozen;
+mod kept;
 mod laws;
 mod penalties;
 mod rows;
@@ -17,6 +19,8 @@ mod wishes;
 
 pub use able::{is_able, is_here, last_shift, may_take};
 pub use fault::HardFault;
+pub use frozen::is_frozen;
+pub use kept::keep_cost_on;
 pub use laws::{runs_grow_by_a_day, runs_of_a_row_grow_by_a_day, weekends_grow_by_a_day};
 pub use penalties::Costs;
 pub use roster_instance::{

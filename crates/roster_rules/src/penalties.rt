@@ -5,7 +5,7 @@ ghost use Rattle.roster_bundle.specs.Limits.{greatest_u64};
 ghost use Rattle.roster_rules.specs.Penalties.{total_cost};
 
 /// What each soft rule costs, in penalty points, weights included: staffing below the optimum, runs of work and of shifts,
-/// runs of days off, off requests, split weekends, totals of assignments, worked weekends, wishes to work.
+/// runs of days off, off requests, split weekends, totals of assignments, worked weekends, wishes to work, a roster that is kept.
 #[derive(Clone, Copy, Debug, Default, PartialEq, Eq)]
 pub struct Costs {
     pub s1: u64,
@@ -16,6 +16,7 @@ pub struct Costs {
     pub s6: u64,
     pub s7: u64,
     pub s8: u64,
+    pub s9: u64,
 }
 
 impl Costs {
@@ -32,5 +33,6 @@ impl Costs {
             .saturating_add(self.s6)
             .saturating_add(self.s7)
             .saturating_add(self.s8)
+            .saturating_add(self.s9)
     }
 }

@@ -36,6 +36,7 @@ week_wanting places nurses = record {
   off_requests = replicate (7 * nurses) no_requests;
   wishes = replicate (7 * nurses) no_requests;
   absences = replicate (7 * nurses) false;
+  fixed = replicate (7 * nurses) false;
 }
 
 -- each day wants one nurse on Early at best, and Early may not follow Night
@@ -52,6 +53,8 @@ mini = record {
   nurses = a_nurse ∷ a_nurse ∷ [];
   past = off_for 1 ∷ off_for 1 ∷ [];
   weeks = week_wanting (true ∷ replicate 63 false) 2 ∷ [];
+  base = [];
+  keep = 0;
 }
 
 -- the same without Night
@@ -90,9 +93,9 @@ ann = 0
 abbrev pub bob : ℕ
 bob = 1
 
--- without wishes to work
+-- without wishes to work and a roster that is kept
 abbrev pub costs : ℕ → ℕ → ℕ → ℕ → ℕ → ℕ → ℕ → Costs
-costs a b c d e f g = record { s1 = a; s2 = b; s3 = c; s4 = d; s5 = e; s6 = f; s7 = g; s8 = 0 }
+costs a b c d e f g = record { s1 = a; s2 = b; s3 = c; s4 = d; s5 = e; s6 = f; s7 = g; s8 = 0; s9 = 0 }
 
 -- the same with points for wishes to work
 abbrev pub costs_with_wishes : ℕ → Costs → Costs
@@ -119,4 +122,6 @@ big = record {
   nurses = map big_nurse (range_with_len 0 30);
   past = replicate 30 (off_for 2);
   weeks = replicate 8 (week_wanting (flat_map (λ shift. replicate 4 true ++ replicate 4 false) (range_with_len 0 4) ++ replicate 32 false) 30);
+  base = [];
+  keep = 0;
 }

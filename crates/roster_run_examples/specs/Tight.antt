@@ -1,4 +1,4 @@
--- The small instance, where minimums, successions, the history, skills or absences leave a nurse few rows.
+-- The small instance, where minimums, successions, the history, skills, absences or fixed days leave a nurse few rows.
 use Rattle.std.specs.Prelude.{ℕ, true, false, List, [], ◌∷◌, ◌++◌, codes, flat_map, map, replicate, take, if◌then◌else◌, Some, None}
 use Rattle.std.specs.List.{range_with_len}
 use Rattle.roster_instance.specs.declared.choice.Choice.{Choice}
@@ -10,16 +10,25 @@ use Rattle.roster_instance.specs.Rosters.{Row, Rows}
 use Rattle.roster_rules.specs.AllowedRows.{best_row}
 use Rattle.roster_rules.specs.Improver.{Run, line_of, log_of, run}
 
--- these days need a nurse at least, and Ann is absent on those
-abbrev pub needing_without_ann : List ℕ → List ℕ → Meaning
-needing_without_ann days away = record mini_of_one_shift {
+-- these days need a nurse at least, and of Ann's days she is absent on some and others are fixed
+abbrev pub of_ann : (days away fixed : List ℕ) → Meaning
+of_ann days away fixed = record mini_of_one_shift {
   weeks = record {
     needs = Some (map (λ d. a_need (if is_among days d then 1 else 0) 1) (range_with_len 0 7)) ∷ replicate 63 None;
     off_requests = replicate 14 no_requests;
     wishes = replicate 14 no_requests;
     absences = map (is_among away) (range_with_len 0 7) ++ replicate 7 false;
+    fixed = map (is_among fixed) (range_with_len 0 7) ++ replicate 7 false;
   } ∷ [];
 }
+
+-- these days need a nurse at least, and Ann is absent on those
+abbrev pub needing_without_ann : List ℕ → List ℕ → Meaning
+needing_without_ann days away = of_ann days away []
+
+-- these days of Ann are fixed
+abbrev pub fixing : List ℕ → Meaning
+fixing fixed = of_ann [] [] fixed
 
 -- these days need a nurse at least
 abbrev pub needing : List ℕ → Meaning
@@ -56,6 +65,10 @@ beginning row = take 7 (row ++ free_week)
 -- a nurse is needed from Monday to Friday
 abbrev pub needing_weekdays : Meaning
 needing_weekdays = needing (0 ∷ 1 ∷ 2 ∷ 3 ∷ 4 ∷ [])
+
+-- Ann works on Tuesday alone
+abbrev pub ann_on_tuesday : Rows
+ann_on_tuesday = early_on (1 ∷ []) ∷ free_week ∷ []
 
 -- Bob works on Tuesday alone
 abbrev pub bob_on_tuesday : Rows

@@ -3,8 +3,8 @@
 
 ghost use Rattle.std.specs.Prelude.{◌≡◌, [], ◌∷◌, ◌++◌, Some, None, codes, filter, map, true, false};
 ghost use Rattle.roster_run_examples.specs.Mini.{all_free, ann, bob, early_but, early_on, early_shift, free_week, mini, mini_of_one_shift};
-ghost use Rattle.roster_rules.specs.AllowedRows.{allowed_rows, best_row, penalty_with, row_keeps};
-ghost use Rattle.roster_run_examples.specs.Tight.{after_shift, beginning, bob_on_tuesday, early_as_head, early_first, early_night, early_second, log_text, needing, needing_weekdays, needing_without_ann, night_early, night_first, night_off_early, resting, run_of, shared_week, two_nights, unskilled, with_each_weekend, with_heads};
+ghost use Rattle.roster_rules.specs.AllowedRows.{allowed_rows, best_row, keeps_frozen_days, penalty_with, row_keeps};
+ghost use Rattle.roster_run_examples.specs.Tight.{after_shift, ann_on_tuesday, beginning, bob_on_tuesday, early_as_head, early_first, early_night, early_second, fixing, log_text, needing, needing_weekdays, needing_without_ann, night_early, night_first, night_off_early, resting, run_of, shared_week, two_nights, unskilled, with_each_weekend, with_heads};
 
 /// From Monday to Friday a nurse is needed, and Bob is off: Ann can choose her weekend. The row that is the best without minimums
 /// is not allowed. Where Bob works on Tuesday Ann can be off on that day too.
@@ -62,6 +62,17 @@ pub fn rows_that_absences_exclude()
         ann ≡ [] }
     ensures of_ann_alone { filter (row_keeps (needing_without_ann [] (1 ∷ [])) all_free bob)
         (early_on (1 ∷ []) ∷ early_on (2 ∷ []) ∷ []) ≡ early_on (1 ∷ []) ∷ early_on (2 ∷ []) ∷ [] }
+{}
+
+/// Ann's days but Monday are fixed as days off: she can choose Monday. Where her Tuesday is fixed at work and Sunday is free, she works
+/// on Tuesday in each row. Bob's days are free.
+pub fn rows_that_fixed_days_exclude()
+    ensures days_off { allowed_rows (fixing (1 ∷ 2 ∷ 3 ∷ 4 ∷ 5 ∷ 6 ∷ [])) 0 all_free ann
+        ≡ free_week ∷ early_on (0 ∷ []) ∷ [] }
+    ensures at_work { allowed_rows (fixing (0 ∷ 1 ∷ 2 ∷ 3 ∷ 4 ∷ 5 ∷ [])) 0 ann_on_tuesday ann
+        ≡ early_on (1 ∷ []) ∷ early_on (1 ∷ 6 ∷ []) ∷ [] }
+    ensures of_ann_alone { map (λ n. keeps_frozen_days (fixing (1 ∷ [])) 0 all_free n
+        (early_on (1 ∷ []))) (ann ∷ bob ∷ []) ≡ false ∷ true ∷ [] }
 {}
 
 /// Night forbids Early on the next day, also the night before the first Monday. A head can't work as a nurse. And a row has a choice

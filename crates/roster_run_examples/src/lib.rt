@@ -6,7 +6,8 @@ mod choosing;
 mod rows;
 
 pub use choosing::{
-    rows_that_absences_exclude, rows_that_are_kept, rows_that_minimums_exclude,
-    rows_that_skills_exclude, rows_that_successions_exclude, run_of_three_rounds,
+    rows_that_absences_exclude, rows_that_are_kept, rows_that_fixed_days_exclude,
+    rows_that_minimums_exclude, rows_that_skills_exclude, rows_that_successions_exclude,
+    run_of_three_rounds,
 };
 pub use rows::{log_of_no_rounds, prefixes_of_rows, rows_in_order};

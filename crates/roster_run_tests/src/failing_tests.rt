@@ -29,7 +29,7 @@ const IMPROVED: &str =
     Ann Thu Early Nurse\nAnn Fri Early Nurse\nBob Tue Early Nurse\nBob Sat Early Nurse\n\
     Bob Sun Early Nurse\n";
 
-const ANSWERS: [Answer; 7] = [
+const ANSWERS: [Answer; 8] = [
     Answer {
         name: "show",
         output: SHOWN,
@@ -65,9 +65,15 @@ const ANSWERS: [Answer; 7] = [
         output: IMPROVED,
         log: "start 470\nsettled 0\n",
     },
+    Answer {
+        name: "who",
+        output: "Ann 180 changed 6\nBob 180 changed 6\n",
+        log: "",
+    },
 ];
 
-/// The command of a name: `best` is for Ann, `improve` makes 100 rounds at most, `bound` makes one, and `polish` no search.
+/// The command of a name: `best` is for Ann, `improve` makes 100 rounds at most, `bound` makes one, `polish` no search, and `who`
+/// is for Wednesday's Early.
 fn command_of(alloc: Global, name: &str) -> Result<Command, AllocError> {
     Ok(match name {
         "show" => Command::Show,
@@ -76,17 +82,30 @@ fn command_of(alloc: Global, name: &str) -> Result<Command, AllocError> {
         "best" => Command::Best {
             nurse: String::from_str(alloc, "Ann")?,
             from: 0,
+            keep: 0,
         },
-        "bound" => Command::Bound { rounds: 1, from: 0 },
+        "bound" => Command::Bound {
+            rounds: 1,
+            from: 0,
+            keep: 0,
+        },
         "polish" => Command::Polish {
             searches: Some(0),
             seed: 1,
             from: 0,
             kicks: false,
+            keep: 0,
+        },
+        "who" => Command::Who {
+            day: String::from_str(alloc, "0:Wed")?,
+            shift: String::from_str(alloc, "Early")?,
+            skill: None,
+            from: 0,
         },
         _ => Command::Improve {
             rounds: 100,
             from: 0,
+            keep: 0,
         },
     })
 }

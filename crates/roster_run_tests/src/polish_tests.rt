@@ -43,6 +43,7 @@ fn run_by(alloc: Global, seed: u32, kicks: bool, room: usize) -> Result<(u8, Vec
             seed,
             from: 0,
             kicks,
+            keep: 0,
         },
         files: Vec::new(alloc),
     };

@@ -8,11 +8,11 @@ use Rattle.roster_state.specs.declared.line.LineCosts.{LineCosts}
 
 -- what a day costs at most whatever comes after it, as floors are reckoned
 abbrev pub most_leave : ℕ
-most_leave = 713655274
+most_leave = 713691674
 
 -- a floor is at most that and what the run of a shift misses: within the bound of labels, as the label of a coarser state
 abbrev pub most_floor : ℕ
-most_floor = 714703850
+most_floor = 714740250
 
 -- each floor is within its bound
 abbrev pub AreLow : List ℕ → Type 0

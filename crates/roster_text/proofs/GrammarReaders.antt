@@ -3,11 +3,11 @@ use Rattle.std.proofs.Common.{◌≡◌, ◌<◌, inl, inr, ℕ, zero, suc, true
 use Rattle.std.proofs.lemmas.List.{append-nil}
 use Rattle.std.specs.List.{flat_map}
 use Rattle.std.specs.Str.{bytes_eq}
-use Rattle.roster_bundle.specs.declared.bundle.Absence.{Absence}
 use Rattle.roster_bundle.specs.declared.bundle.Bundle.{Bundle}
 use Rattle.roster_bundle.specs.declared.bundle.History.{History}
 use Rattle.roster_bundle.specs.declared.bundle.Listed.{Listed}
 use Rattle.roster_bundle.specs.declared.bundle.Number.{Number}
+use Rattle.roster_bundle.specs.declared.bundle.NurseDay.{NurseDay}
 use Rattle.roster_bundle.specs.declared.bundle.Request.{Request}
 use Rattle.roster_bundle.specs.declared.bundle.Requirement.{Requirement}
 use Rattle.roster_bundle.specs.declared.bundle.Scenario.{Scenario}
@@ -24,7 +24,7 @@ use Rattle.roster_text.specs.Words.{keyword_text}
 use Rattle.roster_text.specs.Grammar as grammar
 use Rattle.roster_text.specs.Grammar.{Pattern, Fits, fixed, name, number, placed, day, named, small, is_number}
 use Rattle.roster_text.specs.FirstFault.{wants_number}
-use Rattle.roster_text.specs.Reading.{Read, ◌>>=◌, word_at, name_at, number_at, value_at, small_at, day_at, times_at, listed_at, key_at, until_at, pair_at, shift_type_at, succession_at, contract_at, nurse_at, title_at, scenario_at, nurse_history_at, history_at, week_pairs_at, requirement_at, request_at, absence_at, optional_at, week_data_at, assignment_at, solution_at, bundle_at}
+use Rattle.roster_text.specs.Reading.{Read, ◌>>=◌, word_at, name_at, number_at, value_at, small_at, day_at, times_at, listed_at, key_at, until_at, pair_at, shift_type_at, succession_at, contract_at, nurse_at, title_at, scenario_at, nurse_history_at, history_at, week_pairs_at, requirement_at, request_at, nurse_day_at, optional_at, week_data_at, assignment_at, solution_at, bundle_at}
 use Rattle.roster_text.proofs.Readers.{Reader, done_reader, then}
 use Rattle.roster_text.proofs.OneToken.{one_reader, name_one, placed_one, value_one, zero_seen, zero_fits, day_one}
 use Rattle.roster_text.proofs.UntilSection.{Start, LineFrom, Lines, no_equals_name, until_reader}
@@ -221,9 +221,9 @@ request_reader =
     step day_reader (λ b. b.day) (λ day.
     done (record { nurse = nurse; shift = shift; day = day }) (((tt, refl), refl), refl) (λ b v i. record { nurse = v.0.0.1 i; shift = v.0.1 i; day = v.1 i }))))
 
-absence_reader : Reader every grammar.absence absence_at
-unfolding absence_at
-absence_reader =
+nurse_day_reader : Reader every grammar.nurse_day nurse_day_at
+unfolding nurse_day_at
+nurse_day_reader =
     step name_reader (λ b. b.nurse) (λ nurse.
     step day_reader (λ b. b.day) (λ day.
     done (record { nurse = nurse; day = day }) ((tt, refl), refl) (λ b v i. record { nurse = v.0.1 i; day = v.1 i })))
@@ -233,7 +233,7 @@ record BeginsWith (k : Keyword) (ps : List Pattern) : Type 0 where
   rest : List Pattern
   is : ps ≡ fixed (what.Keyword k) (keyword_text k) ∷ rest
 
--- the keywords after a week are none that may begin a section of wishes or of absences
+-- the keywords after a week are none that may begin a section of wishes, of absences or of fixed days
 data FollowsWeek : Keyword → Type 0 where
   solutions : FollowsWeek keyword.Solution
   week : FollowsWeek keyword.WeekData
@@ -246,10 +246,20 @@ no_absences : (k : Keyword) → FollowsWeek k → keyword_text k ≡ keyword_tex
 no_absences _ solutions e = let bad : false ≡ true = ap (λ text. bytes_eq text (codes "SOLUTION")) (sym e) in cc
 no_absences _ week e = cc
 
--- what follows the wishes doesn't begin as they do: absences, or the part after the week
-absences_begin : (after : Keyword) → FollowsWeek after → (o : Option (Listed Absence)) (ps : List Pattern) → BeginsWith after ps
-    → BeginsOther keyword.ShiftOnRequests after (grammar.optional_section keyword.Absences after grammar.absence o ++ ps)
-absences_begin after is None ps begins = record { text = keyword_text after; rest = begins.rest; is = begins.is; other = no_wishes after is }
+no_fixed : (k : Keyword) → FollowsWeek k → keyword_text k ≡ keyword_text keyword.Fixed → ⊥
+no_fixed _ solutions e = cc
+no_fixed _ week e = cc
+
+-- fixed days, or the part after the week, don't begin as a section with another keyword does
+fixed_begin : (k after : Keyword) → (keyword_text keyword.Fixed ≡ keyword_text k → ⊥) → (keyword_text after ≡ keyword_text k → ⊥)
+    → (o : Option (Listed NurseDay)) (ps : List Pattern) → BeginsWith after ps → BeginsOther k after (grammar.optional_section keyword.Fixed after grammar.nurse_day o ++ ps)
+fixed_begin k after not_fixed not_after None ps begins = record { text = keyword_text after; rest = begins.rest; is = begins.is; other = not_after }
+fixed_begin k after not_fixed not_after (Some xs) ps begins = record { text = keyword_text keyword.Fixed; rest = _; is = refl; other = not_fixed }
+
+-- what follows the wishes doesn't begin as they do: absences, or what follows these
+absences_begin : (after : Keyword) → FollowsWeek after → (o : Option (Listed NurseDay)) (ps : List Pattern) → BeginsOther keyword.ShiftOnRequests after ps
+    → BeginsOther keyword.ShiftOnRequests after (grammar.optional_section keyword.Absences after grammar.nurse_day o ++ ps)
+absences_begin after is None ps begins = begins
 absences_begin after is (Some xs) ps begins = record { text = keyword_text keyword.Absences; rest = _; is = refl; other = λ e. cc }
 
 -- a week, and then a part that begins with the keyword after it
@@ -263,11 +273,18 @@ module _ (after : Keyword) (is : FollowsWeek after) {B : Type 0} (V : B → Type
   abbrev IsWished : Token → List Requirement → Listed Request → Option (Listed Request) → B → Type 0
   IsWished scenario requirements off on b = IsAsked scenario requirements off b × ((get b).on_requests ≡ on)
 
-  abbrev week_of : Token → List Requirement → Listed Request → Option (Listed Request) → Option (Listed Absence) → WeekData
-  week_of scenario requirements off on away = record { scenario = scenario; requirements = requirements; off_requests = off; on_requests = on; absences = away }
+  -- and these with the absences
+  abbrev IsAway : Token → List Requirement → Listed Request → Option (Listed Request) → Option (Listed NurseDay) → B → Type 0
+  IsAway scenario requirements off on away b = IsWished scenario requirements off on b × ((get b).absences ≡ away)
+
+  abbrev week_of : Token → List Requirement → Listed Request → Option (Listed Request) → Option (Listed NurseDay) → Option (Listed NurseDay) → WeekData
+  week_of scenario requirements off on away stay = record { scenario = scenario; requirements = requirements; off_requests = off; on_requests = on; absences = away; fixed_days = stay }
+
+  abbrev fixed_of : B → List Pattern
+  fixed_of b = grammar.optional_section keyword.Fixed after grammar.nurse_day (get b).fixed_days ++ patB b
 
   abbrev absences_of : B → List Pattern
-  absences_of b = grammar.optional_section keyword.Absences after grammar.absence (get b).absences ++ patB b
+  absences_of b = grammar.optional_section keyword.Absences after grammar.nurse_day (get b).absences ++ fixed_of b
 
   abbrev by_fields : B → List Pattern
   by_fields b =
@@ -281,39 +298,52 @@ module _ (after : Keyword) (is : FollowsWeek after) {B : Type 0} (V : B → Type
       word_at (what.Keyword keyword.WeekData) (keyword_text keyword.WeekData) ts >>= λ a. name_at a.1 >>= λ scenario.
       word_at (what.Keyword keyword.Requirements) (keyword_text keyword.Requirements) scenario.1 >>= λ b. until_at requirement_at keyword.ShiftOffRequests b.1 >>= λ requirements.
       listed_at request_at requirements.1 >>= λ off. optional_at keyword.ShiftOnRequests request_at off.1 >>= λ on.
-      optional_at keyword.Absences absence_at on.1 >>= λ away.
-      k (week_of scenario.0 requirements.0 off.0 on.0 away.0) away.1
+      optional_at keyword.Absences nurse_day_at on.1 >>= λ away. optional_at keyword.Fixed nurse_day_at away.1 >>= λ stay.
+      k (week_of scenario.0 requirements.0 off.0 on.0 away.0 stay.0) stay.1
+
+  fixed_days : (scenario : Token) (requirements : List Requirement) (off : Listed Request) (on : Option (Listed Request)) (away : Option (Listed NurseDay))
+      → Reader (IsAway scenario requirements off on away) fixed_of
+      (λ ts. optional_at keyword.Fixed nurse_day_at ts >>= λ stay. k (week_of scenario requirements off on away stay.0) stay.1)
+  fixed_days scenario requirements off on away =
+      optional_reader grammar.nurse_day nurse_day_at nurse_day_reader keyword.Fixed after
+      (IsAway scenario requirements off on away) (λ b. (get b).fixed_days) patB (λ stay ts. k (week_of scenario requirements off on away stay) ts)
+      (λ b v. let x = begins b v.0.0.0.0.0 in record { text = keyword_text after; rest = x.rest; is = x.is; other = no_fixed after is })
+      (λ stay. with_fact (λ b. V b × (get b ≡ week_of scenario requirements off on away stay)) (λ b. IsAway scenario requirements off on away b × ((get b).fixed_days ≡ stay)) patB (k (week_of scenario requirements off on away stay))
+      (λ b v. ((((((v.0, λ i. (v.1 i).scenario), λ i. (v.1 i).requirements), λ i. (v.1 i).off_requests), λ i. (v.1 i).on_requests), λ i. (v.1 i).absences), λ i. (v.1 i).fixed_days))
+      (λ b v. (v.0.0.0.0.0.0, λ i. record { scenario = v.0.0.0.0.0.1 i; requirements = v.0.0.0.0.1 i; off_requests = v.0.0.0.1 i; on_requests = v.0.0.1 i; absences = v.0.1 i; fixed_days = v.1 i }))
+      (rest (week_of scenario requirements off on away stay)))
 
   absences : (scenario : Token) (requirements : List Requirement) (off : Listed Request) (on : Option (Listed Request))
       → Reader (IsWished scenario requirements off on) absences_of
-      (λ ts. optional_at keyword.Absences absence_at ts >>= λ away. k (week_of scenario requirements off on away.0) away.1)
+      (λ ts. optional_at keyword.Absences nurse_day_at ts >>= λ away. optional_at keyword.Fixed nurse_day_at away.1 >>= λ stay. k (week_of scenario requirements off on away.0 stay.0) stay.1)
   absences scenario requirements off on =
-      optional_reader grammar.absence absence_at absence_reader keyword.Absences after
-      (IsWished scenario requirements off on) (λ b. (get b).absences) patB (λ away ts. k (week_of scenario requirements off on away) ts)
-      (λ b v. let x = begins b v.0.0.0.0 in record { text = keyword_text after; rest = x.rest; is = x.is; other = no_absences after is })
-      (λ away. with_fact (λ b. V b × (get b ≡ week_of scenario requirements off on away)) (λ b. IsWished scenario requirements off on b × ((get b).absences ≡ away)) patB (k (week_of scenario requirements off on away))
-      (λ b v. (((((v.0, λ i. (v.1 i).scenario), λ i. (v.1 i).requirements), λ i. (v.1 i).off_requests), λ i. (v.1 i).on_requests), λ i. (v.1 i).absences))
-      (λ b v. (v.0.0.0.0.0, λ i. record { scenario = v.0.0.0.0.1 i; requirements = v.0.0.0.1 i; off_requests = v.0.0.1 i; on_requests = v.0.1 i; absences = v.1 i }))
-      (rest (week_of scenario requirements off on away)))
+      optional_reader grammar.nurse_day nurse_day_at nurse_day_reader keyword.Absences after
+      (IsWished scenario requirements off on) (λ b. (get b).absences) fixed_of (λ away ts. optional_at keyword.Fixed nurse_day_at ts >>= λ stay. k (week_of scenario requirements off on away stay.0) stay.1)
+      (λ b v. fixed_begin keyword.Absences after (λ e. cc) (no_absences after is) (get b).fixed_days (patB b) (begins b v.0.0.0.0)) (fixed_days scenario requirements off on)
 
   wishes : (scenario : Token) (requirements : List Requirement) (off : Listed Request)
       → Reader (IsAsked scenario requirements off) (λ b. grammar.optional_section keyword.ShiftOnRequests after grammar.request (get b).on_requests ++ absences_of b)
-      (λ ts. optional_at keyword.ShiftOnRequests request_at ts >>= λ on. optional_at keyword.Absences absence_at on.1 >>= λ away. k (week_of scenario requirements off on.0 away.0) away.1)
+      (λ ts. optional_at keyword.ShiftOnRequests request_at ts >>= λ on. optional_at keyword.Absences nurse_day_at on.1 >>= λ away. optional_at keyword.Fixed nurse_day_at away.1 >>= λ stay.
+      k (week_of scenario requirements off on.0 away.0 stay.0) stay.1)
   wishes scenario requirements off =
       optional_reader grammar.request request_at request_reader keyword.ShiftOnRequests after
-      (IsAsked scenario requirements off) (λ b. (get b).on_requests) absences_of (λ on ts. optional_at keyword.Absences absence_at ts >>= λ away. k (week_of scenario requirements off on away.0) away.1)
-      (λ b v. absences_begin after is (get b).absences (patB b) (begins b v.0.0.0)) (absences scenario requirements off)
+      (IsAsked scenario requirements off) (λ b. (get b).on_requests) absences_of
+      (λ on ts. optional_at keyword.Absences nurse_day_at ts >>= λ away. optional_at keyword.Fixed nurse_day_at away.1 >>= λ stay. k (week_of scenario requirements off on away.0 stay.0) stay.1)
+      (λ b v. absences_begin after is (get b).absences (fixed_of b) (fixed_begin keyword.ShiftOnRequests after (λ e. cc) (no_wishes after is) (get b).fixed_days (patB b) (begins b v.0.0.0)))
+      (absences scenario requirements off)
 
   same_patterns : (b : B) → V b → by_fields b ≡ grammar.week_data after (get b) ++ patB b
   same_patterns b v =
       let lines = grammar.lines_until keyword.ShiftOffRequests what.Name grammar.requirement (get b).requirements in
       let off = grammar.rest_of_section grammar.request (get b).off_requests in
       let on = grammar.optional_section keyword.ShiftOnRequests after grammar.request (get b).on_requests in
-      let away = grammar.optional_section keyword.Absences after grammar.absence (get b).absences in
-      let last : away ++ patB b ≡ (away ++ []) ++ patB b = ap (λ (ps : List Pattern). ps ++ patB b) (sym (append-nil away)) in
-      let one : on ++ (away ++ patB b) ≡ (on ++ (away ++ [])) ++ patB b = ap (λ (ps : List Pattern). on ++ ps) last ∙ sym (append_assoc on (away ++ []) (patB b)) in
-      let two : off ++ (on ++ (away ++ patB b)) ≡ (off ++ (on ++ (away ++ []))) ++ patB b = ap (λ (ps : List Pattern). off ++ ps) one ∙ sym (append_assoc off (on ++ (away ++ [])) (patB b)) in
-      let all : lines ++ (off ++ (on ++ (away ++ patB b))) ≡ (lines ++ (off ++ (on ++ (away ++ [])))) ++ patB b = ap (λ (ps : List Pattern). lines ++ ps) two ∙ sym (append_assoc lines (off ++ (on ++ (away ++ []))) (patB b)) in
+      let away = grammar.optional_section keyword.Absences after grammar.nurse_day (get b).absences in
+      let stay = grammar.optional_section keyword.Fixed after grammar.nurse_day (get b).fixed_days in
+      let last : stay ++ patB b ≡ (stay ++ []) ++ patB b = ap (λ (ps : List Pattern). ps ++ patB b) (sym (append-nil stay)) in
+      let none : away ++ (stay ++ patB b) ≡ (away ++ (stay ++ [])) ++ patB b = ap (λ (ps : List Pattern). away ++ ps) last ∙ sym (append_assoc away (stay ++ []) (patB b)) in
+      let one : on ++ (away ++ (stay ++ patB b)) ≡ (on ++ (away ++ (stay ++ []))) ++ patB b = ap (λ (ps : List Pattern). on ++ ps) none ∙ sym (append_assoc on (away ++ (stay ++ [])) (patB b)) in
+      let two : off ++ (on ++ (away ++ (stay ++ patB b))) ≡ (off ++ (on ++ (away ++ (stay ++ [])))) ++ patB b = ap (λ (ps : List Pattern). off ++ ps) one ∙ sym (append_assoc off (on ++ (away ++ (stay ++ []))) (patB b)) in
+      let all : lines ++ (off ++ (on ++ (away ++ (stay ++ patB b)))) ≡ (lines ++ (off ++ (on ++ (away ++ (stay ++ []))))) ++ patB b = ap (λ (ps : List Pattern). lines ++ ps) two ∙ sym (append_assoc lines (off ++ (on ++ (away ++ (stay ++ [])))) (patB b)) in
       ap (λ (ps : List Pattern). fixed (what.Keyword keyword.WeekData) (keyword_text keyword.WeekData) ∷ name (get b).scenario ∷ fixed (what.Keyword keyword.Requirements) (keyword_text keyword.Requirements) ∷ ps) all
 
   same_read : (ts : List Seen) → field_by_field ts ≡ (week_data_at ts >>= λ x. k x.0 x.1)
@@ -331,8 +361,12 @@ module _ (after : Keyword) (is : FollowsWeek after) {B : Type 0} (V : B → Type
                                 | inl off ↦
                                     elim (outcome (optional_at keyword.ShiftOnRequests request_at off.0.1)) [
                                       | inl on ↦
-                                          elim (outcome (optional_at keyword.Absences absence_at on.0.1)) [
-                                            | inl away ↦ rw (a.1, scenario.1, b.1, requirements.1, off.1, on.1, away.1) refl
+                                          elim (outcome (optional_at keyword.Absences nurse_day_at on.0.1)) [
+                                            | inl away ↦
+                                                elim (outcome (optional_at keyword.Fixed nurse_day_at away.0.1)) [
+                                                  | inl stay ↦ rw (a.1, scenario.1, b.1, requirements.1, off.1, on.1, away.1, stay.1) refl
+                                                  | inr d ↦ rw (a.1, scenario.1, b.1, requirements.1, off.1, on.1, away.1, d.1) refl
+                                                ]
                                             | inr d ↦ rw (a.1, scenario.1, b.1, requirements.1, off.1, on.1, d.1) refl
                                           ]
                                       | inr d ↦ rw (a.1, scenario.1, b.1, requirements.1, off.1, d.1) refl
@@ -367,7 +401,7 @@ later (w ∷ ws) = ws
 
 -- some week
 example : WeekData
-example = record { scenario = name_one.value; requirements = requirements_reader.some.value; off_requests = (listed_reader grammar.request request_at request_reader).some.value; on_requests = None; absences = None }
+example = record { scenario = name_one.value; requirements = requirements_reader.some.value; off_requests = (listed_reader grammar.request request_at request_reader).some.value; on_requests = None; absences = None; fixed_days = None }
 
 no_weeks : (ws : List WeekData) → length ws ≡ 0 → ws ≡ []
 no_weeks [] e = refl

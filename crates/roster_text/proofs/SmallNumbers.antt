@@ -123,7 +123,8 @@ needs_within after w within =
     ∷ grammar.key keyword.Requirements ∷ grammar.lines_until keyword.ShiftOffRequests what.Name grammar.requirement w.requirements
     ∷ grammar.rest_of_section grammar.request w.off_requests
     ∷ grammar.optional_section keyword.ShiftOnRequests after grammar.request w.on_requests
-    ∷ grammar.optional_section keyword.Absences after grammar.absence w.absences ∷ []) within in
+    ∷ grammar.optional_section keyword.Absences after grammar.nurse_day w.absences
+    ∷ grammar.optional_section keyword.Fixed after grammar.nurse_day w.fixed_days ∷ []) within in
     let ended = parts_within (flat_map grammar.requirement w.requirements ∷ (fixed what.Name (keyword_text keyword.ShiftOffRequests) ∷ fixed what.Name (codes "=") ∷ []) ∷ []) each.1.1.1.0 in
     items_within (λ (r : Requirement). AreSmallPairs r.days) grammar.requirement small_requirement w.requirements ended.0
 

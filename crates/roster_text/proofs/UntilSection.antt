@@ -57,6 +57,7 @@ keyword_is_name keyword.Requirements = refl
 keyword_is_name keyword.ShiftOffRequests = refl
 keyword_is_name keyword.ShiftOnRequests = refl
 keyword_is_name keyword.Absences = refl
+keyword_is_name keyword.Fixed = refl
 keyword_is_name keyword.Solution = refl
 keyword_is_name keyword.Assignments = refl
 

@@ -4,7 +4,6 @@ use Rattle.std.specs.Prelude.{◌≡◌, ◌≤◌, ◌⊎◌, ℕ, Bool, true, 
 use Rattle.std.specs.List.{flat_map, list_all}
 use Rattle.std.specs.Char.{is_ascii_digit}
 use Rattle.std.specs.Str.Parse.{digits_value}
-use Rattle.roster_bundle.specs.declared.bundle.Absence.{Absence}
 use Rattle.roster_bundle.specs.declared.bundle.Assignment.{Assignment}
 use Rattle.roster_bundle.specs.declared.bundle.Bundle.{Bundle}
 use Rattle.roster_bundle.specs.declared.bundle.Contract.{Contract}
@@ -12,6 +11,7 @@ use Rattle.roster_bundle.specs.declared.bundle.Day.{Day}
 use Rattle.roster_bundle.specs.declared.bundle.History.{History}
 use Rattle.roster_bundle.specs.declared.bundle.Listed.{Listed}
 use Rattle.roster_bundle.specs.declared.bundle.Nurse.{Nurse}
+use Rattle.roster_bundle.specs.declared.bundle.NurseDay.{NurseDay}
 use Rattle.roster_bundle.specs.declared.bundle.NurseHistory.{NurseHistory}
 use Rattle.roster_bundle.specs.declared.bundle.Request.{Request}
 use Rattle.roster_bundle.specs.declared.bundle.Pair.{Pair}
@@ -172,8 +172,8 @@ requirement r = parts (named r.shift ∷ named r.skill ∷ week_pairs r.days ∷
 abbrev pub request : Request → List Pattern
 request r = parts (named r.nurse ∷ named r.shift ∷ (day r.day ∷ []) ∷ [])
 
-abbrev pub absence : Absence → List Pattern
-absence a = parts (named a.nurse ∷ (day a.day ∷ []) ∷ [])
+abbrev pub nurse_day : NurseDay → List Pattern
+nurse_day a = parts (named a.nurse ∷ (day a.day ∷ []) ∷ [])
 
 -- by the keyword of the part after the week
 abbrev pub week_data : Keyword → WeekData → List Pattern
@@ -182,7 +182,8 @@ week_data after w = parts (
     ∷ key keyword.Requirements ∷ lines_until keyword.ShiftOffRequests what.Name requirement w.requirements
     ∷ rest_of_section request w.off_requests
     ∷ optional_section keyword.ShiftOnRequests after request w.on_requests
-    ∷ optional_section keyword.Absences after absence w.absences ∷ [])
+    ∷ optional_section keyword.Absences after nurse_day w.absences
+    ∷ optional_section keyword.Fixed after nurse_day w.fixed_days ∷ [])
 
 -- the keyword after a week: that of the weeks that follow, or of the solutions
 abbrev pub after_week : List WeekData → Keyword

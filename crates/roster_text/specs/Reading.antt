@@ -3,7 +3,6 @@ use Rattle.std.specs.Prelude.{◌≡◌, ℕ, zero, suc, Bool, false, ◌&&◌, 
 use Rattle.std.specs.List.{find}
 use Rattle.std.specs.Str.{bytes_eq}
 use Rattle.std.specs.Str.Parse.{digits_value}
-use Rattle.roster_bundle.specs.declared.bundle.Absence.{Absence}
 use Rattle.roster_bundle.specs.declared.bundle.Assignment.{Assignment}
 use Rattle.roster_bundle.specs.declared.bundle.Bundle.{Bundle}
 use Rattle.roster_bundle.specs.declared.bundle.Contract.{Contract}
@@ -13,6 +12,7 @@ use Rattle.roster_bundle.specs.declared.bundle.History.{History}
 use Rattle.roster_bundle.specs.declared.bundle.Listed.{Listed}
 use Rattle.roster_bundle.specs.declared.bundle.Number.{Number}
 use Rattle.roster_bundle.specs.declared.bundle.Nurse.{Nurse}
+use Rattle.roster_bundle.specs.declared.bundle.NurseDay.{NurseDay}
 use Rattle.roster_bundle.specs.declared.bundle.NurseHistory.{NurseHistory}
 use Rattle.roster_bundle.specs.declared.bundle.Request.{Request}
 use Rattle.roster_bundle.specs.declared.bundle.Pair.{Pair}
@@ -280,8 +280,8 @@ request_at ts = do
   day ← day_at shift.1
   Ok (record { nurse = nurse.0; shift = shift.0; day = day.0 }, day.1)
 
-unfoldable pub absence_at : List Seen → Read Absence
-absence_at ts = do
+unfoldable pub nurse_day_at : List Seen → Read NurseDay
+nurse_day_at ts = do
   nurse ← name_at ts
   day ← day_at nurse.1
   Ok (record { nurse = nurse.0; day = day.0 }, day.1)
@@ -294,8 +294,9 @@ week_data_at ts = do
   requirements ← until_at requirement_at keyword.ShiftOffRequests b.1
   off ← listed_at request_at requirements.1
   on ← optional_at keyword.ShiftOnRequests request_at off.1
-  absences ← optional_at keyword.Absences absence_at on.1
-  Ok (record { scenario = scenario.0; requirements = requirements.0; off_requests = off.0; on_requests = on.0; absences = absences.0 }, absences.1)
+  absences ← optional_at keyword.Absences nurse_day_at on.1
+  fixed_days ← optional_at keyword.Fixed nurse_day_at absences.1
+  Ok (record { scenario = scenario.0; requirements = requirements.0; off_requests = off.0; on_requests = on.0; absences = absences.0; fixed_days = fixed_days.0 }, fixed_days.1)
 
 -- ---- the solutions
 

@@ -21,6 +21,7 @@ keyword_text keyword.Requirements = codes "REQUIREMENTS"
 keyword_text keyword.ShiftOffRequests = codes "SHIFT_OFF_REQUESTS"
 keyword_text keyword.ShiftOnRequests = codes "SHIFT_ON_REQUESTS"
 keyword_text keyword.Absences = codes "ABSENCES"
+keyword_text keyword.Fixed = codes "FIXED"
 keyword_text keyword.Solution = codes "SOLUTION"
 keyword_text keyword.Assignments = codes "ASSIGNMENTS"
 

@@ -23,6 +23,7 @@ pub enum Keyword {
     ShiftOffRequests,
     ShiftOnRequests,
     Absences,
+    Fixed,
     Solution,
     Assignments,
 }
@@ -49,6 +50,7 @@ impl Keyword {
             Keyword::ShiftOffRequests => "SHIFT_OFF_REQUESTS",
             Keyword::ShiftOnRequests => "SHIFT_ON_REQUESTS",
             Keyword::Absences => "ABSENCES",
+            Keyword::Fixed => "FIXED",
             Keyword::Solution => "SOLUTION",
             Keyword::Assignments => "ASSIGNMENTS",
         }

@@ -20,7 +20,7 @@ pub use parsing::{numbers_are_small, one_bundle, one_first_fault, parse_bundle};
 pub use pieces::{Piece, send_pieces, write_bytes, write_number, write_pieces};
 pub use reading::{MAX_INPUT, read_all};
 pub use roster_bundle::{
-    Absence, Assignment, Bundle, Contract, Day, History, Items, Listed, Number, Nurse,
+    Assignment, Bundle, Contract, Day, History, Items, Listed, Number, Nurse, NurseDay,
     NurseHistory, Pair, Request, Requirement, Scenario, ShiftType, Solution, SolutionView,
     Succession, Token, WeekData, WeekPairs,
 };

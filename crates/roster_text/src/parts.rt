@@ -1,12 +1,12 @@
 //! The parts of the four texts, each read as the grammar says.
 
 ghost use Rattle.std.specs.Prelude.{◌≡◌};
-ghost use Rattle.roster_text.specs.Reading.{Reads, absence_at, assignment_at, bundle_at, contract_at, history_at, nurse_at, nurse_history_at, pair_at, request_at, requirement_at, scenario_at, shift_type_at, solution_at, succession_at, title_at, week_data_at, week_pairs_at};
+ghost use Rattle.roster_text.specs.Reading.{Reads, assignment_at, bundle_at, contract_at, history_at, nurse_at, nurse_day_at, nurse_history_at, pair_at, request_at, requirement_at, scenario_at, shift_type_at, solution_at, succession_at, title_at, week_data_at, week_pairs_at};
 
 use crate::fault::{Keyword, What};
 use crate::parser::{MAX_COUNT, MAX_SMALL, Parse, Parser, Stop};
 use roster_bundle::{
-    Absence, Assignment, Bundle, Contract, History, Number, Nurse, NurseHistory, Pair, Request,
+    Assignment, Bundle, Contract, History, Number, Nurse, NurseDay, NurseHistory, Pair, Request,
     Requirement, Scenario, ShiftType, Solution, Succession, Token, WeekData, WeekPairs,
 };
 
@@ -197,14 +197,14 @@ impl Parse for Request {
     }
 }
 
-impl Parse for Absence {
-    ghost read = { absence_at };
+impl Parse for NurseDay {
+    ghost read = { nurse_day_at };
 
-    #[tactic(auto, unfolding(crate::specs::Reading::absence_at))]
-    fn parse(parser: &mut Parser<'_>) -> Result<Absence, Stop> {
+    #[tactic(auto, unfolding(crate::specs::Reading::nurse_day_at))]
+    fn parse(parser: &mut Parser<'_>) -> Result<NurseDay, Stop> {
         let nurse = parser.name()?;
         let day = parser.day()?;
-        Ok(Absence { nurse, day })
+        Ok(NurseDay { nurse, day })
     }
 }
 
@@ -220,12 +220,14 @@ impl Parse for WeekData {
         let off_requests = parser.listed()?;
         let on_requests = parser.optional_section(Keyword::ShiftOnRequests)?;
         let absences = parser.optional_section(Keyword::Absences)?;
+        let fixed_days = parser.optional_section(Keyword::Fixed)?;
         Ok(WeekData {
             scenario,
             requirements,
             off_requests,
             on_requests,
             absences,
+            fixed_days,
         })
     }
 }

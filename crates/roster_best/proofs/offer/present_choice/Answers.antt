@@ -1,30 +1,26 @@
-use Rattle.std.proofs.Common.{◌∙◌, ap, List, slice_index_or}
-use Rattle.std.proofs.lemmas.Bool.{and_parts}
+use Rattle.std.proofs.Common.{◌≡◌, ◌∙◌, ◌+◌, ◌*◌, ◌++◌, ◌∷◌, [], ap, List, slice_index_or}
 use Rattle.roster_instance.specs.declared.choice.Choice.{Choice}
 use Rattle.roster_instance.specs.declared.choice.Choice.TheVariants.{Off}
 use Rattle.roster_instance.specs.Rosters.{choice_on, row_of}
-use Rattle.roster_rules.specs.HardRules.{may_take}
-use Rattle.roster_laws.specs.OneRow.{others}
-use Rattle.roster_laws.specs.Staffing.{meets, with_choice}
-use Rattle.roster_offers.proofs.OfferLaws.{present_open}
-use Rattle.roster_best.proofs.OfferLemmas.{offer_alone}
+use Rattle.roster_rules.specs.Penalties.{request_cost_on}
+use Rattle.roster_rules.specs.Weights.{staffing_weight}
+use Rattle.roster_offers.specs.declared.offer.Offer.{Offer}
+use Rattle.roster_offers.specs.Offers.{offer_of}
+use Rattle.roster_best.proofs.OfferLemmas.{present_is}
 use Rattle.roster_best.proofs.offer.present_choice.Goals as goal
 
-pub offered-requires-clause-able : goal.offered-requires-clause-able
-offered-requires-clause-able c =
-    let k = c.args.held.now.case in
-    let rows = c.args.held.now.roster in
-    let own : Choice = choice_on (row_of rows c.args.nurse) c.args.day in
-    let is_so = present_open k 0 rows c.args.nurse c.args.day c.keeps_rules.ensures.fits c.keeps_rules.ensures.keeps c.requires.nurse c.requires.day in
-    ap (may_take k c.args.nurse c.args.day) (ap (λ (row : List Choice). choice_on row c.args.day) c.row.ensures.row)
-    ∙ (and_parts (may_take k c.args.nurse c.args.day own) (meets k c.args.day (with_choice (others rows c.args.nurse c.args.day) own)) is_so).0
-
 pub returns : goal.returns
-returns c =
+returns g c =
     let k = c.args.held.now.case in
     let rows = c.args.held.now.roster in
+    let n = c.args.nurse in
+    let d = c.args.day in
+    let now : Choice = choice_on (row_of rows n) d in
+    let choice : Choice = slice_index_or c.row.result.now d Off in
+    let asked_is = c.request_cost-asked.ensures.cost ∙ (λ i. request_cost_on (c.case.ensures i) n d (c.shift.ensures i)) in
+    let same : choice ≡ now = ap (λ (row : List Choice). choice_on row d) c.row.ensures.row in
     record {
-      offer = offer_alone k rows c.args.nurse c.args.day (slice_index_or c.row.result.now c.args.day Off) (choice_on (row_of rows c.args.nurse) c.args.day) c.new-offers.result.items c.push_some.new.offers.items c.offered.result
-          c.push_some.ensures.items c.new-offers.ensures c.offered.ensures (ap (λ (row : List Choice). choice_on row c.args.day) c.row.ensures.row)
-          (present_open k 0 rows c.args.nurse c.args.day c.keeps_rules.ensures.fits c.keeps_rules.ensures.keeps c.requires.nurse c.requires.day);
+      offer = c.push.ensures.items
+          ∙ ap (λ (xs : List Offer). xs ++ (record { choice = choice; price = staffing_weight * c.lacking_by-lack.result.optimum + c.request_cost-asked.result }) ∷ []) c.new-offers.ensures
+          ∙ ap (λ (o : Offer). o ∷ []) (present_is k rows n d choice now c.lacking_by-lack.result.optimum c.request_cost-asked.result same c.lacking_by-lack.ensures.optimum asked_is);
     }

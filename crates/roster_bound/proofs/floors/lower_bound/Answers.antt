@@ -44,7 +44,7 @@ returns-clause-bound c =
     let all : c.loop-nurse.nurse ≡ nurse_count k = omega (arith, c.loop-nurse-test.false, c.loop-nurse.auto.nurse-end, c.nurses-nurse-end.ensures.count) in
     let floors : c.loop-nurse.floors ≡ places_floor k w + sum_below (nurse_count k) f = c.loop-nurse.invariant.so_far ∙ ap (λ m. places_floor k w + sum_below m f) all in
     let earned : c.most_earned.result ≡ nurse_count k * (day_count k * most_worth) = c.most_earned.ensures.all in
-    ap rounded_up (c.saturating_sub-together.ensures ∙ (λ i. floors i - earned i))
+    c.rounded_up.ensures ∙ ap (rounded_up k) (c.saturating_sub.ensures ∙ (λ i. floors i - earned i))
 
 pub returns-clause-below : goal.returns-clause-below
 returns-clause-below c =

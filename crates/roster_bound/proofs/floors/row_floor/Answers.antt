@@ -11,7 +11,7 @@ pub search-cost-requires-clause-offers : goal.search-cost-requires-clause-offers
 search-cost-requires-clause-offers c =
     let k = c.args.terms.now.case.now in
     subst (AreOffers k c.args.nurse) (sym c.as_slice.ensures.value)
-    (can_search k c.args.terms.now.from c.args.terms.now.given.now (worths_of c.args.terms.now.worths.now) c.args.nurse c.requires.row c.offers_of_days.new.offers.items c.offers_of_days.ensures.offers)
+    (can_search k c.args.terms.now.from c.args.terms.now.given.now (worths_of c.args.terms.now.worths.now) c.args.nurse c.requires.row c.offers_of_days.new.offers.items c.offers_of_days.ensures.offers c.keeps_limits.ensures.small.keep)
 
 pub search-cost-requires-clause-some : goal.search-cost-requires-clause-some
 search-cost-requires-clause-some c =

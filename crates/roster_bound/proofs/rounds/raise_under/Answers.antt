@@ -24,15 +24,15 @@ pub returns-in_err-sent-clause-err : goal.returns-in_err-sent-clause-err
 returns-in_err-sent-clause-err g c =
     let p = err_from_is_err_and c.from_residual.result c.from_residual.ensures.1 in
     let b = c.args.base.now in
-    rw (p.1, p.2) (start_breaks g.W.Write.contents b.case.now b.from b.given.now c.args.log.now c.args.rounds c.log_word.new.log c.in_err-sent.field-0.0
-    (subst (λ text. BreaksIn g.W.Write.contents c.args.log.now c.log_word.new.log 0 text c.in_err-sent.field-0.0) (first_text b.case.now b.given.now c.args.total c.requires.total) c.in_err-sent.ensures.err))
+    rw (p.1, p.2) (start_breaks g.W.Write.contents b.case.now b.from b.given.now c.args.log.now c.args.rounds c.log_start.new.log c.in_err-sent.field-0.0
+    (subst (λ text. BreaksIn g.W.Write.contents c.args.log.now c.log_start.new.log 0 text c.in_err-sent.field-0.0) (first_text b.case.now b.given.now c.args.total c.requires.total) c.in_err-sent.ensures.err))
 
 pub loop-rounds_before-init : goal.loop-rounds_before-init
 loop-rounds_before-init g c =
     let b = c.args.base.now in
     record {
-      going = Going-start g.W.Write.contents b.case.now b.from b.given.now c.args.log.now c.log_word.new.log c.in_ok-sent.sent
-          (subst (Sends g.W.Write.contents c.args.log.now c.log_word.new.log 0 c.in_ok-sent.sent) (first_text b.case.now b.given.now c.args.total c.requires.total) c.in_ok-sent.ensures.ok);
+      going = Going-start g.W.Write.contents b.case.now b.from b.given.now c.args.log.now c.log_start.new.log c.in_ok-sent.sent
+          (subst (Sends g.W.Write.contents c.args.log.now c.log_start.new.log 0 c.in_ok-sent.sent) (first_text b.case.now b.given.now c.args.total c.requires.total) c.in_ok-sent.ensures.ok);
       first = λ none. c.begin.ensures.worths;
       below = λ r fits keeps stays. omega arith;
       within = omega arith;

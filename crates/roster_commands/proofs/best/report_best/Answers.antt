@@ -55,8 +55,8 @@ returns-clause-logged g c =
     let case = c.args.instance.case in
     let nurse = c.in-Some.nurse in
     let number = numbered case c.args.name.now nurse c.in-Some.ensures.found in
-    subst (λ n. Stops g.Log.Write.contents c.args.log.now c.put_best_row.new.log (best_log (penalty case c.args.instance.roster) c.args.name.now (penalty case (with_best case c.args.from c.args.instance.roster n)))) number
-    (subst (λ (h : HeldRoster). Stops g.Log.Write.contents c.args.log.now c.put_best_row.new.log (best_log (penalty h.case h.roster) c.args.name.now (penalty h.case (with_best h.case c.args.from h.roster nurse)))) held c.in-Err.ensures.err)
+    subst (λ n. Stops g.Log.Write.contents c.args.log.now c.put_best_row.new.log (best_log case (penalty case c.args.instance.roster) c.args.name.now (penalty case (with_best case c.args.from c.args.instance.roster n)))) number
+    (subst (λ (h : HeldRoster). Stops g.Log.Write.contents c.args.log.now c.put_best_row.new.log (best_log h.case (penalty h.case h.roster) c.args.name.now (penalty h.case (with_best h.case c.args.from h.roster nurse)))) held c.in-Err.ensures.err)
 
 pub returns-in-Ok-put_best_row-clause-ends : goal.returns-in-Ok-put_best_row-clause-ends
 returns-in-Ok-put_best_row-clause-ends g c =
@@ -84,6 +84,6 @@ returns-in-Ok-put_best_row-clause-logged g c =
     let case = c.args.instance.case in
     let nurse = c.in-Some.nurse in
     let number = numbered case c.args.name.now nurse c.in-Some.ensures.found in
-    let writes = subst (λ n. Writes g.Log.Write.contents c.args.log.now c.put_best_row.new.log (best_log (penalty case c.args.instance.roster) c.args.name.now (penalty case (with_best case c.args.from c.args.instance.roster n)))) number
-    (subst (λ (h : HeldRoster). Writes g.Log.Write.contents c.args.log.now c.put_best_row.new.log (best_log (penalty h.case h.roster) c.args.name.now (penalty h.case (with_best h.case c.args.from h.roster nurse)))) held c.in-Ok-put_best_row.ensures.ok) in
+    let writes = subst (λ n. Writes g.Log.Write.contents c.args.log.now c.put_best_row.new.log (best_log case (penalty case c.args.instance.roster) c.args.name.now (penalty case (with_best case c.args.from c.args.instance.roster n)))) number
+    (subst (λ (h : HeldRoster). Writes g.Log.Write.contents c.args.log.now c.put_best_row.new.log (best_log h.case (penalty h.case h.roster) c.args.name.now (penalty h.case (with_best h.case c.args.from h.roster nurse)))) held c.in-Ok-put_best_row.ensures.ok) in
     written_log output log (best_report c.args.name.now c.args.from c.args.instance.case c.args.instance.roster).log _ c.show_weeks.result writes c.show_weeks.ensures.err

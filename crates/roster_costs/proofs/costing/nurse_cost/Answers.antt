@@ -18,4 +18,5 @@ overflow_cast-result c =
       c.totals_cost.ensures.cost,
       c.weekends_cost.ensures.cost,
       c.wish_cost.ensures.cost,
+      c.keep_cost.ensures.cost,
     )

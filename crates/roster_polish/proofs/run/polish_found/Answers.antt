@@ -27,9 +27,9 @@ returns-in_err-sent-clause-err g c =
     let p = err_from_is_err_and c.from_residual.result c.from_residual.ensures.1 in
     let k = c.args.held.now.case in
     let given = c.args.held.now.roster in
-    rw (p.1, p.2) (start_breaks k c.args.course.now.from given c.args.start c.args.course.now.kicks g.W.Write.contents c.args.log.now c.args.course.now.searches c.log_word.new.log c.in_err-sent.field-0.0
+    rw (p.1, p.2) (start_breaks k c.args.course.now.from given c.args.start c.args.course.now.kicks g.W.Write.contents c.args.log.now c.args.course.now.searches c.log_start.new.log c.in_err-sent.field-0.0
     (c.keeps_rules.ensures.fits, c.keeps_rules.ensures.keeps)
-    (subst (λ text. BreaksIn g.W.Write.contents c.args.log.now c.log_word.new.log 0 text c.in_err-sent.field-0.0) (first_text k c.args.start) c.in_err-sent.ensures.err))
+    (subst (λ text. BreaksIn g.W.Write.contents c.args.log.now c.log_start.new.log 0 text c.in_err-sent.field-0.0) (first_text k c.case.result.now c.args.start c.case.ensures) c.in_err-sent.ensures.err))
 
 -- ---- the first settling
 
@@ -90,8 +90,8 @@ no_dearer g c =
     (subst (λ (m : Meaning). penalty m next ≤ penalty m c.settle_first-settled.new.held.roster) c.settle_first-settled.ensures.case c.try_fade.ensures.no_dearer)
 
 -- the log's first line is sent
-begun_log : (g : given.Over) (c : After-try_fade g) → Sends g.W.Write.contents c.args.log.now c.log_word.new.log 0 c.in_ok-sent.sent (kicks_text c.args.held.now.case c.args.start None [])
-begun_log g c = subst (Sends g.W.Write.contents c.args.log.now c.log_word.new.log 0 c.in_ok-sent.sent) (first_text c.args.held.now.case c.args.start) c.in_ok-sent.ensures.ok
+begun_log : (g : given.Over) (c : After-try_fade g) → Sends g.W.Write.contents c.args.log.now c.log_start.new.log 0 c.in_ok-sent.sent (kicks_text c.args.held.now.case c.args.start None [])
+begun_log g c = subst (Sends g.W.Write.contents c.args.log.now c.log_start.new.log 0 c.in_ok-sent.sent) (first_text c.args.held.now.case c.case.result.now c.args.start c.case.ensures) c.in_ok-sent.ensures.ok
 
 -- a fade that stayed was not ruled out, and its roster may be kept
 fades : (g : given.Over) (c : After-try_fade g) → c.try_fade.result ≡ true → c.args.course.now.kicks ≡ true → ⊥
@@ -121,9 +121,9 @@ returns-in_err-sent-2-clause-err g c =
     let k = c.args.held.now.case in
     let next = c.try_fade.new.held.roster in
     let total : c.total.result ≡ penalty k next = c.total.ensures.total ∙ ap (λ (m : Meaning). penalty m next) (case_is g at) in
-    rw (p.1, p.2) (fade_breaks k c.args.course.now.from c.args.held.now.roster c.args.start c.args.course.now.kicks g.W.Write.contents c.args.log.now c.log_word.new.log c.in_ok-sent.sent (begun_log g at) next (fades g at c.if-try_fade.true)
-    (faded g at c.if-try_fade.true c.keeps_rules-then-try_fade.ensures.fits c.keeps_rules-then-try_fade.ensures.keeps) c.args.course.now.searches c.log_word-then-try_fade.new.log c.in_err-sent-2.field-0.0
-    (subst (λ n. BreaksIn g.W.Write.contents c.log_word.new.log c.log_word-then-try_fade.new.log c.in_ok-sent.sent (line (codes "fade") n) c.in_err-sent-2.field-0.0) total c.in_err-sent-2.ensures.err))
+    rw (p.1, p.2) (fade_breaks k c.args.course.now.from c.args.held.now.roster c.args.start c.args.course.now.kicks g.W.Write.contents c.args.log.now c.log_start.new.log c.in_ok-sent.sent (begun_log g at) next (fades g at c.if-try_fade.true)
+    (faded g at c.if-try_fade.true c.keeps_rules-then-try_fade.ensures.fits c.keeps_rules-then-try_fade.ensures.keeps) c.args.course.now.searches c.log_word.new.log c.in_err-sent-2.field-0.0
+    (subst (λ n. BreaksIn g.W.Write.contents c.log_start.new.log c.log_word.new.log c.in_ok-sent.sent (line (codes "fade") n) c.in_err-sent-2.field-0.0) total c.in_err-sent-2.ensures.err))
 
 pub loop-kicks_before-init : goal.loop-kicks_before-init
 loop-kicks_before-init g c =
@@ -142,11 +142,11 @@ loop-kicks_before-init g c =
       going = elim c.if-try_fade.branch [
         | then-try_fade+in_ok-sent-2 w ↦ (
             let total : w.total.result ≡ penalty k next = w.total.ensures.total ∙ ap (λ (m : Meaning). penalty m next) (case_is g at) in
-            rw (w.log-is, w.sent-is, w.settled-is) (underway_faded k from start c.args.start alone g.W.Write.contents c.args.log.now c.log_word.new.log c.in_ok-sent.sent (begun_log g at) next (fades g at w.if-try_fade.true)
-            (faded g at w.if-try_fade.true w.keeps_rules-then-try_fade.ensures.fits w.keeps_rules-then-try_fade.ensures.keeps) w.log_word-then-try_fade.new.log w.in_ok-sent-2.sent
-            (subst (λ n. Sends g.W.Write.contents c.log_word.new.log w.log_word-then-try_fade.new.log c.in_ok-sent.sent w.in_ok-sent-2.sent (line (codes "fade") n)) total w.in_ok-sent-2.ensures.ok)))
+            rw (w.log-is, w.sent-is, w.settled-is) (underway_faded k from start c.args.start alone g.W.Write.contents c.args.log.now c.log_start.new.log c.in_ok-sent.sent (begun_log g at) next (fades g at w.if-try_fade.true)
+            (faded g at w.if-try_fade.true w.keeps_rules-then-try_fade.ensures.fits w.keeps_rules-then-try_fade.ensures.keeps) w.log_word.new.log w.in_ok-sent-2.sent
+            (subst (λ n. Sends g.W.Write.contents c.log_start.new.log w.log_word.new.log c.in_ok-sent.sent w.in_ok-sent-2.sent (line (codes "fade") n)) total w.in_ok-sent-2.ensures.ok)))
         | else-try_fade w ↦
-            rw (w.log-is, w.sent-is, w.settled-is, f.back w.if-try_fade.false, told.roster, told.settled) (underway_first k from start c.args.start alone g.W.Write.contents c.args.log.now c.log_word.new.log c.in_ok-sent.sent (begun_log g at))
+            rw (w.log-is, w.sent-is, w.settled-is, f.back w.if-try_fade.false, told.roster, told.settled) (underway_first k from start c.args.start alone g.W.Write.contents c.args.log.now c.log_start.new.log c.in_ok-sent.sent (begun_log g at))
       ];
       from = f.from ∙ c.begin-kicking.ensures.from;
       counted = omega (

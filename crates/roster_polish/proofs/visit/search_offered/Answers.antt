@@ -8,7 +8,7 @@ use Rattle.roster_polish.proofs.visit.search_offered.Goals.{After-offers}
 pub search_offers-cost-requires-clause-offers : goal.search_offers-cost-requires-clause-offers
 search_offers-cost-requires-clause-offers c =
     let t = c.args.terms.now in
-    can_search t.case.now t.from t.given.now (worths_of t.worths.now) c.args.nurse c.requires.own c.args.workspace.now.offers c.requires.offers
+    can_search t.case.now t.from t.given.now (worths_of t.worths.now) c.args.nurse c.requires.own c.args.workspace.now.offers c.requires.offers c.keeps_limits.ensures.small.keep
 
 pub search_offers-cost-requires-clause-some : goal.search_offers-cost-requires-clause-some
 search_offers-cost-requires-clause-some c =
@@ -23,7 +23,7 @@ pub remember-requires-clause-offers : goal.remember-requires-clause-offers
 remember-requires-clause-offers c =
     let t = c.args.terms.now in
     subst (AreOffers t.case.now c.args.nurse) (sym (those (goal.at.remember-requires-clause-offers c).After-offers))
-    (can_search t.case.now t.from t.given.now (worths_of t.worths.now) c.args.nurse c.requires.own c.args.workspace.now.offers c.requires.offers)
+    (can_search t.case.now t.from t.given.now (worths_of t.worths.now) c.args.nurse c.requires.own c.args.workspace.now.offers c.requires.offers c.keeps_limits.ensures.small.keep)
 
 pub returns-clause-row : goal.returns-clause-row
 returns-clause-row c =

@@ -1,9 +1,9 @@
 use Rattle.std.proofs.Common.{codes}
 use Rattle.clap.specs.Words.{App, with_rule}
-use Rattle.roster_request.specs.CommandLine.{files_rule, from_rule, searching}
+use Rattle.roster_request.specs.CommandLine.{files_rule, from_rule, keep_rule, searching}
 use Rattle.roster_request.proofs.CommandLineLemmas.{made_by}
 use Rattle.roster_request.proofs.program.plan_command.Goals as goal
 
 pub returns : goal.returns
 returns c =
-    made_by (λ (a : App). with_rule (with_rule a from_rule) files_rule) (searching (codes "plan")) c.searching_command-searching.result c.with_weeks.result c.searching_command-searching.ensures c.with_weeks.ensures
+    made_by (λ (a : App). with_rule (with_rule (with_rule a from_rule) keep_rule) files_rule) (searching (codes "plan")) c.searching_command-searching.result c.with_weeks.result c.searching_command-searching.ensures c.with_weeks.ensures

@@ -1,6 +1,6 @@
 use Rattle.std.proofs.Common.{codes}
 use Rattle.clap.specs.Words.{App, with_rule}
-use Rattle.roster_request.specs.CommandLine.{files_rule, from_rule, kicks_rule, searching}
+use Rattle.roster_request.specs.CommandLine.{files_rule, from_rule, keep_rule, kicks_rule, searching}
 use Rattle.roster_request.proofs.CommandLineLemmas.{made_by}
 use Rattle.roster_request.proofs.program.polish_command.Goals as goal
 
@@ -8,4 +8,4 @@ pub returns : goal.returns
 returns c =
     let before = searching (codes "polish") in
     let with_kicks = made_by (λ (a : App). with_rule a kicks_rule) before c.searching_command-searching.result c.with_kicks.result c.searching_command-searching.ensures c.with_kicks.ensures in
-    made_by (λ (a : App). with_rule (with_rule a from_rule) files_rule) (with_rule before kicks_rule) c.with_kicks.result c.with_weeks.result with_kicks c.with_weeks.ensures
+    made_by (λ (a : App). with_rule (with_rule (with_rule a from_rule) keep_rule) files_rule) (with_rule before kicks_rule) c.with_kicks.result c.with_weeks.result with_kicks c.with_weeks.ensures

@@ -1,8 +1,8 @@
 use Rattle.std.proofs.Common.{inl, inr}
 use Rattle.roster_request.proofs.words.command_in.Goals as goal
 
-pub given_nurse-requires : goal.given_nurse-requires
-given_nurse-requires c = c.requires.nurse c.in-best.is
+pub given_text-requires : goal.given_text-requires
+given_text-requires c = c.requires.nurse (inl c.in-best.is)
 
 pub from_of-requires : goal.from_of-requires
 from_of-requires c = c.requires.from (inl c.in-best.is)
@@ -11,13 +11,13 @@ pub rounds_of-requires : goal.rounds_of-requires
 rounds_of-requires c = c.requires.rounds (inl c.in-improve.is)
 
 pub from_of-requires-in-improve : goal.from_of-requires-in-improve
-from_of-requires-in-improve c = c.requires.from (inr (inr (inr (inl c.in-improve.is))))
+from_of-requires-in-improve c = c.requires.from (inr (inr (inr (inr (inl c.in-improve.is)))))
 
 pub rounds_of-requires-in-bound : goal.rounds_of-requires-in-bound
 rounds_of-requires-in-bound c = c.requires.rounds (inr (inl c.in-bound.is))
 
 pub from_of-requires-in-bound : goal.from_of-requires-in-bound
-from_of-requires-in-bound c = c.requires.from (inr (inr (inr (inr (inl c.in-bound.is)))))
+from_of-requires-in-bound c = c.requires.from (inr (inr (inr (inr (inr (inl c.in-bound.is))))))
 
 pub searches_of-requires : goal.searches_of-requires
 searches_of-requires c = c.requires.searches (inl c.in-polish.is)
@@ -36,3 +36,27 @@ seed_of-requires-in-plan c = c.requires.seed (inr (inl c.in-plan.is))
 
 pub from_of-requires-in-plan : goal.from_of-requires-in-plan
 from_of-requires-in-plan c = c.requires.from (inr (inr (inl c.in-plan.is)))
+
+pub keep_of-requires : goal.keep_of-requires
+keep_of-requires c = c.requires.keep (inl c.in-best.is)
+
+pub keep_of-requires-in-improve : goal.keep_of-requires-in-improve
+keep_of-requires-in-improve c = c.requires.keep (inr (inr (inr (inl c.in-improve.is))))
+
+pub keep_of-requires-in-bound : goal.keep_of-requires-in-bound
+keep_of-requires-in-bound c = c.requires.keep (inr (inr (inr (inr (inl c.in-bound.is)))))
+
+pub keep_of-requires-in-polish : goal.keep_of-requires-in-polish
+keep_of-requires-in-polish c = c.requires.keep (inr (inl c.in-polish.is))
+
+pub keep_of-requires-in-plan : goal.keep_of-requires-in-plan
+keep_of-requires-in-plan c = c.requires.keep (inr (inr (inl c.in-plan.is)))
+
+pub given_text-requires-in-who : goal.given_text-requires-in-who
+given_text-requires-in-who c = c.requires.day (inl c.in-who.is)
+
+pub given_text-requires-in-who-2 : goal.given_text-requires-in-who-2
+given_text-requires-in-who-2 c = c.requires.shift (inl c.in-who.is)
+
+pub from_of-requires-in-who : goal.from_of-requires-in-who
+from_of-requires-in-who c = c.requires.from (inr (inr (inr (inl c.in-who.is))))

@@ -1,13 +1,13 @@
-use Rattle.std.proofs.Common.{◌≡◌, ◌∙◌, List, [], Option, ap, map, refl, subst, sym, true, Result, Ok, Err}
+use Rattle.std.proofs.Common.{◌≡◌, ◌∙◌, List, [], Option, ap, codes, map, refl, subst, sym, true, Result, Ok, Err}
 use Rattle.std.specs.Prelude.{IfOk, IsSomeAnd, OnOk}
 use Rattle.std.proofs.lemmas.Result.{IfErr-weaker}
 use Rattle.clap.specs.Simple.{HasMatchesOf}
 use Rattle.clap.specs.Words.{App, HasKind, Row, Text, fault_of, is_simple, is_simple_and_free, kind_of, subcommand_of, subcommand_rows_of, takes}
 use Rattle.clap.specs.declared.parser.matches.ArgMatches.{ArgMatches}
-use Rattle.roster_request.specs.CommandLine.{HasFrom, HasNurse, HasRounds, HasSearches, HasSeed, HasText, IsAskedIn, IsNameOf, Meets, Refuses, commands, program, with_from, with_rounds, with_searches}
+use Rattle.roster_request.specs.CommandLine.{HasFrom, HasKeep, HasRounds, HasSearches, HasSeed, HasText, IsAskedIn, IsGiven, IsNameOf, Meets, Refuses, commands, program, with_assignment, with_from, with_keep, with_nurse, with_rounds, with_searches}
 use Rattle.roster_request.proofs.CommandLineLemmas.{meets_command, refuses}
-use Rattle.roster_request.proofs.NumberLemmas.{meets_from, meets_rounds, meets_searches, meets_seed}
-use Rattle.roster_request.proofs.NurseLemmas.{meets_nurse}
+use Rattle.roster_request.proofs.NumberLemmas.{meets_from, meets_keep, meets_rounds, meets_searches, meets_seed}
+use Rattle.roster_request.proofs.NurseLemmas.{meets_day, meets_nurse, meets_shift}
 use Rattle.roster_request.proofs.words.request_of.Goals as goal
 
 simple : is_simple program ≡ true
@@ -34,7 +34,15 @@ request_in-requires-clause-met g c =
 
 pub request_in-requires-clause-nurse : goal.request_in-requires-clause-nurse
 request_in-requires-clause-nurse g c =
-    holds_of_matches HasNurse (map g.S.AsStr.text c.args.words.now) _ c.in-Ok.matches c.in_ok-program.ensures c.in-Ok.ensures.matches c.in-Ok.ensures.kinds meets_nurse
+    holds_of_matches (Meets with_nurse (IsGiven (codes "nurse"))) (map g.S.AsStr.text c.args.words.now) _ c.in-Ok.matches c.in_ok-program.ensures c.in-Ok.ensures.matches c.in-Ok.ensures.kinds meets_nurse
+
+pub request_in-requires-clause-day : goal.request_in-requires-clause-day
+request_in-requires-clause-day g c =
+    holds_of_matches (Meets with_assignment (IsGiven (codes "day"))) (map g.S.AsStr.text c.args.words.now) _ c.in-Ok.matches c.in_ok-program.ensures c.in-Ok.ensures.matches c.in-Ok.ensures.kinds meets_day
+
+pub request_in-requires-clause-shift : goal.request_in-requires-clause-shift
+request_in-requires-clause-shift g c =
+    holds_of_matches (Meets with_assignment (IsGiven (codes "shift"))) (map g.S.AsStr.text c.args.words.now) _ c.in-Ok.matches c.in_ok-program.ensures c.in-Ok.ensures.matches c.in-Ok.ensures.kinds meets_shift
 
 pub request_in-requires-clause-rounds : goal.request_in-requires-clause-rounds
 request_in-requires-clause-rounds g c =
@@ -51,6 +59,10 @@ request_in-requires-clause-seed g c =
 pub request_in-requires-clause-from : goal.request_in-requires-clause-from
 request_in-requires-clause-from g c =
     holds_of_matches (Meets with_from HasFrom) (map g.S.AsStr.text c.args.words.now) _ c.in-Ok.matches c.in_ok-program.ensures c.in-Ok.ensures.matches c.in-Ok.ensures.kinds meets_from
+
+pub request_in-requires-clause-keep : goal.request_in-requires-clause-keep
+request_in-requires-clause-keep g c =
+    holds_of_matches (Meets with_keep HasKeep) (map g.S.AsStr.text c.args.words.now) _ c.in-Ok.matches c.in_ok-program.ensures c.in-Ok.ensures.matches c.in-Ok.ensures.kinds meets_keep
 
 pub returns-in-Ok-clause-request : goal.returns-in-Ok-clause-request
 returns-in-Ok-clause-request g c =

@@ -37,21 +37,21 @@ ready g c = subst (λ (m : Meaning). g.S.Steps.IsReady m c.make_round.new.steps)
 pub returns-in_err-sent-clause-err : goal.returns-in_err-sent-clause-err
 returns-in_err-sent-clause-err g c =
     let p = err_from_is_err_and c.from_residual.result c.from_residual.ensures.1 in
-    let line = start_line c.args.held.now.case c.args.held.now.roster c.total.result c.total.ensures.total in
-    rw (p.1, p.2) (start_breaks g.W.Write.contents c.args.held.now.case (best_row c.args.held.now.case c.args.from) c.args.rounds c.args.held.now.roster c.args.log.now c.log_word.new.log c.in_err-sent.field-0.0
-    (subst (λ text. BreaksIn g.W.Write.contents c.args.log.now c.log_word.new.log 0 text c.in_err-sent.field-0.0) line c.in_err-sent.ensures.err))
+    let line = start_line c.args.held.now.case c.case.result.now c.args.held.now.roster c.total.result c.case.ensures c.total.ensures.total in
+    rw (p.1, p.2) (start_breaks g.W.Write.contents c.args.held.now.case (best_row c.args.held.now.case c.args.from) c.args.rounds c.args.held.now.roster c.args.log.now c.log_start.new.log c.in_err-sent.field-0.0
+    (subst (λ text. BreaksIn g.W.Write.contents c.args.log.now c.log_start.new.log 0 text c.in_err-sent.field-0.0) line c.in_err-sent.ensures.err))
 
 pub loop-rounds_before-init : goal.loop-rounds_before-init
 loop-rounds_before-init g c =
-    let line = start_line c.args.held.now.case c.args.held.now.roster c.total.result c.total.ensures.total in
+    let line = start_line c.args.held.now.case c.case.result.now c.args.held.now.roster c.total.result c.case.ensures c.total.ensures.total in
     record {
       case_is = refl;
       counted = omega arith;
       frozen = stays_self c.args.held.now.case c.args.from c.args.held.now.roster;
       same_room = same_self _;
       ready = c.requires.ready;
-      going = Going-start g.W.Write.contents c.args.held.now.case (best_row c.args.held.now.case c.args.from) c.args.rounds c.args.held.now.roster c.args.log.now c.log_word.new.log c.in_ok-sent.sent
-          (subst (Sends g.W.Write.contents c.args.log.now c.log_word.new.log 0 c.in_ok-sent.sent) line c.in_ok-sent.ensures.ok);
+      going = Going-start g.W.Write.contents c.args.held.now.case (best_row c.args.held.now.case c.args.from) c.args.rounds c.args.held.now.roster c.args.log.now c.log_start.new.log c.in_ok-sent.sent
+          (subst (Sends g.W.Write.contents c.args.log.now c.log_start.new.log 0 c.in_ok-sent.sent) line c.in_ok-sent.ensures.ok);
     }
 
 pub returns-in_err-made-clause-err : goal.returns-in_err-made-clause-err
@@ -75,9 +75,9 @@ returns-in_err-log_word-clause-err g c =
     let made = c.in_ok-made.made in
     let round = made_is g (goal.at.returns-in_err-log_word-clause-err g c).In_ok-made in
     let line = settled_line case next c.total-total.result (c.total-total.ensures.total ∙ ap (λ (m : Meaning). penalty m next) (c.make_round.ensures.case ∙ l.invariant.case_is)) in
-    rw (p.1, p.2) (settled_breaks contents case (best_row case c.args.from) c.args.rounds c.args.held.now.roster c.args.log.now now next l.log c.make_round.new.log c.log_word-then-made-eq0.new.log l.sent made.sent l.changes l.rounds_before
+    rw (p.1, p.2) (settled_breaks contents case (best_row case c.args.from) c.args.rounds c.args.held.now.roster c.args.log.now now next l.log c.make_round.new.log c.log_word.new.log l.sent made.sent l.changes l.rounds_before
     made.changes c.in_err-log_word.field-0.0 l.invariant.going c.loop-rounds_before-test.true round c.if-made-eq0.true
-    (subst (λ text. BreaksIn contents c.make_round.new.log c.log_word-then-made-eq0.new.log made.sent text c.in_err-log_word.field-0.0) line c.in_err-log_word.ensures.err))
+    (subst (λ text. BreaksIn contents c.make_round.new.log c.log_word.new.log made.sent text c.in_err-log_word.field-0.0) line c.in_err-log_word.ensures.err))
 
 pub returns-then-made-eq0-clause-ok : goal.returns-then-made-eq0-clause-ok
 returns-then-made-eq0-clause-ok g c =
@@ -89,9 +89,9 @@ returns-then-made-eq0-clause-ok g c =
     let made = c.in_ok-made.made in
     let round = made_is g (goal.at.returns-then-made-eq0-clause-ok g c).In_ok-made in
     let total = c.total-total.ensures.total ∙ ap (λ (m : Meaning). penalty m next) (c.make_round.ensures.case ∙ l.invariant.case_is) in
-    Going-settled contents case (best_row case c.args.from) c.args.rounds c.args.held.now.roster c.args.log.now now next l.log c.make_round.new.log c.log_word-then-made-eq0.new.log l.sent made.sent c.in_ok-log_word.field-0 l.changes
+    Going-settled contents case (best_row case c.args.from) c.args.rounds c.args.held.now.roster c.args.log.now now next l.log c.make_round.new.log c.log_word.new.log l.sent made.sent c.in_ok-log_word.field-0 l.changes
     l.rounds_before made.changes c.total-total.result l.invariant.going c.loop-rounds_before-test.true round c.if-made-eq0.true total
-    (subst (Sends contents c.make_round.new.log c.log_word-then-made-eq0.new.log made.sent c.in_ok-log_word.field-0) (settled_line case next c.total-total.result total) c.in_ok-log_word.ensures.ok)
+    (subst (Sends contents c.make_round.new.log c.log_word.new.log made.sent c.in_ok-log_word.field-0) (settled_line case next c.total-total.result total) c.in_ok-log_word.ensures.ok)
 
 pub loop-rounds_before-preserved : goal.loop-rounds_before-preserved
 loop-rounds_before-preserved g c =

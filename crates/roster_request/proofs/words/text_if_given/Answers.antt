@@ -1,0 +1,11 @@
+use Rattle.std.proofs.Common.{◌∙◌, List, None, Some, ap, option_map, sym, ℕ}
+use Rattle.std.specs.Borrow.{Bor}
+use Rattle.clap.specs.Words.{found_of}
+use Rattle.clap.proofs.WalkLemmas.{first_value-rows}
+use Rattle.roster_request.proofs.words.text_if_given.Goals as goal
+
+pub returns-in-None : goal.returns-in-None
+returns-in-None c = sym (first_value-rows (found_of c.args.given.now) c.args.name.now) ∙ sym c.in-None.ensures
+
+pub returns-in_ok-from_str-in-Some : goal.returns-in_ok-from_str-in-Some
+returns-in_ok-from_str-in-Some c = sym (first_value-rows (found_of c.args.given.now) c.args.name.now) ∙ sym c.in-Some.ensures ∙ ap (λ x. Some x) (sym c.in_ok-from_str-in-Some.ensures.ok)

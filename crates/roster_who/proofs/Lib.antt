@@ -1,0 +1,8 @@
+pub mod WayLemmas
+pub mod PlaceLemmas
+pub mod RowLemmas
+pub mod TakingLemmas
+pub mod TakerLemmas
+pub mod OrderLemmas
+pub mod LawLemmas
+pub mod HereLemmas

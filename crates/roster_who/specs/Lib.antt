@@ -1,0 +1,3 @@
+pub mod Who
+pub mod Ways
+pub mod Offers

@@ -1,0 +1,84 @@
+//! Whether a row leads through the offers of all days.
+
+ghost use Rattle.std.specs.Prelude.{◌≡◌, ◌+◌, ◌<◌, ◌≤◌, ◌&&◌, ℕ, All, List, false, not, length, slice_index_or};
+ghost use Rattle.roster_instance.specs.Choices.{shift_of};
+ghost use Rattle.roster_instance.specs.Limits.{most_shifts};
+ghost use Rattle.roster_instance.specs.Meaning.{day_count, forbids, last_shift, nurse_count, past_of, shift_count};
+ghost use Rattle.roster_offers.specs.Lists.{offers_on};
+ghost use Rattle.roster_offers.specs.declared.offer.Offer.{Offer};
+ghost use Rattle.roster_who.specs.Ways.{goes_on, last_at, last_place, leads_on};
+
+use arrayvec::ArrayVec;
+use roster_offers::{MOST_OFFERS, Offer};
+use roster_rules::{Case, Choice, Shift, last_shift};
+
+/// For each last shift, none first, whether a row goes on from a day to the end.
+type Ways = [bool; MOST_OFFERS];
+
+/// Whether a row leads through the offers of all days after the nurse's history: no shift of it is forbidden by the one before.
+pub(crate) fn leads_through(
+    case: &Case,
+    nurse: usize,
+    offers: &[ArrayVec<Offer, MOST_OFFERS>],
+) -> bool
+    requires days { length offers.now ≡ day_count case.now }
+    requires places { (d : ℕ) → d < day_count case.now →
+        All (λ offer. last_place (shift_of offer.choice) < 1 + most_shifts) (offers_on offers.now d) }
+    ensures { result ≡ leads_on case.now (offers_on offers.now) (day_count case.now) 0
+        (last_shift (past_of case.now nurse).border) }
+{
+    case.keeps_limits();
+    let mut ways = [true; MOST_OFFERS];
+    let days = offers.len();
+    for after in 0..days {
+        let day = days - 1 - after;
+        ways = ways_before(case, offers[day].as_slice(), &ways);
+    }
+    ways[last_place(last_shift(case.past(nurse).border))]
+}
+
+/// The ways before a day, by its offers and the ways after it.
+fn ways_before(case: &Case, offers: &[Offer], after: &Ways) -> Ways
+    requires { All (λ offer. last_place (shift_of offer.choice) < 1 + most_shifts) offers.now }
+    ensures { (at : ℕ) → at < 1 + most_shifts → slice_index_or result at false
+        ≡ goes_on case.now offers.now after.now (last_at at) }
+{
+    let mut ways = [false; MOST_OFFERS];
+    for place in 0..MOST_OFFERS {
+        ways[place] = goes_on(case, last_at(place), offers, after);
+    }
+    ways
+}
+
+/// Whether a row goes on after a last shift by one of the offers.
+fn goes_on(case: &Case, last: Option<Shift>, offers: &[Offer], after: &Ways) -> bool
+    requires { All (λ offer. last_place (shift_of offer.choice) < 1 + most_shifts) offers.now }
+    ensures { result ≡ goes_on case.now offers.now after.now last }
+{
+    for offer in offers {
+        let shift = offer.choice.shift();
+        if !case.forbids_next(last, shift) && after[last_place(shift)] {
+            return true;
+        }
+    }
+    false
+}
+
+fn last_place(last: Option<Shift>) -> usize
+    ensures { result ≡ last_place last }
+{
+    match last {
+        None => 0,
+        Some(shift) => shift.0 as usize + 1,
+    }
+}
+
+fn last_at(place: usize) -> Option<Shift>
+    requires { place < 1 + most_shifts }
+    ensures { result ≡ last_at place }
+{
+    if place == 0 {
+        return None;
+    }
+    Some(Shift((place - 1) as u8))
+}

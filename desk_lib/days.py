@@ -1,0 +1,81 @@
+"""Days as words name them, everywhere in the desk: the week and the weekday, as 0:Mon; all from one day to another, as 0:Mon..0:Wed;
+several one after another. Where the first Monday is known, a day may be its date."""
+import collections.abc
+import datetime
+import re
+
+from desk_lib.grammar import DAY_OF, DAYS
+from desk_lib.texts import DeskError, plural, shown
+
+DAY, DATE = re.compile(rb"(\d{1,3}):([A-Za-z]+)"), re.compile(rb"\d{4}-.*", re.S)
+# What stands between the first day and the last of several.
+TO = b".."
+
+
+def day_name(day: int) -> str:
+    return DAYS[day % 7].decode()
+
+
+def day_place(day: int) -> str:
+    return f"week {day // 7} {day_name(day)}"
+
+
+def day_word(day: int) -> str:
+    """The word that names a day."""
+    return f"{day // 7}:{day_name(day)}"
+
+
+def date_in(word: str) -> datetime.date:
+    """The date that a word names."""
+    try:
+        return datetime.date.fromisoformat(word)
+    except ValueError:
+        raise DeskError(f"'{shown(word)}' is no date, as 2026-11-02", 2) from None
+
+
+def monday_in(word: str) -> datetime.date:
+    """The Monday that a word names."""
+    date = date_in(word)
+    if date.weekday():
+        monday = date - datetime.timedelta(date.weekday())
+        raise DeskError(f"{word} is no Monday, on which weeks begin; that of its week is {monday}", 2)
+    return date
+
+
+def is_day(word: bytes) -> bool:
+    """Whether a word has the form of days."""
+    return all(DAY.fullmatch(it) or DATE.fullmatch(it) for it in word.split(TO))
+
+
+def day_of(word: bytes, start: datetime.date | None) -> int:
+    """The day that a word names, whether the scenario has it or not."""
+    told = DAY.fullmatch(word)
+    if told and told[2] in DAY_OF:
+        return 7 * int(told[1]) + DAY_OF[told[2]]
+    if start and DATE.fullmatch(word):
+        return (date_in(shown(word)) - start).days
+    raise DeskError(f"'{shown(word)}' stands here, and a day is due, as 0:Mon", 2)
+
+
+def day_in(word: bytes, weeks: int, start: datetime.date | None = None) -> int:
+    """The day of so many weeks that a word names."""
+    day = day_of(word, start)
+    if not 0 <= day < 7 * weeks:
+        raise DeskError(f"'{shown(word)}': the scenario has {plural(weeks, 'week')}, and they count from 0", 2)
+    return day
+
+
+def days_in(words: collections.abc.Iterable[bytes], weeks: int, start: datetime.date | None = None) -> list[int]:
+    """The days that words name, each once, in their order."""
+    return sorted({day for word in words for day in span_in(word, weeks, start)})
+
+
+def span_in(word: bytes, weeks: int, start: datetime.date | None) -> range:
+    """The days that one word names."""
+    first, to, last = word.partition(TO)
+    if to and not (first and last):
+        raise DeskError(f"'{shown(word)}' stands here, and days are due, as 0:Mon..0:Wed", 2)
+    days = range(day_in(first, weeks, start), day_in(last if to else first, weeks, start) + 1)
+    if not days:
+        raise DeskError(f"'{shown(first)}' is after '{shown(last)}'; write the first day first", 2)
+    return days
