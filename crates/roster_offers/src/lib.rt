@@ -7,6 +7,8 @@
 //! `cheapest_offered_row_is_found` what it finds whatever is offered at whatever prices, and `cost_rises_with_prices` how much less it
 //! can cost after prices have changed (`specs/Rises.antt`). `request_cost` counts what a nurse's own requests cost on a day:
 //! they are a part of an offer's price.
+//! Who offers something says so by `Offering`; `offers_of_choices` and `offers_by_shift` promise all that it offers on a day, and of each
+//! shift the first of the cheapest (`offers_open`, `cheapest_by_shift`).
 #![tactic(auto)]
 
 mod by_shift;
