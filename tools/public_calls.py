@@ -14,7 +14,7 @@ BETWEEN = """
     State::last_number State::run State::shift_run State::assignments State::weekends Workspace::search Workspace::offers
     Workspace::clear_offers Workspace::push_offers Workspace::search_offers LastSearches::knows LastSearches::most_gain
     LastSearches::remember RowSpace Worths Seen count_rows follow_cover raise_missed pay_places take_row put_row price_of
-    lacks_nurses row_floor offers_of_day rows_are_had places_floor improve_worths refuse refuse_output
+    lacks_nurses offers_of_day rows_are_had improve_worths refuse refuse_output
 """
 # Comments, strings and characters, whose braces count for nothing.
 SILENT = r"""//[^\n]*|"(?:[^"\\]|\\[\s\S])*"|'(?:\\[^'\n]+|[^'\\\n])'"""

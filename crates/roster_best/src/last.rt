@@ -12,7 +12,8 @@ ghost use Rattle.roster_best.specs.Known.{ArePrices, IsDearer, IsKnown, fits_las
 ghost use Rattle.roster_best.specs.Searches.{AreOffersOf, AreShiftOffers};
 
 use arrayvec::ArrayVec;
-use roster_case::{Case, Choice, Held};
+use roster_case::Held;
+use roster_instance::{Case, Choice};
 use roster_offers::{MOST_OFFERS, Offer};
 use roster_partial::BestFault;
 use roster_state::start;

@@ -18,6 +18,6 @@ pub use last::LastSearches;
 pub use laws::offers_tell_the_allowed_rows;
 pub use offer::choices;
 pub use roster_lanes::lower16;
-pub use roster_offers::{Offer, request_cost};
-pub use roster_partial::{BestFault, Workspace, greatest_states, most_steps};
+pub use roster_offers::Offer;
+pub use roster_partial::{BestFault, Workspace, most_steps};
 pub use search::{Best, best_row, cheaper_row};

@@ -19,7 +19,8 @@ ghost use Rattle.roster_laws.specs.Staffing.{lacking, meets, with_choice};
 ghost use Rattle.roster_offers.specs.Offers.{offer_of, offers_of, shift_offers};
 
 use arrayvec::ArrayVec;
-use roster_case::{Choice, Held, Shift, Skill};
+use roster_case::Held;
+use roster_instance::{Choice, Shift, Skill};
 use roster_offers::{
     MOST_CHOICES, MOST_OFFERS, NurseDay, Offer, Offering, offers_by_shift, offers_of_choices,
     request_cost,

@@ -12,9 +12,9 @@ use crate::moves::count_row;
 use crate::offers::{Terms, earned};
 use crate::workspace::FloorWorkspace;
 use crate::worths::{MOST_FINE, MOST_WORTH, PARTS, Worths};
+use roster_instance::{Case, Choice, Need, Roster, Shift, Skill};
 use roster_offers::request_cost;
 use roster_rules::weights::STAFFING;
-use roster_rules::{Case, Choice, Need, Roster, Shift, Skill};
 
 /// How far a fade has come: how much of what a place pays is its worth, in 1024ths, and how many points a place pays besides as long
 /// as it is below its minimum. The rest is what a missing nurse costs, where one is missing to the optimum.

@@ -18,8 +18,9 @@ use crate::seen::Seen;
 use crate::workspace::RowSpace;
 use crate::worths::MOST_WORTH;
 use arrayvec::ArrayVec;
+use roster_instance::Case;
 use roster_offers::{DayOffers, MOST_OFFERS, NurseDay, Offer, RowSearch, offers_by_shift};
-use roster_rules::{Case, is_frozen};
+use roster_rules::is_frozen;
 use roster_state::{Meter, start};
 
 /// A floor by worths: no roster costs less that fits the case, keeps the hard rules and agrees with the given one on the days before week

@@ -7,7 +7,7 @@ ghost use Rattle.roster_rules.specs.HardRules.{keeps_hard};
 ghost use Rattle.roster_rules.specs.Penalties.{penalty};
 ghost use Rattle.roster_bound.specs.Worths.{AreWorths, HaveRows, IsLeast, IsLowerBound, PlaceWorths, bound_by, rounded_up};
 
-use roster_rules::{Case, Roster};
+use roster_instance::{Case, Roster};
 
 /// Whatever the places pay, what places and nurses cost at least, rounded up to a multiple of 5 where each penalty is one, is a lower bound on the penalty of
 /// each roster that fits the case, keeps the hard rules and agrees with the given one on the frozen days.

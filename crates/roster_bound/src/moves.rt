@@ -5,8 +5,8 @@ ghost use Rattle.roster_instance.specs.Meaning.{day_count};
 
 use crate::rounds::Pace;
 use crate::worths::{PARTS, Worths};
+use roster_instance::{Case, Choice, Need, Shift, Skill};
 use roster_rules::weights::STAFFING;
-use roster_rules::{Case, Choice, Need, Shift, Skill};
 
 /// For each place, with how many nurses it would have cost least in the rounds so far, and how many it had, in 256ths of a nurse. Both
 /// sums fade: of what was before, 179 parts of 256 stay in each round.

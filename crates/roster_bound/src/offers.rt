@@ -7,8 +7,8 @@ ghost use Rattle.roster_bound.specs.Tables.{worths_of};
 ghost use Rattle.roster_bound.specs.Worths.{earned, most_worth};
 
 use crate::worths::{MOST_WORTH, Worths};
+use roster_instance::{Case, Choice, Roster, Shift, Skill, choice_on};
 use roster_offers::{NurseDay, Offer, Offering};
-use roster_rules::{Case, Choice, Roster, Shift, Skill, choice_on};
 
 /// What a nurse's floor is reckoned by: a case, what its places pay, and a roster of which the days before week `from` and the fixed
 /// days stay.

@@ -9,8 +9,8 @@ ghost use Rattle.roster_bound.specs.Tables.{worths_of};
 ghost use Rattle.roster_bound.specs.Worths.{most_place, most_worth, place_floor, places_floor};
 
 use crate::worths::Worths;
+use roster_instance::{Case, Shift, Skill};
 use roster_rules::weights::STAFFING;
-use roster_rules::{Case, Shift, Skill};
 
 /// The least that all places cost, with what they pay.
 #[tactic(auto, using(roster_rules::proofs::CountLemmas::sum_more))]

@@ -6,7 +6,7 @@ ghost use Rattle.roster_bound.specs.Seen.{FitsSeen, kept_rows};
 ghost use Rattle.roster_bound.specs.Tables.{most_fine};
 
 use crate::worths::{MOST_FINE, MOST_WORTH, PARTS, Worths};
-use roster_rules::{Case, Choice};
+use roster_instance::{Case, Choice};
 use std::alloc::{AllocError, Global};
 
 /// How many rows of each nurse are kept.

@@ -11,7 +11,7 @@ use crate::rounds::FIRST;
 use crate::seen::Seen;
 use crate::worths::Worths;
 use arrayvec::ArrayVec;
-use roster_case::Case;
+use roster_instance::Case;
 use roster_offers::DayOffers;
 use roster_partial::{BestFault, Workspace};
 use std::alloc::Global;

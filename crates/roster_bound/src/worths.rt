@@ -7,7 +7,7 @@ ghost use Rattle.roster_bound.specs.Tables.{most_fine, parts, worths_of};
 ghost use Rattle.roster_bound.specs.Worths.{AreWorths, SameWorths, asks_for_nurses, even_worths, most_worth};
 
 use crate::moves::{Covers, Step, Way};
-use roster_rules::{Case, Shift, Skill};
+use roster_instance::{Case, Shift, Skill};
 use std::alloc::{AllocError, Global};
 use std::marker::Model;
 

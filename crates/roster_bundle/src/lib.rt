@@ -1,4 +1,4 @@
-//! What the four texts of an instance say, place by place, and what a solution shows. `roster_text` passes all of it on.
+//! What the four texts of an instance say, place by place, and what a solution shows.
 #![tactic(auto)]
 
 mod bundle;

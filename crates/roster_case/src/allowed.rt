@@ -7,7 +7,8 @@ ghost use Rattle.roster_laws.specs.OneRow.{is_open, is_open_row, others};
 ghost use Rattle.roster_laws.specs.Staffing.{meets, with_choice};
 
 use crate::held::Held;
-use roster_rules::{Choice, Shift, Skill, choice_on, last_shift, may_take};
+use roster_instance::{Choice, Shift, Skill, choice_on};
+use roster_rules::{last_shift, may_take};
 
 /// Whether each choice of a row of the case is open on its day and may follow the one before it.
 pub(crate) fn is_open_row(held: &Held, nurse: usize, row: &[Choice]) -> bool

@@ -12,8 +12,8 @@ ghost use Rattle.roster_case.specs.Held.{AreCounts, IsDay, no_day};
 
 use crate::recount::recount;
 use roster_costs::{covers, nurse_cost, place, staffing_cost_of_day};
+use roster_instance::{Case, Choice, Roster, Shift, Skill};
 use roster_rules::weights::STAFFING;
-use roster_rules::{Case, Choice, Roster, Shift, Skill};
 use std::alloc::{AllocError, Global};
 
 /// What is counted of a day.

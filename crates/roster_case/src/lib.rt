@@ -1,5 +1,4 @@
-//! Cases and rosters, and a roster that keeps the hard rules with what it costs. It passes on the types of `roster_rules`,
-//! what `roster_costs` counts of a roster, and the laws of one row replaced.
+//! A roster that keeps the hard rules, with what it costs. It passes on what a caller needs to make and to read one.
 //!
 //! What a held roster is, and that all that is kept of it is exact, is defined in `specs/Held.antt`; a week as it is written
 //! in `specs/Shown.antt`; what a row costs, and whether it keeps the hard rules in the place of a nurse's, in `roster_laws`.
@@ -15,12 +14,6 @@ mod view;
 
 pub use held::{Held, HeldFault};
 pub use roster_costs::{costs, first_hard};
-pub use roster_laws::{
-    hard_rules_by_parts, one_row_replaced, penalty_by_parts, staffing_by_what_is_lacking,
-};
-pub use roster_rules::{
-    Border, Case, CaseFault, Choice, ContractRules, Costs, HardFault, Limits, MAX_STATES, Past,
-    Roster, Shift, Skill, one_first_least_row, runs_grow_by_a_day, runs_of_a_row_grow_by_a_day,
-    weekends_grow_by_a_day, weights,
-};
+pub use roster_instance::{Case, CaseFault, Choice, Roster, Shift, Skill};
+pub use roster_rules::{Costs, HardFault};
 pub use view::WeekView;

@@ -14,7 +14,7 @@ ghost use Rattle.roster_laws.specs.Staffing.{lacking, with_choice};
 
 use crate::counts::DayCounts;
 use roster_costs::place;
-use roster_rules::{Case, Choice, Roster};
+use roster_instance::{Case, Choice, Roster};
 
 /// How many nurses more, and how many fewer, are lacking to the optimums.
 #[derive(Clone, Copy, Default)]

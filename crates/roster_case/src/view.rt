@@ -6,7 +6,7 @@ ghost use Rattle.roster_instance.specs.Rosters.{fits_case};
 
 use crate::held::Held;
 use roster_bundle::SolutionView;
-use roster_rules::{Case, Choice, Roster};
+use roster_instance::{Case, Choice, Roster};
 use std::marker::Model;
 
 /// A week of a roster that fits its case.

@@ -3,7 +3,7 @@
 
 mod start;
 
-pub use roster_commands::{refuse, refuse_output, run};
+pub use roster_commands::{refuse, run};
 pub use roster_joined::Joined;
 pub use roster_request::{CliFault, Command, Request, request_of};
 pub use start::{answer_command_line, answer_words};

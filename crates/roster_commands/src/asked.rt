@@ -8,7 +8,7 @@ ghost use Rattle.roster_commands.specs.Answer.{asked_by, day_name, day_names, na
 use crate::fault::Thing;
 use arrayvec::ArrayVec;
 use itoa::Buffer;
-use roster_case::{Case, Shift, Skill};
+use roster_instance::{Case, Shift, Skill};
 use roster_text::weekday_text;
 use roster_who::Asked;
 

@@ -18,7 +18,7 @@ use crate::polish::report_polish;
 use crate::reading::Instance;
 use crate::weeks::show_weeks;
 use crate::who::report_who;
-use roster_case::Case;
+use roster_instance::Case;
 use roster_polish::Course;
 use roster_reports::{write_costs, write_sizes};
 use roster_request::Command;

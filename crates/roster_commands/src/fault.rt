@@ -1,7 +1,8 @@
 //! Why a command stops.
 
-use roster_case::{CaseFault, HardFault};
+use roster_instance::CaseFault;
 use roster_reports::BreachNames;
+use roster_rules::HardFault;
 use roster_text::{TextFault, WriteFault};
 
 /// What a command is asked for by name.

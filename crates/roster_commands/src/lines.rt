@@ -7,7 +7,7 @@ ghost use Rattle.roster_reports.specs.Lines.{text_line};
 ghost use Rattle.roster_commands.specs.Lines.{fault_line, status_of, text_status, unknown_line};
 
 use crate::fault::{Fault, Thing};
-use roster_case::CaseFault;
+use roster_instance::CaseFault;
 use roster_reports::{write_case_line, write_hard_line, write_no_memory, write_text_line};
 use roster_text::{Piece, TextFault, Watch, WriteFault, write_pieces};
 use std::io::Write;

@@ -11,11 +11,11 @@ use crate::polish::within_room;
 use crate::reading::Instance;
 use crate::weeks::show_weeks;
 use roster_case::Held;
+use roster_log::LogFault;
 use roster_polish::{
     Course, PolishSpace, find_roster, first_unmendable, missing, polish_found, searches_have_room,
 };
 use roster_reports::names_of;
-use roster_rounds::LogFault;
 use roster_state::Meter;
 use roster_text::Watch;
 use std::alloc::Global;

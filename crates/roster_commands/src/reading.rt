@@ -9,9 +9,10 @@ ghost use Rattle.roster_instance.specs.Rosters.{fits_case};
 ghost use Rattle.roster_commands.specs.Answer.{HasFault, IsKeptAt, SpellsBundle, SpellsInstance, StopsReading};
 
 use crate::fault::Fault;
-use roster_case::{Case, CaseFault, Roster};
+use roster_bundle::Bundle;
+use roster_instance::{Case, CaseFault, Roster};
 use roster_reports::nurse_of;
-use roster_text::{Bundle, TextFault, parse_bundle, tokens};
+use roster_text::{TextFault, parse_bundle, tokens};
 use std::alloc::Global;
 
 /// What the texts of an instance say.

@@ -7,7 +7,7 @@ ghost use Rattle.roster_case.specs.Shown.{weeks_text};
 ghost use Rattle.roster_commands.specs.Answer.{StopsOutput};
 
 use crate::fault::Fault;
-use roster_case::{Case, Roster};
+use roster_instance::{Case, Roster};
 use roster_reports::write_weeks;
 use roster_text::Watch;
 use std::io::Write;

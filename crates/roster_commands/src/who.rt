@@ -9,7 +9,7 @@ ghost use Rattle.roster_commands.specs.Answer.{EndsBy, IsWhoFor, StopsOutput, na
 use crate::asked::{Asking, asked_by};
 use crate::fault::Fault;
 use crate::reading::Instance;
-use roster_case::Case;
+use roster_instance::Case;
 use roster_polish::first_unmendable;
 use roster_reports::{names_of, write_taker};
 use roster_rounds::rounds_have_room;

@@ -17,4 +17,4 @@ pub use costing::{costs, costs_with, nurse_cost};
 pub use hard::{
     first_absent_before, first_hard, first_succession_before, first_unskilled, understaffed_on,
 };
-pub use staffing::{covers, place, staffing_cost, staffing_cost_of_day};
+pub use staffing::{covers, place, staffing_cost_of_day};

@@ -8,8 +8,8 @@ use crate::floor_day::FloorDay;
 use crate::off::set_after_off;
 use crate::shift::set_after_shift;
 use crate::ways::{Onward, onwards};
+use roster_instance::Shift;
 use roster_offers::MOST_OFFERS;
-use roster_rules::Shift;
 use roster_state::Meter;
 
 /// Sets the floors of a day, by those of the next one.

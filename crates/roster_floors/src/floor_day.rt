@@ -9,8 +9,8 @@ ghost use Rattle.roster_floors.specs.Floors.{AreSmallRates};
 ghost use Rattle.roster_floors.specs.Once.{AreSmallRates-prop, OfCase-prop};
 
 use crate::rates::Rates;
+use roster_instance::{Case, ContractRules};
 use roster_offers::Offer;
-use roster_rules::{Case, ContractRules};
 
 /// A day whose floors are to be set by those of the next day: the nurse and the nurse's rules, what is offered, and how many values the
 /// last shift and the runs have.

@@ -9,8 +9,8 @@ ghost use Rattle.roster_floors.specs.Lines.{AreSet, IsAfterOff, IsEntryAt, IsOff
 
 use crate::floor_day::FloorDay;
 use crate::ways::{MOST_LEAVE, apart, way_to};
+use roster_instance::Shift;
 use roster_offers::Offer;
-use roster_rules::Shift;
 use roster_rules::weights::{FREE_RUN, WORKING_RUN};
 use roster_state::{Meter, fill_line};
 

@@ -15,8 +15,8 @@ ghost use Rattle.roster_floors.specs.Once.{AreSmallRates-prop, HasOffers, HasOff
 use crate::day::set_day;
 use crate::floor_day::FloorDay;
 use crate::rates::Rates;
+use roster_instance::Case;
 use roster_offers::RowSearch;
-use roster_rules::Case;
 use roster_state::{Meter, Ranges};
 
 /// A search whose floors are to be set, at their rates, with how many values each number of a state has, and how many floors a day.

@@ -8,8 +8,8 @@ ghost use Rattle.roster_floors.specs.Lines.{AreOnward, AreSet, IsAfterShift, IsL
 
 use crate::floor_day::FloorDay;
 use crate::ways::{MOST_LEAVE, Onward, Ways, least_way, ways_after};
+use roster_instance::Shift;
 use roster_offers::MOST_OFFERS;
-use roster_rules::Shift;
 use roster_rules::weights::{FREE_RUN, WORKING_RUN};
 use roster_state::{LineCosts, Meter, fill_line, set_line};
 

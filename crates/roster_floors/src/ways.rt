@@ -9,8 +9,8 @@ ghost use Rattle.roster_state.specs.FloorLines.{AreLow, most_leave};
 ghost use Rattle.roster_floors.specs.Lines.{AreOnward, AreOpen, AreWays, IsLeastWay, IsOnward, IsOpenWay, IsWayAt, IsWayOf, apart_of, way_at, way_cost};
 
 use crate::floor_day::FloorDay;
+use roster_instance::Shift;
 use roster_offers::{MOST_OFFERS, Offer};
-use roster_rules::Shift;
 use roster_rules::weights::{SHIFT_RUN, SPLIT};
 
 /// What a day costs at most, whatever comes after it, as floors are reckoned. With what the run of a shift misses a floor is at most

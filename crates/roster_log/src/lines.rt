@@ -4,7 +4,7 @@ ghost use Rattle.std.specs.Prelude.{◌++◌, IfErr, IfOk, codes, decimal};
 ghost use Rattle.roster_text.specs.Io.{BreaksIn, Sends};
 ghost use Rattle.roster_rules.specs.Improver.{line, start_word};
 
-use roster_rules::Case;
+use roster_instance::Case;
 use roster_text::{Piece, Watch, WriteFault, send_pieces};
 use std::io::Write;
 

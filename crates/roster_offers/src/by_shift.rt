@@ -7,7 +7,7 @@ ghost use Rattle.roster_offers.specs.Offers.{cheapest_by_shift, same_shift};
 
 use crate::offer::{MOST_OFFERS, Offer};
 use arrayvec::ArrayVec;
-use roster_rules::Choice;
+use roster_instance::Choice;
 
 /// Of the offers for one shift, which stand side by side, the cheapest, of equally cheap ones the first.
 pub fn cheapest_by_shift(offers: &[Offer]) -> ArrayVec<Offer, MOST_OFFERS>

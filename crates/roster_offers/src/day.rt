@@ -15,7 +15,8 @@ ghost use Rattle.roster_offers.specs.Offers.{TellsSkills, cheaper_offer, cheapes
 use crate::offer::{MOST_CHOICES, MOST_OFFERS, Offer};
 use crate::requests::{can_cost_more, cost_of_requests};
 use arrayvec::ArrayVec;
-use roster_rules::{Case, Choice, Shift, Skill, is_able};
+use roster_instance::{Case, Choice, Shift, Skill};
+use roster_rules::is_able;
 
 /// A day of a nurse.
 #[derive(Clone, Copy)]

@@ -26,4 +26,4 @@ pub use laws::{
 };
 pub use lists::{DayOffers, MOST_DAYS, RowSearch};
 pub use offer::{MOST_CHOICES, MOST_OFFERS, Offer};
-pub use requests::{can_cost_more, cost_of_requests, request_cost};
+pub use requests::request_cost;

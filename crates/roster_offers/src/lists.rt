@@ -2,7 +2,7 @@
 
 use crate::offer::{MOST_OFFERS, Offer};
 use arrayvec::ArrayVec;
-use roster_rules::Case;
+use roster_instance::Case;
 
 /// The greatest number of days of a case, `most_days` of the limits of an instance.
 pub const MOST_DAYS: usize = 364;

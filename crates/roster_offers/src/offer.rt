@@ -1,6 +1,6 @@
 //! An offer of a day.
 
-use roster_rules::Choice;
+use roster_instance::Choice;
 
 /// The greatest number of choices that a nurse has on a day: to be off, and each shift with each skill.
 pub const MOST_CHOICES: usize = 65;

@@ -6,8 +6,9 @@ ghost use Rattle.roster_instance.specs.Meaning.{nurse_count};
 ghost use Rattle.roster_rules.specs.Penalties.{keep_cost_on, meets_wishes, off_request_cost_on, request_cost_on, wish_cost_on};
 ghost use Rattle.roster_rules.specs.Weights.{most_request, off_request_weight, wish_weight};
 
+use roster_instance::{Case, Shift};
 use roster_rules::weights::{OFF_REQUEST, WISH};
-use roster_rules::{Case, Shift, keep_cost_on, meets_wishes};
+use roster_rules::{keep_cost_on, meets_wishes};
 
 /// What the requests of a day cost, where it is known whether more than off requests can: mostly they can't.
 pub fn cost_of_requests(

@@ -13,8 +13,8 @@ use crate::limited::LimitedSearch;
 use crate::one_day::add_day;
 use crate::one_offer::RowsDay;
 use crate::rows::{Entry, Seen, clear_rows, cost_at, link_at, push_row, row_count, row_state};
+use roster_instance::Choice;
 use roster_offers::RowSearch;
-use roster_rules::Choice;
 use roster_state::{Meter, end_cost, start};
 
 /// What the partial rows within a limit tell.

@@ -9,8 +9,8 @@ ghost use Rattle.roster_partial.specs.Allowed.{AreTold, MayFollow, told_after};
 ghost use Rattle.roster_partial.specs.Rates.{most_offers};
 
 use arrayvec::ArrayVec;
+use roster_instance::Case;
 use roster_offers::{MOST_OFFERS, Offer};
-use roster_rules::Case;
 use roster_state::{AREAS, Meter, State, is_forbidden};
 
 /// Places of offers among those of a day.

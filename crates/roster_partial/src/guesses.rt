@@ -3,8 +3,8 @@
 //! Only time depends on it: whichever rates and limits a search begins with, it finds the same row.
 
 use crate::rates::{BestFloors, Guess};
+use roster_instance::{MAX_CONTRACTS, MAX_NURSES};
 use roster_offers::RowSearch;
-use roster_rules::{MAX_CONTRACTS, MAX_NURSES};
 
 /// How often in a row partial rows found nothing for a nurse, and how many searches go to the tables at once for that.
 #[derive(Clone, Copy)]

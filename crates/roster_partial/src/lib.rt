@@ -17,5 +17,4 @@ mod rows;
 mod search;
 mod workspace;
 
-pub use search::{Hints, search_row};
-pub use workspace::{BestFault, Workspace, greatest_states, most_steps};
+pub use workspace::{BestFault, Workspace, most_steps};

@@ -7,8 +7,8 @@ ghost use Rattle.roster_floors.specs.Least.{AreReady};
 ghost use Rattle.roster_partial.specs.Rows.{most_rows};
 
 use roster_floors::Floors;
+use roster_instance::ContractRules;
 use roster_offers::RowSearch;
-use roster_rules::ContractRules;
 
 /// A search by partial rows, with what the meter may count to.
 #[derive(Clone, Copy)]

@@ -12,8 +12,8 @@ ghost use Rattle.roster_partial.specs.Searches.{ArePut, IsAfterWork, IsBesideIn,
 use crate::limited::LimitedSearch;
 use crate::rows::{Entry, Link, SEEN, Seen, leave_out, push_row, row_count};
 use roster_floors::{Beside, at_least_beside, beside_floor};
+use roster_instance::Shift;
 use roster_offers::RowSearch;
-use roster_rules::Shift;
 use roster_state::{Meter, NurseDays, State, WorkedDay};
 
 /// A day by which partial rows are gone on with: its number, and the place in the list at which those of the day after it begin.

@@ -11,8 +11,8 @@ ghost use Rattle.roster_partial.specs.Rates.{AreSetAt, FitsNurse, IsTried, NoRoo
 
 use crate::limited::Bounded;
 use roster_floors::{Floors, Rates, at_least, floor_cells, floor_steps, set_floors};
+use roster_instance::Case;
 use roster_offers::{MOST_OFFERS, RowSearch};
-use roster_rules::Case;
 use roster_rules::weights::{ASSIGNMENT, WEEKEND};
 use roster_state::{Meter, NurseDays, State, end_cost, start};
 use std::cmp::min;

@@ -12,8 +12,8 @@ ghost use Rattle.roster_partial.specs.Workspaces.{SameRoom, fits_space};
 
 use crate::search::{Hints, search_row};
 use arrayvec::ArrayVec;
+use roster_instance::{Case, Choice};
 use roster_offers::{DayOffers, MOST_OFFERS, Offer, RowSearch};
-use roster_rules::{Case, Choice};
 use roster_search::{DayAreas, Tables};
 use roster_state::Meter;
 use std::alloc::{AllocError, Global};

@@ -17,9 +17,9 @@ use crate::searches::Searches;
 use crate::settle::Aim;
 use crate::space::PolishSpace;
 use crate::stay::stay_if_no_dearer;
-use roster_best::Workspace;
 use roster_case::Held;
 use roster_offers::RowSearch;
+use roster_partial::Workspace;
 use roster_state::Meter;
 
 /// What a fade and kicks take: searches, and random numbers; how many passes the fade makes, none where there is no fade, and in how

@@ -10,7 +10,8 @@ ghost use Rattle.roster_polish.specs.Kicks.{AreKickOffers, FitsKick, from_on, ki
 use arrayvec::ArrayVec;
 use roster_best::choices;
 use roster_bound::{MOST_WORTH, Worths};
-use roster_case::{Case, Choice, Held};
+use roster_case::Held;
+use roster_instance::{Case, Choice};
 use roster_offers::{MOST_CHOICES, MOST_DAYS, MOST_OFFERS, Offer, cheapest_by_shift, request_cost};
 
 /// How a kick prices what is offered, and in which weeks it offers more than the present row.

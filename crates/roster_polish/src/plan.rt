@@ -22,9 +22,8 @@ use crate::space::PolishSpace;
 use roster_bound::{
     Base, Fading, MOST_WORTH, MOVES, Pace, WHOLE, improve_worths, lacks_nurses, raise_missed,
 };
-use roster_case::{Case, Choice, Roster, Shift, Skill};
 use roster_costs::{first_absent_before, first_hard, first_succession_before};
-use roster_rules::choice_on;
+use roster_instance::{Case, Choice, Roster, Shift, Skill, choice_on};
 use roster_state::Meter;
 
 /// How many passes the first fade makes. Each later one makes twice as many as that before.

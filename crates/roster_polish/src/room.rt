@@ -5,7 +5,7 @@ ghost use Rattle.roster_bundle.specs.Limits.{greatest_u64};
 ghost use Rattle.roster_polish.specs.Polished.{first_searches, most_searches};
 ghost use Rattle.roster_polish.specs.Settled.{extensions_of};
 
-use roster_case::Case;
+use roster_instance::Case;
 use roster_rounds::extensions_are_few;
 
 /// The most searches, beside those of the first settling, for which a new meter surely has room.

@@ -16,8 +16,9 @@ ghost use Rattle.roster_polish.specs.Settled.{IsSettled, Spends, extensions_of};
 
 use crate::searches::Searches;
 use crate::space::PolishSpace;
-use roster_best::{LastSearches, Workspace};
+use roster_best::LastSearches;
 use roster_case::Held;
+use roster_partial::Workspace;
 use roster_rounds::step_unless_known;
 use roster_state::Meter;
 

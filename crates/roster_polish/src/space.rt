@@ -4,9 +4,11 @@ ghost use Rattle.std.specs.Prelude.{◌≡◌, ◌<◌, ◌≤◌, ℕ, All, IfO
 ghost use Rattle.roster_instance.specs.Rosters.{fits_case};
 ghost use Rattle.roster_polish.specs.Polished.{FitsPolish};
 
-use roster_best::{BestFault, LastSearches};
+use roster_best::LastSearches;
 use roster_bound::{FloorWorkspace, Worths, count_rows};
-use roster_case::{Case, Held, Roster};
+use roster_case::Held;
+use roster_instance::{Case, Roster};
+use roster_partial::BestFault;
 use std::alloc::Global;
 
 /// What a run writes into: what a run that raises a floor does, with the workspace of its searches; what the last of them tell; by

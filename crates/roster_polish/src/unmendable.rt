@@ -8,9 +8,9 @@ ghost use Rattle.roster_rules.specs.AllowedRows.{is_frozen};
 ghost use Rattle.roster_rules.specs.HardRules.{is_here_on};
 ghost use Rattle.roster_polish.specs.Plans.{frozen_absences, frozen_absences_of, frozen_minimums, frozen_minimums_on, frozen_successions, frozen_successions_of, is_frozen_for_all, unmendable};
 
-use roster_case::{Case, HardFault, Roster, Shift};
 use roster_costs::{first_unskilled, understaffed_on};
-use roster_rules::{choice_on, is_frozen, is_here, last_shift};
+use roster_instance::{Case, Roster, Shift, choice_on};
+use roster_rules::{HardFault, is_frozen, is_here, last_shift};
 
 /// The first breach for which no roster is looked for: a skill that a nurse lacks; or else, of the frozen days, a forbidden succession,
 /// work of an absent nurse, or a minimum that is missed where the day is frozen for all.

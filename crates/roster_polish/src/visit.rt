@@ -13,10 +13,11 @@ ghost use Rattle.roster_partial.specs.Workspaces.{fits_space};
 ghost use Rattle.roster_polish.specs.Fades.{is_left_out};
 
 use arrayvec::ArrayVec;
-use roster_best::{LastSearches, Workspace};
+use roster_best::LastSearches;
 use roster_bound::{Terms, offers_of_day, price_of};
+use roster_instance::{Choice, choice_on};
 use roster_offers::{MOST_OFFERS, Offer};
-use roster_rules::{Choice, choice_on};
+use roster_partial::Workspace;
 use roster_state::Meter;
 
 /// A nurse is left out where her row can be no more than so many points cheaper.

@@ -6,7 +6,7 @@ ghost use Rattle.roster_rules.specs.Penalties.{total_cost};
 ghost use Rattle.roster_rules.specs.Room.{penalty_room};
 ghost use Rattle.roster_reports.specs.Lines.{costs_text};
 
-use roster_case::Costs;
+use roster_rules::Costs;
 use roster_text::{Piece, Watch, WriteFault, write_pieces};
 use std::io::Write;
 

@@ -5,7 +5,8 @@ ghost use Rattle.roster_text.specs.Io.{StopsIn, Writes};
 ghost use Rattle.roster_reports.specs.Lines.{case_line, hard_line, memory_line, missing_line, nurse_day_line, text_line};
 
 use crate::names::BreachNames;
-use roster_case::{CaseFault, HardFault};
+use roster_instance::CaseFault;
+use roster_rules::HardFault;
 use roster_text::{MAX_INPUT, Piece, TextFault, Watch, WriteFault, weekday_text, write_pieces};
 use std::io::Write;
 

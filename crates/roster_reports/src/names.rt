@@ -4,8 +4,9 @@ ghost use Rattle.std.specs.Prelude.{◌≡◌, [], slice_index_or};
 ghost use Rattle.roster_instance.specs.Names.{nurse_names, shift_names, skill_names};
 ghost use Rattle.roster_reports.specs.Lines.{AreNamesOf, nurse_of};
 
-use roster_case::{CaseFault, HardFault, Shift, Skill};
-use roster_text::Bundle;
+use roster_bundle::Bundle;
+use roster_instance::{CaseFault, Shift, Skill};
+use roster_rules::HardFault;
 
 /// The names of which a breach of the hard rules speaks: a shift and a skill, or a nurse. The others are empty.
 #[derive(Clone, Copy)]

@@ -5,7 +5,7 @@ ghost use Rattle.roster_text.specs.Io.{Stops, StopsIn, Writes};
 ghost use Rattle.roster_instance.specs.Meaning.{nurse_count};
 ghost use Rattle.roster_reports.specs.Lines.{sizes_line, sizes_text};
 
-use roster_case::Case;
+use roster_instance::Case;
 use roster_state::Ranges;
 use roster_text::{Piece, Watch, WriteFault, write_pieces};
 use std::io::Write;

@@ -7,7 +7,8 @@ ghost use Rattle.roster_instance.specs.Meaning.{week_count};
 ghost use Rattle.roster_instance.specs.Rosters.{fits_case};
 ghost use Rattle.roster_case.specs.Shown.{shown_week, weeks_text};
 
-use roster_case::{Case, Roster, WeekView};
+use roster_case::WeekView;
+use roster_instance::{Case, Roster};
 use roster_text::{Watch, WriteFault, write_bytes, write_solution};
 use std::io::Write;
 

@@ -16,9 +16,7 @@ mod steps;
 pub use headline::each_row_put_in_is_best;
 pub use nurse::{step, step_unless_known};
 pub use outcome::{Outcome, Step};
-pub use room::{
-    extensions_are_few, greatest_extensions, most_extensions, rounds_have_room, search_has_room,
-};
+pub use room::{extensions_are_few, most_extensions, rounds_have_room, search_has_room};
 pub use roster_log::LogFault;
 pub use rounds::improve;
 pub use space::RunSpace;

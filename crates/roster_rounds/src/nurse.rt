@@ -12,8 +12,9 @@ ghost use Rattle.roster_partial.specs.Workspaces.{SameRoom, fits_space};
 ghost use Rattle.roster_best.specs.Known.{IsKnown};
 
 use crate::outcome::Step;
-use roster_best::{Best, LastSearches, Workspace, best_row, cheaper_row};
+use roster_best::{Best, LastSearches, best_row, cheaper_row};
 use roster_case::Held;
+use roster_partial::Workspace;
 use roster_state::Meter;
 
 /// Puts a nurse's best row from a week on in where the roster's penalty becomes strictly smaller, and else changes nothing. That row

@@ -3,8 +3,9 @@
 ghost use Rattle.std.specs.Prelude.{◌≡◌, true, IfOk};
 ghost use Rattle.roster_rounds.specs.Spaces.{fits_run};
 
-use roster_best::{BestFault, LastSearches, Workspace};
-use roster_case::Case;
+use roster_best::LastSearches;
+use roster_instance::Case;
+use roster_partial::{BestFault, Workspace};
 use std::alloc::Global;
 
 /// What a run writes into: the workspace of its searches, and what the last of them tell. One serves one run after another.

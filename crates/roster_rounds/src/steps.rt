@@ -15,8 +15,8 @@ ghost use Rattle.roster_rounds.specs.Spaces.{fits_run};
 use crate::nurse::{step, step_unless_known};
 use crate::outcome::Step;
 use crate::space::RunSpace;
-use roster_best::Workspace;
 use roster_case::Held;
+use roster_partial::Workspace;
 use roster_state::Meter;
 
 /// What makes the steps of a run, for one nurse after another: a `Workspace` by a search each, a `RunSpace` by fewer.

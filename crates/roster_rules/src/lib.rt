@@ -1,5 +1,4 @@
-//! The hard and the soft rules: their definitions, weights, breaches and costs, with the laws of a day more. It passes on all of
-//! `roster_instance`.
+//! The hard and the soft rules: their definitions, weights, breaches and costs, with the laws of a day more.
 //!
 //! The hard rules with their order are defined in `specs/HardRules.antt`, the soft ones in `specs/Penalties.antt`, over runs
 //! of days (`specs/Runs.antt`) and weights (`specs/Weights.antt`), what the first days of a row owe in `specs/Prefix.antt`,
@@ -23,9 +22,5 @@ pub use frozen::is_frozen;
 pub use kept::keep_cost_on;
 pub use laws::{runs_grow_by_a_day, runs_of_a_row_grow_by_a_day, weekends_grow_by_a_day};
 pub use penalties::Costs;
-pub use roster_instance::{
-    Border, Case, CaseFault, Choice, ContractRules, DayRequests, Limits, MAX_CONTRACTS, MAX_NURSES,
-    MAX_STATES, Need, Past, Roster, Shift, Skill, choice_on, row_fits,
-};
 pub use rows::one_first_least_row;
 pub use wishes::meets_wishes;

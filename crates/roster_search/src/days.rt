@@ -3,8 +3,8 @@
 ghost use Rattle.roster_search.specs.Search.{AreSearchDays};
 
 use arrayvec::ArrayVec;
+use roster_instance::{Case, ContractRules};
 use roster_offers::{MOST_OFFERS, Offer};
-use roster_rules::{Case, ContractRules};
 use roster_state::{AREAS, Area, Ranges};
 
 /// What a search knows before it labels: the nurse with the nurse's rules and the ranges of the nurse's state, each day's offers, and the

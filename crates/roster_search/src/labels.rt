@@ -14,7 +14,7 @@ use crate::day::OpenDay;
 use crate::days::SearchDays;
 use crate::pointers::Pointers;
 use crate::rows::{RowShape, clear_rows, lower_rows, set_rows};
-use roster_rules::ContractRules;
+use roster_instance::ContractRules;
 use roster_state::{AREAS, Area, Block, Meter, NurseDays, Stretch, WorkedDay, end_cost};
 
 /// The label of a state from which no row goes on. Each row costs less.

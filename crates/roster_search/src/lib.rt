@@ -3,8 +3,7 @@
 //! Right labels and pointers of a day are defined in `specs/Tables.antt`. `label_end` and `label_day` promise them, `read_day` the
 //! choices of the best row by these pointers, and `search_states` that row with its cost over a table of offers for all days
 //! (`specs/Search.antt`). A search's days and a day that is still to be labelled keep what is known of them, so that no function asks for
-//! it (`specs/Days.antt`, `specs/OpenDays.antt`). What is offered, and the laws that make such a search right, stand in `roster_offers`,
-//! and are handed on.
+//! it (`specs/Days.antt`, `specs/OpenDays.antt`). What is offered, and the laws that make such a search right, stand in `roster_offers`.
 #![tactic(auto)]
 
 mod day;
@@ -19,11 +18,6 @@ mod steps;
 mod tables;
 
 pub use labels::NO_ROW;
-pub use roster_offers::{
-    DayOffers, MOST_CHOICES, MOST_DAYS, MOST_OFFERS, Offer, RowSearch, best_row_is_found_by_states,
-    cheapest_by_shift, cheapest_offered_row_is_found, cheapest_row_is_found_by_states,
-    cost_rises_with_prices, offers_are_few, one_offer_for_each_shift_is_enough,
-};
 pub use search::search_states;
 pub use stand::{DayAreas, stand_days};
 pub use steps::steps_at_most;

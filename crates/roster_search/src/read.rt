@@ -9,7 +9,7 @@ ghost use Rattle.roster_search.specs.Tables.{BeginsWith};
 
 use crate::days::SearchDays;
 use crate::pointers::Pointers;
-use roster_rules::Choice;
+use roster_instance::Choice;
 use roster_state::{State, after};
 
 /// The choice with which the best row from a state on begins, and the state after it, by the pointers of the day. No label is needed any

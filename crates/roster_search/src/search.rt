@@ -19,8 +19,8 @@ use crate::pointers::Pointers;
 use crate::read::read_day;
 use crate::stand::DayAreas;
 use crate::tables::Tables;
+use roster_instance::Choice;
 use roster_offers::{Offer, RowSearch};
-use roster_rules::Choice;
 use roster_state::{Meter, Ranges, start};
 
 /// Searches the best row over a table of offers, wherever these come from. `row` then begins with its choices, one for each day, and the

@@ -6,8 +6,8 @@ ghost use Rattle.roster_offers.specs.Lists.{AreOffers, IsOfferOf, offers_on};
 ghost use Rattle.roster_search.specs.Search.{AreStanding, search_day};
 ghost use Rattle.roster_search.specs.Tables.{LeadsOn};
 
+use roster_instance::Case;
 use roster_offers::{MOST_DAYS, Offer, RowSearch};
-use roster_rules::Case;
 use roster_state::{AREAS, Area, NOWHERE, areas_of, start, widen};
 
 /// The areas of each day and of the one after the last: where the states of that day may stand. It takes 52,560 bytes, and serves one

@@ -9,7 +9,7 @@ ghost use Rattle.roster_state.specs.Step.{next_of, run_with, shift_run_with};
 
 use crate::state::{State, shift_digit, shift_numbered};
 use crate::totals::weekends_more;
-use roster_rules::{Case, Shift};
+use roster_instance::{Case, Shift};
 use std::cmp::{max, min};
 
 /// The numbers from the least to the greatest. None where the least is the greater.

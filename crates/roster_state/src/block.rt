@@ -15,8 +15,8 @@ use crate::ranges::Ranges;
 use crate::state::{State, shift_digit, shift_numbered};
 use crate::step::{cost_apart, next_of};
 use crate::totals::dearer_from;
+use roster_instance::{Border, Case, ContractRules, Limits, Past, Shift};
 use roster_rules::weights::ASSIGNMENT;
-use roster_rules::{Border, Case, ContractRules, Limits, Past, Shift};
 use std::cmp::min;
 use std::marker::Model;
 

@@ -3,7 +3,7 @@
 ghost use Rattle.std.specs.Prelude.{◌≡◌};
 ghost use Rattle.roster_instance.specs.Meaning.{contract_of};
 
-use roster_rules::{Case, ContractRules};
+use roster_instance::{Case, ContractRules};
 
 /// What days of a nurse are taken by: the case, the nurse, and the nurse's rules, looked up once for many days.
 #[derive(Clone, Copy)]

@@ -6,7 +6,7 @@ ghost use Rattle.roster_instance.specs.Sizes.{cap};
 ghost use Rattle.roster_state.specs.FloorLines.{AreLow, IsCounted, IsUnderLeave, IsUnderStay, most_floor, most_leave};
 
 use crate::meter::Meter;
-use roster_rules::Limits;
+use roster_instance::Limits;
 use roster_rules::weights::SHIFT_RUN;
 
 /// What a line takes: the limits of the last shift's run, what it costs at least to leave the shift, and what to stay; and how many

@@ -6,7 +6,7 @@ ghost use Rattle.roster_instance.specs.Meaning.{forbids};
 
 use crate::meter::Meter;
 use crate::state::State;
-use roster_rules::{Case, Shift};
+use roster_instance::{Case, Shift};
 
 /// Whether the last shift of a state forbids a shift, or a day off, on the next day. Where it does, the meter counts one, as it does where
 /// `extend` answers none.

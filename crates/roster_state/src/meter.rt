@@ -3,7 +3,7 @@
 ghost use Rattle.std.specs.Prelude.{◌≡◌, ◌+◌, ◌<◌, ◌≤◌};
 ghost use Rattle.roster_bundle.specs.Limits.{greatest_u64};
 
-use roster_rules::Case;
+use roster_instance::Case;
 use std::marker::Model;
 
 /// Counts extensions: one state taken over one choice, and one cell of a line of floors over one offer. Whoever has a case for itself

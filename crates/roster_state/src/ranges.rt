@@ -6,7 +6,7 @@ ghost use Rattle.roster_instance.specs.Meaning.{nurse_count};
 ghost use Rattle.roster_instance.specs.Sizes.{state_count};
 ghost use Rattle.roster_state.specs.Codes.{blocks, product, sizes_of};
 
-use roster_rules::{Case, MAX_STATES};
+use roster_instance::{Case, MAX_STATES};
 use std::cmp::max;
 use std::marker::Model;
 

@@ -18,7 +18,7 @@ use crate::block::{Block, BlockStep, block_step};
 use crate::meter::Meter;
 use crate::state::State;
 use crate::step::{end_cost, start, step};
-use roster_rules::{Case, Choice, Shift};
+use roster_instance::{Case, Choice, Shift};
 
 /// The state with one day more, on which the nurse works this shift or is off, and what the day costs. None exactly where the
 /// last shift forbids the next. Either way the meter counts one.

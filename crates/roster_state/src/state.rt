@@ -5,7 +5,7 @@ ghost use Rattle.roster_rules.specs.Prefix.{Summary};
 ghost use Rattle.roster_state.specs.Codes.{code_of, fits_sizes, product, shift_digit, shift_numbered, state_at};
 
 use crate::ranges::Ranges;
-use roster_rules::Shift;
+use roster_instance::Shift;
 use std::marker::Model;
 
 /// What the costs of the days to come depend on: the last shift or none, the days in a row of work or off, the days in a

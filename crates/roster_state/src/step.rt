@@ -17,8 +17,8 @@ ghost use Rattle.roster_instance.specs.RunLaw.{day_violations};
 use crate::block::{Block, block_step};
 use crate::state::State;
 use crate::totals::{missing_cost, start_cost, totals_after, weekend_more};
+use roster_instance::{Border, Case, ContractRules, Limits, Past, Shift};
 use roster_rules::weights::{FREE_RUN, SHIFT_RUN, SPLIT, WORKING_RUN};
-use roster_rules::{Border, Case, ContractRules, Limits, Past, Shift};
 use std::cmp::min;
 
 /// The state before day 0, and what the history's totals cost already: points for each assignment and each worked

@@ -9,7 +9,7 @@ ghost use Rattle.roster_state.specs.Codes.{sizes_of};
 use crate::block::Block;
 use crate::days::NurseDays;
 use crate::totals::weekends_more;
-use roster_rules::Shift;
+use roster_instance::Shift;
 
 /// The places from one up to an end of so many rows: the first row is a block, and each further one the block with one worked weekend
 /// more.

@@ -13,8 +13,8 @@ ghost use Rattle.roster_state.specs.Room.{most_at_end, most_at_start};
 ghost use Rattle.roster_state.specs.Step.{end_cost_of};
 
 use crate::state::State;
+use roster_instance::{Case, ContractRules, Limits, Past, Shift};
 use roster_rules::weights::{ASSIGNMENT, WEEKEND};
-use roster_rules::{Case, ContractRules, Limits, Past, Shift};
 use std::cmp::min;
 
 /// The points for the assignments and the worked weekends of the history above the greatest numbers.

@@ -16,8 +16,8 @@ use crate::state::State;
 use crate::step::{ended, longer, open_shift_run, runs_more, split_more, step, working_run};
 use crate::stretch::Stretch;
 use crate::totals::{total_more, totals_after, weekend_more};
+use roster_instance::{Case, Shift};
 use roster_rules::weights::SHIFT_RUN;
-use roster_rules::{Case, Shift};
 
 /// What a worked day brings to a state, whatever the shift. What it costs is read in this crate alone: others learn the cost of a step
 /// where the step is counted, by `extend` or `extend_stretch`.

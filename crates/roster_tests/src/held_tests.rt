@@ -8,7 +8,7 @@ use crate::texts::changed;
 use roster_best::{Offer, choices};
 use roster_case::{Choice, Held, Shift, Skill, costs};
 use roster_costs::nurse_cost;
-use roster_rules::choice_on;
+use roster_instance::choice_on;
 use std::alloc::Global;
 use std::test::Fail;
 

@@ -19,11 +19,7 @@ pub use laws::written_is_read;
 pub use parsing::{numbers_are_small, one_bundle, one_first_fault, parse_bundle};
 pub use pieces::{Piece, send_pieces, write_bytes, write_number, write_pieces};
 pub use reading::{MAX_INPUT, read_all};
-pub use roster_bundle::{
-    Assignment, Bundle, Contract, Day, History, Items, Listed, Number, Nurse, NurseDay,
-    NurseHistory, Pair, Request, Requirement, Scenario, ShiftType, Solution, SolutionView,
-    Succession, Token, WeekData, WeekPairs,
-};
+pub use roster_bundle::{Bundle, SolutionView, Token};
 pub use token::tokens;
 pub use watch::Watch;
 pub use writing::{weekday_text, write_solution};

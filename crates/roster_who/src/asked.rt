@@ -8,7 +8,7 @@ ghost use Rattle.roster_instance.specs.Rosters.{fits_case};
 ghost use Rattle.roster_who.specs.Offers.{AreCounted};
 ghost use Rattle.roster_who.specs.Who.{is_asked};
 
-use roster_rules::{Case, Choice, Roster, Shift, Skill};
+use roster_instance::{Case, Choice, Roster, Shift, Skill};
 
 /// An assignment that somebody is to take: a shift of a day, with a skill, or with any where none is named.
 #[derive(Clone, Copy, Debug, PartialEq, Eq)]

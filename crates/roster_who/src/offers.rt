@@ -14,10 +14,11 @@ ghost use Rattle.roster_who.specs.Offers.{AreTakingOffers, fills, gain_at, gain_
 use crate::asked::{Asking, is_asked};
 use arrayvec::ArrayVec;
 use roster_costs::place;
+use roster_instance::{Choice, Shift, Skill, choice_on};
 use roster_offers::{MOST_OFFERS, NurseDay, Offer, Offering, offers_by_shift};
 use roster_partial::Workspace;
+use roster_rules::is_frozen;
 use roster_rules::weights::STAFFING;
-use roster_rules::{Choice, Shift, Skill, choice_on, is_frozen};
 
 /// What each nurse who is missed counts in the choice of a row, in points.
 const MISSED: u32 = 1_000_000;

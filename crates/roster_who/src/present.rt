@@ -9,7 +9,7 @@ ghost use Rattle.roster_who.specs.Offers.{AreCounted};
 ghost use Rattle.roster_who.specs.Who.{without_absent_work};
 
 use roster_costs::covers;
-use roster_rules::{Case, Choice, Roster, choice_on};
+use roster_instance::{Case, Choice, Roster, choice_on};
 use std::alloc::{AllocError, Global};
 
 /// A copy of a roster in which who is absent is off, by a growth for the list, one for each nurse, and one more.

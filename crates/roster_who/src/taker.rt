@@ -14,8 +14,8 @@ use crate::offers::offers_of_days;
 use crate::present::{covers_of_days, without_absent_work};
 use crate::told::{missed, taker_by};
 use crate::ways::leads_through;
+use roster_instance::{Case, Roster};
 use roster_partial::{BestFault, Workspace};
-use roster_rules::{Case, Roster};
 use roster_state::Meter;
 use std::alloc::{AllocError, Global};
 

@@ -14,7 +14,7 @@ ghost use Rattle.roster_who.specs.Who.{missed, taker_by};
 use crate::asked::Asking;
 use crate::taker::Taker;
 use roster_costs::{costs, covers, place};
-use roster_rules::{Case, Choice, Roster, Shift, Skill, choice_on};
+use roster_instance::{Case, Choice, Roster, Shift, Skill, choice_on};
 
 /// What is told of a nurse with a row of the case: it is put into a copy of the roster, and taken out again.
 pub(crate) fn taker_by(

@@ -9,8 +9,9 @@ ghost use Rattle.roster_offers.specs.declared.offer.Offer.{Offer};
 ghost use Rattle.roster_who.specs.Ways.{goes_on, last_at, last_place, leads_on};
 
 use arrayvec::ArrayVec;
+use roster_instance::{Case, Choice, Shift};
 use roster_offers::{MOST_OFFERS, Offer};
-use roster_rules::{Case, Choice, Shift, last_shift};
+use roster_rules::last_shift;
 
 /// For each last shift, none first, whether a row goes on from a day to the end.
 type Ways = [bool; MOST_OFFERS];
