@@ -11,10 +11,10 @@ BETWEEN = """
     Area Span areas_of widen NurseDays Stretch is_forbidden LineCosts set_line fill_line Block::numbered Block::of_runs
     Block::last_number Block::with_weekends
     Block::state Ranges::last Ranges::run Ranges::shift_run Ranges::assignments Ranges::weekends Ranges::blocks
-    State::last_number State::run State::shift_run State::assignments State::weekends Workspace::search Workspace::offers
+    State::last_number State::run State::shift_run State::assignments State::weekends Workspace::offers
     Workspace::clear_offers Workspace::push_offers Workspace::search_offers LastSearches::knows LastSearches::most_gain
     LastSearches::remember RowSpace Worths Seen count_rows follow_cover raise_missed pay_places take_row put_row price_of
-    lacks_nurses offers_of_day rows_are_had improve_worths refuse refuse_output
+    lacks_nurses offer_days rows_are_had improve_worths refuse refuse_output
 """
 # Comments, strings and characters, whose braces count for nothing.
 SILENT = r"""//[^\n]*|"(?:[^"\\]|\\[\s\S])*"|'(?:\\[^'\n]+|[^'\\\n])'"""

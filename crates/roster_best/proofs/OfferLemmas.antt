@@ -1,24 +1,19 @@
 -- The offers of a day, choice by choice.
-use Rattle.std.proofs.Common.{◌≡◌, ◌∙◌, ◌+◌, ◌-◌, ◌*◌, ◌<◌, ◌&&◌, ◌==◌, ◌⊎◌, inl, inr, ℕ, Bool, true, false, ap, ap₂, append-nil, append_assoc, arith, refl, sym, List, [], ◌∷◌, ◌++◌, filter, if◌then◌else◌, length, map, nat_lt, not, replicate, slice_index_or, slice_set, None, Option, Some}
-use Rattle.std.specs.Option.{option_to_list}
-use Rattle.std.specs.List.{flat_map, list_any, range_with_len}
-use Rattle.std.proofs.lemmas.Bool.{and_parts, and_right, cases_eq, eqb-true}
-use Rattle.std.proofs.lemmas.List.{get_or-replicate, get_or-set_other, get_or-set_same, map-append}
-use Rattle.std.proofs.lemmas.List.Elements.{filter-append}
-use Rattle.roster_bundle.proofs.Ranges.{flat_map-range_more, range_with_len_more}
+use Rattle.std.proofs.Common.{◌≡◌, ◌∙◌, ◌+◌, ◌-◌, ◌*◌, ◌<◌, ◌==◌, ℕ, true, ap, arith, refl, sym, if◌then◌else◌, length, nat_lt, None, Option, Some}
+use Rattle.std.proofs.lemmas.Bool.{and_parts, eqb-true}
 use Rattle.roster_instance.specs.declared.choice.Choice.{Choice}
 use Rattle.roster_instance.specs.declared.choice.Choice.TheVariants.{Off, Work}
 use Rattle.roster_instance.specs.declared.choice.Shift.{Shift}
 use Rattle.roster_instance.specs.declared.choice.Skill.{Skill}
 use Rattle.roster_instance.specs.Choices.{shift_of}
 use Rattle.roster_instance.specs.Counting.{one_if}
-use Rattle.roster_instance.specs.Meaning.{Meaning, day_count, minimum, nurse_count, optimum, shift_at, shift_count, skill_at, skill_count}
+use Rattle.roster_instance.specs.Meaning.{Meaning, day_count, minimum, nurse_count, optimum, shift_count, skill_count}
 use Rattle.roster_instance.specs.Rosters.{Rows, choice_on, cover, fits_case, row_of}
 use Rattle.roster_instance.proofs.RosterFacts.{has_row}
 use Rattle.roster_rules.specs.HardRules.{keeps_hard, may_take}
 use Rattle.roster_rules.specs.Penalties.{request_cost_on}
 use Rattle.roster_rules.specs.Weights.{staffing_weight}
-use Rattle.roster_laws.specs.OneRow.{is_open, others}
+use Rattle.roster_laws.specs.OneRow.{others}
 use Rattle.roster_laws.specs.Staffing.{lacking, meets, with_choice}
 use Rattle.roster_case.proofs.DayTableLemmas.{cover-parts}
 use Rattle.roster_laws.proofs.Lacking.{lacking-off, lacking-work, meets-lacking, staffing-lacking}

@@ -1,11 +1,10 @@
 -- The offers of a search for a best row, and its count.
-use Rattle.std.proofs.Common.{◌≡◌, ◌∙◌, ◌*◌, ◌<◌, ◌≤◌, ◌==◌, ◌&&◌, ℕ, true, nat_le, IsSome, List, [], arith, subst, sym}
+use Rattle.std.proofs.Common.{◌≡◌, ◌∙◌, ◌<◌, ◌≤◌, ℕ, true, IsSome, List, [], arith, subst, sym}
 use Rattle.arrayvec.specs.ArrayVec.{ArrayVec}
 use Rattle.roster_instance.specs.Limits.{most_shifts, most_skills}
 use Rattle.roster_instance.specs.Meaning.{Meaning, day_count, nurse_count, shift_count, skill_count}
 use Rattle.roster_instance.specs.Rosters.{Rows, fits_case}
 use Rattle.roster_instance.specs.Small.{HasSmallNumbers}
-use Rattle.roster_laws.specs.Greatest.{greatest_state_count}
 use Rattle.roster_rules.specs.HardRules.{keeps_hard}
 use Rattle.roster_rules.specs.Prefix.{summary_of}
 use Rattle.roster_offers.specs.declared.offer.Offer.{Offer}
@@ -18,7 +17,6 @@ use Rattle.roster_offers.proofs.OfferLaws.{offers_few, offers_of_case, offers_so
 use Rattle.roster_offers.proofs.ListLaws.{best_over_same}
 use Rattle.roster_partial.specs.Counts.{CountsSearch}
 use Rattle.roster_partial.proofs.CountLaws.{counts_same}
-use Rattle.roster_partial.specs.Workspaces.{SameRoom, Space, fits_space}
 use Rattle.roster_best.specs.Searches.{AreShiftOffers, CountsStanding}
 
 -- ---- the table of offers
@@ -45,9 +43,3 @@ module _ (c : Meaning) (from : ℕ) (r : Rows) (n : ℕ) (offers : List (ArrayVe
   -- what is counted over the table is counted over the nurse's offers
   pub counted_is : (before after : ℕ) → CountsSearch c n (offers_on offers) before after → CountsStanding c from r n before after
   counted_is before after counts = counts_same c n (offers_on offers) (shift_offers c from r n) are.each before after counts
-
--- ---- the room
-
-pub fits_after : (c : Meaning) (old new : Space) → SameRoom old new → fits_space c old ≡ true → fits_space c new ≡ true
-fits_after c old new same fits =
-    (λ i. (same.labels i == 2 * greatest_state_count c) && (same.pointers i == greatest_state_count c * day_count c) && nat_le (day_count c) (same.room i)) ∙ fits

@@ -1,5 +1,5 @@
 -- The least that a nurse costs is what the search finds.
-use Rattle.std.proofs.Common.{◌≡◌, ◌∙◌, ◌+◌, ◌<◌, ◌≤◌, ◌&&◌, ◌==◌, ℕ, Bool, true, false, not, ap, arith, refl, subst, sym, List, [], ◌∷◌, length, Contains, IsSome, Option, Some, None}
+use Rattle.std.proofs.Common.{◌≡◌, ◌∙◌, ◌+◌, ◌<◌, ◌≤◌, ◌&&◌, ◌==◌, ℕ, Bool, true, false, not, ap, arith, refl, subst, sym, List, [], length, Contains, IsSome, Option, Some, None}
 use Rattle.std.specs.Prelude.{option_map}
 use Rattle.std.specs.List.{All, filter, list_all}
 use Rattle.std.specs.Option.{option_map_or}
@@ -10,7 +10,7 @@ use Rattle.std.proofs.lemmas.List.Sums.{AllPass-from_list_all}
 use Rattle.arrayvec.specs.ArrayVec.{ArrayVec}
 use Rattle.roster_instance.specs.declared.choice.Choice.{Choice}
 use Rattle.roster_instance.specs.declared.choice.Choice.TheVariants.{Off}
-use Rattle.roster_rules.specs.AllowedRows.{first_least, keeps_frozen_day, keeps_frozen_days}
+use Rattle.roster_rules.specs.AllowedRows.{keeps_frozen_day, keeps_frozen_days}
 use Rattle.roster_instance.specs.Choices.{all_choices, all_rows, days_of, shift_of}
 use Rattle.roster_rules.specs.HardRules.{breaks_succession, is_able, is_able_on, is_here, is_here_on, keeps_hard, keeps_successions, may_take}
 use Rattle.roster_instance.specs.Limits.{most_keep}
@@ -20,7 +20,8 @@ use Rattle.roster_instance.specs.Rosters.{Row, Rows, choice_on, fits_case, is_ch
 use Rattle.roster_rules.proofs.Bounds.{request_on-within}
 use Rattle.roster_instance.proofs.RosterFacts.{row_fits}
 use Rattle.roster_laws.proofs.AllRows.{choice_is_member, member_is_choice, row_is_member}
-use Rattle.roster_laws.proofs.Allowed.{member_is_kept}
+use Rattle.roster_laws.proofs.Allowed.{member_is_kept, some_least}
+use Rattle.roster_laws.proofs.Keeps.{last_two}
 use Rattle.roster_laws.proofs.Below.{all_both, all_elim, all_same}
 use Rattle.roster_laws.proofs.Frozen.{stays_self}
 use Rattle.roster_offers.specs.declared.offer.Offer.{Offer}
@@ -35,18 +36,6 @@ use Rattle.roster_offers.proofs.ListLaws.{best_over_same}
 use Rattle.roster_bound.specs.Days.{AreWorthOffers, can_do, offers_by_worth, shift_offers_by_worth}
 use Rattle.roster_bound.proofs.Duality.{worked}
 use Rattle.roster_bound.specs.Worths.{HasRow, HaveRows, PlaceWorths, can_work, floor_row, own_rows, price_by, row_cost_by, row_floor}
-
--- a choice is one that the nurse is able to do, may follow, and stays
-last_two : (a b d : Bool) → ((a && b) && d) ≡ ((a && d) && b)
-last_two true true true = refl
-last_two true true false = refl
-last_two true false true = refl
-last_two true false false = refl
-last_two false b d = refl
-
-some_least : {X : Type 0} (cost : X → ℕ) (xs : List X) (x : X) → Contains xs x → IsSome (first_least cost xs)
-some_least cost [] x member = absurd (omega (arith, member.1))
-some_least cost (y ∷ ys) x member = refl
 
 module _ (c : Meaning) (from : ℕ) (given : Rows) (w : PlaceWorths) (n : ℕ) where
   abbrev can : ℕ → Choice → Bool

@@ -1,10 +1,11 @@
 //! The least that nurses cost, and the floor under a roster.
 
-ghost use Rattle.std.specs.Prelude.{◌≡◌, ◌+◌, ◌*◌, ◌≤◌, ◌<◌, Some};
+ghost use Rattle.std.specs.Prelude.{◌≡◌, ◌+◌, ◌*◌, ◌≤◌, ◌<◌, Some, true};
 ghost use Rattle.roster_bundle.specs.Limits.{greatest_u64};
 ghost use Rattle.roster_instance.specs.Limits.{most_days, most_nurses};
 ghost use Rattle.roster_instance.specs.Meaning.{day_count, nurse_count};
 ghost use Rattle.roster_laws.specs.Greatest.{extension_count, greatest_extension_count};
+ghost use Rattle.roster_partial.specs.Workspaces.{fits_space};
 ghost use Rattle.roster_bound.specs.Days.{AreWorthOffers, shift_offers_by_worth};
 ghost use Rattle.roster_bound.specs.Seen.{FitsSeen};
 ghost use Rattle.roster_bound.specs.Tables.{worths_of};
@@ -19,7 +20,8 @@ use crate::workspace::RowSpace;
 use crate::worths::MOST_WORTH;
 use arrayvec::ArrayVec;
 use roster_instance::Case;
-use roster_offers::{DayOffers, MOST_OFFERS, NurseDay, Offer, RowSearch, offers_by_shift};
+use roster_offers::{MOST_OFFERS, NurseDay, Offer, offers_by_shift};
+use roster_partial::Workspace;
 use roster_rules::is_frozen;
 use roster_state::{Meter, start};
 
@@ -97,38 +99,32 @@ pub fn row_floor(terms: &Terms<'_>, nurse: usize, rows: &mut RowSpace, meter: &m
 {
     let case = terms.case;
     case.keeps_limits();
-    let RowSpace {
-        workspace,
-        offers,
-        cover,
-    } = rows;
-    offers_of_days(terms, nurse, offers);
-    let search = RowSearch {
-        case,
-        nurse,
-        offers: offers.as_slice(),
-    };
-    let cost = workspace.search(&search, meter);
+    let RowSpace { workspace, cover } = rows;
+    offer_days(terms, nurse, workspace);
+    let cost = workspace.search_offers(case, nurse, meter);
     count_row(workspace.row(), cover);
     let (_, owed) = start(case, nurse);
     owed as u64 + cost as u64
 }
 
-/// Puts the offers of each day in the place of others: to be off, and for each shift the cheapest, of equally cheap ones the first.
-fn offers_of_days(terms: &Terms<'_>, nurse: usize, offers: &mut DayOffers)
+/// Puts a nurse's offers of each day into a workspace in the place of others: to be off, and for each shift the cheapest, of equally cheap
+/// ones the first.
+pub fn offer_days(terms: &Terms<'_>, nurse: usize, workspace: &mut Workspace)
     requires nurse { nurse < nurse_count terms.now.case.now }
+    requires fits { fits_space terms.now.case.now workspace.old ≡ true }
     ensures offers { AreWorthOffers terms.now.case.now terms.now.from terms.now.given.now
-        (worths_of terms.now.worths.now) nurse offers.new.items }
+        (worths_of terms.now.worths.now) nurse workspace.new.offers }
+    ensures fits { fits_space terms.now.case.now workspace.new ≡ true }
 {
     terms.case.keeps_limits();
-    offers.clear();
+    workspace.clear_offers();
     for day in 0..terms.case.days() {
-        offers.push(offers_of_day(terms, nurse, day));
+        workspace.push_offers(offers_of_day(terms, nurse, day));
     }
 }
 
 /// The offers of one day.
-pub fn offers_of_day(terms: &Terms<'_>, nurse: usize, day: u16) -> ArrayVec<Offer, MOST_OFFERS>
+fn offers_of_day(terms: &Terms<'_>, nurse: usize, day: u16) -> ArrayVec<Offer, MOST_OFFERS>
     requires nurse { nurse < nurse_count terms.now.case.now }
     requires day { day < day_count terms.now.case.now }
     ensures offers { result.items ≡ shift_offers_by_worth terms.now.case.now terms.now.from

@@ -21,7 +21,7 @@ pub use fading::{
     Fading, WHOLE, count_rows, follow_cover, lacks_nurses, pay_places, price_of, put_row,
     raise_missed, take_row,
 };
-pub use floors::{lower_bound, offers_of_day};
+pub use floors::{lower_bound, offer_days};
 pub use laws::{
     bounds_are_rounded_up, met_bound_is_least, no_roster_is_below_the_bound, rows_are_had,
 };

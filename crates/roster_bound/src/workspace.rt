@@ -10,17 +10,14 @@ use crate::moves::Covers;
 use crate::rounds::FIRST;
 use crate::seen::Seen;
 use crate::worths::Worths;
-use arrayvec::ArrayVec;
 use roster_instance::Case;
-use roster_offers::DayOffers;
 use roster_partial::{BestFault, Workspace};
 use std::alloc::Global;
 
-/// What the searches for the nurses' cheapest rows write into: the workspace of a search, the offers of a nurse, and how many of these
-/// rows are at each place, 64 places for each day.
+/// What the searches for the nurses' cheapest rows write into: the workspace of a search, and how many of these rows are at each place,
+/// 64 places for each day.
 pub struct RowSpace {
     pub workspace: Workspace,
-    pub(crate) offers: DayOffers,
     pub(crate) cover: Vec<u16>,
 }
 
@@ -29,15 +26,14 @@ impl Drop for RowSpace {
     fn drop(self) {
         let RowSpace {
             workspace: _,
-            offers: _,
             cover: _,
         } = self;
     }
 }
 
 /// What a run that raises a floor writes into: what its searches do, the worths with the covers by which they move, and the rows that
-/// were seen. Beside a search's workspace, a nurse's offers and those rows that is 64 times 14 bytes for each day: 326 kB at most. One
-/// serves one run after another.
+/// were seen. Beside a search's workspace and those rows that is 64 times 14 bytes for each day: 326 kB at most. One serves one run
+/// after another.
 pub struct FloorWorkspace {
     pub rows: RowSpace,
     pub worths: Worths,
@@ -68,7 +64,6 @@ impl RowSpace {
     {
         Ok(RowSpace {
             workspace: Workspace::for_case(alloc, case)?,
-            offers: ArrayVec::new(),
             cover: vec![in alloc; 0; 64 * case.days() as usize]?,
         })
     }

@@ -1,5 +1,6 @@
 -- The table of a day's covers, nurse by nurse.
-use Rattle.std.proofs.Common.{◌≡◌, ◌∙◌, ◌+◌, ◌-◌, ◌*◌, ◌<◌, ◌≤◌, ◌⊎◌, ◌&&◌, ◌==◌, ℕ, Bool, true, false, inl, inr, ap, ap₂, arith, sym, refl, List, [], length, replicate, take, nat_lt, slice_index_or, slice_set}
+use Rattle.std.proofs.Common.{◌≡◌, ◌∙◌, ◌+◌, ◌-◌, ◌*◌, ◌<◌, ◌≤◌, ◌⊎◌, ◌&&◌, ◌==◌, ℕ, Bool, true, false, inl, inr, ap, ap₂, arith, sym, List, [], length, replicate, take, nat_lt, slice_index_or, slice_set}
+use Rattle.std.proofs.Math.Bool.{and-false}
 use Rattle.std.proofs.Common.{eq-eqb}
 use Rattle.std.proofs.lemmas.Bool.{cases_eq, ne_eqb}
 use Rattle.std.proofs.lemmas.List.{get_or-replicate, get_or-set_other, get_or-set_same}
@@ -34,10 +35,6 @@ few_more counts n place inside few sized i within = go (cases_eq i place)
     go : (i ≡ place) ⊎ (i ≡ place → ⊥) → slice_index_or (slice_set counts place here) i 0 ≤ n + 1
     go (inl same) = omega (arith, ap (λ j. slice_index_or (slice_set counts place here) j 0) same ∙ get_or-set_same counts place here 0 inside, few place (omega (arith, inside, sized)))
     go (inr other) = omega (arith, get_or-set_other counts place i here 0 other, few i within)
-
-and_false : (b : Bool) → (b && false) ≡ false
-and_false true = refl
-and_false false = refl
 
 module _ (r : Rows) (day n : ℕ) (inside : n < length r) (row : Row) (choice : Choice) (row_is : row ≡ row_of r n) (is : choice ≡ choice_on row day) where
   -- the nurse counts where the choice is that of the shift and skill
@@ -89,7 +86,7 @@ module _ (r : Rows) (day n : ℕ) (inside : n < length r) (row : Row) (choice : 
         where
           go : (s ≡ shift.0) ⊎ (s ≡ shift.0 → ⊥) → (k ≡ skill.0) ⊎ (k ≡ skill.0 → ⊥) → slice_index_or more (8 * s + k) 0 ≡ cover (take (n + 1) r) day s k
           go (inl e) (inl f) = at_its_place s k s_in k_in e f
-          go (inl e) (inr g) = elsewhere s k s_in k_in (λ h. g (omega (arith, h, e, place_is))) (own_by s k ∙ ap (λ b. (shift.0 == s) && b) (ne_eqb skill.0 k (λ h. g (sym h))) ∙ and_false (shift.0 == s))
+          go (inl e) (inr g) = elsewhere s k s_in k_in (λ h. g (omega (arith, h, e, place_is))) (own_by s k ∙ ap (λ b. (shift.0 == s) && b) (ne_eqb skill.0 k (λ h. g (sym h))) ∙ and-false (shift.0 == s))
           go (inr g) f = elsewhere s k s_in k_in (λ h. g (omega (arith, h, place_is, s_in, k_in, shift_in, skill_in))) (own_by s k ∙ ap (λ b. b && (skill.0 == k)) (ne_eqb shift.0 s (λ h. g (sym h))))
 
 -- a day's table tells what its staffing costs

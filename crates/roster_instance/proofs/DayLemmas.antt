@@ -1,5 +1,6 @@
 -- Absences and fixed days: for each place a flag, set where a line has this place.
 use Rattle.std.proofs.Common.{◌≡◌, ◌∙◌, ◌+◌, ◌*◌, ◌++◌, ◌∷◌, ◌||◌, ℕ, Bool, true, false, List, [], Some, ap, length, refl, replicate, sym}
+use Rattle.std.proofs.Math.Bool.{or-false}
 use Rattle.std.proofs.Math.ListN.{set}
 use Rattle.std.specs.Prelude.{option_map}
 use Rattle.std.proofs.lemmas.Bool.{or_right}
@@ -11,10 +12,6 @@ use Rattle.roster_instance.specs.Names.{found}
 use Rattle.roster_instance.specs.Tables.{is_at}
 use Rattle.roster_instance.proofs.RequestLemmas.{all_alike, element-written}
 use Rattle.roster_instance.proofs.TableLemmas.{is_at-other, is_at-same}
-
-or_false : (b : Bool) → (b || false) ≡ b
-or_false true = refl
-or_false false = refl
 
 -- none yet
 pub no-days : (source : List ℕ) (nurses : Names) → days_meant source nurses [] ≡ replicate (7 * length nurses) false
@@ -28,7 +25,7 @@ unfolding days_meant
 line-day source nurses earlier marks is a n nurse w day =
     element-written (7 * length nurses) (has_line source nurses earlier) (has_line source nurses (earlier ++ a ∷ [])) p true
     (sym (push p ∙ ap (λ b. has_line source nurses earlier p || b) (is_at-same p) ∙ or_right (has_line source nurses earlier p) true refl))
-    (λ q other. push q ∙ ap (λ b. has_line source nurses earlier q || b) (is_at-other q p other) ∙ or_false (has_line source nurses earlier q))
+    (λ q other. push q ∙ ap (λ b. has_line source nurses earlier q || b) (is_at-other q p other) ∙ or-false (has_line source nurses earlier q))
     ∙ ap (λ flags. set flags p true) (sym is)
   where
     p : ℕ
@@ -39,4 +36,4 @@ line-day source nurses earlier marks is a n nurse w day =
 
     push : (q : ℕ) → has_line source nurses (earlier ++ a ∷ []) q ≡ (has_line source nurses earlier q || is_at q (Some p))
     push q = list_any-append (λ e. is_at q (place_of_day source nurses e)) earlier (a ∷ [])
-        ∙ ap (λ b. has_line source nurses earlier q || b) (or_false (is_at q (place_of_day source nurses a)) ∙ ap (is_at q) at)
+        ∙ ap (λ b. has_line source nurses earlier q || b) (or-false (is_at q (place_of_day source nurses a)) ∙ ap (is_at q) at)

@@ -1,6 +1,6 @@
 -- Flags by number: a flag is on where one of the items has its number.
-use Rattle.std.proofs.Common.{◌≡◌, ◌∙◌, ◌+◌, ◌<◌, ◌||◌, ◌⊎◌, ◌==◌, ℕ, Bool, cond, true, false, refl, sym, ap, arith, List, [], ◌∷◌, ◌++◌, get_or, length, map, Some, inl, inr}
-use Rattle.std.proofs.Math.Bool.{or-false}
+use Rattle.std.proofs.Common.{◌≡◌, ◌∙◌, ◌+◌, ◌<◌, ◌||◌, ◌⊎◌, ◌==◌, ℕ, Bool, cond, true, false, sym, ap, arith, List, [], ◌∷◌, ◌++◌, get_or, length, map, Some, inl, inr}
+use Rattle.std.proofs.Math.Bool.{or-false, or-true}
 use Rattle.std.proofs.Math.ListN.{set}
 use Rattle.std.specs.List.{count_by, list_any, range_with_len}
 use Rattle.std.proofs.lemmas.Bool.{cases_eq, eq-eqb, ne_eqb}
@@ -32,10 +32,6 @@ module _ (flags : List Bool) (k : ℕ) (d : Bool) (within : k < length flags) (o
 
 -- ---- one more item
 
-either-true : (b : Bool) → (b || true) ≡ true
-either-true true = refl
-either-true false = refl
-
 module _ {A : Type 0} (has : ℕ → A → Bool) (m : ℕ) where
   abbrev flags : List A → List Bool
   flags xs = map (λ n. list_any (has n) xs) (range_with_len 0 m)
@@ -60,7 +56,7 @@ module _ {A : Type 0} (has : ℕ → A → Bool) (m : ℕ) where
           flags-at (xs ++ x ∷ []) n true inside
           ∙ either n
           ∙ ap (λ b. list_any (has n) xs || b) (eq-eqb k n (sym same))
-          ∙ either-true (list_any (has n) xs)
+          ∙ or-true (list_any (has n) xs)
           ∙ sym (ap (λ j. get_or (set (flags xs) k true) j true) same ∙ get_or-set_same (flags xs) k true true (omega (arith, flags-length xs)))
       flag n inside (inr other) =
           flags-at (xs ++ x ∷ []) n true inside

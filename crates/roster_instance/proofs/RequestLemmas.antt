@@ -1,5 +1,6 @@
 -- Requests: for each place a flag for the word `Any` and one for each shift, set where a request has this place and says so.
-use Rattle.std.proofs.Common.{◌≡◌, ◌≢◌, ◌∙◌, ◌⊎◌, ◌+◌, ◌*◌, ◌<◌, ◌++◌, ◌∷◌, ◌&&◌, ◌||◌, ◌==◌, ℕ, Bool, true, false, not, List, [], Option, Some, ap, arith, codes, get_or, inl, inr, length, map, refl, replicate, sym}
+use Rattle.std.proofs.Common.{◌≡◌, ◌≢◌, ◌∙◌, ◌⊎◌, ◌+◌, ◌*◌, ◌<◌, ◌++◌, ◌∷◌, ◌&&◌, ◌||◌, ◌==◌, ℕ, Bool, true, false, not, List, [], Option, Some, ap, arith, codes, get_or, inl, inr, length, map, replicate, sym}
+use Rattle.std.proofs.Math.Bool.{or-false}
 use Rattle.std.proofs.Math.ListN.{set}
 use Rattle.std.specs.Prelude.{option_map}
 use Rattle.std.specs.List.{list_any, range_with_len}
@@ -48,10 +49,6 @@ module _ {X : Type 0} (n : ℕ) where
 
 -- ---- a flag for each place
 
-or_false : (b : Bool) → (b || false) ≡ b
-or_false true = refl
-or_false false = refl
-
 -- one item more, at p, where a flag says whether an item of a place passes a test
 module _ {A : Type 0} (place : A → Option ℕ) (xs : List A) (x : A) (p : ℕ) (at : place x ≡ Some p) (test : A → Bool) where
   abbrev flag : List A → ℕ → Bool
@@ -59,10 +56,10 @@ module _ {A : Type 0} (place : A → Option ℕ) (xs : List A) (x : A) (p : ℕ)
 
   flag-push : (q : ℕ) → flag (xs ++ x ∷ []) q ≡ (flag xs q || (is_at q (Some p) && test x))
   flag-push q = list_any-append (λ y. is_at q (place y) && test y) xs (x ∷ [])
-      ∙ ap (λ b. flag xs q || b) (or_false (is_at q (place x) && test x) ∙ ap (λ o. is_at q o && test x) at)
+      ∙ ap (λ b. flag xs q || b) (or-false (is_at q (place x) && test x) ∙ ap (λ o. is_at q o && test x) at)
 
   flag-elsewhere : (q : ℕ) → q ≢ p → flag (xs ++ x ∷ []) q ≡ flag xs q
-  flag-elsewhere q other = flag-push q ∙ ap (λ b. flag xs q || (b && test x)) (is_at-other q p other) ∙ or_false (flag xs q)
+  flag-elsewhere q other = flag-push q ∙ ap (λ b. flag xs q || (b && test x)) (is_at-other q p other) ∙ or-false (flag xs q)
 
   flag-here : flag (xs ++ x ∷ []) p ≡ (flag xs p || test x)
   flag-here = flag-push p ∙ ap (λ b. flag xs p || (b && test x)) (is_at-same p)
@@ -71,7 +68,7 @@ module _ {A : Type 0} (place : A → Option ℕ) (xs : List A) (x : A) (p : ℕ)
   flag-set says = flag-here ∙ or_right (flag xs p) (test x) says
 
   flag-kept : test x ≡ false → flag (xs ++ x ∷ []) p ≡ flag xs p
-  flag-kept otherwise = flag-here ∙ ap (λ b. flag xs p || b) otherwise ∙ or_false (flag xs p)
+  flag-kept otherwise = flag-here ∙ ap (λ b. flag xs p || b) otherwise ∙ or-false (flag xs p)
 
 -- ---- requests
 

@@ -1,4 +1,10 @@
 //! What the texts of an instance mean: its case, with all that is asked of it, and its rosters.
+//!
+//! What a bundle means is defined in `specs/Meaning.antt` and `specs/Bundles.antt`, its faults, in order, in `specs/Refusals.antt`, and
+//! rosters in `specs/Rosters.antt`. `scenario`, `history` and `week` read its parts, one item of a `section` after the other, by their
+//! `names` and into a `table`; `case` puts them together, and answers what is asked later. `Case::from_bundle` promises the meaning, or
+//! the first fault (`fault`); `Roster::from_bundle` (`roster`) the rows. `choice` and `rules` have a day's choices and the numbers of
+//! contracts and histories, `sizes` those of the search for a nurse (`specs/Sizes.antt`).
 #![tactic(auto)]
 
 mod case;

@@ -1,5 +1,6 @@
 -- The allowed rows, and the present one among them.
 use Rattle.std.proofs.Common.{◌≡◌, ◌∙◌, ◌<◌, ◌/◌, ◌&&◌, ◌||◌, not, ℕ, Bool, true, false, cond, ap, ap₂, arith, refl, List, [], ◌∷◌, Contains, IsSome}
+use Rattle.std.proofs.Math.Bool.{and-true}
 use Rattle.std.specs.List.{All, filter}
 use Rattle.std.proofs.lemmas.Bool.{and_from, and_parts, le-ltb}
 use Rattle.std.proofs.lemmas.List.{set-get_or}
@@ -40,7 +41,7 @@ module _ {X : Type 0} (p : X → Bool) where
   pub member_is_kept : (xs : List X) (x : X) → Contains xs x → p x ≡ true → Contains (filter p xs) x
   member_is_kept xs x member passes = All-contains (λ y. p y ≡ true → Contains (filter p xs) y) xs x (each_kept xs) member passes
 
-some_least : {X : Type 0} (cost : X → ℕ) (xs : List X) (x : X) → Contains xs x → IsSome (first_least cost xs)
+pub some_least : {X : Type 0} (cost : X → ℕ) (xs : List X) (x : X) → Contains xs x → IsSome (first_least cost xs)
 some_least cost [] x member = absurd (omega (arith, member.1))
 some_least cost (y ∷ ys) x member = refl
 
@@ -49,10 +50,6 @@ some_least cost (y ∷ ys) x member = refl
 or_second : (a : Bool) {b : Bool} → b ≡ true → (a || b) ≡ true
 or_second true e = refl
 or_second false e = e
-
-and_true : (b : Bool) → (b && true) ≡ b
-and_true true = refl
-and_true false = refl
 
 module _ (c : Meaning) (from : ℕ) (r : Rows) (n : ℕ) where
   hard : Row → Bool
@@ -96,4 +93,4 @@ none_frozen c nothing r n row =
 
 pub rows_from_week_0 : (c : Meaning) → NothingIsFixed c → (r : Rows) (n : ℕ) → allowed_rows c 0 r n ≡ filter (λ row. keeps_hard c (with_row r n row)) (all_rows (all_choices c) (day_count c))
 rows_from_week_0 c nothing r n =
-    λ i. filter (λ row. (ap (λ b. keeps_hard c (with_row r n row) && b) (none_frozen c nothing r n row) ∙ and_true (keeps_hard c (with_row r n row))) i) (all_rows (all_choices c) (day_count c))
+    λ i. filter (λ row. (ap (λ b. keeps_hard c (with_row r n row) && b) (none_frozen c nothing r n row) ∙ and-true (keeps_hard c (with_row r n row))) i) (all_rows (all_choices c) (day_count c))

@@ -59,6 +59,14 @@ keeps_hard-parts c r =
 
 -- ---- one row replaced
 
+-- a choice is open, may follow, and stays
+pub last_two : (a b d : Bool) → ((a && b) && d) ≡ ((a && d) && b)
+last_two true true true = refl
+last_two true true false = refl
+last_two true false true = refl
+last_two true false false = refl
+last_two false b d = refl
+
 and_turned : (m f a h : Bool) → (m && f && a && h) ≡ (((a && h) && m) && f)
 and_turned true true true true = refl
 and_turned true true true false = refl
@@ -92,14 +100,6 @@ module _ (c : Meaning) (r : Rows) (keeps : keeps_hard c r ≡ true) (n : ℕ) (w
       ∙ sym (all_both D (λ d. is_open c r n d (choice_on row d)) (λ d. not (breaks_succession c n (days_of row) d)))
 
   -- ---- and keeps the frozen days: where each choice is offered
-
-  -- a choice is open, may follow, and stays
-  last_two : (a b d : Bool) → ((a && b) && d) ≡ ((a && d) && b)
-  last_two true true true = refl
-  last_two true true false = refl
-  last_two true false true = refl
-  last_two true false false = refl
-  last_two false b d = refl
 
   pub allowed-with_row : (from : ℕ) → (keeps_hard c (with_row r n row) && keeps_frozen_days c from r n row) ≡ is_offered_row c from r n row (day_count c)
   allowed-with_row from =

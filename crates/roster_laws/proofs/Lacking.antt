@@ -1,5 +1,6 @@
 -- What a day lacks with one nurse more, and that a day which lacks none meets each number.
 use Rattle.std.proofs.Common.{◌≡◌, ◌∙◌, ◌+◌, ◌-◌, ◌*◌, ◌<◌, ◌≤◌, ◌&&◌, ◌==◌, ◌⊎◌, ℕ, zero, suc, Bool, true, false, not, inl, inr, ap, ap₂, arith, refl, sym, nat_lt}
+use Rattle.std.proofs.Math.Bool.{and-false}
 use Rattle.std.proofs.lemmas.Bool.{cases_lt, eq-eqb, ne_eqb, le-ltb, lt-ltb}
 use Rattle.roster_instance.specs.declared.choice.Choice.TheVariants.{Off, Work}
 use Rattle.roster_instance.specs.declared.choice.Shift.{Shift}
@@ -23,12 +24,8 @@ one_less w h b e = go (cases_lt h w)
     go (inl k) = rw (e, lt-ltb h w k) (omega arith)
     go (inr k) = rw (e, le-ltb h w k) (omega arith)
 
-no_less : (w h : ℕ) (b : Bool) → b ≡ false → w - (h + one_if b) ≡ w - h
+pub no_less : (w h : ℕ) (b : Bool) → b ≡ false → w - (h + one_if b) ≡ w - h
 no_less w h b e = rw e (omega arith)
-
-and_not : (b : Bool) → (b && false) ≡ false
-and_not true = refl
-and_not false = refl
 
 scaled : (n : ℕ) (f : ℕ → ℕ) → sum_below n (λ k. staffing_weight * f k) ≡ staffing_weight * sum_below n f
 scaled zero f = refl
@@ -71,5 +68,5 @@ module _ (c : Meaning) where
         let outer = sum_changed (shift_count c) s (λ t. sum_below (skill_count c) (here t)) (λ t. sum_below (skill_count c) (was t)) shift_in
         (λ t e. sum_same (skill_count c) (here t) (was t) (λ l h. no_less (want t l) (have t l) ((s == t) && (k == l)) (ap (λ b. b && (k == l)) (ne_eqb s t (λ d. e (sym d)))))) in
         let inner = sum_changed (skill_count c) k (here s) (was s) skill_in
-        (λ l e. no_less (want s l) (have s l) ((s == s) && (k == l)) (ap (λ b. (s == s) && b) (ne_eqb k l (λ d. e (sym d))) ∙ and_not (s == s))) in
+        (λ l e. no_less (want s l) (have s l) ((s == s) && (k == l)) (ap (λ b. (s == s) && b) (ne_eqb k l (λ d. e (sym d))) ∙ and-false (s == s))) in
         omega (arith, outer, inner, one_less (want s k) (have s k) ((s == s) && (k == k)) (ap₂ (λ a b. a && b) (eq-eqb s s refl) (eq-eqb k k refl)))

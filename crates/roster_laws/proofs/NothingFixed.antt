@@ -1,5 +1,6 @@
 -- Where no week has the section of fixed days, no day of a nurse is fixed, and the frozen days are those of weeks.
-use Rattle.std.proofs.Common.{◌≡◌, ◌∙◌, ◌/◌, ◌*◌, ◌+◌, ◌%◌, ℕ, zero, suc, Bool, true, false, not, ap, refl, List, [], ◌∷◌, ◌&&◌, ◌||◌, filter, map, nat_lt, slice_index_or}
+use Rattle.std.proofs.Common.{◌≡◌, ◌∙◌, ◌/◌, ◌*◌, ◌+◌, ◌%◌, ℕ, zero, suc, false, not, ap, refl, List, [], ◌∷◌, ◌&&◌, ◌||◌, filter, map, nat_lt, slice_index_or}
+use Rattle.std.proofs.Math.Bool.{or-false}
 use Rattle.std.specs.List.{All}
 use Rattle.std.proofs.lemmas.List.Elements.{All-head, All-tail}
 use Rattle.roster_bundle.specs.declared.bundle.Bundle.{Bundle}
@@ -9,9 +10,9 @@ use Rattle.roster_instance.specs.Choices.{all_choices, all_rows, same_choice}
 use Rattle.roster_instance.specs.Meaning.{Meaning, day_count, no_week}
 use Rattle.roster_instance.specs.Names.{nurse_names, shift_names, skill_names}
 use Rattle.roster_instance.specs.Rosters.{Rows, choice_on, row_of, with_row}
-use Rattle.roster_rules.specs.AllowedRows.{allowed_rows, is_frozen, keeps_frozen_day, keeps_frozen_days}
+use Rattle.roster_rules.specs.AllowedRows.{allowed_rows, is_frozen, keeps_frozen_day}
 use Rattle.roster_rules.specs.HardRules.{keeps_hard}
-use Rattle.roster_laws.specs.FixedDays.{FixesNothing, ListsNoFixedDays, NothingIsFixed, keeps_weeks_before, rows_by_weeks}
+use Rattle.roster_laws.specs.FixedDays.{FixesNothing, ListsNoFixedDays, NothingIsFixed, rows_by_weeks}
 use Rattle.roster_laws.proofs.Below.{all_same}
 use Rattle.roster_laws.proofs.NobodyAbsent.{lineless}
 
@@ -25,13 +26,9 @@ pub nothing_is_fixed : (source : List ℕ) (b : Bundle) → ListsNoFixedDays b �
 unfolding meaning_of
 nothing_is_fixed source b none n d = in_week source (shift_names source b) (skill_names source b) (nurse_names source b) b.week_data none (d / 7) (7 * n + d % 7)
 
-or_false : (b : Bool) → (b || false) ≡ b
-or_false true = refl
-or_false false = refl
-
 module _ (c : Meaning) (nothing : NothingIsFixed c) where
   pub frozen_by_weeks : (from n d : ℕ) → is_frozen c from n d ≡ nat_lt (d / 7) from
-  frozen_by_weeks from n d = ap (λ b. nat_lt (d / 7) from || b) (nothing n d) ∙ or_false (nat_lt (d / 7) from)
+  frozen_by_weeks from n d = ap (λ b. nat_lt (d / 7) from || b) (nothing n d) ∙ or-false (nat_lt (d / 7) from)
 
   pub allowed_by_weeks : (from : ℕ) (r : Rows) (n : ℕ) → allowed_rows c from r n ≡ rows_by_weeks c from r n
   allowed_by_weeks from r n =

@@ -1,5 +1,5 @@
 -- A step changes nothing, or makes the roster cheaper.
-use Rattle.std.proofs.Common.{◌≡◌, ◌∙◌, ◌+◌, ◌<◌, ◌≤◌, ◌⊎◌, ℕ, Bool, true, false, not, cond, inl, inr, ap, arith, sym, refl, List, [], ◌∷◌, Option, Some, None, nat_lt}
+use Rattle.std.proofs.Common.{◌≡◌, ◌∙◌, ◌+◌, ◌<◌, ◌≤◌, ◌⊎◌, ℕ, Bool, true, false, not, cond, inl, inr, ap, arith, sym, refl, ◌∷◌, Option, Some, None, nat_lt}
 use Rattle.std.specs.List.{All}
 use Rattle.std.proofs.lemmas.Bool.{false_from_ne_true, le-ltb, lt-ltb, ltb-false, ltb-true, true≢false}
 use Rattle.std.proofs.lemmas.List.Elements.{All-append, All-cons, All-nil}
@@ -7,8 +7,8 @@ use Rattle.roster_rules.specs.Improver.{BestRows, if_cheaper, same_rows, step, s
 use Rattle.roster_instance.specs.Meaning.{Meaning}
 use Rattle.roster_rules.specs.Penalties.{penalty, penalty_unit}
 use Rattle.roster_instance.specs.Rosters.{Row, Rows, with_row}
-use Rattle.roster_rules.specs.AllowedRows.{IsBestRow, allowed_rows, best_row, first_least, penalty_with}
-use Rattle.roster_rules.proofs.FirstLeast.{found, only}
+use Rattle.roster_rules.specs.AllowedRows.{IsBestRow, allowed_rows, best_row, penalty_with}
+use Rattle.roster_rules.proofs.FirstLeast.{found, none_of_nothing, only}
 use Rattle.roster_laws.proofs.Fives.{by_unit, penalty_is, unit_is}
 use Rattle.roster_laws.proofs.SameRows.{same_rows_is, same_rows_self}
 
@@ -55,10 +55,6 @@ module _ (c : Meaning) (best : BestRows) (r : Rows) (n : ℕ) where
 
 -- ---- with the best row
 
-nothing : {A : Type 0} (cost : A → ℕ) (xs : List A) → first_least cost xs ≡ None → xs ≡ []
-nothing cost [] e = refl
-nothing cost (x ∷ xs) e = absurd cc
-
 module _ (c : Meaning) (from : ℕ) (r : Rows) (n : ℕ) where
   -- the penalty that a step reaches is at most that of each allowed row
   pub step_is_least : All (λ row. penalty c (step c (best_row c from) r n) ≤ penalty_with c r n row) (allowed_rows c from r n)
@@ -70,7 +66,7 @@ module _ (c : Meaning) (from : ℕ) (r : Rows) (n : ℕ) where
       reached row false e = ltb-false _ _ e
 
       go : (o : Option Row) → best_row c from r n ≡ o → All (λ row. penalty c (step_with c r n o) ≤ penalty_with c r n row) (allowed_rows c from r n)
-      go None e = rw (nothing (penalty_with c r n) (allowed_rows c from r n) e) (All-nil (λ row. penalty c r ≤ penalty_with c r n row))
+      go None e = rw (none_of_nothing (penalty_with c r n) (allowed_rows c from r n) e) (All-nil (λ row. penalty c r ≤ penalty_with c r n row))
       go (Some row) e =
           let f = found (penalty_with c r n) (allowed_rows c from r n) row e in
           let P : Row → Type 0 = λ other. penalty c (step_with c r n (Some row)) ≤ penalty_with c r n other in

@@ -1,5 +1,6 @@
 -- The offers of a day: each is of the case and at a small price, they are few, and where the roster keeps the hard rules there is one.
 use Rattle.std.proofs.Common.{◌≡◌, ◌∙◌, ◌+◌, ◌-◌, ◌*◌, ◌<◌, ◌≤◌, ◌&&◌, ◌||◌, ◌==◌, ℕ, Bool, true, false, not, nat_lt, ap, arith, IfSome, refl, sym, List, [], ◌∷◌, cond, filter, length, map, Contains}
+use Rattle.std.proofs.Math.Bool.{and-true}
 use Rattle.std.specs.List.{All, count_by, flat_map, list_all, list_any, range_with_len}
 use Rattle.std.proofs.Math.Nat.{suc-mul}
 use Rattle.std.proofs.lemmas.Bool.{and_from, and_parts, ltb-true}
@@ -76,10 +77,6 @@ only_one : {X : Type 0} (x : X) (xs : List X) → 0 < length xs → length xs �
 only_one x [] some few all = absurd (omega (arith, some))
 only_one x (y ∷ []) some few all = ap (λ z. z ∷ []) (All-head (λ z. z ≡ x) y [] all)
 only_one x (y ∷ z ∷ zs) some few all = absurd (omega (arith, few))
-
-and_true : (b : Bool) → (b && true) ≡ b
-and_true true = refl
-and_true false = refl
 
 -- ---- the choices
 
@@ -192,4 +189,4 @@ module _ (c : Meaning) (from : ℕ) (r : Rows) (n d : ℕ) where
 
   -- on another day all that is open is offered
   pub offers_free : is_frozen c from n d ≡ false → offers_of c from r n d ≡ open_offers c r n d
-  offers_free free = λ i. map (offer_of c r n d) (filter (λ x. (ap (λ b. is_open c r n d x && (not b || same_choice x (choice_on (row_of r n) d))) free ∙ and_true (is_open c r n d x)) i) (all_choices c))
+  offers_free free = λ i. map (offer_of c r n d) (filter (λ x. (ap (λ b. is_open c r n d x && (not b || same_choice x (choice_on (row_of r n) d))) free ∙ and-true (is_open c r n d x)) i) (all_choices c))

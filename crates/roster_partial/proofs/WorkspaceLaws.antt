@@ -38,6 +38,10 @@ same_after a b c one other = record {
   row_capacity = other.row_capacity ∙ one.row_capacity;
 }
 
+pub fits_after : (c : Meaning) (old new : Space) → SameRoom old new → fits_space c old ≡ true → fits_space c new ≡ true
+fits_after c old new same fits =
+    (λ i. (same.labels i == 2 * greatest_state_count c) && (same.pointers i == greatest_state_count c * day_count c) && nat_le (day_count c) (same.room i)) ∙ fits
+
 pub states_within : (c : Meaning) (n : ℕ) → n < nurse_count c → state_count c n ≤ greatest_state_count c
 states_within c n inside = (greatest_states c (omega (arith, inside))).above n inside
 

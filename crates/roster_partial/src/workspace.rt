@@ -1,13 +1,12 @@
 //! The memory of a search.
 
-ghost use Rattle.std.specs.Prelude.{◌≡◌, ◌+◌, ◌*◌, ◌<◌, ◌≤◌, [], ◌∷◌, ◌++◌, true, IfOk, IsSome, length, take};
+ghost use Rattle.std.specs.Prelude.{◌≡◌, ◌+◌, ◌*◌, ◌<◌, ◌≤◌, [], ◌∷◌, ◌++◌, true, IfOk, IsSome, length};
 ghost use Rattle.roster_bundle.specs.Limits.{greatest_u64};
 ghost use Rattle.roster_instance.specs.Limits.{most_days, most_shifts, most_skills, most_states};
 ghost use Rattle.roster_instance.specs.Meaning.{day_count, nurse_count};
 ghost use Rattle.roster_laws.specs.Greatest.{extension_count, greatest_state_count};
 ghost use Rattle.roster_offers.specs.Lists.{AreOffers, IsFound, best_over, no_row, offers_on};
 ghost use Rattle.roster_partial.specs.Counts.{CountsSearch};
-ghost use Rattle.roster_partial.specs.Searches.{best_in, days_in, offered};
 ghost use Rattle.roster_partial.specs.Workspaces.{SameRoom, fits_space};
 
 use crate::search::{Hints, search_row};
@@ -25,11 +24,6 @@ use thiserror::Error;
 /// (1 kB). Floors and partial rows stand in the cells of the tables. One workspace serves all nurses of a case, one after another.
 pub struct Workspace {
     offers: DayOffers,
-    space: SearchSpace,
-}
-
-/// What a search over offers writes into, wherever these come from.
-struct SearchSpace {
     hints: Hints,
     areas: DayAreas,
     tables: Tables,
@@ -38,19 +32,11 @@ struct SearchSpace {
     filled: usize,
 }
 
-// Both by hand, so that who drops a workspace has one call to prove.
+// By hand, so that who drops a workspace has one call to prove.
 impl Drop for Workspace {
     fn drop(self) {
         let Workspace {
             offers: _,
-            space: _,
-        } = self;
-    }
-}
-
-impl Drop for SearchSpace {
-    fn drop(self) {
-        let SearchSpace {
             hints: _,
             areas: _,
             tables: _,
@@ -61,15 +47,7 @@ impl Drop for SearchSpace {
 }
 
 impl Model for Workspace {
-    ghost use Rattle.roster_partial.specs.Workspaces.{Space};
-
-    ghost Value = { Space };
-
-    ghost view = { λ w. record w.space { offers = w.offers.items } };
-}
-
-impl Model for SearchSpace {
-    ghost use Rattle.std.specs.Prelude.{◌≤◌, [], length, take, vec_capacity};
+    ghost use Rattle.std.specs.Prelude.{◌≤◌, length, take, vec_capacity};
     ghost use Rattle.roster_partial.specs.Workspaces.{Space};
 
     ghost Value = { Space };
@@ -82,7 +60,7 @@ impl Model for SearchSpace {
       later_capacity = w.tables.later_capacity;
       row_capacity = vec_capacity w.choices;
       row = take w.filled w.choices.items;
-      offers = [];
+      offers = w.offers.items;
     } };
 
     ghost invariant = { λ w. w.filled ≤ length w.choices.items };
@@ -125,13 +103,11 @@ impl Workspace {
         let days = case.days() as usize;
         Ok(Workspace {
             offers: ArrayVec::new(),
-            space: SearchSpace {
-                hints: Hints::none(),
-                areas: DayAreas::new(),
-                tables: Tables::new(alloc, states, days)?,
-                choices: vec![in alloc; Choice::Off; days]?,
-                filled: 0,
-            },
+            hints: Hints::none(),
+            areas: DayAreas::new(),
+            tables: Tables::new(alloc, states, days)?,
+            choices: vec![in alloc; Choice::Off; days]?,
+            filled: 0,
         })
     }
 
@@ -139,14 +115,14 @@ impl Workspace {
     pub fn labels(&self) -> usize
         ensures { result ≡ self.now.labels }
     {
-        self.space.tables.labels()
+        self.tables.labels()
     }
 
     /// How many pointers there are: one for each of these states and each day.
     pub fn pointers(&self) -> usize
         ensures { result ≡ self.now.pointers }
     {
-        self.space.tables.pointers()
+        self.tables.pointers()
     }
 
     /// Whether the numbers of labels and pointers are those of the case, and a row of it has room.
@@ -157,34 +133,7 @@ impl Workspace {
         let days = case.days() as usize;
         self.labels() == 2 * states
             && self.pointers() == states * days
-            && days <= self.space.choices.len()
-    }
-
-    /// Searches the best row over a table of offers, wherever these come from, as `search_row` does. `row` shows it afterwards, and the
-    /// answer is its cost: its prices, and what the nurse's own rules cost along it beside what the start owes. It takes no memory.
-    pub fn search(&mut self, search: &RowSearch<'_>, meter: &mut Meter) -> u32
-        requires nurse { search.now.nurse < nurse_count search.now.case.now }
-        requires offers { AreOffers search.now.case.now search.now.nurse search.now.offers.now }
-        requires some { IsSome (best_in search.now) }
-        requires fits { fits_space search.now.case.now self.old ≡ true }
-        requires room { meter.old + extension_count search.now.case.now
-            search.now.nurse ≤ greatest_u64 }
-
-        // The row, and its cost.
-        ensures best { IsFound (best_in search.now) result self.new.row }
-        ensures below { result < no_row }
-
-        // What it takes.
-        ensures each_day { meter.old + days_in search.now ≤ meter.new }
-        ensures counted { meter.new ≤ meter.old + extension_count search.now.case.now
-            search.now.nurse }
-        ensures standing { CountsSearch search.now.case.now search.now.nurse (offered search.now)
-            meter.old meter.new }
-        ensures same_room { SameRoom self.old self.new }
-        ensures fits { fits_space search.now.case.now self.new ≡ true }
-        ensures offers { self.new.offers ≡ self.old.offers }
-    {
-        self.space.search(search, meter)
+            && days <= self.choices.len()
     }
 
     /// Takes out the offers that were put in.
@@ -209,7 +158,8 @@ impl Workspace {
         self.offers.as_slice()
     }
 
-    /// Searches the best row over the offers that were put in, as `search` does over those of a table.
+    /// Searches the best row over the offers that were put in, as `search_row` does. `row` shows it afterwards, and the answer is its cost:
+    /// its prices, and what the nurse's own rules cost along it beside what the start owes. It takes no memory.
     pub fn search_offers(&mut self, case: &Case, nurse: usize, meter: &mut Meter) -> u32
         requires nurse { nurse < nurse_count case.now }
         requires offers { AreOffers case.now nurse self.old.offers }
@@ -236,50 +186,23 @@ impl Workspace {
             nurse,
             offers: self.offers.as_slice(),
         };
-        self.space.search(&search, meter)
-    }
-
-    /// The row of the last search, with a choice for each day; empty before the first.
-    pub fn row(&self) -> &[Choice]
-        ensures { result.now ≡ self.now.row }
-    {
-        &self.space.choices[..self.space.filled]
-    }
-}
-
-impl SearchSpace {
-    /// What `Workspace::search` does, beside the offers that a workspace may lend it.
-    fn search(&mut self, search: &RowSearch<'_>, meter: &mut Meter) -> u32
-        requires nurse { search.now.nurse < nurse_count search.now.case.now }
-        requires offers { AreOffers search.now.case.now search.now.nurse search.now.offers.now }
-        requires some { IsSome (best_in search.now) }
-        requires fits { fits_space search.now.case.now self.old ≡ true }
-        requires room { meter.old + extension_count search.now.case.now
-            search.now.nurse ≤ greatest_u64 }
-
-        // The row, and its cost.
-        ensures best { IsFound (best_in search.now) result self.new.row }
-        ensures below { result < no_row }
-
-        // What it takes.
-        ensures each_day { meter.old + days_in search.now ≤ meter.new }
-        ensures counted { meter.new ≤ meter.old + extension_count search.now.case.now
-            search.now.nurse }
-        ensures standing { CountsSearch search.now.case.now search.now.nurse (offered search.now)
-            meter.old meter.new }
-        ensures same_room { SameRoom self.old self.new }
-        ensures fits { fits_space search.now.case.now self.new ≡ true }
-    {
         let cost = search_row(
-            search,
+            &search,
             &mut self.hints,
             &mut self.areas,
             &mut self.tables,
             &mut self.choices,
             meter,
         );
-        self.filled = search.case.days() as usize;
+        self.filled = case.days() as usize;
         cost
+    }
+
+    /// The row of the last search, with a choice for each day; empty before the first.
+    pub fn row(&self) -> &[Choice]
+        ensures { result.now ≡ self.now.row }
+    {
+        &self.choices[..self.filled]
     }
 }
 

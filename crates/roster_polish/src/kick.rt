@@ -11,14 +11,13 @@ ghost use Rattle.roster_polish.specs.Kicks.{FitsKick};
 ghost use Rattle.roster_polish.specs.Polished.{FitsPolish};
 ghost use Rattle.roster_polish.specs.Settled.{IsSettled, Spends, extensions_of};
 
-use crate::offers::{Kick, offers_of_days};
+use crate::offers::{Kick, offer_days};
 use crate::random::Random;
 use crate::searches::Searches;
 use crate::settle::Aim;
 use crate::space::PolishSpace;
 use crate::stay::stay_if_no_dearer;
 use roster_case::Held;
-use roster_offers::RowSearch;
 use roster_partial::Workspace;
 use roster_state::Meter;
 
@@ -197,12 +196,7 @@ fn kick_nurse(
 {
     // The roster keeps the hard rules: so the present row is offered, and there is a best one.
     held.keeps_rules();
-    let table = offers_of_days(held, nurse, kick);
-    let search = RowSearch {
-        case: held.case(),
-        nurse,
-        offers: table.as_slice(),
-    };
-    workspace.search(&search, meter);
+    offer_days(held, nurse, kick, workspace);
+    workspace.search_offers(held.case(), nurse, meter);
     held.replace_row(nurse, workspace.row());
 }

@@ -5,6 +5,7 @@ ghost use Rattle.roster_instance.specs.Meaning.{day_count, nurse_count};
 ghost use Rattle.roster_instance.specs.Rosters.{is_choice_of};
 ghost use Rattle.roster_bound.specs.Tables.{worths_of};
 ghost use Rattle.roster_bound.specs.Worths.{price_by};
+ghost use Rattle.roster_partial.specs.Workspaces.{fits_space};
 ghost use Rattle.roster_polish.specs.Kicks.{AreKickOffers, FitsKick, from_on, kick_offers, price_from, shift_place};
 
 use arrayvec::ArrayVec;
@@ -12,7 +13,8 @@ use roster_best::choices;
 use roster_bound::{MOST_WORTH, Worths};
 use roster_case::Held;
 use roster_instance::{Case, Choice};
-use roster_offers::{MOST_CHOICES, MOST_DAYS, MOST_OFFERS, Offer, cheapest_by_shift, request_cost};
+use roster_offers::{MOST_CHOICES, MOST_OFFERS, Offer, cheapest_by_shift, request_cost};
+use roster_partial::Workspace;
 
 /// How a kick prices what is offered, and in which weeks it offers more than the present row.
 #[derive(Clone, Copy)]
@@ -91,22 +93,20 @@ fn shift_place(case: &Case, choice: Choice) -> u8
     }
 }
 
-/// The offers of each day, one for each shift.
-pub(crate) fn offers_of_days(
-    held: &Held,
-    nurse: usize,
-    kick: &Kick<'_>,
-) -> ArrayVec<ArrayVec<Offer, MOST_OFFERS>, MOST_DAYS>
+/// Puts the offers of each day, one for each shift, into a workspace in the place of others.
+pub(crate) fn offer_days(held: &Held, nurse: usize, kick: &Kick<'_>, workspace: &mut Workspace)
     requires nurse { nurse < nurse_count held.now.case }
     requires kick { FitsKick held.now.case kick.now }
-    ensures { AreKickOffers held.now.case held.now.roster nurse kick.now result.items }
+    requires fits { fits_space held.now.case workspace.old ≡ true }
+    ensures offers { AreKickOffers held.now.case held.now.roster nurse kick.now
+        workspace.new.offers }
+    ensures fits { fits_space held.now.case workspace.new ≡ true }
 {
     held.case().keeps_limits();
-    let mut offers = ArrayVec::new();
+    workspace.clear_offers();
     for day in 0..held.case().days() {
-        offers.push(offers_of_day(held, nurse, day, kick));
+        workspace.push_offers(offers_of_day(held, nurse, day, kick));
     }
-    offers
 }
 
 /// The offers of one day, at the prices of the kick.

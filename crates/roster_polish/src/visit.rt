@@ -14,7 +14,7 @@ ghost use Rattle.roster_polish.specs.Fades.{is_left_out};
 
 use arrayvec::ArrayVec;
 use roster_best::LastSearches;
-use roster_bound::{Terms, offers_of_day, price_of};
+use roster_bound::{Terms, offer_days, price_of};
 use roster_instance::{Choice, choice_on};
 use roster_offers::{MOST_OFFERS, Offer};
 use roster_partial::Workspace;
@@ -61,21 +61,6 @@ pub(crate) fn visit(
     }
     search_offered(terms, turn.nurse, workspace, last, meter);
     true
-}
-
-/// Puts a nurse's offers of each day, one for each shift, at what places pay, into a workspace in the place of others.
-fn offer_days(terms: &Terms<'_>, nurse: usize, workspace: &mut Workspace)
-    requires nurse { nurse < nurse_count terms.now.case.now }
-    requires fits { fits_space terms.now.case.now workspace.old ≡ true }
-    ensures offers { AreWorthOffers terms.now.case.now terms.now.from terms.now.given.now
-        (worths_of terms.now.worths.now) nurse workspace.new.offers }
-    ensures fits { fits_space terms.now.case.now workspace.new ≡ true }
-{
-    terms.case.keeps_limits();
-    workspace.clear_offers();
-    for day in 0..terms.case.days() {
-        workspace.push_offers(offers_of_day(terms, nurse, day));
-    }
 }
 
 /// Searches a nurse's best row by the offers that were put into a workspace, and keeps what the search tells.

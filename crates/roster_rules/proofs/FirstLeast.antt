@@ -32,7 +32,7 @@ cheaper_of_two cost x y xs f true e = following cost x y xs (ltb-true _ _ e) f
 cheaper_of_two cost x y xs f false e =
     at_first cost x xs (λ k d h. omega (arith, ltb-false _ _ e, least_of_all cost y xs f k d h))
 
-none_of_nothing : {A : Type 0} (cost : A → ℕ) (xs : List A) → first_least cost xs ≡ None → xs ≡ []
+pub none_of_nothing : {A : Type 0} (cost : A → ℕ) (xs : List A) → first_least cost xs ≡ None → xs ≡ []
 none_of_nothing cost [] e = refl
 none_of_nothing cost (x ∷ xs) e = absurd cc
 

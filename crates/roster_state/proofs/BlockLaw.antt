@@ -33,6 +33,13 @@ module _ (c : Meaning) (n day : ℕ) (s : Summary) where
     abbrev pub total_more : ℕ → ℕ
     total_more a = if nat_le (contract_of c n).total.greatest a then assignment_weight * one_if (is_some shift) else 0
 
+    pub more_above : (a : ℕ) → (if is_some shift then (if nat_le (contract_of c n).total.greatest a then assignment_weight else 0) else 0) ≡ total_more a
+    more_above a = of_shift shift
+      where
+        of_shift : (o : Option Shift) → (if is_some o then (if nat_le (contract_of c n).total.greatest a then assignment_weight else 0) else 0) ≡ (if nat_le (contract_of c n).total.greatest a then assignment_weight * one_if (is_some o) else 0)
+        of_shift None = grind arith
+        of_shift (Some t) = refl
+
     pub cost_at : (a : ℕ) → cost_apart c n day s shift + total_more a ≡ step_cost c n day (with_assignments s a) shift
     unfolding step_cost
     cost_at a = omega arith

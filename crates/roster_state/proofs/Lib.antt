@@ -1,6 +1,5 @@
 pub mod RangeLemmas
 pub mod ShiftLaw
-pub mod RowLemmas
 pub mod OpenRuns
 pub mod SumLaw
 pub mod BlockLaw
@@ -8,7 +7,6 @@ pub mod AreaLaw
 pub mod StartLaw
 pub mod StepBounds
 pub mod CodeLemmas
-pub mod TriedDays
 pub mod Standing
 pub mod StretchLaw
 pub mod WorkedLaw

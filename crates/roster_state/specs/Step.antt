@@ -1,12 +1,11 @@
 -- One day more, seen from the summary of the days before it (our own, for the search). Of each run that may be open there
 -- is one number: the summary's where its kind is that of the last day, else 0.
-use Rattle.std.specs.Prelude.{◌≡◌, ℕ, ◌+◌, ◌*◌, ◌<◌, not, true, false, length, min, nat_le, if◌then◌else◌, Option, Some, None, is_some}
+use Rattle.std.specs.Prelude.{ℕ, ◌+◌, ◌*◌, not, true, false, min, nat_le, if◌then◌else◌, Option, Some, None, is_some}
 use Rattle.roster_instance.specs.declared.choice.Shift.{Shift}
 use Rattle.roster_instance.specs.declared.rules.Limits.{Limits}
-use Rattle.roster_instance.specs.Counting.{count_below, one_if, sum_below}
+use Rattle.roster_instance.specs.Counting.{one_if, sum_below}
 use Rattle.roster_rules.specs.DayLaw.{splits_more, weekends_more}
-use Rattle.roster_instance.specs.Days.{Days, is_shift}
-use Rattle.roster_rules.specs.HardRules.{breaks_succession, keeps_successions}
+use Rattle.roster_instance.specs.Days.{is_shift}
 use Rattle.roster_instance.specs.Meaning.{Meaning, contract_of, forbids, run_of_shift, shift_count}
 use Rattle.roster_rules.specs.Penalties.{missing_cost}
 use Rattle.roster_rules.specs.Prefix.{Summary}
@@ -110,11 +109,3 @@ with_weekends s w = record s { weekends = w }
 -- S6: points for each assignment missing to the least total, at the end
 abbrev pub end_cost_of : Meaning → ℕ → Summary → ℕ
 end_cost_of c n s = missing_cost c n s.assignments
-
--- no shift of these days is forbidden by the one before it, the history's last included
-abbrev pub KeepsSuccessions : Meaning → ℕ → Days → Type 0
-KeepsSuccessions c n days = (d : ℕ) → d < length days → breaks_succession c n days d ≡ false
-
--- how many days are gone through, up to the first forbidden one and that one included: each before which none is
-abbrev pub days_tried : Meaning → ℕ → Days → ℕ
-days_tried c n days = count_below (length days) (keeps_successions c n days)

@@ -1,4 +1,10 @@
 //! The state of one nurse, from day to day: what the search for a row keeps of the days before.
+//!
+//! One day more is defined in `specs/Step.antt`, and the codes of states in `specs/Codes.antt`. `state` and `ranges` have a state and its
+//! code; `step` and `totals` the state before the first day, a day more, and what is due in the end. Searches take a day by what it brings
+//! whatever the shift (`worked`), by the nurse's rules (`days`): from a state, or from all of a `stretch` at once (`specs/Stretches.antt`).
+//! `area` says which states may stand on a day (`specs/Areas.antt`), `line` sets floors (`specs/FloorLines.antt`), `look` asks what a last
+//! shift forbids, and `meter` counts. `block` and `reference` take a day by the case alone: what searches do is compared with it.
 #![tactic(auto)]
 
 mod area;
@@ -22,7 +28,7 @@ pub use line::{LineCosts, fill_line, set_line};
 pub use look::is_forbidden;
 pub use meter::Meter;
 pub use ranges::Ranges;
-pub use reference::{extend, extend_block, row_cost};
+pub use reference::{extend, extend_block};
 pub use state::State;
 pub use step::{after, end_cost, start};
 pub use stretch::Stretch;

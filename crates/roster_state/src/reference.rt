@@ -2,23 +2,20 @@
 
 ghost use Rattle.std.specs.Prelude.{◌≡◌, ◌↔◌, ◌+◌, ◌<◌, ◌≤◌, ◌++◌, ◌∷◌, [], true, length, IfSome, IsNone};
 ghost use Rattle.roster_bundle.specs.Limits.{greatest_u64};
-ghost use Rattle.roster_instance.specs.Choices.{days_of};
 ghost use Rattle.roster_instance.specs.Days.{Days};
 ghost use Rattle.roster_instance.specs.Meaning.{day_count, forbids, nurse_count, shift_count};
-ghost use Rattle.roster_instance.specs.Rosters.{is_row_of};
-ghost use Rattle.roster_rules.specs.Penalties.{own_cost};
 ghost use Rattle.roster_rules.specs.Prefix.{due, summary_of};
 ghost use Rattle.roster_rules.specs.Weights.{assignment_weight};
 ghost use Rattle.roster_state.specs.Blocks.{AreBlockSteps};
 ghost use Rattle.roster_state.specs.Codes.{fits_sizes, sizes_of};
 ghost use Rattle.roster_state.specs.Room.{most_of_step};
-ghost use Rattle.roster_state.specs.Step.{KeepsSuccessions, days_tried, step_of};
+ghost use Rattle.roster_state.specs.Step.{step_of};
 
 use crate::block::{Block, BlockStep, block_step};
 use crate::meter::Meter;
 use crate::state::State;
-use crate::step::{end_cost, start, step};
-use roster_instance::{Case, Choice, Shift};
+use crate::step::step;
+use roster_instance::{Case, Shift};
 
 /// The state with one day more, on which the nurse works this shift or is off, and what the day costs. None exactly where the
 /// last shift forbids the next. Either way the meter counts one.
@@ -87,26 +84,4 @@ pub fn extend_block(
     let rules = case.contract_rules(nurse);
     meter.add(rules.total.cap() as u64 + 1);
     block_step(case, nurse, rules, day, block, shift)
-}
-
-/// What a row costs its nurse in runs, split weekends, totals and worked weekends, in penalty points: the cost of the start,
-/// of a step for each day and of the end. None exactly where a shift forbids the next. The meter counts one for each day, up to
-/// the first forbidden one and that one included.
-pub fn row_cost(case: &Case, nurse: usize, row: &[Choice], meter: &mut Meter) -> Option<u64>
-    requires nurse { nurse < nurse_count case.now }
-    requires row { is_row_of case.now row.now ≡ true }
-    requires room { meter.old + day_count case.now ≤ greatest_u64 }
-    ensures cost { IfSome result (λ cost. cost ≡ own_cost case.now nurse (days_of row.now)) }
-    ensures kept { IfSome result (λ cost. KeepsSuccessions case.now nurse (days_of row.now)) }
-    ensures forbidden { IsNone result → KeepsSuccessions case.now nurse (days_of row.now) → ⊥ }
-    ensures counted { meter.new ≡ meter.old + days_tried case.now nurse (days_of row.now) }
-{
-    let (mut state, before) = start(case, nurse);
-    let mut cost = before as u64;
-    for day in 0..case.days() {
-        let (next, more) = extend(case, nurse, day, state, row[day as usize].shift(), meter)?;
-        state = next;
-        cost += more as u64;
-    }
-    Some(cost + end_cost(case, nurse, state) as u64)
 }

@@ -14,9 +14,8 @@ ghost use Rattle.roster_state.specs.Standing.{can_be};
 ghost use Rattle.roster_state.specs.Step.{cost_apart, end_cost_of, ended, free_run, next_of, open_shift_run, shifts_more, split_more, step_of, weekend_more, worked, working_run};
 ghost use Rattle.roster_instance.specs.RunLaw.{day_violations};
 
-use crate::block::{Block, block_step};
 use crate::state::State;
-use crate::totals::{missing_cost, start_cost, totals_after, weekend_more};
+use crate::totals::{assignment_more, missing_cost, start_cost, totals_after, weekend_more};
 use roster_instance::{Border, Case, ContractRules, Limits, Past, Shift};
 use roster_rules::weights::{FREE_RUN, SHIFT_RUN, SPLIT, WORKING_RUN};
 use std::cmp::min;
@@ -55,11 +54,13 @@ pub(crate) fn step(
     ensures next_fits { IfSome result (λ step. fits_sizes (sizes_of case.now nurse) step.0 ≡ true) }
     ensures within { IfSome result (λ step. step.1 ≤ most_of_step) }
 {
-    let step = block_step(case, nurse, rules, day, Block::of(state), shift)?;
-    let places = rules.total.cap() as u32 + 1;
-    let place = state.assignments as u32;
-    let following = step.place_after(places, place) as u16;
-    Some((step.next.state(following), step.place_cost(place)))
+    if case.forbids_next(state.last, shift) {
+        return None;
+    }
+    Some((
+        next_of(case, nurse, rules, day, state, shift),
+        cost_apart(case, nurse, rules, day, state, shift) + assignment_more(rules, state, shift),
+    ))
 }
 
 /// The state that `extend` gives, without its cost. It counts nothing.

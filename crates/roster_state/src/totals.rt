@@ -76,6 +76,19 @@ pub(crate) fn total_more(total: Limits, assignments: u32) -> u32
     ASSIGNMENT
 }
 
+/// S6. The points for an assignment of the day, where it is above the greatest total.
+#[inline(always)]
+pub(crate) fn assignment_more(rules: ContractRules, state: State, shift: Option<Shift>) -> u32
+    ensures cost { result ≡ (if is_some shift then (if nat_le rules.total.greatest state.assignments
+        then assignment_weight else 0) else 0) }
+    ensures within { result ≤ assignment_weight }
+{
+    match shift {
+        Some(_) => total_more(rules.total, state.assignments as u32),
+        None => 0,
+    }
+}
+
 /// S6. From which place of a block on an assignment of the day is above the greatest total. Where the nurse is off, from none: the number
 /// of places.
 #[inline(always)]

@@ -15,6 +15,7 @@ mod lanes_tests;
 mod library_tests;
 #[cfg(test)]
 mod rounds_tests;
+pub mod row;
 #[cfg(test)]
 mod state_tests;
 pub mod texts;

@@ -4,9 +4,10 @@ ghost use Rattle.std.specs.Prelude.{◌≡◌, true};
 ghost use Rattle.roster_instance.specs.Rosters.{fits_case};
 
 use crate::instances::read;
+use crate::row::row_cost;
 use crate::texts::{MINI, changed};
 use roster_case::{Case, Roster, costs};
-use roster_state::{Meter, Ranges, State, row_cost};
+use roster_state::{Meter, Ranges, State};
 use std::alloc::Global;
 use std::test::Fail;
 

@@ -1,9 +1,9 @@
 -- The functions that read one token, each by its pattern.
-use Rattle.std.proofs.Common.{◌≡◌, ◌≤◌, ◌⊎◌, inl, inr, ℕ, Bool, true, false, cond, leb, List, [], ◌∷◌, ◌++◌, Option, Some, None, Ok, Err, refl, sym, ap, subst, ◌∙◌, arith, ◌||◌}
+use Rattle.std.proofs.Common.{◌≡◌, ◌≤◌, ◌⊎◌, inl, inr, ℕ, Bool, true, false, cond, leb, List, [], ◌∷◌, ◌++◌, Option, Some, None, Ok, Err, refl, sym, ap, subst, ◌∙◌, arith}
 use Rattle.std.specs.List.{find}
 use Rattle.std.specs.Str.{bytes_eq}
 use Rattle.std.specs.Str.Parse.{digits_value}
-use Rattle.std.proofs.lemmas.Bool.{leb-true, le-leb}
+use Rattle.std.proofs.lemmas.Bool.{leb-true, le-leb, or_cases}
 use Rattle.std.proofs.lemmas.Slice.Eq.{bytes_eq-Decides}
 use Rattle.roster_bundle.specs.declared.bundle.Day.{Day}
 use Rattle.roster_bundle.specs.declared.bundle.Day.TheVariants as days
@@ -319,14 +319,10 @@ day_of_long days.Sunday = refl
 
 is_day_fits : (text : List ℕ) (d : Day) → is_day text d ≡ true → (text ≡ short d) ⊎ (text ≡ long d)
 is_day_fits text d e =
-    elim (either (bytes_eq text (short d)) (bytes_eq text (long d)) e) [
+    elim (or_cases (bytes_eq text (short d)) (bytes_eq text (long d)) e) [
       | inl h ↦ inl ((bytes_eq-Decides text (short d)).0 h)
       | inr h ↦ inr ((bytes_eq-Decides text (long d)).0 h)
     ]
-  where
-    either : (a b : Bool) → (a || b) ≡ true → (a ≡ true) ⊎ (b ≡ true)
-    either true b e = inl refl
-    either false b e = inr e
 
 day_fits : (t : Seen) (ts : List Seen) (d : Day) → Fits (day d) t → day_at (t ∷ ts) ≡ Ok (d, ts)
 day_fits t ts d (inl e) = ap (λ (o : Option Day). day_or_stop o t ts) (ap day_of e ∙ day_of_short d)

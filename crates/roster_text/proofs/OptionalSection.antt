@@ -1,5 +1,6 @@
 -- Reading a section that may be absent, and then a part that begins with a keyword of its own.
-use Rattle.std.proofs.Common.{◌≡◌, ◌⊎◌, inl, inr, ℕ, Bool, true, false, cond, List, [], ◌∷◌, ◌++◌, Option, Some, None, Ok, Err, refl, sym, ap, subst, ◌∙◌, codes}
+use Rattle.std.proofs.Common.{◌≡◌, ◌⊎◌, inl, inr, ℕ, true, false, cond, List, [], ◌∷◌, ◌++◌, Option, Some, None, Ok, Err, refl, sym, ap, subst, ◌∙◌, codes}
+use Rattle.std.proofs.lemmas.Bool.{cases_Bool, false_from_ne_true}
 use Rattle.std.specs.Str.{bytes_eq}
 use Rattle.std.proofs.lemmas.Slice.Eq.{bytes_eq-Decides}
 use Rattle.roster_bundle.specs.declared.bundle.Listed.{Listed}
@@ -43,10 +44,6 @@ same_head : (k : Keyword) (front us other : List Seen) (t : Seen) → begins_wit
 same_head k [] us other t = refl
 same_head k (u ∷ front) us other t = refl
 
-which : (b : Bool) → (b ≡ true) ⊎ (b ≡ false)
-which true = inl refl
-which false = inr refl
-
 abbrev err_of : {B : Type 0} → Refusal × List Seen → Read B
 err_of x = Err x
 
@@ -71,23 +68,19 @@ module _ {B : Type 0} (V IsElse IsSo : B → Type 0) (pat : B → List Pattern) 
 
   either_sound : (ts rest : List Seen) (b : B) → either ts ≡ Ok (b, rest) → Found V pat ts rest b
   either_sound ts rest b e =
-      elim (which (begins_with k ts)) [
+      elim (cases_Bool (begins_with k ts)) [
         | inl so ↦ sound_so ts rest b (sym (either_so ts so) ∙ e)
         | inr other_way ↦ sound_else ts rest b (sym (either_else ts other_way) ∙ e)
       ]
 
   -- ---- which way the patterns go
 
-  not_true : (b : Bool) → (b ≡ true → ⊥) → b ≡ false
-  not_true true h = absurd (h refl)
-  not_true false h = refl
-
   goes_else : (b : B) → IsElse b → (d : Pattern) (rest : List Pattern) → pat b ≡ d ∷ rest → (t : Seen) → Fits d t → (ts : List Seen) → begins_with k (t ∷ ts) ≡ false
   goes_else b w d rest e t fits ts =
       let x = begins_else b w in
       let both : x.next ∷ x.rest ≡ d ∷ rest = sym x.is ∙ e in
       let same : x.next ≡ d = cc in
-      not_true (bytes_eq t.text (keyword_text k)) (λ h. x.other t (subst (λ (p : Pattern). Fits p t) (sym same) fits) ((bytes_eq-Decides t.text (keyword_text k)).0 h))
+      false_from_ne_true (bytes_eq t.text (keyword_text k)) (λ h. x.other t (subst (λ (p : Pattern). Fits p t) (sym same) fits) ((bytes_eq-Decides t.text (keyword_text k)).0 h))
 
   goes_so : (b : B) → IsSo b → (d : Pattern) (rest : List Pattern) → pat b ≡ d ∷ rest → (t : Seen) → Fits d t → (ts : List Seen) → begins_with k (t ∷ ts) ≡ true
   goes_so b w d rest e t fits ts =
@@ -145,7 +138,7 @@ module _ {B : Type 0} (V IsElse IsSo : B → Type 0) (pat : B → List Pattern) 
 
   either_stops : (ts : List Seen) (r : Refusal) (left : List Seen) → either ts ≡ Err (r, left) → Stops V pat either ts r left
   either_stops ts r left e =
-      elim (which (begins_with k ts)) [
+      elim (cases_Bool (begins_with k ts)) [
         | inl so ↦
             let s = reader_so.stops ts r left (sym (either_so ts so) ∙ e) in
             stops_so_far read_so IsSo valid_so ts r left s (λ t us other f. either_so (s.front ++ t ∷ other) (sym (same_way ts s.front left s.split t us other f) ∙ so))
@@ -287,7 +280,7 @@ module _ {A B : Type 0} (pat : A → List Pattern) (read : List Seen → Read A)
   unfolding optional_at section_at
   same_read [] = refl
   same_read (t ∷ ts) =
-      elim (which (bytes_eq t.text (keyword_text k))) [
+      elim (cases_Bool (bytes_eq t.text (keyword_text k))) [
         | inl so ↦
             elim (outcome (word_at what.Equals (codes "=") ts)) [
               | inl b ↦

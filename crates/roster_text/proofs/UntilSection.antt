@@ -1,5 +1,6 @@
 -- Reading lines up to the keyword and `=` of the next section.
-use Rattle.std.proofs.Common.{◌≡◌, ◌<◌, ◌⊎◌, inl, inr, ℕ, zero, suc, ◌+◌, Bool, true, false, List, [], ◌∷◌, ◌++◌, length, drop, Ok, Err, refl, sym, ap, subst, ◌∙◌, append_assoc, codes, arith, ◌&&◌}
+use Rattle.std.proofs.Common.{◌≡◌, ◌<◌, ◌⊎◌, inl, inr, ℕ, zero, suc, ◌+◌, true, false, List, [], ◌∷◌, ◌++◌, length, drop, Ok, Err, refl, sym, ap, subst, ◌∙◌, append_assoc, codes, arith}
+use Rattle.std.proofs.lemmas.Bool.{and_parts, cases_Bool, false_from_ne_true}
 use Rattle.std.proofs.lemmas.List.{append-nil, length-append}
 use Rattle.std.specs.List.{flat_map}
 use Rattle.std.specs.Str.{bytes_eq}
@@ -65,10 +66,6 @@ pub no_equals_name : (n : Token) (t : Seen) → Fits (name n) t → t.text ≡ c
 unfolding is_mark
 no_equals_name n t f e = let mark : is_name (codes "=") ≡ true = sym (ap is_name e) ∙ f.0 in let no : false ≡ true = mark in cc
 
-both_true : (a b : Bool) → (a && b) ≡ true → (a ≡ true) × (b ≡ true)
-both_true true b e = (refl, e)
-both_true false b e = absurd cc
-
 -- ---- where a section begins
 
 -- the two tokens, and what is after them
@@ -84,26 +81,18 @@ begun : (k : Keyword) (ts : List Seen) → begins_section k ts ≡ true → Begu
 begun k [] e = absurd cc
 begun k (t ∷ []) e = absurd cc
 begun k (t ∷ u ∷ ts) e =
-    let b = both_true (bytes_eq t.text (keyword_text k)) (bytes_eq u.text (codes "=")) e in
+    let b = and_parts (bytes_eq t.text (keyword_text k)) (bytes_eq u.text (codes "=")) e in
     record { first = t; second = u; after = ts; is = refl; keyword = (bytes_eq-Decides t.text (keyword_text k)).0 b.0; equals = (bytes_eq-Decides u.text (codes "=")).0 b.1 }
 
 begins : (k : Keyword) (t u : Seen) (ts : List Seen) → t.text ≡ keyword_text k → u.text ≡ codes "=" → begins_section k (t ∷ u ∷ ts) ≡ true
 begins k t u ts e f = rw ((bytes_eq-Decides t.text (keyword_text k)).1 e, (bytes_eq-Decides u.text (codes "=")).1 f) refl
 
-not_true : (b : Bool) → (b ≡ true → ⊥) → b ≡ false
-not_true true h = absurd (h refl)
-not_true false h = refl
-
 no_equals_no_section : (k : Keyword) (t u : Seen) (ts : List Seen) → (u.text ≡ codes "=" → ⊥) → begins_section k (t ∷ u ∷ ts) ≡ false
-no_equals_no_section k t u ts h = not_true (begins_section k (t ∷ u ∷ ts)) (λ e. let b = both_true (bytes_eq t.text (keyword_text k)) (bytes_eq u.text (codes "=")) e in h ((bytes_eq-Decides u.text (codes "=")).0 b.1))
+no_equals_no_section k t u ts h = false_from_ne_true (begins_section k (t ∷ u ∷ ts)) (λ e. let b = and_parts (bytes_eq t.text (keyword_text k)) (bytes_eq u.text (codes "=")) e in h ((bytes_eq-Decides u.text (codes "=")).0 b.1))
 
 no_keyword_no_section : (k : Keyword) (t : Seen) (ts : List Seen) → (t.text ≡ keyword_text k → ⊥) → begins_section k (t ∷ ts) ≡ false
 no_keyword_no_section k t [] h = refl
-no_keyword_no_section k t (u ∷ ts) h = not_true (begins_section k (t ∷ u ∷ ts)) (λ e. let b = both_true (bytes_eq t.text (keyword_text k)) (bytes_eq u.text (codes "=")) e in h ((bytes_eq-Decides t.text (keyword_text k)).0 b.0))
-
-which : (b : Bool) → (b ≡ true) ⊎ (b ≡ false)
-which true = inl refl
-which false = inr refl
+no_keyword_no_section k t (u ∷ ts) h = false_from_ne_true (begins_section k (t ∷ u ∷ ts)) (λ e. let b = and_parts (bytes_eq t.text (keyword_text k)) (bytes_eq u.text (codes "=")) e in h ((bytes_eq-Decides t.text (keyword_text k)).0 b.0))
 
 outcome : {A : Type 0} (r : Read A) → ((x : A × List Seen) × (r ≡ Ok x)) ⊎ ((d : Refusal × List Seen) × (r ≡ Err d))
 outcome (Ok x) = inl (x, refl)
@@ -157,7 +146,7 @@ module _ {A : Type 0} (pat : A → List Pattern) (read : List Seen → Read A) (
   enough zero n ts a b = absurd (omega arith)
   enough (suc m) zero ts a b = absurd (omega arith)
   enough (suc m) (suc n) ts a b =
-      elim (which (begins_section k ts)) [
+      elim (cases_Bool (begins_section k ts)) [
         | inl e ↦ rw e refl
         | inr e ↦
             elim (outcome (read ts)) [
@@ -230,7 +219,7 @@ module _ {A : Type 0} (pat : A → List Pattern) (read : List Seen → Read A) (
   until_sound : (n : ℕ) (ts rest : List Seen) (xs : List A) → length ts < n → until ts ≡ Ok (xs, rest) → Takes (all xs) ts rest
   until_sound zero ts rest xs less e = absurd (omega arith)
   until_sound (suc n) ts rest xs less e =
-      elim (which (begins_section k ts)) [
+      elim (cases_Bool (begins_section k ts)) [
         | inl b ↦
             let read_end = until_end ts b in
             let none : [] ≡ xs = same_value [] xs (drop 2 ts) rest (until ts) read_end e in
@@ -337,7 +326,7 @@ module _ {A : Type 0} (pat : A → List Pattern) (read : List Seen → Read A) (
   until_stops : (n : ℕ) (ts : List Seen) (r : Refusal) (left : List Seen) → length ts < n → until ts ≡ Err (r, left) → Stops every all until ts r left
   until_stops zero ts r left less e = absurd (omega arith)
   until_stops (suc n) ts r left less e =
-      elim (which (begins_section k ts)) [
+      elim (cases_Bool (begins_section k ts)) [
         | inl b ↦ absurd (let both : ok_of ([], drop 2 ts) ≡ err_of (r, left) = sym (until_end ts b) ∙ e in cc)
         | inr b ↦
             elim (outcome (read ts)) [

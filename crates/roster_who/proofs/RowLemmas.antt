@@ -1,5 +1,5 @@
 -- A row that a nurse can work, and what it leaves missed, day by day.
-use Rattle.std.proofs.Common.{◌≡◌, ◌∙◌, ◌<◌, ◌&&◌, ℕ, Bool, true, false, not, ap, refl, sym, length, min, nat_le}
+use Rattle.std.proofs.Common.{◌≡◌, ◌∙◌, ◌<◌, ◌&&◌, ℕ, Bool, not, ap, sym, length, min, nat_le}
 use Rattle.roster_instance.specs.Choices.{days_of}
 use Rattle.roster_instance.specs.Counting.{all_below}
 use Rattle.roster_instance.specs.Meaning.{Meaning, day_count, minimum, shift_count, skill_count}
@@ -7,18 +7,12 @@ use Rattle.roster_instance.specs.Rosters.{Row, Rows, choice_on, cover, with_row}
 use Rattle.roster_rules.specs.AllowedRows.{keeps_frozen_day, keeps_frozen_days}
 use Rattle.roster_rules.specs.HardRules.{breaks_succession, is_able_on, is_here_on, keeps_successions, may_take}
 use Rattle.roster_laws.proofs.Below.{all_both, all_same}
+use Rattle.roster_laws.proofs.Keeps.{last_two}
 use Rattle.roster_laws.proofs.OneRow.{cover-with_row}
 use Rattle.roster_bound.specs.Days.{can_do}
 use Rattle.roster_bound.specs.Worths.{can_work}
 use Rattle.roster_who.specs.Offers.{keeps_places}
 use Rattle.roster_who.specs.Who.{misses_no_more}
-
-last_of_three : (a b d : Bool) → ((a && b) && d) ≡ ((a && d) && b)
-last_of_three true true true = refl
-last_of_three true true false = refl
-last_of_three true false true = refl
-last_of_three true false false = refl
-last_of_three false b d = refl
 
 pub works : (c : Meaning) (from : ℕ) (r : Rows) (n : ℕ) (row : Row) → can_work c from r n row ≡ all_below (day_count c) (λ d. can_do c from r n d (choice_on row d) && not (breaks_succession c n (days_of row) d))
 works c from r n row =
@@ -28,7 +22,7 @@ works c from r n row =
     ap (λ b. (b && keeps_successions c n (days_of row) (day_count c)) && keeps_frozen_days c from r n row) (sym (all_both (day_count c) (is_able_on c n row) (is_here_on c n row)))
     ∙ ap (λ b. b && keeps_frozen_days c from r n row) (sym (all_both (day_count c) able follows))
     ∙ sym (all_both (day_count c) (λ d. able d && follows d) stays)
-    ∙ all_same (day_count c) (λ d. (able d && follows d) && stays d) (λ d. (able d && stays d) && follows d) (λ d h. last_of_three (able d) (follows d) (stays d))
+    ∙ all_same (day_count c) (λ d. (able d && follows d) && stays d) (λ d. (able d && stays d) && follows d) (λ d h. last_two (able d) (follows d) (stays d))
 
 pub misses_is : (c : Meaning) (r : Rows) (n : ℕ) (within : n < length r) (row : Row) → all_below (day_count c) (misses_no_more c r (with_row r n row)) ≡ all_below (day_count c) (λ d. keeps_places c r n d (choice_on row d))
 misses_is c r n within row =

@@ -1,5 +1,5 @@
 -- What is told of a nurse with a row, the room of a workspace, and lists of all who are told of.
-use Rattle.std.proofs.Common.{get_or, ◌≡◌, ◌∙◌, ◌+◌, ◌-◌, ◌*◌, ◌<◌, ◌≤◌, ◌==◌, ◌&&◌, ℕ, true, nat_le, ap, arith, sym, List, [], ◌++◌, length, Option}
+use Rattle.std.proofs.Common.{get_or, ◌≡◌, ◌∙◌, ◌+◌, ◌-◌, ◌<◌, ◌≤◌, ◌==◌, ℕ, true, ap, arith, sym, List, [], ◌++◌, length, Option}
 use Rattle.std.specs.List.{flat_map, range_with_len}
 use Rattle.std.specs.Option.{option_to_list}
 use Rattle.roster_bundle.proofs.Ranges.{flat_map-range_more}
@@ -13,17 +13,11 @@ use Rattle.roster_instance.specs.Limits.{most_shifts, most_skills}
 use Rattle.roster_instance.specs.Meaning.{Meaning, day_count, minimum, nurse_count, shift_count, skill_count}
 use Rattle.roster_rules.specs.Covers.{IsTable, number_at}
 use Rattle.roster_rules.proofs.RunSums.{sum_same}
-use Rattle.roster_laws.specs.Greatest.{greatest_state_count}
 use Rattle.roster_laws.specs.Staffing.{lacking}
 use Rattle.arrayvec.specs.ArrayVec.{ArrayVec}
 use Rattle.roster_offers.specs.declared.offer.Offer.{Offer}
 use Rattle.roster_offers.specs.Lists.{offers_on}
-use Rattle.roster_partial.specs.Workspaces.{SameRoom, Space, fits_space}
 use Rattle.roster_who.specs.declared.taker.Taker.{Taker}
-
-pub fits_after : (c : Meaning) (old new : Space) → SameRoom old new → fits_space c old ≡ true → fits_space c new ≡ true
-fits_after c old new same fits =
-    (λ i. (same.labels i == 2 * greatest_state_count c) && (same.pointers i == greatest_state_count c * day_count c) && nat_le (day_count c) (same.room i)) ∙ fits
 
 -- a day's list of a table
 pub read_at : (xs : List (ArrayVec Offer)) (i : ℕ) (x : ArrayVec Offer) → i < length xs → x ≡ get_or xs i x → x.items ≡ offers_on xs i

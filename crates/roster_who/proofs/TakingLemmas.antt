@@ -3,7 +3,7 @@ use Rattle.std.proofs.Common.{◌≡◌, ◌∙◌, ◌+◌, ◌-◌, ◌*◌, �
 use Rattle.std.specs.Prelude.{option_map}
 use Rattle.std.specs.List.{All}
 use Rattle.std.proofs.Common.{eq-eqb}
-use Rattle.std.proofs.lemmas.Bool.{and_parts, eqb-true, ne_eqb, true≢false}
+use Rattle.std.proofs.lemmas.Bool.{and_from, and_parts, eqb-true, ne_eqb, true≢false}
 use Rattle.std.proofs.lemmas.List.Elements.{All-contains_itself, All-filter, All-map, All-weaker, Contains-append_right}
 use Rattle.roster_laws.proofs.Allowed.{kept_is_member}
 use Rattle.arrayvec.specs.ArrayVec.{ArrayVec}
@@ -30,7 +30,7 @@ use Rattle.roster_laws.specs.OneRow.{others, price, prices, rest_of}
 use Rattle.roster_laws.specs.Staffing.{lacking, with_choice}
 use Rattle.roster_laws.proofs.AllRows.{member_is_choice, member_is_row}
 use Rattle.roster_laws.proofs.Below.{all_at, all_both, all_same}
-use Rattle.roster_laws.proofs.Lacking.{lacking-off, lacking-work, staffing-lacking}
+use Rattle.roster_laws.proofs.Lacking.{lacking-off, lacking-work, no_less, staffing-lacking}
 use Rattle.roster_laws.proofs.OneRow.{cover-with_row, penalty-with_row}
 use Rattle.roster_offers.specs.declared.offer.Offer.{Offer}
 use Rattle.roster_offers.specs.Cheapest.{Priced, raised}
@@ -87,9 +87,6 @@ same_number (suc n) m = grind (arith, same_number n m)
 
 -- ---- what a nurse more is good for
 
-same_lack : (w h : ℕ) (b : Bool) → b ≡ false → w - (h + one_if b) ≡ w - h
-same_lack w h b e = rw e (omega arith)
-
 -- a shift or a skill that isn't the case's is at no place of it
 nowhere : (c : Meaning) (s : Shift) (k : Skill) → is_choice_of c (Work s k) ≡ false → (t l : ℕ) → t < shift_count c → l < skill_count c → ((s.0 == t) && (k.0 == l)) ≡ false
 nowhere c s k outside t l shift_in skill_in = go ((s.0 == t) && (k.0 == l)) refl
@@ -100,16 +97,13 @@ nowhere c s k outside t l shift_in skill_in = go ((s.0 == t) && (k.0 == l)) refl
         let parts = and_parts (s.0 == t) (k.0 == l) e in
         let shift : s.0 ≡ t = eqb-true s.0 t parts.0 in
         let skill : k.0 ≡ l = eqb-true k.0 l parts.1 in
-        let inside : (nat_lt s.0 (shift_count c) && nat_lt k.0 (skill_count c)) ≡ true = ap₂ (λ a b. nat_lt a (shift_count c) && nat_lt b (skill_count c)) shift skill ∙ both (nat_lt t (shift_count c)) (nat_lt l (skill_count c)) (grind (arith, shift_in)) (grind (arith, skill_in)) in
+        let inside : (nat_lt s.0 (shift_count c) && nat_lt k.0 (skill_count c)) ≡ true = ap₂ (λ a b. nat_lt a (shift_count c) && nat_lt b (skill_count c)) shift skill ∙ and_from (nat_lt t (shift_count c)) (nat_lt l (skill_count c)) (grind (arith, shift_in)) (grind (arith, skill_in)) in
         absurd (true≢false (sym inside ∙ outside))
-      where
-        both : (a b : Bool) → a ≡ true → b ≡ true → (a && b) ≡ true
-        both a b x y = ap₂ (λ p q. p && q) x y
 
 lacking-nowhere : (c : Meaning) (want have : ℕ → ℕ → ℕ) (s : Shift) (k : Skill) → is_choice_of c (Work s k) ≡ false → lacking c want (with_choice have (Work s k)) ≡ lacking c want have
 lacking-nowhere c want have s k outside =
     sum_same (shift_count c) _ (λ t. sum_below (skill_count c) (λ l. want t l - have t l))
-    (λ t h. sum_same (skill_count c) _ (λ l. want t l - have t l) (λ l g. same_lack (want t l) (have t l) ((s.0 == t) && (k.0 == l)) (nowhere c s k outside t l h g)))
+    (λ t h. sum_same (skill_count c) _ (λ l. want t l - have t l) (λ l g. no_less (want t l) (have t l) ((s.0 == t) && (k.0 == l)) (nowhere c s k outside t l h g)))
 
 -- the gain is what is lacking less
 balance : (mw mo mg lw lo rw ro bw bo q : ℕ) → mw ≡ missed_weight → mo ≡ staffing_weight → mg ≡ most_gain → bw ≤ 1 → bo ≤ 1 → lw + bw ≡ rw → lo + bo ≡ ro

@@ -5,7 +5,6 @@ use Rattle.roster_instance.specs.Rosters.{choice_on, row_of}
 use Rattle.roster_rules.specs.Penalties.{request_cost_on}
 use Rattle.roster_rules.specs.Weights.{staffing_weight}
 use Rattle.roster_offers.specs.declared.offer.Offer.{Offer}
-use Rattle.roster_offers.specs.Offers.{offer_of}
 use Rattle.roster_best.proofs.OfferLemmas.{present_is}
 use Rattle.roster_best.proofs.offer.present_choice.Goals as goal
 

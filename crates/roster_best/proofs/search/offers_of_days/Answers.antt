@@ -1,4 +1,4 @@
-use Rattle.roster_best.proofs.SearchLaws.{fits_after}
+use Rattle.roster_partial.proofs.WorkspaceLaws.{fits_after}
 use Rattle.roster_best.proofs.search.offers_of_days.Goals as goal
 
 pub returns-clause-fits : goal.returns-clause-fits

@@ -1,6 +1,6 @@
-use Rattle.std.proofs.Common.{◌≡◌, ◌*◌, ◌/◌, ◌%◌, ◌<◌, ◌≤◌, ℕ}
+use Rattle.std.proofs.Common.{◌≡◌, ◌/◌, ◌%◌, ◌<◌, ◌≤◌, ℕ}
 use Rattle.std.specs.Prelude.{slice_index_or}
-use Rattle.roster_instance.specs.Meaning.{day_count, minimum, optimum}
+use Rattle.roster_instance.specs.Meaning.{minimum, optimum}
 use Rattle.roster_bound.specs.Fading.{followed_by}
 use Rattle.roster_bound.specs.Workspaces.{FitsFloor}
 use Rattle.roster_bound.proofs.fading.follow_cover.Given as goal

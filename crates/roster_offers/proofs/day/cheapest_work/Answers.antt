@@ -1,4 +1,4 @@
-use Rattle.std.proofs.Common.{◌≡◌, ◌∙◌, ◌<◌, ◌&&◌, Bool, ap, arith, sym}
+use Rattle.std.proofs.Common.{◌∙◌, ◌<◌, Bool, arith, sym}
 use Rattle.roster_instance.specs.declared.choice.Choice.{Choice}
 use Rattle.roster_instance.specs.declared.choice.Choice.TheVariants.{Work}
 use Rattle.roster_instance.specs.Meaning.{shift_at, skill_at, skill_count}

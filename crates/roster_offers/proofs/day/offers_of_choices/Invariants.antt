@@ -1,5 +1,4 @@
 use Rattle.std.proofs.Common.{◌≡◌, ◌*◌, ◌+◌, ◌≤◌, ◌++◌, length}
-use Rattle.roster_instance.specs.Meaning.{skill_count}
 use Rattle.roster_offers.specs.Offers.{offer_at, offers_among, takes, with_skills}
 use Rattle.roster_offers.proofs.Among.{of_shifts}
 use Rattle.roster_offers.proofs.day.offers_of_choices.Given as goal

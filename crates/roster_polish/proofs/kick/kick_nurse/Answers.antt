@@ -1,43 +1,35 @@
-use Rattle.std.proofs.Common.{◌≡◌, ◌∙◌, List, IsSome, ap, subst, sym, true}
-use Rattle.arrayvec.specs.ArrayVec.{ArrayVec}
+use Rattle.std.proofs.Common.{◌≡◌, ◌∙◌, IsSome, ap, subst, sym, true}
 use Rattle.roster_instance.specs.Meaning.{Meaning}
 use Rattle.roster_instance.specs.Rosters.{with_row}
 use Rattle.roster_rules.specs.AllowedRows.{row_keeps}
 use Rattle.roster_laws.specs.FrozenDays.{FrozenDaysStay}
 use Rattle.roster_laws.proofs.Frozen.{row_stays}
 use Rattle.roster_case.specs.Held.{HeldRoster}
-use Rattle.roster_offers.specs.declared.offer.Offer.{Offer}
 use Rattle.roster_offers.specs.Lists.{AreOffers, IsFound, best_over, offers_on}
 use Rattle.roster_polish.proofs.KickRows.{can_search, found_keeps, found_stays, some_found}
 use Rattle.roster_polish.proofs.kick.kick_nurse.Goals as goal
 use Rattle.roster_polish.proofs.kick.kick_nurse.Goals.{After-row}
 
-pub search-requires-clause-offers : goal.search-requires-clause-offers
-search-requires-clause-offers c =
+pub search_offers-requires-clause-offers : goal.search_offers-requires-clause-offers
+search_offers-requires-clause-offers c =
     let k = c.args.held.now.case in
-    let r = c.args.held.now.roster in
-    let n = c.args.nurse in
+    let offers = c.offer_days.new.workspace.offers in
     let told = c.keeps_rules.ensures in
-    subst (λ (m : Meaning). AreOffers m n c.as_slice.result.now) (sym c.case.ensures)
-    (subst (AreOffers k n) (sym c.as_slice.ensures.value) (can_search k r n c.args.kick.now told.fits told.keeps c.requires.nurse c.offers_of_days-table.result.items c.offers_of_days-table.ensures))
+    subst (λ (m : Meaning). AreOffers m c.args.nurse offers) (sym c.case.ensures)
+    (can_search k c.args.held.now.roster c.args.nurse c.args.kick.now told.fits told.keeps c.requires.nurse offers c.offer_days.ensures.offers)
 
-pub search-requires-clause-some : goal.search-requires-clause-some
-search-requires-clause-some c =
+pub search_offers-requires-clause-some : goal.search_offers-requires-clause-some
+search_offers-requires-clause-some c =
     let k = c.args.held.now.case in
-    let r = c.args.held.now.roster in
-    let n = c.args.nurse in
+    let offers = c.offer_days.new.workspace.offers in
     let told = c.keeps_rules.ensures in
-    subst (λ (m : Meaning). IsSome (best_over m n (offers_on c.as_slice.result.now))) (sym c.case.ensures)
-    (subst (λ (offers : List (ArrayVec Offer)). IsSome (best_over k n (offers_on offers))) (sym c.as_slice.ensures.value)
-    (some_found k r n c.args.kick.now told.fits told.keeps c.requires.nurse c.offers_of_days-table.result.items c.offers_of_days-table.ensures))
+    subst (λ (m : Meaning). IsSome (best_over m c.args.nurse (offers_on offers))) (sym c.case.ensures)
+    (some_found k c.args.held.now.roster c.args.nurse c.args.kick.now told.fits told.keeps c.requires.nurse offers c.offer_days.ensures.offers)
 
--- what the search finds over the table
-found : (c : After-row) → IsFound (best_over c.args.held.now.case c.args.nurse (offers_on c.offers_of_days-table.result.items)) c.search.result c.search.new.self.row
+-- what the search finds over the offers
+found : (c : After-row) → IsFound (best_over c.args.held.now.case c.args.nurse (offers_on c.offer_days.new.workspace.offers)) c.search_offers.result c.search_offers.new.self.row
 found c =
-    let k = c.args.held.now.case in
-    let n = c.args.nurse in
-    subst (λ (offers : List (ArrayVec Offer)). IsFound (best_over k n (offers_on offers)) c.search.result c.search.new.self.row) c.as_slice.ensures.value
-    (subst (λ (m : Meaning). IsFound (best_over m n (offers_on c.as_slice.result.now)) c.search.result c.search.new.self.row) c.case.ensures c.search.ensures.best)
+    subst (λ (m : Meaning). IsFound (best_over m c.args.nurse (offers_on c.offer_days.new.workspace.offers)) c.search_offers.result c.search_offers.new.self.row) c.case.ensures c.search_offers.ensures.best
 
 pub replace_row-requires-clause-keeps : goal.replace_row-requires-clause-keeps
 replace_row-requires-clause-keeps c =
@@ -46,7 +38,7 @@ replace_row-requires-clause-keeps c =
     let n = c.args.nurse in
     let told = c.keeps_rules.ensures in
     subst (λ row. row_keeps k r n row ≡ true) (sym c.row.ensures)
-    (found_keeps k r n c.args.kick.now told.fits told.keeps c.requires.nurse c.offers_of_days-table.result.items c.offers_of_days-table.ensures c.search.result c.search.new.self.row (found (goal.at.replace_row-requires-clause-keeps c).After-row))
+    (found_keeps k r n c.args.kick.now told.fits told.keeps c.requires.nurse c.offer_days.new.workspace.offers c.offer_days.ensures.offers c.search_offers.result c.search_offers.new.self.row (found (goal.at.replace_row-requires-clause-keeps c).After-row))
 
 pub returns-clause-frozen : goal.returns-clause-frozen
 returns-clause-frozen c =
@@ -54,6 +46,6 @@ returns-clause-frozen c =
     let r = c.args.held.now.roster in
     let n = c.args.nurse in
     let told = c.keeps_rules.ensures in
-    let stays = found_stays k r n c.args.kick.now told.fits told.keeps c.requires.nurse c.offers_of_days-table.result.items c.offers_of_days-table.ensures c.search.result c.search.new.self.row (found (goal.at.returns-clause-frozen c).After-row) in
+    let stays = found_stays k r n c.args.kick.now told.fits told.keeps c.requires.nurse c.offer_days.new.workspace.offers c.offer_days.ensures.offers c.search_offers.result c.search_offers.new.self.row (found (goal.at.returns-clause-frozen c).After-row) in
     subst (FrozenDaysStay k c.args.kick.now.from r) (sym (ap (λ (h : HeldRoster). h.roster) c.replace_row.ensures ∙ ap (with_row r n) c.row.ensures))
-    (row_stays k c.args.kick.now.from r n c.search.new.self.row stays)
+    (row_stays k c.args.kick.now.from r n c.search_offers.new.self.row stays)

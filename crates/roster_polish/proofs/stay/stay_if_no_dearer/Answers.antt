@@ -6,7 +6,6 @@ use Rattle.roster_rules.specs.Penalties.{penalty}
 use Rattle.roster_laws.proofs.Frozen.{stays_on, stays_self}
 use Rattle.roster_polish.specs.Polished.{FitsPolish}
 use Rattle.roster_polish.proofs.stay.stay_if_no_dearer.Goals as goal
-use Rattle.roster_polish.proofs.stay.stay_if_no_dearer.Goals.{After-settle_in-settled}
 
 pub settle_in-settled-requires-clause-fits : goal.settle_in-settled-requires-clause-fits
 settle_in-settled-requires-clause-fits c = c.requires.fits

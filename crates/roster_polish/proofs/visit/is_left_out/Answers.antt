@@ -1,4 +1,4 @@
-use Rattle.std.proofs.Common.{◌≡◌, ◌∙◌, ◌+◌, ◌<◌, ◌≤◌, ◌==◌, ℕ, ap, arith, length, nat_lt, subst, sym, true}
+use Rattle.std.proofs.Common.{◌≡◌, ◌∙◌, ◌+◌, ◌<◌, ◌≤◌, ◌==◌, ℕ, arith, length, nat_lt, subst, sym, true}
 use Rattle.std.specs.Prelude.{All}
 use Rattle.std.specs.List.{list_all}
 use Rattle.std.proofs.lemmas.Bool.{and_parts, eqb-true, ltb-true}
@@ -10,14 +10,13 @@ use Rattle.roster_instance.specs.Choices.{shift_of}
 use Rattle.roster_instance.specs.Limits.{most_shifts}
 use Rattle.roster_instance.specs.Meaning.{Meaning, day_count, shift_count, skill_count}
 use Rattle.roster_instance.specs.Rosters.{Row, choice_on, is_choice_of, is_row_of}
-use Rattle.roster_offers.specs.Lists.{AreOffers, offers_on}
+use Rattle.roster_offers.specs.Lists.{offers_on}
 use Rattle.roster_offers.proofs.ListLaws.{offers_read}
 use Rattle.roster_best.specs.Known.{price_place}
 use Rattle.roster_best.proofs.KnownLaws.{places_fit}
 use Rattle.roster_bound.specs.Tables.{worths_of}
 use Rattle.roster_bound.proofs.RowFloors.{can_search}
 use Rattle.roster_polish.proofs.visit.is_left_out.Goals as goal
-use Rattle.roster_polish.proofs.visit.is_left_out.Goals.{In-loop-day}
 
 -- a row's choice is one of the case's, and its shift has a price
 choice_of : (c : Meaning) (row : Row) (d : ℕ) → is_row_of c row ≡ true → d < day_count c → is_choice_of c (choice_on row d) ≡ true

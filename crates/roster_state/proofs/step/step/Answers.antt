@@ -1,61 +1,30 @@
-use Rattle.std.proofs.Common.{◌≡◌, ◌∙◌, ◌+◌, ◌<◌, Some, ap, arith, if◌then◌else◌, nat_le, subst, sym, true}
+use Rattle.std.proofs.Common.{◌≡◌, ◌∙◌, ◌+◌, Some, None, ap, ap₂, arith, false, if◌then◌else◌, is_some, nat_le, subst, sym, true}
 use Rattle.roster_instance.specs.declared.rules.ContractRules.{ContractRules}
-use Rattle.roster_instance.specs.Sizes.{cap}
+use Rattle.roster_instance.specs.Meaning.{contract_of, forbids}
 use Rattle.roster_rules.specs.Prefix.{Summary}
 use Rattle.roster_rules.specs.Weights.{assignment_weight}
-use Rattle.roster_state.specs.Blocks.{place_after}
 use Rattle.roster_state.specs.Codes.{fits_sizes, sizes_of}
-use Rattle.roster_state.specs.Step.{step_of, with_assignments}
-use Rattle.roster_state.proofs.CodeLemmas.{fits-all, place-fits}
+use Rattle.roster_state.specs.Step.{next_of, step_cost}
+use Rattle.roster_state.proofs.BlockLaw.{cost_at, more_above}
+use Rattle.roster_state.proofs.RangeLemmas.{next_fits}
 use Rattle.roster_state.proofs.step.step.Goals as goal
-use Rattle.roster_state.proofs.step.step.Goals.{After-cap, After-of}
-
--- the state is a place of its block
-inside : (c : After-of) → c.args.state.assignments < (sizes_of c.args.case.now c.args.nurse).assignments
-inside c = (fits-all (sizes_of c.args.case.now c.args.nurse) c.args.state c.requires.fits).assignments
-
-back : (c : After-of) → with_assignments c.of.result c.args.state.assignments ≡ c.args.state
-back c = ap (λ (b : Summary). with_assignments b c.args.state.assignments) c.of.ensures
-
--- and has as many as the nurse's ranges say
-places : (c : After-cap) → c.cap.result + 1 ≡ (sizes_of c.args.case.now c.args.nurse).assignments
-places c = ap (λ j. j + 1) (c.cap.ensures ∙ ap (λ (r : ContractRules). cap r.total) c.requires.rules)
-
-pub block_step-requires-clause-fits : goal.block_step-requires-clause-fits
-block_step-requires-clause-fits c =
-    let z = sizes_of c.args.case.now c.args.nurse in
-    subst (λ (b : Summary). fits_sizes z b ≡ true) (sym c.of.ensures) (place-fits z c.args.state 0 (omega arith) c.requires.fits)
-
-pub returns-in_err-step-clause-step : goal.returns-in_err-step-clause-step
-returns-in_err-step-clause-step c =
-    let of = (goal.at.returns-in_err-step-clause-step c).After-of in
-    c.from_residual.ensures
-    ∙ c.in_err-step.ensures.steps c.args.state.assignments (inside of)
-    ∙ ap (λ (b : Summary). step_of c.args.case.now c.args.nurse c.args.day b c.args.shift) (back of)
-
-pub place_after-following-requires : goal.place_after-following-requires
-place_after-following-requires c =
-    omega (arith, ap (λ (s : Summary). s.assignments) c.state.view_is, inside (goal.at.place_after-following-requires c).After-of, places (goal.at.place_after-following-requires c).After-cap)
-
-pub place_cost-requires : goal.place_cost-requires
-place_cost-requires c = c.in_ok-step.ensures.within
 
 pub returns-clause-step : goal.returns-clause-step
 returns-clause-step c =
-    let of = (goal.at.returns-clause-step c).After-of in
-    let step = c.in_ok-step.step in
-    let assignments = ap (λ (s : Summary). s.assignments) c.state.view_is in
-    let state = c.state-2.ensures ∙ ap (with_assignments step.next) (c.place_after-following.ensures.place ∙ (λ i. place_after (places (goal.at.returns-clause-step c).After-cap i) step.moves (assignments i))) in
-    let cost = c.place_cost.ensures.cost ∙ ap (λ a. step.cost + (if nat_le step.dearer_from a then assignment_weight else 0)) assignments in
-    (λ i. Some (state i, cost i))
-    ∙ c.in_ok-step.ensures.steps c.args.state.assignments (inside of)
-    ∙ ap (λ (b : Summary). step_of c.args.case.now c.args.nurse c.args.day b c.args.shift) (back of)
+    let k = c.args.case.now in
+    let n = c.args.nurse in
+    let d = c.args.day in
+    let s = c.args.state in
+    let shift = c.args.shift in
+    let more = c.assignment_more.ensures.cost
+    ∙ ap (λ (r : ContractRules). if is_some shift then (if nat_le r.total.greatest s.assignments then assignment_weight else 0) else 0) c.requires.rules
+    ∙ more_above k n d s shift s.assignments in
+    let cost : c.cost_apart.result + c.assignment_more.result ≡ step_cost k n d s shift = ap₂ (λ a b. a + b) c.cost_apart.ensures.cost more ∙ cost_at k n d s shift s.assignments in
+    let allowed : forbids k.successions s.last shift ≡ false = sym (c.forbids_next.ensures ∙ ap (λ (s : Summary). forbids k.successions s.last shift) c.state.view_is) ∙ c.if-forbids_next.false in
+    (λ i. Some (c.next_of.ensures i, cost i)) ∙ (λ i. if sym allowed i then None else Some (next_of k n d s shift, step_cost k n d s shift))
 
 pub returns-clause-next_fits : goal.returns-clause-next_fits
 returns-clause-next_fits c =
-    let z = sizes_of c.args.case.now c.args.nurse in
-    let within : c.place_after-following.result < z.assignments = omega (arith, c.place_after-following.ensures.within, places (goal.at.returns-clause-next_fits c).After-cap) in
-    subst (λ (s : Summary). fits_sizes z s ≡ true) (sym c.state-2.ensures) (place-fits z c.in_ok-step.step.next c.place_after-following.result within c.in_ok-step.ensures.next_fits)
-
-pub returns-clause-within : goal.returns-clause-within
-returns-clause-within c = c.place_cost.ensures.within
+    let k = c.args.case.now in
+    let n = c.args.nurse in
+    subst (λ (s : Summary). fits_sizes (sizes_of k n) s ≡ true) (sym c.next_of.ensures) (next_fits k n c.args.day c.args.state c.args.shift c.requires.shift)

@@ -1,4 +1,4 @@
-use Rattle.roster_who.proofs.TakerLemmas.{fits_after}
+use Rattle.roster_partial.proofs.WorkspaceLaws.{fits_after}
 use Rattle.roster_who.proofs.offers.offers_of_days.Goals as goal
 
 pub returns-clause-fits : goal.returns-clause-fits

@@ -6,7 +6,7 @@ use Rattle.roster_instance.specs.Meaning.{last_shift, past_of, forbids}
 use Rattle.roster_rules.specs.Prefix.{due, summary_of}
 use Rattle.roster_state.specs.Codes.{fits_sizes, sizes_of}
 use Rattle.roster_state.specs.Room.{most_at_start, most_of_step}
-use Rattle.roster_state.proofs.reference.row_cost.Given as goal
+use Rattle.roster_tests.proofs.row.row_cost.Given as goal
 
 abbrev pub invariant-loop-day : goal.invariant-loop-day
 invariant-loop-day l = record {

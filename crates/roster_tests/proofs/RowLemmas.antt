@@ -2,7 +2,7 @@
 use Rattle.std.proofs.Common.{◌≡◌, ◌∙◌, ◌+◌, ◌-◌, ◌<◌, ◌≤◌, ◌⊎◌, ℕ, zero, suc, Bool, true, false, ap, arith, if◌then◌else◌, inl, inr, refl, sym, ◌==◌, [], ◌∷◌, ◌++◌, length, take, Option}
 use Rattle.std.proofs.Math.ListN.{get_or-map}
 use Rattle.std.proofs.Math.Seq.{take-suc}
-use Rattle.std.proofs.lemmas.Bool.{cases_eq}
+use Rattle.std.proofs.lemmas.Bool.{cases_eq, false_from_ne_true}
 use Rattle.std.proofs.lemmas.List.{get_or-take, length-map, length-take-le, map-append}
 use Rattle.roster_instance.specs.declared.choice.Choice.TheVariants.{Off}
 use Rattle.roster_instance.specs.declared.choice.Shift.{Shift}
@@ -50,14 +50,6 @@ forbidden_by c n row day s shift within is shift_is =
 pub kept_more : (p : ℕ → Bool) (day : ℕ) → ((d : ℕ) → d < day → p d ≡ false) → (p day ≡ true → ⊥) → (d : ℕ) → d < day + 1 → p d ≡ false
 kept_more p day so_far own d below = go (cases_eq d day)
   where
-    not_true : (b : Bool) → (b ≡ true → ⊥) → b ≡ false
-    not_true true h = absurd (h refl)
-    not_true false h = refl
-
     go : (d ≡ day) ⊎ (d ≡ day → ⊥) → p d ≡ false
-    go (inl same) = ap p same ∙ not_true (p day) own
+    go (inl same) = ap p same ∙ false_from_ne_true (p day) own
     go (inr other) = so_far d (omega (arith, below, other))
-
-pub not_both : (b : Bool) → b ≡ true → b ≡ false → ⊥
-not_both true e f = absurd (cc)
-not_both false e f = absurd (cc)

@@ -1,5 +1,6 @@
 -- Days that are gone through until one of them breaks a rule.
 use Rattle.std.proofs.Common.{◌≡◌, ◌∙◌, ◌+◌, ◌<◌, ◌⊎◌, ◌&&◌, ℕ, zero, suc, Bool, true, false, ap, ap₂, arith, inl, inr, not, refl, sym}
+use Rattle.std.proofs.Math.Bool.{and-false}
 use Rattle.std.proofs.lemmas.Bool.{cases_eq}
 use Rattle.roster_instance.specs.Counting.{all_below, count_below, one_if}
 
@@ -12,17 +13,13 @@ module _ (breaks : ℕ → Bool) where
   keeps-yes zero none = refl
   keeps-yes (suc m) none = ap₂ (λ a b. a && not b) (keeps-yes m (λ d h. none d (omega arith))) (none m (omega arith))
 
-  and_false : (a : Bool) → (a && false) ≡ false
-  and_false true = refl
-  and_false false = refl
-
   -- where one before m does
   keeps-no : (m d : ℕ) → d < m → breaks d ≡ true → keeps m ≡ false
   keeps-no zero d h is = absurd (omega arith)
   keeps-no (suc m) d h is = go (λ before. keeps-no m d before is) (cases_eq d m)
     where
       go : (d < m → keeps m ≡ false) → (d ≡ m) ⊎ (d ≡ m → ⊥) → keeps (suc m) ≡ false
-      go front (inl same) = ap (λ b. keeps m && not b) (sym (ap breaks same) ∙ is) ∙ and_false (keeps m)
+      go front (inl same) = ap (λ b. keeps m && not b) (sym (ap breaks same) ∙ is) ∙ and-false (keeps m)
       go front (inr other) = ap (λ a. a && not (breaks m)) (front (omega (arith, h, other)))
 
   -- where none but the last may break it, all days are gone through

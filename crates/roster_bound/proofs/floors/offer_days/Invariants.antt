@@ -3,7 +3,7 @@ use Rattle.roster_offers.specs.Lists.{offers_on}
 use Rattle.roster_partial.specs.Workspaces.{fits_space}
 use Rattle.roster_bound.specs.Days.{shift_offers_by_worth}
 use Rattle.roster_bound.specs.Tables.{worths_of}
-use Rattle.roster_polish.proofs.visit.offer_days.Given as goal
+use Rattle.roster_bound.proofs.floors.offer_days.Given as goal
 
 abbrev pub invariant-loop-day : goal.invariant-loop-day
 invariant-loop-day l = record {

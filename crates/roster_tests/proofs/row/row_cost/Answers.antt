@@ -1,5 +1,5 @@
 use Rattle.std.proofs.Common.{◌≡◌, ◌∙◌, ◌+◌, ◌<◌, Bool, ℕ, ap, arith, length, refl, sym, true, ◌==◌}
-use Rattle.std.proofs.lemmas.Bool.{and_parts, eqb-true}
+use Rattle.std.proofs.lemmas.Bool.{and_parts, both_ways, eqb-true}
 use Rattle.std.proofs.lemmas.List.{length-map}
 use Rattle.std.specs.List.{list_all}
 use Rattle.roster_instance.specs.Choices.{days_of, shift_of}
@@ -8,9 +8,9 @@ use Rattle.roster_rules.specs.HardRules.{breaks_succession, shift_before}
 use Rattle.roster_instance.specs.Meaning.{Meaning, day_count, last_shift, past_of, forbids}
 use Rattle.roster_rules.specs.Prefix.{due, summary_of}
 use Rattle.roster_instance.specs.Rosters.{Row, is_choice_of, is_row_of}
-use Rattle.roster_state.proofs.RowLemmas.{forbidden_by, front, front_more, kept_more, length_front, not_both}
-use Rattle.roster_state.proofs.TriedDays.{tried-all, tried-up_to}
-use Rattle.roster_state.proofs.reference.row_cost.Goals as goal
+use Rattle.roster_tests.proofs.RowLemmas.{forbidden_by, front, front_more, kept_more, length_front}
+use Rattle.roster_tests.proofs.TriedDays.{tried-all, tried-up_to}
+use Rattle.roster_tests.proofs.row.row_cost.Goals as goal
 
 row_days : (k : Meaning) (row : Row) → is_row_of k row ≡ true → length row ≡ day_count k
 row_days k row fitting = eqb-true (length row) (day_count k) (and_parts (length row == day_count k) (list_all (is_choice_of k) row) fitting).0
@@ -23,8 +23,9 @@ returns-in_err-next-clause-forbidden c none keeps =
     let day = c.loop-day.day in
     let days = row_days k row c.requires.row in
     let inside : day < length (days_of row) = omega (arith, days, length-map row shift_of, c.days-day-end.ensures.count) in
-    not_both _ (c.in_err-next.ensures.forbidden.0 refl)
+    both_ways _
     (forbidden_by k n row day c.loop-day.state c.shift.result (omega (arith, days, c.days-day-end.ensures.count)) c.loop-day.invariant.state_is c.shift.ensures ∙ keeps day inside)
+    (c.in_err-next.ensures.forbidden.0 refl)
 
 -- the refused day counts, and no day after it
 pub returns-in_err-next-clause-counted : goal.returns-in_err-next-clause-counted
@@ -57,7 +58,7 @@ loop-day-preserved c =
       state_is = c.in_ok-next.ensures.summary (front day row) so_long is ∙ ap (summary_of k n) (sym more);
       cost_is = ap (λ x. x + c.in_ok-next.more) c.loop-day.invariant.cost_is ∙ sym (c.in_ok-next.ensures.owed (front day row) so_long is) ∙ ap (due k n) (sym more);
       fitting = c.in_ok-next.ensures.next_fits;
-      kept = kept_more p day c.loop-day.invariant.kept (λ h. not_both true refl (c.in_ok-next.ensures.forbidden.1 (forbidden_by k n row day c.loop-day.state shift (omega arith) is c.shift.ensures ∙ h)));
+      kept = kept_more p day c.loop-day.invariant.kept (λ h. both_ways true (c.in_ok-next.ensures.forbidden.1 (forbidden_by k n row day c.loop-day.state shift (omega arith) is c.shift.ensures ∙ h)) refl);
       within = omega (arith, c.loop-day.invariant.within, c.in_ok-next.ensures.within);
       counted = omega (arith, c.loop-day.invariant.counted, c.in_ok-next.ensures.counted);
     }

@@ -4,9 +4,10 @@ use Rattle.std.proofs.lemmas.List.{get_or_append_left, get_or_push, length_push}
 use Rattle.arrayvec.specs.ArrayVec.{ArrayVec}
 use Rattle.roster_offers.specs.declared.offer.Offer.{Offer}
 use Rattle.roster_offers.specs.Lists.{offers_on}
+use Rattle.roster_partial.specs.Workspaces.{Space, fits_space}
 use Rattle.roster_bound.specs.Days.{shift_offers_by_worth}
 use Rattle.roster_bound.specs.Tables.{worths_of}
-use Rattle.roster_bound.proofs.floors.offers_of_days.Goals as goal
+use Rattle.roster_bound.proofs.floors.offer_days.Goals as goal
 
 -- one day more
 day_more : (of : ℕ → List Offer) (old new : List (ArrayVec Offer)) (day : ℕ) (offers : ArrayVec Offer) → length old ≡ day → ((d : ℕ) → d < day → offers_on old d ≡ of d) → new ≡ old ++ offers ∷ [] → offers.items ≡ of day
@@ -23,8 +24,10 @@ day_more of old new day offers days each pushed is d within = ap (λ table. offe
 pub loop-day-preserved : goal.loop-day-preserved
 loop-day-preserved c =
     let t = c.args.terms.now in
+    let pushed = ap (λ (w : Space). w.offers) c.push_offers.ensures in
     record {
-      days = ap length c.push.ensures.items ∙ length_push c.loop-day.offers.items c.offers_of_day.result ∙ ap (λ n. n + 1) c.loop-day.invariant.days;
-      each = day_more (shift_offers_by_worth t.case.now t.from t.given.now (worths_of t.worths.now) c.args.nurse) c.loop-day.offers.items c.push.new.self.items c.loop-day.day c.offers_of_day.result c.loop-day.invariant.days
-          c.loop-day.invariant.each c.push.ensures.items c.offers_of_day.ensures.offers;
+      days = ap length pushed ∙ length_push c.loop-day.workspace.offers c.offers_of_day.result ∙ ap (λ n. n + 1) c.loop-day.invariant.days;
+      each = day_more (shift_offers_by_worth t.case.now t.from t.given.now (worths_of t.worths.now) c.args.nurse) c.loop-day.workspace.offers c.push_offers.new.self.offers c.loop-day.day c.offers_of_day.result c.loop-day.invariant.days
+          c.loop-day.invariant.each pushed c.offers_of_day.ensures.offers;
+      fits = ap (λ (w : Space). fits_space t.case.now w) c.push_offers.ensures ∙ c.loop-day.invariant.fits;
     }
