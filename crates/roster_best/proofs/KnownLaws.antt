@@ -1,7 +1,7 @@
 -- What the last searches tell: the prices that are kept, and that no row has become cheaper.
 use Rattle.std.proofs.Common.{◌≡◌, ◌∙◌, ◌+◌, ◌*◌, ◌<◌, ◌≤◌, ◌⊎◌, ◌≢◌, ℕ, suc, Bool, true, false, ◌==◌, if◌then◌else◌, inl, inr, ap, arith, get_or-set_other, refl, subst, sym, List, [], All, length, nat_lt, replicate, slice_index, slice_index_or, slice_set, Option, None, Some, IfSome, IsSome}
 use Rattle.std.specs.Prelude.{IsSomeAnd}
-use Rattle.std.proofs.lemmas.Bool.{and_from, and_parts, cases_eq, cases_lt, eq-eqb, eqb-true, ltb-true, true≢false}
+use Rattle.std.proofs.lemmas.Bool.{and_parts, cases_eq, cases_lt, eq-eqb, eqb-true, ltb-true, true≢false}
 use Rattle.std.proofs.Math.Path.{transport}
 use Rattle.std.proofs.lemmas.Grind.{get_or-set_at}
 use Rattle.std.proofs.lemmas.List.{get_or-replicate, length-replicate, length-set}
@@ -269,10 +269,6 @@ dearer_more prices offers index rise fall rise_now fall_now less more so_far her
         record { place = old.place; offered = old.offered; price = omega (arith, old.price, less, more) }
 
 -- ---- nothing is kept
-
-pub known_fits : (c : Meaning) (last : LastSearches) → IsKnown c last → fits_last c last ≡ true
-known_fits c last known =
-    and_from (length last.costs.items == nurse_count c) (length last.prices.items == nurse_count c * day_count c) (eq-eqb (length last.costs.items) (nurse_count c) known.nurses) (eq-eqb (length last.prices.items) (nurse_count c * day_count c) known.days)
 
 pub forgotten : (c : Meaning) (old new : LastSearches) → fits_last c old ≡ true → new.prices ≡ old.prices → new.costs.items ≡ replicate (length old.costs.items) None → IsKnown c new
 forgotten c old new fits prices costs =

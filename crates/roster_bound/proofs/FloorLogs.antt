@@ -189,14 +189,6 @@ module _ {W : Type 0} (contents : W → Option (List ℕ)) (c : Meaning) (from :
         counted = ap (λ f. LogFailed (sent_of f)) q.counted ∙ ap LogFailed count;
       }
 
-  pub Going-end : (rounds : ℕ) (new : Watched W) (made sent best : ℕ) → Going contents c from given old new made sent best → made ≤ rounds → rounds ≤ made → RaisesFloor contents c from given rounds old new best
-  Going-end rounds new made sent best p few all = record {
-    lines = p.lines;
-    is_log = later_log c from given made rounds p.lines few (λ some. omega (arith, some, all)) p.is_log;
-    writes = p.sends.writes;
-    bound_is = p.best_is;
-  }
-
   -- the floor is what the given roster costs: then it is no less than any bound
   pub Going-met : (rounds : ℕ) (new : Watched W) (made sent best : ℕ) → Going contents c from given old new made sent best → made ≤ rounds → penalty c given ≤ best → fits_case c given ≡ true → keeps_hard c given ≡ true
       → RaisesFloor contents c from given rounds old new best

@@ -1,9 +1,9 @@
 -- A day's table: what is lacking with one nurse more, and the tables of a roster with one row replaced.
-use Rattle.std.proofs.Common.{◌≡◌, ◌∙◌, ◌+◌, ◌*◌, ◌<◌, ◌≤◌, ◌&&◌, ℕ, true, ap, ap₂, arith, refl, sym, List, [], length, nat_lt, slice_index_or}
-use Rattle.std.proofs.lemmas.Bool.{and_parts, eq-eqb, ltb-true}
+use Rattle.std.proofs.Common.{◌≡◌, ◌∙◌, ◌+◌, ◌*◌, ◌<◌, ◌≤◌, ℕ, true, ap, arith, sym, List, [], length, nat_lt, slice_index_or}
+use Rattle.std.proofs.lemmas.Bool.{and_parts, ltb-true}
 use Rattle.std.proofs.lemmas.List.Sums.{sum_by-set}
 use Rattle.roster_instance.specs.declared.choice.Choice.{Choice}
-use Rattle.roster_instance.specs.declared.choice.Choice.TheVariants.{Off, Work}
+use Rattle.roster_instance.specs.declared.choice.Choice.TheVariants.{Work}
 use Rattle.roster_instance.specs.declared.rules.Need.{Need}
 use Rattle.roster_instance.specs.declared.choice.Shift.{Shift}
 use Rattle.roster_instance.specs.declared.choice.Skill.{Skill}
@@ -11,8 +11,7 @@ use Rattle.roster_instance.specs.Choices.{same_choice}
 use Rattle.roster_instance.specs.Counting.{one_if}
 use Rattle.roster_instance.specs.Meaning.{Meaning, need, optimum, shift_at, shift_count, skill_at, skill_count}
 use Rattle.roster_instance.specs.Rosters.{Row, Rows, choice_on, cover, is_choice_of, row_of}
-use Rattle.roster_rules.specs.Covers.{AreCovers, IsTable}
-use Rattle.roster_case.specs.DayTables.{HasPlace, IsCounted}
+use Rattle.roster_rules.specs.Covers.{IsTable}
 use Rattle.roster_laws.specs.OneRow.{others}
 use Rattle.roster_laws.specs.Staffing.{lacking, with_choice}
 use Rattle.roster_laws.proofs.Lacking.{lacking-work}
@@ -25,10 +24,6 @@ work_of_case c shift skill known =
     (ltb-true shift.0 (shift_count c) parts.0, ltb-true skill.0 (skill_count c) parts.1)
 
 module _ (c : Meaning) (shifts : shift_count c ≤ 8) (skills : skill_count c ≤ 8) where
-  pub has_place : (choice : Choice) → is_choice_of c choice ≡ true → HasPlace choice
-  has_place Off known = tt
-  has_place (Work shift skill) known = let parts = work_of_case c shift skill known in (omega (arith, parts.0, shifts), omega (arith, parts.1, skills))
-
   -- one nurse more is one less lacking where the optimum isn't reached
   pub work_lacks : (d : ℕ) (table : List ℕ) (choice : Choice) → is_choice_of c choice ≡ true → (shift : Shift) (skill : Skill) → choice ≡ Work shift skill → (place : ℕ) → place ≡ 8 * shift.0 + skill.0 → (wanted : Need) → wanted ≡ need c d shift.0 skill.0 → (have : ℕ → ℕ → ℕ) → IsTable have table
       → lacking c (optimum c d) (with_choice have choice) + one_if (nat_lt (slice_index_or table place 0) wanted.optimum) ≡ lacking c (optimum c d) have
@@ -44,11 +39,3 @@ module _ (r : Rows) (n : ℕ) (within : n < length r) where
   cover-parts d s k =
       let one : Row → ℕ = λ own. one_if (same_choice (choice_on own d) (Work (shift_at s) (skill_at k))) in
       omega (arith, sum_by-set one r n [] [] within)
-
-  -- a shift and skill that the nurse works is counted
-  pub is_counted : (d : ℕ) (table : List ℕ) → AreCovers r d table → (choice : Choice) → choice ≡ choice_on (row_of r n) d → HasPlace choice → IsCounted table choice
-  is_counted d table are Off is place = tt
-  is_counted d table are (Work shift skill) is place =
-      let own : with_choice (others r n d) (choice_on (row_of r n) d) shift.0 skill.0 ≡ others r n d shift.0 skill.0 + 1 =
-      (λ i. with_choice (others r n d) (sym is i) shift.0 skill.0) ∙ ap (λ b. others r n d shift.0 skill.0 + one_if b) (ap₂ (λ a b. a && b) (eq-eqb shift.0 shift.0 refl) (eq-eqb skill.0 skill.0 refl)) in
-      omega (arith, are shift.0 skill.0 place.0 place.1, cover-parts d shift.0 skill.0, own)

@@ -238,13 +238,5 @@ any_same_pair source shifts skills t u s k shift skill xs is there within = list
 -- ---- a name that is none of these
 
 module _ (source : Text) (names : List Text) (t : Token) (none : found source names t ≡ None) where
-  pub found-none-known : is_known source names t ≡ false
-  found-none-known = ap is_some none
-
-  pub found-none-fault : unknown_fault source names t ≡ Unknown t.line ∷ []
-  found-none-fault = ap (λ b. fault_if (not b) (Unknown t.line)) found-none-known
 
 -- ---- names one after the other
-
-pub names_of-push : (source : Text) (ts : List Token) (t : Token) → names_of source (ts ++ t ∷ []) ≡ names_of source ts ++ text_of source t ∷ []
-names_of-push source ts t = map_push (text_of source) ts t

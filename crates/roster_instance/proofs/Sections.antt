@@ -11,7 +11,6 @@ use Rattle.roster_instance.specs.Checking.{IsFirst}
 use Rattle.roster_instance.specs.Faults.{each, each_after, first_fault}
 use Rattle.roster_instance.specs.Names.{names_of}
 use Rattle.roster_instance.specs.declared.fault.CaseFault.{CaseFault}
-use Rattle.roster_instance.specs.declared.fault.CaseFault.TheVariants.{Memory}
 
 -- ---- what is built of one more item
 
@@ -51,10 +50,6 @@ IsFirst-alone xs f e other = alone-first xs f e
 -- the fault of a call, as it was
 pub IsFirst-through : {T : Type 0} (r : Result T CaseFault) (f : CaseFault) (fs : List CaseFault) → IsErrAnd r (λ y. y ≡ f) → IsFirst fs f → IfErr r (IsFirst fs)
 IsFirst-through r f fs came first = let p = err_from_is_err_and r came in rw (p.1, p.2) first
-
--- want of memory stands beside all faults
-pub IsFirst-memory : {T : Type 0} (r : Result T CaseFault) (fs : List CaseFault) → IsErrAnd r (λ y. y ≡ Memory) → IfErr r (IsFirst fs)
-IsFirst-memory r fs came = let p = err_from_is_err_and r came in rw (p.1, p.2) (λ other. absurd (other refl))
 
 -- ---- the faults of each item
 

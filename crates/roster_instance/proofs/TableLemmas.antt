@@ -1,5 +1,5 @@
 -- Tables of the first items of each place.
-use Rattle.std.proofs.Common.{◌≡◌, ◌≢◌, ◌∙◌, ◌+◌, ◌<◌, ◌||◌, ◌&&◌, ◌==◌, ◌*◌, ◌⊎◌, ℕ, Bool, cond, true, false, zero, suc, refl, sym, ap, ap₂, arith, List, [], ◌∷◌, ◌++◌, get_or, length, map, Option, Some, None, inl, inr, ⊎_elim, is_some, true≢false}
+use Rattle.std.proofs.Common.{◌≡◌, ◌≢◌, ◌∙◌, ◌+◌, ◌<◌, ◌||◌, ◌&&◌, ◌==◌, ◌*◌, ◌⊎◌, ℕ, Bool, cond, true, false, zero, suc, refl, sym, ap, ap₂, arith, List, [], ◌∷◌, ◌++◌, get_or, length, map, Option, Some, None, inl, inr, ⊎_elim, is_some}
 use Rattle.std.proofs.Math.ListN.{replicate, set}
 use Rattle.std.specs.Prelude.{IfSome, find, option_and_then, option_map}
 use Rattle.std.specs.List.{list_any, range_with_len}
@@ -7,7 +7,7 @@ use Rattle.std.specs.Option.{option_or}
 use Rattle.std.proofs.lemmas.List.{ext_get_or, get_or-set_other, get_or-set_same, length-set}
 use Rattle.std.proofs.lemmas.List.FromFn.{get_or-map-range_with_len, length-map-range_with_len}
 use Rattle.std.proofs.lemmas.List.Folds.{find-append}
-use Rattle.std.proofs.lemmas.Bool.{and_right, cases_eq, eq-eqb, eqb-true, ne_eqb}
+use Rattle.std.proofs.lemmas.Bool.{and_right, cases_eq, eq-eqb, ne_eqb}
 use Rattle.std.proofs.lemmas.Bool.Decides.{eqb_tells}
 use Rattle.roster_instance.specs.Tables.{is_at, item_at, table_of}
 
@@ -19,10 +19,6 @@ is_at-same p = ⊎_elim (λ h. h.0) (λ h. absurd (h.1 refl)) (eqb_tells p p)
 
 pub is_at-other : (p q : ℕ) → p ≢ q → is_at p (Some q) ≡ false
 is_at-other p q other = ⊎_elim (λ h. absurd (other (sym h.1))) (λ h. h.0) (eqb_tells q p)
-
-pub is_at-found : (p : ℕ) (place : Option ℕ) → is_at p place ≡ true → place ≡ Some p
-is_at-found p None e = absurd (true≢false (sym e))
-is_at-found p (Some q) e = ap (λ k. Some k) (eqb-true q p e)
 
 -- places of a nurse and weekday
 pub at_day : (a b w : ℕ) (o : Option ℕ) → b < 7 → w < 7 → is_at (7 * a + b) (option_map (λ n. 7 * n + w) o) ≡ (is_at a o && (b == w))

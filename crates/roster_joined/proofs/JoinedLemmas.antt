@@ -2,9 +2,8 @@
 use Rattle.std.proofs.Common.{◌≡◌, ◌∙◌, ◌+◌, ◌<◌, add-one, ap, arith, sym, subst, refl, codes, List, ◌∷◌, ◌++◌, ℕ, Option, Some, None, Ok, Result, length, get_or, drop, take, suc, append_assoc}
 use Rattle.std.proofs.Math.ListN.{set}
 use Rattle.std.proofs.Math.Seq.{drop-cons}
-use Rattle.std.proofs.lemmas.List.{drop-drop, drop-set}
 use Rattle.std.specs.Io.KnownBytes.{Consumes, IsAtEnd, Keeps, ReadConsumes}
-use Rattle.std.specs.Prelude.{[], Err, IsErr, option_and_then, option_map}
+use Rattle.std.specs.Prelude.{[], option_and_then, option_map}
 use Rattle.roster_joined.specs.JoinedBytes.{joined_bytes}
 
 -- those of a reader, one LF, and those of the others
@@ -23,10 +22,6 @@ end_taken (Some bytes) (Some left) (Some xs) taken ended = ap (λ b. b ++ codes 
 -- the first of them and the others
 pub first_left : {R : Type 0} (readers : List R) (done : ℕ) (old : R) → done < length readers → old ≡ get_or readers done old → drop done readers ≡ old ∷ drop (done + 1) readers
 first_left readers done old within is = drop-cons readers done old within ∙ ap (λ r. r ∷ drop (suc done) readers) (sym is) ∙ ap (λ n. old ∷ drop n readers) (sym (add-one done))
-
--- the others stay when the first has changed
-pub rest_left : {R : Type 0} (readers : List R) (done : ℕ) (new : R) → done < length readers → drop (done + 1) (set readers done new) ≡ drop (done + 1) readers
-rest_left readers done new within = sym (drop-drop 1 done (set readers done new)) ∙ ap (drop 1) (drop-set readers done new within)
 
 -- the first is at its end, so the LF after it is given
 pub end_given : {R : Type 0} (remaining : R → Option (List ℕ)) (readers left : List R) (old new : R) (rest : List R) → readers ≡ old ∷ rest → left ≡ rest
@@ -62,16 +57,3 @@ first_kept None after others kept = tt
 first_kept (Some bytes) None others kept = absurd kept
 first_kept (Some bytes) (Some left) None kept = tt
 first_kept (Some bytes) (Some left) (Some xs) kept = ap (λ b. b ++ codes "\n" ++ xs) kept
-
--- the first gave some bytes
-pub bytes_given : {R : Type 0} (remaining : R → Option (List ℕ)) (readers left : List R) (old new : R) (rest : List R) (bs : List ℕ) → readers ≡ old ∷ rest → left ≡ new ∷ rest
-    → Consumes (remaining old) (remaining new) bs → Consumes (joined_bytes remaining readers) (joined_bytes remaining left) bs
-bytes_given remaining readers left old new rest bs before after taken =
-    rw (before, after) (first_given (remaining old) (remaining new) (joined_bytes remaining rest) bs taken)
-
--- the first failed
-pub bytes_kept : {R E : Type 0} (remaining : R → Option (List ℕ)) (readers left : List R) (old new : R) (rest : List R) (result : Result ℕ E) (buf : List ℕ) → readers ≡ old ∷ rest → left ≡ new ∷ rest
-    → IsErr result → Keeps (remaining old) (remaining new) → ReadConsumes (joined_bytes remaining readers) (joined_bytes remaining left) result buf
-bytes_kept remaining readers left old new rest (Ok n) buf before after is kept = absurd cc
-bytes_kept remaining readers left old new rest (Err e) buf before after is kept =
-    rw (before, after) (first_kept (remaining old) (remaining new) (joined_bytes remaining rest) kept)

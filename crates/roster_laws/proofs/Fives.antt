@@ -11,14 +11,8 @@ use Rattle.roster_instance.specs.Rosters.{Rows, cover, days_of_nurse}
 abbrev pub IsFive : ℕ → Type 0
 IsFive n = n % 5 ≡ 0
 
-zero_is : IsFive 0
-zero_is = refl
-
 plus : (a b : ℕ) → IsFive a → IsFive b → IsFive (a + b)
 plus a b e f = omega (arith, e, f)
-
-five_times : (n : ℕ) → IsFive (5 * n)
-five_times n = omega arith
 
 sum_is : (n : ℕ) (f : ℕ → ℕ) → ((k : ℕ) → IsFive (f k)) → IsFive (sum_below n f)
 sum_is zero f each = refl

@@ -44,10 +44,6 @@ module _ (c : Meaning) (n : ℕ) (offers : ℕ → List Offer) where
   sets_within {rows = rows} {others = others} less fewer is =
       record { sets = is.sets; followed = is.followed; few = omega (arith, is.few, less); brief = omega (arith, is.brief, mul-le rows row others row fewer (omega arith)); counted = is.counted }
 
-  -- none is taken back
-  pub partial_from : (before after : ℕ) → CountsPartial c n offers before after → before ≤ after
-  partial_from before after is = omega (arith, is.floors.counted, is.from)
-
   -- where nothing was begun
   pub no_partial : (now : ℕ) → CountsPartial c n offers now now
   no_partial now = record { floored = now; floors = sets_within (omega arith) (omega arith) (no_set now); from = omega arith; rows = omega arith }

@@ -53,14 +53,6 @@ pub same_length : (c : Meaning) (r : Rows) (n : ℕ) (row : Row) → fits_case c
 same_length c r n row fits inside is =
     eqb-true (length row) (day_count c) (and_parts (length row == day_count c) (list_all (is_choice_of c) row) is).0 ∙ sym (row-length c r n fits inside)
 
--- a roster without a fault keeps the hard rules
-pub none_is_kept : (c : Meaning) (r : Rows) → first_fault (hard_faults c r) ≡ None → keeps_hard c r ≡ true
-none_is_kept c r none = of_list (hard_faults c r) none
-  where
-    of_list : (faults : List HardFault) → first_fault faults ≡ None → is_none_of faults ≡ true
-    of_list [] e = refl
-    of_list (f ∷ fs) e = absurd cc
-
 -- and the other way about
 pub kept_is_none : (c : Meaning) (r : Rows) → keeps_hard c r ≡ true → first_fault (hard_faults c r) ≡ None
 kept_is_none c r keeps = of_list (hard_faults c r) keeps

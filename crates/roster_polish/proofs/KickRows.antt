@@ -1,8 +1,8 @@
 -- Whatever the prices of a kick are, the row that it finds is allowed.
-use Rattle.std.proofs.Common.{◌≡◌, ◌∙◌, ◌<◌, ◌≤◌, ◌+◌, ◌&&◌, ◌||◌, ◌/◌, ◌⊎◌, ◌++◌, ℕ, Bool, true, false, not, max, inl, inr, ap, ap₂, arith, get_or, map, take, refl, subst, sym, List, [], ◌∷◌, length, nat_lt, if◌then◌else◌, Contains, IsSome}
+use Rattle.std.proofs.Common.{◌≡◌, ◌∙◌, ◌<◌, ◌≤◌, ◌+◌, ◌&&◌, ◌||◌, ◌/◌, ◌⊎◌, ℕ, Bool, true, false, not, max, inl, inr, ap, arith, get_or, map, refl, subst, sym, List, [], ◌∷◌, length, nat_lt, if◌then◌else◌, Contains, IsSome}
 use Rattle.std.specs.List.{All, filter}
 use Rattle.std.proofs.lemmas.Bool.{and_from, and_parts, cases_Bool, lt-ltb, ltb-true}
-use Rattle.std.proofs.lemmas.List.{length-map, map_more, set-get_or}
+use Rattle.std.proofs.lemmas.List.{length-map, set-get_or}
 use Rattle.std.proofs.lemmas.Simd.{map-map}
 use Rattle.std.proofs.lemmas.List.Elements.{All-contains_itself, All-filter, All-get_or, All-map, All-weaker, Contains-append_right}
 use Rattle.arrayvec.specs.ArrayVec.{ArrayVec}
@@ -36,13 +36,6 @@ use Rattle.roster_polish.specs.declared.offers.Kick.{Kick}
 -- an offer at the price of a kick
 abbrev pub priced_in : Meaning → ℕ → Kick → ℕ → Offer → Offer
 priced_in c n kick d offer = record { choice = offer.choice; price = price_from c n kick d offer.choice offer.price }
-
--- one more of the offers of a day is priced
-pub priced_more : (c : Meaning) (n : ℕ) (kick : Kick) (d : ℕ) (those old new : List Offer) (place : ℕ) (e : Offer) (x : Choice) (p : ℕ) → place < length those → old ≡ map (priced_in c n kick d) (take place those) → x ≡ (get_or those place e).choice
-    → p ≡ price_from c n kick d (get_or those place e).choice (get_or those place e).price → new ≡ old ++ record { choice = x; price = p } ∷ [] → new ≡ map (priced_in c n kick d) (take (place + 1) those)
-priced_more c n kick d those old new place e x p within so_far x_is p_is pushed =
-    let one : record { choice = x; price = p } ≡ priced_in c n kick d (get_or those place e) = λ i. record { choice = x_is i; price = p_is i } in
-    pushed ∙ ap₂ (λ os o. os ++ o ∷ []) so_far one ∙ sym (map_more (priced_in c n kick d) those place e within)
 
 -- all of them are: what the kick offers
 pub priced_all : (c : Meaning) (r : Rows) (n : ℕ) (kick : Kick) (d : ℕ) (those : List Offer) → those ≡ offers_of c (from_on kick d) r n d → map (priced_in c n kick d) those ≡ offers_by c (kick_offered c r n kick) (kick_price c r n kick) d

@@ -1,13 +1,13 @@
 -- The weeks of a roster, one after the other.
 use Rattle.std.proofs.Common.{◌≡◌, ◌∙◌, ◌+◌, ◌-◌, ◌<◌, ℕ, cond, true, refl, sym, ap, subst, arith, List, [], ◌∷◌, ◌++◌, append-nil, append_assoc, codes, length, map, nat_lt, Option, Result, Ok, Err, lt-ltb}
-use Rattle.std.specs.Prelude.{IfErr, OnErr, OnOk}
+use Rattle.std.specs.Prelude.{IfErr, OnErr}
 use Rattle.std.specs.List.{join_with_byte, range_with_len}
 use Rattle.std.proofs.lemmas.List.{length-map, map-append}
 use Rattle.std.proofs.lemmas.List.FromFn.{length-range_with_len, map-range_with_len_more}
 use Rattle.roster_bundle.specs.Canonical.{canonical}
 use Rattle.roster_text.specs.Io.{Stops, StopsIn, Watched, Writes}
 use Rattle.roster_text.specs.declared.fault.WriteFault.{WriteFault}
-use Rattle.roster_text.proofs.Texts.{Stops-after, Stops-from_in, Writes-append}
+use Rattle.roster_text.proofs.Texts.{Stops-after, Stops-from_in}
 use Rattle.roster_bundle.proofs.Ranges.{range_with_len-add}
 use Rattle.roster_instance.specs.Meaning.{Meaning, week_count}
 use Rattle.roster_instance.specs.Rosters.{Rows}
@@ -75,10 +75,6 @@ module _ (c : Meaning) (r : Rows) where
 -- ---- one week on its way
 
 module _ {W : Type 0} (contents : W → Option (List ℕ)) (old mid new : Watched W) (front text : Text) (before : Writes contents old mid front) where
-  pub OnOk-after : (r : Result (Unit {0}) WriteFault) (shown : Text) → shown ≡ text → OnOk r (Writes contents mid new shown) → OnOk r (Writes contents old new (front ++ text))
-  OnOk-after (Ok x) shown e h = Writes-append contents old mid new front text before (subst (Writes contents mid new) e h)
-  OnOk-after (Err f) shown e h = tt
-
   pub OnErr-after : (r : Result (Unit {0}) WriteFault) (shown : Text) → shown ≡ text → IfErr r (StopsIn contents mid new shown) → OnErr r (Stops contents old new (front ++ text))
   OnErr-after (Ok x) shown e h = tt
   OnErr-after (Err f) shown e h = Stops-after contents old mid new front text before (subst (Stops contents mid new) e (Stops-from_in contents mid new shown f h))

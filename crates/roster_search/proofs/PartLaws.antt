@@ -1,6 +1,6 @@
 -- A part of a list is written anew.
-use Rattle.std.proofs.Common.{◌≡◌, ◌+◌, ◌-◌, ◌<◌, ◌≤◌, ℕ, arith, subst, List, ◌++◌, drop, length, get_or}
-use Rattle.std.proofs.lemmas.List.{length-append, length-drop, places}
+use Rattle.std.proofs.Common.{◌≡◌, ◌+◌, ◌-◌, ◌≤◌, ℕ, arith, subst, List, ◌++◌, drop, length}
+use Rattle.std.proofs.lemmas.List.{length-append, length-drop}
 use borrow.Rule.Slice.PartMut.{put_mid}
 use Rattle.roster_lanes.specs.Lanes.{SameOutside}
 use Rattle.roster_offers.proofs.PartLaws.{part_after, part_before, part_inside, part_length}
@@ -18,10 +18,6 @@ pub part_put : (a long : ℕ) (old part : List ℕ) → length part ≡ long →
 part_put a long old part is room =
     let width : length part ≡ a + long - a = omega (arith, is) in
     subst (λ w. IsWritten a part old (put_mid a w old part)) width (part_written a old part (omega (arith, is, room)))
-
--- the first part of a list is written anew
-pub front_inside : (part rest : List ℕ) (j : ℕ) → j < length part → get_or (part ++ rest) j 0 ≡ get_or part j 0
-front_inside part rest j below = grind (arith, places)
 
 pub front_length : (part old : List ℕ) (n : ℕ) → length part ≡ n → n ≤ length old → length (part ++ drop n old) ≡ length old
 front_length part old n long room = omega (arith, length-append part (drop n old), length-drop n old, long, room)

@@ -317,9 +317,6 @@ module _ {day : OpenDay} {stretch : Stretch} (good : IsStretchOf day stretch) {r
   row_in_table first room = omega (arith, first, row_is, row_end stretch.rows day.days.ranges.assignments stretch.from stretch.end row in_rows good.some_places good.assignments, rows_in_table good, room)
 
 module _ (side from end code row : ℕ) (old new : List ℕ) (whole : end ≤ side) (others : SameOutside (code + from + row * side) (code + from + row * side + (end - from)) old new) where
-  pub row_before : (i a : ℕ) → i < row → a < end → slice_index_or new (code + (i * side + a)) 0 ≡ slice_index_or old (code + (i * side + a)) 0
-  row_before i a before inside = others.before (code + (i * side + a)) (omega (arith, in_rows-end row side i a before (omega (arith, inside, whole))))
-
   pub row_kept : (i a : ℕ) → a < side → (a < from) ⊎ (end ≤ a) → from < end → slice_index_or new (code + (i * side + a)) 0 ≡ slice_index_or old (code + (i * side + a)) 0
   row_kept i a inside beside some = go (cases_lt row i) (cases_lt i row) beside
     where

@@ -120,9 +120,6 @@ module _ (z : Sizes) (s : Summary) (f : Fits z s) where
 pub numbered-within : (z : Sizes) (s : Summary) → fits_sizes z s ≡ true → code_of z s < product z
 numbered-within z s fit = code-within z s (fits-all z s fit)
 
-pub numbered-back : (z : Sizes) (s : Summary) → fits_sizes z s ≡ true → state_at z (code_of z s) ≡ Some s
-numbered-back z s fit = state_at-code z s (fits-all z s fit)
-
 -- states with one number are one
 one_code : (z : Sizes) (s other : Summary) → Fits z s → Fits z other → code_of z other ≡ code_of z s → other ≡ s
 one_code z s other f g same = sym (numbered z other g) ∙ ap (state_numbered z) same ∙ numbered z s f

@@ -49,9 +49,6 @@ StopsAt-after contents old mid new xs ys sent p q =
 
 -- ---- the same where nothing is counted
 
-pub Stops-from_at : {W : Type 0} (contents : W → Option (List ℕ)) (old new : Watched W) (text : List ℕ) (sent : ℕ) → StopsAt contents old new text sent → Stops contents old new text
-Stops-from_at contents old new text sent p = record { sent = sent; stops = p }
-
 pub Stops-from_in : {W : Type 0} (contents : W → Option (List ℕ)) (old new : Watched W) (text : List ℕ) (fault : WriteFault) → StopsIn contents old new text fault → Stops contents old new text
 Stops-from_in contents old new text fault p = record { sent = p.sent; stops = p.stops }
 
@@ -63,9 +60,6 @@ pub Stops-after : {W : Type 0} (contents : W → Option (List ℕ)) (old mid new
 Stops-after contents old mid new xs ys p q = record { sent = length xs + q.sent; stops = StopsAt-after contents old mid new xs ys q.sent p q.stops }
 
 -- ---- the same with counts
-
-pub Sends-nil : {W : Type 0} (contents : W → Option (List ℕ)) (w : Watched W) (before : ℕ) → before < 2 ^ 64 → Sends contents w w before before []
-Sends-nil contents w before fits = record { writes = Writes-nil contents w; counted = omega arith }
 
 pub Sends-append : {W : Type 0} (contents : W → Option (List ℕ)) (old mid new : Watched W) (before between after : ℕ) (xs ys : List ℕ)
     → Sends contents old mid before between xs → Sends contents mid new between after ys → Sends contents old new before after (xs ++ ys)

@@ -19,10 +19,6 @@ IsUp [] = Unit {0}
 IsUp (x ∷ []) = Unit {0}
 IsUp (x ∷ y ∷ ys) = (comes_before y x ≡ false) × IsUp (y ∷ ys)
 
-up_tail : (x : Taker) (xs : List Taker) → IsUp (x ∷ xs) → IsUp xs
-up_tail x [] up = tt
-up_tail x (y ∷ ys) up = up.1
-
 next_not_before : (xs : List Taker) → IsUp xs → (k : ℕ) (d : Taker) → suc k < length xs → comes_before (get_or xs (suc k) d) (get_or xs k d) ≡ false
 next_not_before [] up k d h = absurd (omega (arith, h))
 next_not_before (x ∷ []) up k d h = absurd (omega (arith, h))

@@ -4,10 +4,9 @@ use Rattle.std.specs.List.{flat_map, range_with_len}
 use Rattle.std.specs.Option.{option_to_list}
 use Rattle.roster_bundle.proofs.Ranges.{flat_map-range_more}
 use Rattle.std.proofs.lemmas.Bool.{and_parts, eqb-true}
-use Rattle.std.proofs.lemmas.List.{get_or_read, length-set, set-get_or, set-set}
-use Rattle.roster_instance.proofs.RosterFacts.{has_row, row-length}
+use Rattle.std.proofs.lemmas.List.{get_or_read, set-get_or, set-set}
+use Rattle.roster_instance.proofs.RosterFacts.{row-length}
 use Rattle.roster_instance.specs.Rosters.{Row, Rows, fits_case, is_row_of, row_of, with_row}
-use Rattle.roster_laws.proofs.OneRow.{own_row}
 use Rattle.roster_instance.specs.Counting.{sum_below}
 use Rattle.roster_instance.specs.Limits.{most_shifts, most_skills}
 use Rattle.roster_instance.specs.Meaning.{Meaning, day_count, minimum, nurse_count, shift_count, skill_count}
@@ -39,17 +38,8 @@ one_more of told new n o so_far is more =
 -- ---- a row put in and taken out
 
 module _ (c : Meaning) (r : Rows) (n : ℕ) (row : Row) (fits : fits_case c r ≡ true) (inside : n < nurse_count c) (of_case : is_row_of c row ≡ true) where
-  pub has_nurse : n < length r
-  has_nurse = has_row c r n fits inside
-
   pub as_long : length row ≡ length (row_of r n)
   as_long = eqb-true (length row) (day_count c) (and_parts (length row == day_count c) _ of_case).0 ∙ sym (row-length c r n fits inside)
-
-  pub still_nurse : n < length (with_row r n row)
-  still_nurse = omega (arith, has_nurse, length-set r n row)
-
-  pub back_as_long : length (row_of r n) ≡ length (row_of (with_row r n row) n)
-  back_as_long = sym as_long ∙ sym (ap (λ (own : Row). length own) (own_row r n has_nurse row))
 
   pub put_back : with_row (with_row r n row) n (row_of r n) ≡ r
   put_back = set-set r n row (row_of r n) ∙ set-get_or r n []

@@ -1,8 +1,7 @@
 -- A row is found where one leads through the offers, and nowhere else.
-use Rattle.std.proofs.Common.{◌≡◌, ◌∙◌, ◌+◌, ◌-◌, ◌<◌, ◌≤◌, ◌&&◌, ◌||◌, ℕ, zero, suc, Bool, true, false, not, inl, inr, ap, ap₂, arith, refl, sym, List, [], ◌∷◌, length, Option, Some, None, is_some, if◌then◌else◌, nat_lt, replicate, slice_index_or, subst}
+use Rattle.std.proofs.Common.{◌≡◌, ◌∙◌, ◌+◌, ◌-◌, ◌<◌, ◌≤◌, ◌&&◌, ◌||◌, ℕ, zero, suc, Bool, true, false, not, inl, inr, ap, ap₂, arith, refl, sym, List, [], ◌∷◌, length, Option, Some, None, is_some, if◌then◌else◌, nat_lt, slice_index_or, subst}
 use Rattle.std.specs.List.{All, list_any}
 use Rattle.std.proofs.lemmas.Bool.{and_parts, cases_eq, true≢false}
-use Rattle.std.proofs.lemmas.List.{get_or-replicate}
 use Rattle.std.proofs.lemmas.List.Elements.{All-tail}
 use Rattle.roster_instance.specs.declared.choice.Shift.{Shift}
 use Rattle.roster_instance.specs.Choices.{shift_of}
@@ -92,10 +91,6 @@ last_at-place (Some shift) = go (shift.0 + 1) (omega arith)
     go (suc k) e = let same : k ≡ shift.0 = omega (arith, e) in ap (λ j. Some (record { 0 = j })) same
 
 module _ (c : Meaning) (offers : ℕ → List Offer) where
-  -- after the last day a row goes on after each shift
-  pub ways_begin : (d : ℕ) → AreWays c offers 0 d (replicate {A = Bool} 9 true)
-  ways_begin d last inside = get_or-replicate {A = Bool} 9 (last_place last) true false (omega (arith, inside))
-
   by_offers : (m d : ℕ) (after : List Bool) → AreWays c offers m (suc d) after → (last : Option Shift) (xs : List Offer) → All (λ offer. last_place (shift_of offer.choice) < 1 + most_shifts) xs
       → goes_on c xs after last ≡ list_any (λ x. not (forbids c.successions last (shift_of x.choice)) && leads_on c offers m (suc d) (shift_of x.choice)) xs
   by_offers m d after told last [] places = refl
