@@ -234,9 +234,3 @@ pub any_same_pair : {A : Type 0} (source : Text) (shifts skills : List Text) (t 
 any_same_pair source shifts skills t u s k shift skill xs is there within = list_any-alike _ _ xs
     (λ e. ap₂ (λ a b. a && b) (same_name-by_number source shifts t s is (shift e)) (same_name-by_number source skills u k there (skill e))
     ∙ sym (at_skill s k (found source shifts (shift e)) (found source skills (skill e)) (omega (arith, found-within source skills u k there)) (found-at_most source skills (skill e) 8 within)))
-
--- ---- a name that is none of these
-
-module _ (source : Text) (names : List Text) (t : Token) (none : found source names t ≡ None) where
-
--- ---- names one after the other
