@@ -1,6 +1,6 @@
-use Rattle.std.proofs.Common.{◌≡◌, ◌∙◌, ◌+◌, Some, None, ap, ap₂, arith, false, if◌then◌else◌, is_some, nat_le, subst, sym, true}
+use Rattle.std.proofs.Common.{◌≡◌, ◌∙◌, ◌+◌, Some, None, ap, ap₂, false, if◌then◌else◌, is_some, nat_le, subst, sym, true}
 use Rattle.roster_instance.specs.declared.rules.ContractRules.{ContractRules}
-use Rattle.roster_instance.specs.Meaning.{contract_of, forbids}
+use Rattle.roster_instance.specs.Meaning.{forbids}
 use Rattle.roster_rules.specs.Prefix.{Summary}
 use Rattle.roster_rules.specs.Weights.{assignment_weight}
 use Rattle.roster_state.specs.Codes.{fits_sizes, sizes_of}
