@@ -45,7 +45,7 @@ class Grid:
             for cover in sheet.covers(at, week)
         ]
         ranges = [span(cover) for week in sheet.weeks for at in sheet.places() for cover in sheet.covers(at, week)]
-        marks = 1 + bool(sheet.broken)
+        marks = max(1, *(len(self.mark(row, day)) for row in sheet.rows for day in range(len(row))))
         self.day = 1 + max([1 + marks + with_skills, *map(len, numbers), *map(len, ranges)])
         self.at_once = max(1, (columns - NAME) // (GAP + 7 * self.day))
 
@@ -74,14 +74,20 @@ class Grid:
     def nurses(self, weeks: range) -> list[str]:
         rows = zip(self.sheet.case.nurses, self.sheet.rows)
         return [
-            self.line(shown(nurse.name), [[self.cell(it) for it in row[7 * week : 7 * week + 7]] for week in weeks])
+            self.line(shown(nurse.name), [[self.cell(row, day) for day in range(7 * it, 7 * it + 7)] for it in weeks])
             for nurse, row in rows
         ]
 
-    def cell(self, cell: Cell) -> str:
-        """The shift's letter, that of the skill where it is asked for, and a mark."""
+    def mark(self, row: list[Cell], day: int) -> str:
+        """What stands after a day."""
+        cell = row[day]
         mark = ("*" if cell.is_changed else "") + ("!" if cell.breaks_request or cell.misses_wish else "")
         mark = "!!" if cell.broken else "#" if len(mark) == 2 else mark
+        return mark + "=" * self.sheet.is_fixed(cell, day)
+
+    def cell(self, row: list[Cell], day: int) -> str:
+        """The shift's letter, that of the skill where it is asked for, and a mark."""
+        cell, mark = row[day], self.mark(row, day)
         if cell.choice is None:
             return self.padded(("x" if cell.is_absent else ".") + mark, CHANGED if cell.is_changed else "")
         shift, skill = cell.choice
@@ -113,7 +119,8 @@ class Grid:
             lines.append("  ".join(f"{letter} {shown(it)}" for letter, it in zip(sheet.skill_letters, sheet.case.skills)))
         changed = f" ({plural(sheet.changed(), 'day')})" if sheet.is_compared else ""
         broken = ", !! a broken hard rule" if sheet.broken else ""
-        lines.append(f"after a day: * changed{changed}, ! a request that isn't met, # both{broken}")
+        fixed = ", = fixed" if any(sheet.is_fixed(it, day) for row in sheet.rows for day, it in enumerate(row)) else ""
+        lines.append(f"after a day: * changed{changed}, ! a request that isn't met, # both{broken}{fixed}")
         if sheet.places():
             lines.append(
                 "by shift and skill: how many are there (- below the optimum, ! below the minimum), then minimum-optimum"

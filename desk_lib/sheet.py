@@ -88,6 +88,10 @@ class Sheet:
         count = self.past - 7 * week
         return "frozen" if count >= 7 else f"frozen to {day_name(count - 1)}" if count > 0 else ""
 
+    def is_fixed(self, cell: Cell, day: int) -> bool:
+        """Whether a day is frozen for its nurse, and not for all."""
+        return cell.is_frozen and day >= self.past
+
     def changed(self) -> int:
         """How many days are other than before."""
         return sum(cell.is_changed for row in self.rows for cell in row)
