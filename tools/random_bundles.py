@@ -35,8 +35,9 @@ def chance(rng, likely):
 class Ward:
     """A random ward, with a roster that keeps the hard rules most often. Shifts and skills are numbers."""
 
-    def __init__(self, rng, least_weeks, has_absences=False):
-        self.rng, self.has_absences = rng, has_absences
+    def __init__(self, rng, least_weeks, has_days=False):
+        # (whether weeks may have absences and fixed days)
+        self.rng, self.has_days = rng, has_days
         self.wildness = rng.choice([0, 0, 0, 0, 0.002, 0.02])
         most = rng.choices([*SCALES], [*SCALES.values()])[0]
         is_full = most == GREATEST or chance(rng, 0.02)
@@ -135,7 +136,7 @@ class Ward:
         # the first line may stand after others, too
         head, needs = lines[:3], lines[3:]
         self.rng.shuffle(needs)
-        return [*head, *needs, *self.request_lines(), *self.absence_lines(week)]
+        return [*head, *needs, *self.request_lines(), *self.absence_lines(week), *self.fixed_lines()]
 
     def need(self, have, is_strict):
         """The minimum and the optimum of a day: one that is met, unless it is strict."""
@@ -155,12 +156,19 @@ class Ward:
 
     def absence_lines(self, week):
         """In half of the weeks a section of absences, empty ones among them: mostly of days off, now and then of any day."""
-        if not self.has_absences or chance(self.rng, 0.5):
+        if not self.has_days or chance(self.rng, 0.5):
             return []
         is_careful, days = chance(self.rng, 0.9), range(7 * week, 7 * week + 7)
         free = [(it, day) for it, row in zip(self.nurses, self.rows) for day in days if not (is_careful and row[day])]
         lines = self.rng.sample(free, min(len(free), self.rng.choice([0, 1, self.rng.randint(0, 9)])))
         return [[b"ABSENCES", b"=", b"%d" % len(lines)], *([it, self.day(day % 7)] for it, day in lines)]
+
+    def fixed_lines(self):
+        """In half of the weeks a section of fixed days, of any nurses, some of them twice."""
+        if not self.has_days or chance(self.rng, 0.5):
+            return []
+        count = self.rng.choice([0, 1, self.rng.randint(0, 9)])
+        return [[b"FIXED", b"=", b"%d" % count], *([self.rng.choice(self.nurses or [b"N"]), self.day()] for _ in range(count))]
 
     def day(self, number=None):
         number = self.rng.randrange(7) if number is None else number
@@ -337,9 +345,9 @@ def flipped(rng, text):
     return bytes(text)
 
 
-def bundle(rng, least_weeks, has_absences=False):
+def bundle(rng, least_weeks, has_days=False):
     """A text, and names of nurses to ask for."""
-    ward = Ward(rng, least_weeks, has_absences)
+    ward = Ward(rng, least_weeks, has_days)
     lines = ward.lines()
     change(rng, lines)
     text = spelled(rng, lines)
