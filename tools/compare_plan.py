@@ -11,10 +11,10 @@ given keeps the hard rules it may be no dearer. The log has to begin with how ma
 ones aside; kicks have to come in order, none beyond the searches, and their totals, and that of the fade, have to fall. The same words
 have to give the same bytes again.
 
-Where no roster comes out, the line 'not found:' has to tell the first breach of the roster given, or a minimum that another roster
-with these frozen days can miss: without a search, the former. All rosters are tried then, day by day: whether there is one that keeps
-the hard rules. That one was there and wasn't found is no failure; how often that was is told. Some rosters have to be found, some
-refused, and some not to be there.
+Where no roster comes out, the line 'not found:' has to tell the first breach of the roster given; or, after a search, that of one
+of its rows, since who had no turn keeps hers, or a minimum that another roster with these frozen days can miss. All rosters are
+tried then, day by day: whether there is one that keeps the hard rules. That one was there and wasn't found is no failure; how often
+that was is told. Some rosters have to be found, some refused, and some not to be there.
 """
 import collections
 import itertools
@@ -123,10 +123,16 @@ def log_wrong(it, run):
     return lines_wrong(it, run, reckoning.lacking(run.case, run.roster), totals) | {"a dearer roster": is_dearer}
 
 
+def first_breaches(run):
+    """What may be told of the roster given: its first breach, and after a search the first of each row."""
+    of_rows = {it.number: it for it in reversed([*reckoning.breaches_of_rows(run.case, run.roster)])} if run.searches else {}
+    return [*reckoning.breaches(run.case, run.roster)[:1], *of_rows.values()]
+
+
 def faults_of_line(run, output, log):
     """What is wrong with an answer of status 1 where nothing is refused before the search."""
     case, line = run.case, re.fullmatch(r"not found: H2 week (\d+) (\w+) (\S+) (\S+): (\d+) of (\d+)\n", log)
-    if not output and [log] == [f"not found: {it.line}\n" for it in reckoning.breaches(case, run.roster)[:1]]:
+    if not output and log in [f"not found: {it.line}\n" for it in first_breaches(run)]:
         return []
     if output or not line:
         return ["the form"]
