@@ -275,6 +275,12 @@ work on a day of absence, as where weeks aren't planned yet, or a nurse has
 fallen ill. Refused as ever are a second shift on a day, and a skill that the
 nurse lacks.
 
+There has to be a solution for each week. Where the texts are refused with
+'expected SOLUTION', since there is no roster yet, give one more file with empty
+ones, each with its week and the scenario's name:
+  SOLUTION 0 ward12 ASSIGNMENTS = 0
+  SOLUTION 1 ward12 ASSIGNMENTS = 0
+
 Where the given roster breaks a hard rule, the run gives all nurses new rows in
 the days that may change, whatever is given there: fade after fade, until no
 minimum is missed or no search is left. Then it settles the roster and polishes
@@ -316,6 +322,7 @@ memory and the greatest number of steps for a nurse see 'roster sizes'.
 
 Examples:
   roster plan examples/ward.txt > new.txt
+  roster plan scenario.txt history.txt week-0.txt empty.txt > new.txt
   roster plan --searches 200000 --seed 7 examples/ward.txt > new.txt
   roster plan --from 2 examples/ward.txt > new.txt
   roster plan --keep 50 examples/ward.txt > new.txt
@@ -355,8 +362,9 @@ nothing is written.
 Refused as ever are a second shift on a day, and a skill that the nurse lacks.
 
 With --from V the weeks 0 to V - 1 are frozen: the nurses' days in them stay as
-they stand, and where they break a hard rule, that is told. All weeks are read,
-and count for what the roster costs. Where V is above the last week, all stays.
+they stand, and so do those of the section FIXED; where they break a hard rule,
+that is told. All weeks are read, and count for what the roster costs. Where V
+is above the last week, all stays.
 
 What isn't promised: that no better roster has the shift, since the others' rows
 stay; how long it takes. For its memory and its greatest number of steps for a

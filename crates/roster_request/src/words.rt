@@ -28,7 +28,7 @@ pub fn request_of<S: AsStr>(alloc: Global, words: &[S]) -> Result<Request, CliFa
 {
     match program(alloc)?.try_get_matches_from(words) {
         Ok(matches) => request_in(alloc, &matches),
-        Err(error) => Err(refusal(alloc, &error)),
+        Err(error) => Err(refusal(alloc, words, &error)),
     }
 }
 
@@ -219,18 +219,74 @@ fn files_of(alloc: Global, given: &ArgMatches<'_>) -> Result<Vec<String>, AllocE
     Ok(files)
 }
 
-fn refusal(alloc: Global, error: &clap::Error) -> CliFault
+/// Why words are no request that clap refuses by this error.
+fn refusal<S: AsStr>(alloc: Global, words: &[S], error: &clap::Error) -> CliFault
     ensures kind { TellsKind (kind_of error.now) result }
     ensures text { HasText result }
 {
     if error.kind() == ErrorKind::OutOfMemory {
         return CliFault::Memory;
     }
-    match text_of(alloc, error) {
+    match told(alloc, words, error) {
         Err(_) => CliFault::Memory,
         Ok(text) if error.use_stderr() => CliFault::Usage(text),
         Ok(text) => CliFault::Help(text),
     }
+}
+
+/// What is told of an error. `clap` takes a negative number for an unknown option: in place of that is told that the number isn't taken.
+/// (Of a command that allows negative numbers `clap` doesn't state its matches.)
+fn told<S: AsStr>(alloc: Global, words: &[S], error: &clap::Error) -> Result<String, AllocError>
+    ensures { IfOk result (λ text. string_bytes text ≢ []) }
+{
+    if error.kind() != ErrorKind::UnknownArgument {
+        return text_of(alloc, error);
+    }
+    let joined = with_numbers_joined(alloc, words)?;
+    match refused(alloc, joined.as_slice())? {
+        Some(other) => text_of(alloc, &other),
+        None => text_of(alloc, error),
+    }
+}
+
+/// The error of words of which a value isn't taken.
+fn refused<'a>(alloc: Global, words: &'a [String]) -> Result<Option<clap::Error>, AllocError> {
+    match program(alloc)?.try_get_matches_from(words) {
+        Ok(_matches) => Ok(None),
+        Err(error) => match error.kind() {
+            ErrorKind::ValueValidation => Ok(Some(error)),
+            ErrorKind::OutOfMemory => Err(AllocError),
+            _ => Ok(None),
+        },
+    }
+}
+
+/// The words, but each negative number in one with the option before it, as in `--from=-1`.
+fn with_numbers_joined<S: AsStr>(alloc: Global, words: &[S]) -> Result<Vec<String>, AllocError> {
+    let mut joined: Vec<String> = Vec::with_capacity(alloc, words.len())?;
+    let mut before = "";
+    for word in words {
+        let word = word.as_str();
+        match joined.last_mut() {
+            Some(option) if is_option(before) && is_negative(word) => {
+                option.push_str("=")?;
+                option.push_str(word)?;
+            }
+            _ => joined.push(String::from_str(alloc, word)?)?,
+        }
+        before = word;
+    }
+    Ok(joined)
+}
+
+/// Whether a word is an option without a value in it.
+fn is_option(word: &str) -> bool {
+    word.starts_with("--") && !word.contains('=')
+}
+
+/// Whether a word begins as a negative number does.
+fn is_negative(word: &str) -> bool {
+    matches!(word.as_bytes(), [b'-', b'0'..=b'9', ..])
 }
 
 /// The text of an error. `clap` promises none, so where it is empty the examples stand for it.
