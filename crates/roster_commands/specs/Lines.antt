@@ -24,12 +24,16 @@ IsFirstBreach source b faults _ = ⊥
 abbrev pub output_line : Text
 output_line = codes "write failed\n"
 
+-- the word for a kind of thing
+abbrev pub thing_text : Thing → Text
+thing_text thing.Nurse = codes "nurse"
+thing_text thing.Day = codes "day"
+thing_text thing.Shift = codes "shift"
+thing_text thing.Skill = codes "skill"
+
 -- the line of a name that the case doesn't have
 abbrev pub unknown_line : Thing → Text → Text
-unknown_line thing.Nurse name = codes "unknown nurse " ++ name ++ codes "\n"
-unknown_line thing.Day name = codes "unknown day " ++ name ++ codes "\n"
-unknown_line thing.Shift name = codes "unknown shift " ++ name ++ codes "\n"
-unknown_line thing.Skill name = codes "unknown skill " ++ name ++ codes "\n"
+unknown_line thing name = codes "unknown " ++ thing_text thing ++ codes " " ++ name ++ codes "\n"
 
 -- the line of a fault; a log that failed gets none
 abbrev pub fault_line : Fault → Text

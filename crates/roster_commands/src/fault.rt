@@ -14,6 +14,23 @@ pub(crate) enum Thing {
     Skill,
 }
 
+impl Thing {
+    ghost use Rattle.std.specs.Prelude.{◌≡◌};
+    ghost use Rattle.roster_commands.specs.Lines.{thing_text};
+
+    /// The word for it in a fault's line.
+    pub(crate) fn text(self) -> &'static str
+        ensures { result.now ≡ thing_text self }
+    {
+        match self {
+            Thing::Nurse => "nurse",
+            Thing::Day => "day",
+            Thing::Shift => "shift",
+            Thing::Skill => "skill",
+        }
+    }
+}
+
 /// Why a command stopped.
 #[derive(Clone, Copy)]
 pub(crate) enum Fault<'a> {

@@ -1,6 +1,6 @@
 //! The line of each fault on the log, and its status.
 
-ghost use Rattle.std.specs.Prelude.{◌≡◌, ◌++◌, OnOk, IfErr, codes};
+ghost use Rattle.std.specs.Prelude.{◌≡◌, OnOk, IfErr, codes};
 ghost use Rattle.roster_text.specs.Io.{StopsIn, Writes};
 ghost use Rattle.roster_commands.specs.Answer.{Logs, Tells};
 ghost use Rattle.roster_reports.specs.Lines.{text_line};
@@ -73,36 +73,23 @@ fn write_line<Log: Write>(fault: Fault<'_>, log: &mut Watch<Log>) -> Result<(), 
 }
 
 /// Writes that the case has nothing of this kind and name.
-fn write_unknown<Log: Write>(
+fn write_unknown<'a, Log: Write>(
     thing: Thing,
-    name: &[u8],
+    name: &'a [u8],
     log: &mut Watch<Log>,
 ) -> Result<(), WriteFault>
     ensures ok { OnOk result (Writes Log.contents log.old log.new (unknown_line thing name.now)) }
     ensures err { IfErr result (StopsIn Log.contents log.old log.new
         (unknown_line thing name.now)) }
 {
-    match thing {
-        Thing::Nurse => write_name(b"unknown nurse ", name, log),
-        Thing::Day => write_name(b"unknown day ", name, log),
-        Thing::Shift => write_name(b"unknown shift ", name, log),
-        Thing::Skill => write_name(b"unknown skill ", name, log),
-    }
-}
-
-/// Writes a line of some words and a name.
-fn write_name<'a, Log: Write>(
-    words: &'a [u8],
-    name: &'a [u8],
-    log: &mut Watch<Log>,
-) -> Result<(), WriteFault>
-    ensures ok { OnOk result (Writes Log.contents log.old log.new
-        (words.now ++ name.now ++ codes "\n")) }
-    ensures err { IfErr result (StopsIn Log.contents log.old log.new
-        (words.now ++ name.now ++ codes "\n")) }
-{
     write_pieces(
         log,
-        &[Piece::Bytes(words), Piece::Bytes(name), Piece::Bytes(b"\n")],
+        &[
+            Piece::Bytes(b"unknown "),
+            Piece::Bytes(thing.text().as_bytes()),
+            Piece::Bytes(b" "),
+            Piece::Bytes(name),
+            Piece::Bytes(b"\n"),
+        ],
     )
 }
