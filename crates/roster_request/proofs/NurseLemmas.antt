@@ -1,7 +1,7 @@
 -- Where the words name a command with a text that has to be given, and have no fault, the text is among clap's matches.
 use Rattle.std.proofs.Common.{◌≡◌, ◌∙◌, ap, refl, true, List, [], ◌∷◌, Option, Some, None, is_some, codes}
 use Rattle.std.specs.Prelude.{option_and_then, slice_get}
-use Rattle.clap.specs.Walk.{Row, Text, first_of}
+use Rattle.clap.specs.Walk.{Row, Text}
 use Rattle.clap.specs.Words.{fault_of, subcommand_of}
 use Rattle.clap.specs.declared.builder.value_parser.ValueParser.TheVariants as parser
 use Rattle.roster_request.specs.CommandLine.{IsGiven, Meets, program, with_assignment, with_nurse}

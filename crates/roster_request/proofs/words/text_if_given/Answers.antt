@@ -1,5 +1,4 @@
-use Rattle.std.proofs.Common.{◌∙◌, List, None, Some, ap, option_map, sym, ℕ}
-use Rattle.std.specs.Borrow.{Bor}
+use Rattle.std.proofs.Common.{◌∙◌, Some, ap, sym}
 use Rattle.clap.specs.Words.{found_of}
 use Rattle.clap.proofs.WalkLemmas.{first_value-rows}
 use Rattle.roster_request.proofs.words.text_if_given.Goals as goal
