@@ -439,6 +439,11 @@ def next_worth(fine, wanted, had, share):
     return min(fine + share, 200_000 * PARTS) if had < wanted else max(0, fine - share) if wanted < had else fine
 
 
+def is_late(made, rounds):
+    """In the last fifth of the rounds the next one is made by whole worths."""
+    return 5 * made >= 4 * rounds
+
+
 class Seen:
     """The rows that were found last for a nurse, each with what it costs her beside what places pay."""
 
@@ -469,6 +474,7 @@ class Moves:
         self.case, self.rounds, self.made, self.turn = case, rounds, 0, 0
         self.places = list(itertools.product(range(len(case.shifts)), range(len(case.skills)), days_of(case)))
         self.set_worths(30)
+        self.tried = {it: points(self.worths[it]) for it in self.places}
         self.wanted, self.had = dict.fromkeys(self.places, 0), dict.fromkeys(self.places, 0)
         self.seen = [Seen(case, number) for number in range(len(case.nurses))]
 
@@ -479,7 +485,24 @@ class Moves:
         self.worths = {it: PARTS * worth if max(self.need(*it)) else 0 for it in self.places}
 
     def in_points(self):
-        return {at: [points(self.worths[(*at, day)]) for day in days_of(self.case)] for at in self.case.needs}
+        return {at: [self.tried[(*at, day)] for day in days_of(self.case)] for at in self.case.needs}
+
+    def climb(self):
+        """Place by place, by day, takes the other of the two whole points about a worth where the places and the cheapest known rows then
+        cost more together."""
+        paid = lambda row: sum(self.tried[(*choice, day)] for day, choice in enumerate(row) if choice)
+        rows = [[[cost - paid(row), row] for _, row, cost in seen.rows] for seen in self.seen]
+        for place in sorted(self.places, key=lambda it: (it[2], it[0], it[1])):
+            shift, skill, day = place
+            now, need = self.tried[place], self.need(*place)
+            more = (self.worths[place] > PARTS * now) - (self.worths[place] < PARTS * now)
+            takes = lambda row: row[day] == (shift, skill)
+            gain = place_floor(need, now + more) - place_floor(need, now)
+            gain += sum(min(cost - more * takes(row) for cost, row in of) - min(cost for cost, _ in of) for of in rows)
+            if gain > 0:
+                self.tried[place] += more
+                for it in itertools.chain(*rows):
+                    it[0] -= more * takes(it[1])
 
     def move(self, rows, moves):
         """By these rows, so many moves being made then."""
@@ -506,6 +529,9 @@ class Moves:
             self.move(rows, self.made * MOVES + 1)
             for more in range(2, MOVES + 1):
                 self.move([it.cheapest(self.worths) for it in self.seen], self.made * MOVES + more)
+        self.tried = {it: points(self.worths[it]) for it in self.places}
+        if is_late(self.made, self.rounds):
+            self.climb()
         self.made += 1
 
 

@@ -11,10 +11,11 @@ pub record FitsRows (c : Meaning) (w : RowSpace) : Type 0 where
   pub search : fits_space c w.workspace ≡ true
   pub cover : length w.cover.items ≡ 64 * day_count c
 
--- and a worth and two covers for each of these places, and rows of each nurse
+-- and two worths and two covers for each of these places, and rows of each nurse
 pub record FitsFloor (c : Meaning) (w : FloorWorkspace) : Type 0 where
   pub rows : FitsRows c w.rows
   pub worths : w.worths.days ≡ day_count c
+  pub tried : w.tried.days ≡ day_count c
   pub wanted : length w.covers.wanted.items ≡ 64 * day_count c
   pub had : length w.covers.had.items ≡ 64 * day_count c
   pub seen : FitsSeen c w.seen

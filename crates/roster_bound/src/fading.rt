@@ -164,7 +164,7 @@ fn place_of(case: &Case, row: &[Choice], day: usize) -> Option<usize>
 }
 
 /// Minimum and optimum of a place.
-fn need_at(case: &Case, place: usize) -> Need
+pub(crate) fn need_at(case: &Case, place: usize) -> Need
     requires { place < 64 * day_count case.now }
     ensures minimum { result.minimum ≡ minimum case.now (place / 64) (place % 64 / 8) (place % 8) }
     ensures optimum { result.optimum ≡ optimum case.now (place / 64) (place % 64 / 8) (place % 8) }

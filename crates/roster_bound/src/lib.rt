@@ -6,6 +6,7 @@
 //! all that it tells is the bound of a round, and no less than the first round's. `improve_worths` gives worths alone.
 #![tactic(auto)]
 
+mod climb;
 mod fading;
 mod floors;
 mod laws;

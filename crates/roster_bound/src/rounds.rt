@@ -12,6 +12,7 @@ ghost use Rattle.roster_bound.specs.Workspaces.{FitsFloor};
 ghost use Rattle.roster_bound.specs.Tables.{worths_of};
 ghost use Rattle.roster_bound.specs.Worths.{AreWorths, HaveRows, IsLowerBound, bound_by};
 
+use crate::climb::climb;
 use crate::floors::lower_bound;
 use crate::laws::rows_are_had;
 use crate::moves::{Step, farthest, learn};
@@ -114,7 +115,7 @@ fn raise_under<W: Write>(
             return Ok(best);
         }
         let bound = make_round(base, workspace, meter);
-        move_worths(base.case, rounds_before, pace, workspace);
+        prepare_next(base.case, rounds_before, pace, is_late(rounds_before, rounds), workspace);
         if bound <= best {
             continue;
         }
@@ -144,7 +145,7 @@ pub fn improve_worths(
     workspace.begin(base.case);
     for rounds_before in 0..pace.rounds {
         make_round(base, workspace, meter);
-        move_worths(base.case, rounds_before, pace, workspace);
+        prepare_next(base.case, rounds_before, pace, false, workspace);
     }
 }
 
@@ -155,30 +156,59 @@ pub(crate) const FIRST: u32 = 30;
 /// What it pays in the second, from which the worths move.
 const SECOND: u32 = 15;
 
-/// The floor by the worths. Each nurse's cheapest row is counted, and kept among those that were seen.
+/// The floor by the worths of the round. Each nurse's cheapest row is counted, and kept among those that were seen.
 fn make_round(base: &Base<'_>, workspace: &mut FloorWorkspace, meter: &mut Meter) -> u64
     requires each { HaveRows base.now.case.now base.now.from base.now.given.now }
     requires fits { FitsFloor base.now.case.now workspace.old }
     requires room { meter.old + nurse_count base.now.case.now * greatest_extension_count
         base.now.case.now ≤ greatest_u64 }
     ensures below { IsLowerBound base.now.case.now base.now.from base.now.given.now result }
-    ensures worths { AreWorths (worths_of workspace.old.worths) }
+    ensures worths { AreWorths (worths_of workspace.old.tried) }
     ensures bound { result ≡ bound_by base.now.case.now base.now.from base.now.given.now
-        (worths_of workspace.old.worths) }
+        (worths_of workspace.old.tried) }
     ensures made { meter.old + nurse_count base.now.case.now * day_count base.now.case.now
         ≤ meter.new }
     ensures counted { meter.new ≤ meter.old + nurse_count base.now.case.now
         * greatest_extension_count base.now.case.now }
     ensures fits { FitsFloor base.now.case.now workspace.new }
 {
-    workspace.worths.keep_most();
+    workspace.tried.keep_most();
     let terms = Terms {
         case: base.case,
-        worths: &workspace.worths,
+        worths: &workspace.tried,
         given: base.given,
         from: base.from,
     };
     lower_bound(&terms, &mut workspace.rows, &mut workspace.seen, meter)
+}
+
+/// Whether the worths climb after a round, so many of all having been made before it: in the last fifth.
+fn is_late(made: u16, rounds: u16) -> bool {
+    5 * made as u32 >= 4 * rounds as u32
+}
+
+/// Moves the worths after a round, and puts those of the next one: the same, or where they climb, whole points about them.
+fn prepare_next(
+    case: &Case,
+    made: u16,
+    pace: Pace,
+    climbs: bool,
+    workspace: &mut FloorWorkspace,
+)
+    requires fits { FitsFloor case.now workspace.old }
+    ensures { FitsFloor case.now workspace.new }
+{
+    move_worths(case, made, pace, workspace);
+    let FloorWorkspace {
+        worths,
+        tried,
+        seen,
+        ..
+    } = workspace;
+    tried.copy(worths);
+    if climbs {
+        climb(case, worths, tried, seen);
+    }
 }
 
 /// Moves the worths after a round, `made` of all rounds having been made before it.

@@ -12,16 +12,17 @@ use std::alloc::{AllocError, Global};
 /// How many rows of each nurse are kept.
 pub(crate) const KEPT: usize = 64;
 
-/// A row that is kept: what it costs its nurse beside what places pay, in points, and in which turn it was found last; none before the
-/// first.
+/// A row that is kept: what it costs its nurse beside what places pay, in points; in which turn it was found last, none before the first;
+/// and by how many points it is dearer than her cheapest by worths that climb.
 #[derive(Clone, Copy, Default)]
 pub(crate) struct Mark {
     pub(crate) cost: u32,
     pub(crate) turn: u32,
+    pub(crate) above: u32,
 }
 
 /// The rows that were found last for each nurse, 64 at most, no row twice. Of each row its place is held for each day: 64 for each day,
-/// and beyond all of them where the nurse is off. For each nurse that is 128 bytes a day and 512 besides: 18,841,600 bytes at most.
+/// and beyond all of them where the nurse is off. For each nurse that is 128 bytes a day and 768 besides: 18,944,000 bytes at most.
 pub struct Seen {
     pub(crate) days: usize,
     pub(crate) turn: u32,
@@ -94,6 +95,7 @@ impl Seen {
         self.marks[at] = Mark {
             cost: cost_unpaid(row, found, worths),
             turn: self.turn,
+            above: 0,
         };
         self.put_row(case, at, row);
     }

@@ -31,12 +31,13 @@ impl Drop for RowSpace {
     }
 }
 
-/// What a run that raises a floor writes into: what its searches do, the worths with the covers by which they move, and the rows that
-/// were seen. Beside a search's workspace and those rows that is 64 times 14 bytes for each day: 326 kB at most. One serves one run
-/// after another.
+/// What a run that raises a floor writes into: what its searches do, the worths with the covers by which they move, those of the round,
+/// and the rows that were seen. Beside a search's workspace and those rows that is 64 times 18 bytes for each day: 419 kB at most. One
+/// serves one run after another.
 pub struct FloorWorkspace {
     pub rows: RowSpace,
     pub worths: Worths,
+    pub(crate) tried: Worths,
     pub(crate) covers: Covers,
     pub(crate) seen: Seen,
 }
@@ -47,6 +48,7 @@ impl Drop for FloorWorkspace {
         let FloorWorkspace {
             rows: _,
             worths: _,
+            tried: _,
             covers: _,
             seen: _,
         } = self;
@@ -80,7 +82,7 @@ impl RowSpace {
 }
 
 impl FloorWorkspace {
-    /// Room for a run over a case, by at most ten growths.
+    /// Room for a run over a case, by at most eleven growths.
     ///
     /// # Errors
     ///
@@ -92,6 +94,7 @@ impl FloorWorkspace {
         Ok(FloorWorkspace {
             rows: RowSpace::for_case(alloc, case)?,
             worths: Worths::even(alloc, case, 0)?,
+            tried: Worths::even(alloc, case, 0)?,
             covers: Covers {
                 wanted: vec![in alloc; 0; places]?,
                 had: vec![in alloc; 0; places]?,
@@ -104,7 +107,7 @@ impl FloorWorkspace {
     pub(crate) fn begin(&mut self, case: &Case)
         requires { FitsFloor case.now self.old }
         ensures fits { FitsFloor case.now self.new }
-        ensures worths { SameWorths case.now (worths_of self.new.worths) (first_worths case.now) }
+        ensures worths { SameWorths case.now (worths_of self.new.tried) (first_worths case.now) }
     {
         for place in 0..self.covers.wanted.len() {
             self.covers.wanted[place] = 0;
@@ -113,6 +116,7 @@ impl FloorWorkspace {
             self.covers.had[place] = 0;
         }
         self.worths.set_all(case, FIRST);
+        self.tried.set_all(case, FIRST);
         self.seen.forget();
     }
 }

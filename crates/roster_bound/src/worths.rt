@@ -110,6 +110,22 @@ impl Worths {
         }
     }
 
+    /// Takes the worths of another.
+    pub(crate) fn copy(&mut self, other: &Worths)
+        requires { other.now.days ≡ self.old.days }
+        ensures { self.new.days ≡ self.old.days }
+    {
+        self.fine.copy_from_slice(&other.fine);
+    }
+
+    /// Lets a place pay so many points, or the most.
+    pub(crate) fn put_points(&mut self, place: usize, points: u32)
+        requires { place < 64 * self.old.days }
+        ensures { self.new.days ≡ self.old.days }
+    {
+        self.fine[place] = PARTS * points.min(MOST_WORTH);
+    }
+
     /// Moves each worth towards what is wanted at its place, by its share of a step: the whole step where wanted and had are so far
     /// apart.
     pub(crate) fn follow(&mut self, covers: &Covers, step: Step, far: u32)

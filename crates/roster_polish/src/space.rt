@@ -43,7 +43,7 @@ impl Drop for PolishSpace {
 }
 
 impl PolishSpace {
-    /// Room for runs from rosters of a case, of which one is given, by at most nineteen growths and two for each nurse.
+    /// Room for runs from rosters of a case, of which one is given, by at most twenty growths and two for each nurse.
     ///
     /// # Errors
     ///

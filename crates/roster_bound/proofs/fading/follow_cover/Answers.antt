@@ -38,6 +38,7 @@ loop-place-preserved c =
       fits = record {
         rows = i.fits.rows;
         worths = c.put_fine.ensures.days ∙ i.fits.worths;
+        tried = i.fits.tried;
         wanted = i.fits.wanted;
         had = i.fits.had;
         seen = i.fits.seen;

@@ -48,7 +48,7 @@ returns-in_err-sent-2-clause-err g c =
     let b = c.args.base.now in
     rw (p.1, p.2) (raised_breaks g.W.Write.contents b.case.now b.from b.given.now c.args.log.now c.args.rounds l.log c.log_round.new.log l.rounds_before l.sent l.best c.make_round-bound.result c.in_err-sent-2.field-0.0
     l.invariant.going c.loop-rounds_before-test.true c.if-bound-best.false
-    (tells b.case.now b.from b.given.now l.rounds_before c.make_round-bound.result l.workspace.worths c.make_round-bound.ensures.worths c.make_round-bound.ensures.bound l.invariant.first) c.in_err-sent-2.ensures.err)
+    (tells b.case.now b.from b.given.now l.rounds_before c.make_round-bound.result l.workspace.tried c.make_round-bound.ensures.worths c.make_round-bound.ensures.bound l.invariant.first) c.in_err-sent-2.ensures.err)
 
 pub loop-rounds_before-preserved : goal.loop-rounds_before-preserved
 loop-rounds_before-preserved g c =
@@ -56,13 +56,13 @@ loop-rounds_before-preserved g c =
     let b = c.args.base.now in
     record {
       going = Going-raised g.W.Write.contents b.case.now b.from b.given.now c.args.log.now l.log c.log_round.new.log l.rounds_before l.sent c.in_ok-sent-2.sent l.best c.make_round-bound.result l.invariant.going c.if-bound-best.false
-          (tells b.case.now b.from b.given.now l.rounds_before c.make_round-bound.result l.workspace.worths c.make_round-bound.ensures.worths c.make_round-bound.ensures.bound l.invariant.first) c.in_ok-sent-2.ensures.ok;
+          (tells b.case.now b.from b.given.now l.rounds_before c.make_round-bound.result l.workspace.tried c.make_round-bound.ensures.worths c.make_round-bound.ensures.bound l.invariant.first) c.in_ok-sent-2.ensures.ok;
       first = λ none. omega (arith, none);
       below = c.make_round-bound.ensures.below;
       within = c.make_round-bound.ensures.below b.given.now c.requires.given c.requires.keeps (stays_self b.case.now b.from b.given.now);
       made = omega (arith, l.invariant.made, c.make_round-bound.ensures.made);
       counted = round_counted b.case.now l.rounds_before c.args.meter.now l.meter l.invariant.counted c.make_round-bound.new.meter c.make_round-bound.ensures.counted;
-      fits = c.move_worths.ensures;
+      fits = c.prepare_next.ensures;
     }
 
 pub loop-rounds_before-preserved-then-bound-best : goal.loop-rounds_before-preserved-then-bound-best
@@ -71,13 +71,13 @@ loop-rounds_before-preserved-then-bound-best g c =
     let b = c.args.base.now in
     record {
       going = Going-same g.W.Write.contents b.case.now b.from b.given.now c.args.log.now l.log l.rounds_before l.sent l.best c.make_round-bound.result l.invariant.going c.if-bound-best.true
-          (tells b.case.now b.from b.given.now l.rounds_before c.make_round-bound.result l.workspace.worths c.make_round-bound.ensures.worths c.make_round-bound.ensures.bound l.invariant.first);
+          (tells b.case.now b.from b.given.now l.rounds_before c.make_round-bound.result l.workspace.tried c.make_round-bound.ensures.worths c.make_round-bound.ensures.bound l.invariant.first);
       first = λ none. omega (arith, none);
       below = l.invariant.below;
       within = l.invariant.within;
       made = omega (arith, l.invariant.made, c.make_round-bound.ensures.made);
       counted = round_counted b.case.now l.rounds_before c.args.meter.now l.meter l.invariant.counted c.make_round-bound.new.meter c.make_round-bound.ensures.counted;
-      fits = c.move_worths.ensures;
+      fits = c.prepare_next.ensures;
     }
 
 pub make_round-bound-requires-clause-room : goal.make_round-bound-requires-clause-room

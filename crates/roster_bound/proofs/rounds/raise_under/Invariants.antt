@@ -12,7 +12,7 @@ use Rattle.roster_bound.proofs.rounds.raise_under.Given as goal
 abbrev pub invariant-loop-rounds_before : goal.invariant-loop-rounds_before
 invariant-loop-rounds_before g l = record {
   going : Going g.W.Write.contents l.base.case.now l.base.from l.base.given.now l.fn.log l.log l.rounds_before l.sent l.best;
-  first : l.rounds_before ≡ 0 → SameWorths l.base.case.now (worths_of l.workspace.worths) (first_worths l.base.case.now);
+  first : l.rounds_before ≡ 0 → SameWorths l.base.case.now (worths_of l.workspace.tried) (first_worths l.base.case.now);
   below : IsLowerBound l.base.case.now l.base.from l.base.given.now l.best;
   within : l.best ≤ penalty l.base.case.now l.base.given.now;
   made : l.fn.meter + l.rounds_before * (nurse_count l.base.case.now * day_count l.base.case.now) ≤ l.meter;

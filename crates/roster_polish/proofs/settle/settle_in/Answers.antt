@@ -21,6 +21,7 @@ returns c =
         floor = record {
           rows = record { search = told.fits; cover = fits.floor.rows.cover };
           worths = fits.floor.worths;
+          tried = fits.floor.tried;
           wanted = fits.floor.wanted;
           had = fits.floor.had;
           seen = fits.floor.seen;
