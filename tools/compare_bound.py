@@ -4,7 +4,8 @@ So few rows of an instance are free that all rosters can be tried. It runs the p
 there are two weeks with the first one frozen ('--from 1'), and now and then with all of them. Then it costs every roster that keeps
 the hard rules and the frozen days, by the reckoning of its own that tools/reckoning.py has. The bound has to be at most the least of
 these penalties, and a multiple of 5; the first line of the output the penalty of the roster given; the bounds of the log have to rise
-from round to round, up to that of the output. And the whole answer has to be what the reckoning has for so many rounds. How high a
+from round to round, up to that of the output. And the whole answer has to be what the reckoning has for so many rounds. With some partings the
+first lines have to be those of the rounds, and the bound has to be at most the least penalty still. How high a
 bound gets isn't promised: how many were equal to the least penalty is told, and some have to be.
 """
 import collections
@@ -16,7 +17,9 @@ from launch import answer
 from small_instances import first_week_of, random_instance, text_of
 
 # What has to have happened at least once.
-WANTED = ["equal"]
+WANTED = ["equal", "equal with partings"]
+# How many partings there may be.
+NODES = 30
 # The most rosters that are tried for an instance.
 MOST_ROSTERS = 20_000
 
@@ -117,6 +120,19 @@ def faults(it, total, least, rounds):
     return [what for what, is_wrong in wrong.items() if is_wrong]
 
 
+def faults_in_parts(it, plain, least, rounds):
+    """What is wrong with an answer with partings, by the one without."""
+    rises, further = [(0, 0), *it.lines], it.lines[len(plain.lines):]
+    wrong = {
+        "other rounds": it.lines[: len(plain.lines)] != plain.lines,
+        "a bound of parts above a roster": it.bound > least,
+        "the order of the partings": any(a[0] >= b[0] or a[1] >= b[1] for a, b in zip(rises, it.lines)),
+        "the number of a parting": any(not rounds < number <= rounds + NODES for number, _ in further),
+        "the last parting": rises[-1][1] != it.bound,
+    }
+    return [what for what, is_wrong in wrong.items() if is_wrong]
+
+
 def compare(programs, _, rng, seen):
     """The text of an instance, and what is wrong."""
     case, roster, first_week = small_instance(rng)
@@ -128,12 +144,16 @@ def compare(programs, _, rng, seen):
     wrong = faults(given, reckoning.penalty(case, roster), least, rounds) if given else ["the form"]
     if (output, log) != reckoning.bound(case, roster, rounds, first_week):
         wrong.append("the reckoning's rounds")
+    status, output, log = answer(programs[0], [*words, "--nodes", str(NODES)], text)
+    parted = told(output, log) if status == 0 else None
+    if given:
+        wrong += faults_in_parts(parted, given, least, rounds) if parted else ["the form with partings"]
     seen["rosters"] += count
     if wrong:
         return text, [f"{words}: {', '.join(wrong)}; the least is {least}; {status, output, log}"]
-    seen.update({"equal": given.bound == least, "above": given.bound > 0})
+    seen.update({"equal": given.bound == least, "above": given.bound > 0, "equal with partings": parted.bound == least})
     return text, []
 
 
 def summary(seen):
-    return f"{seen['rosters']} rosters that keep the hard rules; {seen['above']} bounds above 0, {seen['equal']} equal to the least penalty"
+    return f"{seen['rosters']} rosters that keep the hard rules; {seen['above']} bounds above 0, {seen['equal']} equal to the least penalty, {seen['equal with partings']} with partings"

@@ -46,7 +46,7 @@ fn command_of(plan: &Plan) -> Command
     ensures improve { (rounds : ℕ) → plan.now.work ≡ work.Improve rounds →
         result ≡ command.Improve rounds 0 0 }
     ensures bound { (rounds : ℕ) → plan.now.work ≡ work.Bound rounds →
-        result ≡ command.Bound rounds 0 0 }
+        result ≡ command.Bound rounds 0 0 0 }
     ensures polish { (searches : ℕ) → plan.now.work ≡ work.Polish searches →
         result ≡ command.Polish (Some searches) plan.now.size.seed 0 true 0 }
 {
@@ -60,6 +60,7 @@ fn command_of(plan: &Plan) -> Command
         },
         Work::Bound { rounds } => Command::Bound {
             rounds,
+            nodes: 0,
             from: 0,
             keep: 0,
         },

@@ -24,7 +24,7 @@ use Rattle.roster_laws.proofs.Fives.{five_is}
 use Rattle.roster_laws.proofs.SameRows.{same_choice_self}
 use Rattle.roster_laws.proofs.Keeps.{keeps_hard-parts}
 use Rattle.roster_laws.proofs.OneRow.{penalty-parts, requests_of_row}
-use Rattle.roster_bound.specs.Worths.{AreWorths, IsLowerBound, PlaceWorths, bound_by, can_work, earned, floors_together, most_worth, own_rows, place_floor, places_floor, price_by, rounded_up, row_cost_by, row_floor}
+use Rattle.roster_bound.specs.Worths.{AreWorths, IsLowerBound, PlaceWorths, bound_by, can_work, earned, most_worth, own_rows, place_floor, places_floor, price_by, rounded_up, row_cost_by, row_floor, with_floors}
 use Rattle.roster_bound.proofs.LeastCosts.{least_below, place_least}
 use Rattle.roster_bound.proofs.Sums.{count_by_place, over_places, places_both, places_le, places_none, sum_le, sum_of_one, sum_same_number}
 
@@ -176,49 +176,46 @@ module _ (c : Meaning) (from : ℕ) (given : Rows) (w : PlaceWorths) (are : AreW
         and_from (skills && absences && successions) (keeps_frozen_days c from given n (row_of r n))
         (and_from (skills && absences) successions (and_from skills absences (all_elim (nurse_count c) (λ n. keeps_skills c n (row_of r n) (day_count c)) rules.1 n inside) (all_elim (nurse_count c) (λ n. keeps_absences c n (row_of r n) (day_count c)) all_rules.1 n inside)) (all_elim (nurse_count c) (λ n. keeps_successions c n (days_of_nurse r n) (day_count c)) two_rules.1 n inside)) frozen_kept
 
-    among : Contains (own_rows c from given n) (row_of r n)
+    pub among : Contains (own_rows c from given n) (row_of r n)
     among = member_is_kept (can_work c from given n) (all_rows (all_choices c) (day_count c)) (row_of r n) (row_is_member c (row_of r n) (row_fits c r n fits inside)) worked
 
-    row_least : row_floor c from given w n ≤ row_cost_by c w n (row_of r n)
-    row_least = least_below (row_cost_by c w n) (own_rows c from given n) (row_of r n) among
+  -- whatever each nurse's row costs at least
+  module _ (floor : ℕ → ℕ) (least : (n : ℕ) → n < nurse_count c → floor n ≤ row_cost_by c w n (row_of r n)) where
+    row_below : (n : ℕ) → n < nurse_count c → floor n + row_earned w (day_count c) (shift_count c) (skill_count c) r n ≤ nurse_cost c n (days_of_nurse r n) + day_count c * most_worth
+    row_below n inside =
+        let days : length (row_of r n) ≡ day_count c = row-length c r n fits inside in
+        let earns : sum_below (length (row_of r n)) (λ d. earned w d (choice_on (row_of r n) d)) ≡ sum_below (day_count c) (λ d. earned w d (choice_on (row_of r n) d)) =
+        ap (λ m. sum_below m (λ d. earned w d (choice_on (row_of r n) d))) days in
+        let room : length (row_of r n) * most_worth ≡ day_count c * most_worth = ap (λ m. m * most_worth) days in
+        omega (arith, least n inside, row_cost-earned c w are n (row_of r n), earns, room)
 
-  -- what the rows cost at least
-  abbrev floor : ℕ → ℕ
-  floor = row_floor c from given w
+    rows_below : sum_below (nurse_count c) floor + sum_below (nurse_count c) (row_earned w (day_count c) (shift_count c) (skill_count c) r)
+        ≤ sum_below (nurse_count c) (λ n. nurse_cost c n (days_of_nurse r n)) + nurse_count c * (day_count c * most_worth)
+    rows_below =
+        let N = nurse_count c in
+        let earns = row_earned w (day_count c) (shift_count c) (skill_count c) r in
+        let room : ℕ = day_count c * most_worth in
+        omega (
+          arith,
+          sum_both N floor earns,
+          sum_le N (λ n. floor n + earns n) (λ n. nurse_cost c n (days_of_nurse r n) + room) row_below,
+          sum_both N (λ n. nurse_cost c n (days_of_nurse r n)) (λ n. room),
+          sum_same_number N room,
+        )
 
-  row_below : (n : ℕ) → n < nurse_count c → floor n + row_earned w (day_count c) (shift_count c) (skill_count c) r n ≤ nurse_cost c n (days_of_nurse r n) + day_count c * most_worth
-  row_below n inside =
-      let days : length (row_of r n) ≡ day_count c = row-length c r n fits inside in
-      let earns : sum_below (length (row_of r n)) (λ d. earned w d (choice_on (row_of r n) d)) ≡ sum_below (day_count c) (λ d. earned w d (choice_on (row_of r n) d)) =
-      ap (λ m. sum_below m (λ d. earned w d (choice_on (row_of r n) d))) days in
-      let room : length (row_of r n) * most_worth ≡ day_count c * most_worth = ap (λ m. m * most_worth) days in
-      omega (arith, row_least n inside, row_cost-earned c w are n (row_of r n), earns, room)
+    together_below : with_floors c w floor ≤ penalty c r
+    together_below =
+        let earns = row_earned w (day_count c) (shift_count c) (skill_count c) r in
+        let paid : over_places (day_count c) (shift_count c) (skill_count c) (λ d s k. w d s k * cover r d s k) ≤ sum_below (nurse_count c) earns =
+        omega (arith, paid_is_earned w (day_count c) (shift_count c) (skill_count c) r, ap (λ m. sum_below m earns) nurses) in
+        put_together (places_floor c w) (sum_below (nurse_count c) floor) (sum_below (nurse_count c) earns) (sum_below (nurse_count c) (λ n. nurse_cost c n (days_of_nurse r n))) (nurse_count c * (day_count c * most_worth)) (staffing_cost c r) (penalty c r)
+        (omega (arith, places_below, paid)) rows_below (penalty-parts c r)
 
-  rows_below : sum_below (nurse_count c) floor + sum_below (nurse_count c) (row_earned w (day_count c) (shift_count c) (skill_count c) r)
-      ≤ sum_below (nurse_count c) (λ n. nurse_cost c n (days_of_nurse r n)) + nurse_count c * (day_count c * most_worth)
-  rows_below =
-      let N = nurse_count c in
-      let earns = row_earned w (day_count c) (shift_count c) (skill_count c) r in
-      let room : ℕ = day_count c * most_worth in
-      omega (
-        arith,
-        sum_both N floor earns,
-        sum_le N (λ n. floor n + earns n) (λ n. nurse_cost c n (days_of_nurse r n) + room) row_below,
-        sum_both N (λ n. nurse_cost c n (days_of_nurse r n)) (λ n. room),
-        sum_same_number N room,
-      )
-
-  together_below : floors_together c from given w ≤ penalty c r
-  together_below =
-      let earns = row_earned w (day_count c) (shift_count c) (skill_count c) r in
-      let paid : over_places (day_count c) (shift_count c) (skill_count c) (λ d s k. w d s k * cover r d s k) ≤ sum_below (nurse_count c) earns =
-      omega (arith, paid_is_earned w (day_count c) (shift_count c) (skill_count c) r, ap (λ m. sum_below m earns) nurses) in
-      put_together (places_floor c w) (sum_below (nurse_count c) floor) (sum_below (nurse_count c) earns) (sum_below (nurse_count c) (λ n. nurse_cost c n (days_of_nurse r n))) (nurse_count c * (day_count c * most_worth)) (staffing_cost c r) (penalty c r)
-      (omega (arith, places_below, paid)) rows_below (penalty-parts c r)
-
-  below : rounded_up c (floors_together c from given w) ≤ penalty c r
-  below = rounded_below c r (floors_together c from given w) together_below
+    pub below : rounded_up c (with_floors c w floor) ≤ penalty c r
+    below = rounded_below c r (with_floors c w floor) together_below
 
 pub no_roster_below : (c : Meaning) (from : ℕ) (given : Rows) (w : PlaceWorths) → AreWorths w → IsLowerBound c from given (bound_by c from given w)
 unfolding bound_by
-no_roster_below c from given w are r fits keeps stays = below c from given w are r fits keeps stays
+no_roster_below c from given w are r fits keeps stays =
+    below c from given w are r fits keeps stays (row_floor c from given w)
+    (λ n inside. least_below (row_cost_by c w n) (own_rows c from given n) (row_of r n) (among c from given w are r fits keeps stays n inside))

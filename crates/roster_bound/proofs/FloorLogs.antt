@@ -1,8 +1,8 @@
 -- A run that raises a floor: the lines so far are sent.
-use Rattle.std.proofs.Common.{◌≡◌, ◌∙◌, ◌+◌, ◌<◌, ◌≤◌, ◌⊎◌, ℕ, zero, suc, Bool, true, false, List, [], ◌∷◌, ◌++◌, Option, ap, append_assoc, append-nil, arith, flat_map, if◌then◌else◌, inl, inr, length, refl, subst, sym, zero-add}
+use Rattle.std.proofs.Common.{All, ◌≡◌, ◌∙◌, ◌+◌, ◌<◌, ◌≤◌, ◌⊎◌, ℕ, zero, suc, Bool, true, false, List, [], ◌∷◌, ◌++◌, Option, ap, append_assoc, append-nil, arith, flat_map, if◌then◌else◌, inl, inr, length, refl, subst, sym, zero-add}
 use Rattle.std.proofs.lemmas.Bool.{cases_lt}
 use Rattle.std.proofs.lemmas.List.Concat.{flat_map-append}
-use Rattle.std.proofs.lemmas.List.Elements.{All-append, All-cons, All-nil}
+use Rattle.std.proofs.lemmas.List.Elements.{All-append, All-cons, All-nil, All-weaker}
 use Rattle.roster_text.specs.declared.fault.WriteFault.{WriteFault}
 use Rattle.roster_text.specs.Io.{BreaksIn, Sends, StopsAt, Watched, saturated, sent_of}
 use Rattle.roster_text.proofs.Texts.{Sends-append, StopsAt-after, StopsAt-append}
@@ -13,8 +13,11 @@ use Rattle.roster_rules.specs.Penalties.{penalty}
 use Rattle.roster_laws.proofs.Frozen.{stays_self}
 use Rattle.roster_rules.specs.Weights.{staffing_weight}
 use Rattle.roster_rules.specs.Improver.{line, start_word}
+use Rattle.roster_log.specs.declared.fault.LogFault.{LogFault}
 use Rattle.roster_log.specs.declared.fault.LogFault.TheVariants.{LogFailed}
-use Rattle.roster_bound.specs.Floors.{FloorLine, FloorLogStops, IsFloorLog, IsRoundBound, RaisesFloor, Rises, floor_line, floor_text, last_line, no_line}
+use Rattle.roster_bound.specs.declared.effort.Effort.{Effort}
+use Rattle.roster_bound.specs.declared.effort.Reached.{Reached}
+use Rattle.roster_bound.specs.Floors.{FloorLine, FloorLogStops, HasReached, IsFloorLog, IsRoundBound, RaisesFloor, Rises, floor_line, floor_text, last_line, no_line, rounds_alone}
 use Rattle.roster_bound.specs.Worths.{AreWorths, IsLowerBound, PlaceWorths, asks_for_nurses, bound_by, first_bound, first_worths, most_worth}
 use Rattle.roster_bound.proofs.Duality.{no_roster_below}
 
@@ -27,6 +30,22 @@ last_is before (y ∷ xs) x = last_is y xs x
 rises_more : (before : FloorLine) (xs : List FloorLine) (x : FloorLine) → Rises before xs → (last_line before xs).round < x.round → (last_line before xs).bound < x.bound → Rises before (xs ++ x ∷ [])
 rises_more before [] x rises later more = (later, more, tt)
 rises_more before (y ∷ xs) x rises later more = (rises.0, rises.1, rises_more y xs x rises.2 later more)
+
+-- ---- the log of the rounds
+
+-- each line is the bound of its round
+pub record IsRoundsLog (c : Meaning) (from : ℕ) (given : Rows) (rounds : ℕ) (lines : List FloorLine) : Type 0 where
+  pub floors : All (λ x. IsLowerBound c from given x.bound) lines
+  pub each : All (IsRoundBound c from given) lines
+  pub rises : Rises no_line lines
+  pub within : (last_line no_line lines).round ≤ rounds
+  pub first : 0 < rounds → first_bound c from given ≤ (last_line no_line lines).bound
+
+-- with no parting, or with some
+pub floor_log : (c : Meaning) (from : ℕ) (given : Rows) (effort : Effort) (lines : List FloorLine) → IsRoundsLog c from given effort.rounds lines → IsFloorLog c from given effort lines
+floor_log c from given effort lines p =
+    let within : (last_line no_line lines).round ≤ effort.rounds = p.within in
+    record { floors = p.floors; each = All-weaker (IsRoundBound c from given) (λ x. x.round ≤ effort.rounds → IsRoundBound c from given x) (λ x is early. is) lines p.each; rises = p.rises; within = omega arith; first = p.first }
 
 -- ---- the first line
 
@@ -60,15 +79,15 @@ module _ (c : Meaning) (from : ℕ) (given : Rows) where
 
   -- ---- the log of no round, of later ones, and of one more
 
-  no_log : IsFloorLog c from given 0 []
+  no_log : IsRoundsLog c from given 0 []
   no_log = record { floors = All-nil (λ x. IsLowerBound c from given x.bound); each = All-nil (IsRoundBound c from given); rises = tt; within = omega arith; first = λ some. absurd (omega (arith, some)) }
 
-  reached_log : (made next : ℕ) (lines : List FloorLine) → made ≤ next → (0 < next → first_bound c from given ≤ (last_line no_line lines).bound) → IsFloorLog c from given made lines → IsFloorLog c from given next lines
+  reached_log : (made next : ℕ) (lines : List FloorLine) → made ≤ next → (0 < next → first_bound c from given ≤ (last_line no_line lines).bound) → IsRoundsLog c from given made lines → IsRoundsLog c from given next lines
   reached_log made next lines h some p =
       let within : (last_line no_line lines).round ≤ made = p.within in
       record { floors = p.floors; each = p.each; rises = p.rises; within = omega arith; first = some }
 
-  later_log : (made next : ℕ) (lines : List FloorLine) → made ≤ next → (0 < next → 0 < made) → IsFloorLog c from given made lines → IsFloorLog c from given next lines
+  later_log : (made next : ℕ) (lines : List FloorLine) → made ≤ next → (0 < next → 0 < made) → IsRoundsLog c from given made lines → IsRoundsLog c from given next lines
   later_log made next lines h some p = reached_log made next lines h (λ any. p.first (some any)) p
 
   -- the first round's bound is a floor, too
@@ -76,7 +95,7 @@ module _ (c : Meaning) (from : ℕ) (given : Rows) where
   first_within fits keeps = tells_below 0 (first_bound c from given) first_tells given fits keeps (stays_self c from given)
 
   -- a round that didn't raise the floor
-  same_log : (made best bound : ℕ) (lines : List FloorLine) → IsFloorLog c from given made lines → best ≡ (last_line no_line lines).bound → bound ≤ best → Tells c from given made bound → IsFloorLog c from given (made + 1) lines
+  same_log : (made best bound : ℕ) (lines : List FloorLine) → IsRoundsLog c from given made lines → best ≡ (last_line no_line lines).bound → bound ≤ best → Tells c from given made bound → IsRoundsLog c from given (made + 1) lines
   same_log made best bound lines p best_is no_more t =
       let within : (last_line no_line lines).round ≤ made = p.within in
       record { floors = p.floors; each = p.each; rises = p.rises; within = omega arith; first = λ any. reached (cases_lt 0 made) }
@@ -93,8 +112,8 @@ module _ (c : Meaning) (from : ℕ) (given : Rows) where
       go (inl some) = omega (arith, reached some, more)
       go (inr none) = omega (arith, t.first (omega (arith, none)))
 
-  more_log : (made best bound : ℕ) (lines : List FloorLine) → IsFloorLog c from given made lines → best ≡ (last_line no_line lines).bound → best < bound → Tells c from given made bound
-      → IsFloorLog c from given (made + 1) (lines ++ record { round = made + 1; bound = bound } ∷ [])
+  more_log : (made best bound : ℕ) (lines : List FloorLine) → IsRoundsLog c from given made lines → best ≡ (last_line no_line lines).bound → best < bound → Tells c from given made bound
+      → IsRoundsLog c from given (made + 1) (lines ++ record { round = made + 1; bound = bound } ∷ [])
   more_log made best bound lines p best_is more t =
       let x : FloorLine = record { round = made + 1; bound = bound } in
       let within : (last_line no_line lines).round ≤ made = p.within in
@@ -110,21 +129,24 @@ module _ (c : Meaning) (from : ℕ) (given : Rows) where
       }
 
   -- some log there is
-  pub some_log : (rounds : ℕ) → (lines : List FloorLine) × IsFloorLog c from given rounds lines
-  some_log zero = ([], no_log)
-  some_log (suc n) = go (cases_lt 0 (first_bound c from given))
+  rounds_log : (rounds : ℕ) → (lines : List FloorLine) × IsRoundsLog c from given rounds lines
+  rounds_log zero = ([], no_log)
+  rounds_log (suc n) = go (cases_lt 0 (first_bound c from given))
     where
-      go : (0 < first_bound c from given) ⊎ (first_bound c from given ≤ 0) → (lines : List FloorLine) × IsFloorLog c from given (suc n) lines
+      go : (0 < first_bound c from given) ⊎ (first_bound c from given ≤ 0) → (lines : List FloorLine) × IsRoundsLog c from given (suc n) lines
       go (inl some) =
           let lines : List FloorLine = record { round = 0 + 1; bound = first_bound c from given } ∷ [] in
           (lines, later_log (0 + 1) (suc n) lines (omega arith) (λ any. omega arith) (more_log 0 0 (first_bound c from given) [] no_log refl some first_tells))
       go (inr none) = ([], later_log (0 + 1) (suc n) [] (omega arith) (λ any. omega arith) (same_log 0 0 (first_bound c from given) [] no_log refl none first_tells))
 
+  pub some_log : (effort : Effort) → (lines : List FloorLine) × IsFloorLog c from given effort lines
+  some_log effort = let some = rounds_log effort.rounds in (some.0, floor_log c from given effort some.0 some.1)
+
 -- ---- the rounds made so far
 
 pub record Going {W : Type 0} (contents : W → Option (List ℕ)) (c : Meaning) (from : ℕ) (given : Rows) (old mid : Watched W) (made sent best : ℕ) : Type 0 where
   pub lines : List FloorLine
-  pub is_log : IsFloorLog c from given made lines
+  pub is_log : IsRoundsLog c from given made lines
   pub sends : Sends contents old mid 0 sent (floor_text c given lines)
   pub best_is : best ≡ (last_line no_line lines).bound
 
@@ -142,10 +164,10 @@ module _ {W : Type 0} (contents : W → Option (List ℕ)) (c : Meaning) (from :
   Going-start new sent p = record { lines = []; is_log = no_log c from given; sends = p; best_is = refl }
 
   -- the first line broke off: whatever would have come after it
-  pub start_breaks : (rounds : ℕ) (new : Watched W) (fault : WriteFault) → BreaksIn contents old new 0 (floor_text c given []) fault → FloorLogStops contents c from given rounds old new (LogFailed (sent_of fault))
+  pub start_breaks : (rounds : ℕ) (new : Watched W) (fault : WriteFault) → BreaksIn contents old new 0 (floor_text c given []) fault → FloorLogStops contents c from given (rounds_alone rounds) old new (LogFailed (sent_of fault))
   unfolding first_line
   start_breaks rounds new fault p =
-      let some = some_log c from given rounds in
+      let some = some_log c from given (rounds_alone rounds) in
       record {
         lines = some.0;
         is_log = some.1;
@@ -176,25 +198,95 @@ module _ {W : Type 0} (contents : W → Option (List ℕ)) (c : Meaning) (from :
 
   -- its line broke off
   pub raised_breaks : (rounds : ℕ) (mid new : Watched W) (made sent best bound : ℕ) (fault : WriteFault) → Going contents c from given old mid made sent best → made < rounds → best < bound → Tells c from given made bound
-      → BreaksIn contents mid new sent (floor_line (record { round = made + 1; bound = bound })) fault → FloorLogStops contents c from given rounds old new (LogFailed (sent_of fault))
+      → BreaksIn contents mid new sent (floor_line (record { round = made + 1; bound = bound })) fault → FloorLogStops contents c from given (rounds_alone rounds) old new (LogFailed (sent_of fault))
   raised_breaks rounds mid new made sent best bound fault p inside more t q =
       let x : FloorLine = record { round = made + 1; bound = bound } in
       let front : sent ≡ saturated (0 + length (floor_text c given p.lines)) = p.sends.counted in
       let count : saturated (sent + q.sent) ≡ saturated (length (floor_text c given p.lines) + q.sent) = omega arith in
       record {
         lines = p.lines ++ x ∷ [];
-        is_log = later_log c from given (made + 1) rounds (p.lines ++ x ∷ []) (omega arith) (λ any. omega arith) (more_log c from given made best bound p.lines p.is_log p.best_is more t);
+        is_log = floor_log c from given (rounds_alone rounds) (p.lines ++ x ∷ [])
+            (later_log c from given (made + 1) rounds (p.lines ++ x ∷ []) (omega arith) (λ any. omega arith) (more_log c from given made best bound p.lines p.is_log p.best_is more t));
         sent = length (floor_text c given p.lines) + q.sent;
         stops = subst (λ text. StopsAt contents old new text (length (floor_text c given p.lines) + q.sent)) (text_more p.lines x) (StopsAt-after contents old mid new (floor_text c given p.lines) (floor_line x) q.sent p.sends.writes q.stops);
         counted = ap (λ f. LogFailed (sent_of f)) q.counted ∙ ap LogFailed count;
       }
 
-  -- the floor is what the given roster costs: then it is no less than any bound
-  pub Going-met : (rounds : ℕ) (new : Watched W) (made sent best : ℕ) → Going contents c from given old new made sent best → made ≤ rounds → penalty c given ≤ best → fits_case c given ≡ true → keeps_hard c given ≡ true
-      → RaisesFloor contents c from given rounds old new best
-  Going-met rounds new made sent best p few met fits keeps = record {
+  pub Going-end : (rounds : ℕ) (new : Watched W) (made sent best : ℕ) → Going contents c from given old new made sent best → made ≤ rounds → rounds ≤ made
+      → HasReached contents c from given (rounds_alone rounds) old new (record { bound = best; sent = sent })
+  Going-end rounds new made sent best p few all = record {
     lines = p.lines;
-    is_log = reached_log c from given made rounds p.lines few (λ some. omega (arith, met, p.best_is, first_within c from given fits keeps)) p.is_log;
-    writes = p.sends.writes;
+    is_log = floor_log c from given (rounds_alone rounds) p.lines (later_log c from given made rounds p.lines few (λ some. omega (arith, some, all)) p.is_log);
+    sends = p.sends;
     bound_is = p.best_is;
   }
+
+  -- the floor is what the given roster costs: then it is no less than any bound
+  pub Going-met : (rounds : ℕ) (new : Watched W) (made sent best : ℕ) → Going contents c from given old new made sent best → made ≤ rounds → penalty c given ≤ best → fits_case c given ≡ true → keeps_hard c given ≡ true
+      → HasReached contents c from given (rounds_alone rounds) old new (record { bound = best; sent = sent })
+  Going-met rounds new made sent best p few met fits keeps = record {
+    lines = p.lines;
+    is_log = floor_log c from given (rounds_alone rounds) p.lines (reached_log c from given made rounds p.lines few (λ some. omega (arith, met, p.best_is, first_within c from given fits keeps)) p.is_log);
+    sends = p.sends;
+    bound_is = p.best_is;
+  }
+
+  -- ---- the partings made so far
+
+  -- more partings may be
+  later_parts : (effort : Effort) (more : ℕ) (lines : List FloorLine) → effort.nodes ≤ more → IsFloorLog c from given effort lines → IsFloorLog c from given (record effort { nodes = more }) lines
+  later_parts effort more lines few p =
+      let within : (last_line no_line lines).round ≤ effort.rounds + effort.nodes = p.within in
+      record { floors = p.floors; each = p.each; rises = p.rises; within = omega arith; first = p.first }
+
+  pub reached-later : (effort : Effort) (more : ℕ) (mid : Watched W) (reached : Reached) → effort.nodes ≤ more → HasReached contents c from given effort old mid reached → HasReached contents c from given (record effort { nodes = more }) old mid reached
+  reached-later effort more mid reached few p = record { lines = p.lines; is_log = later_parts effort more p.lines few p.is_log; sends = p.sends; bound_is = p.bound_is }
+
+  pub stops-later : (effort : Effort) (more : ℕ) (mid : Watched W) (fault : LogFault) → effort.nodes ≤ more → FloorLogStops contents c from given effort old mid fault → FloorLogStops contents c from given (record effort { nodes = more }) old mid fault
+  stops-later effort more mid fault few p = record { lines = p.lines; is_log = later_parts effort more p.lines few p.is_log; sent = p.sent; stops = p.stops; counted = p.counted }
+
+  pub reached-end : (effort : Effort) (mid : Watched W) (reached : Reached) → HasReached contents c from given effort old mid reached → RaisesFloor contents c from given effort old mid reached.bound
+  reached-end effort mid reached p = record { lines = p.lines; is_log = p.is_log; writes = p.sends.writes; bound_is = p.bound_is }
+
+  -- a parting that raised the floor
+  parted_log : (rounds parted best bound : ℕ) (lines : List FloorLine) → IsFloorLog c from given (record { rounds = rounds; nodes = parted }) lines → best ≡ (last_line no_line lines).bound → best < bound → IsLowerBound c from given bound
+      → IsFloorLog c from given (record { rounds = rounds; nodes = parted + 1 }) (lines ++ record { round = rounds + parted + 1; bound = bound } ∷ [])
+  parted_log rounds parted best bound lines p best_is more below =
+      let x : FloorLine = record { round = rounds + parted + 1; bound = bound } in
+      let within : (last_line no_line lines).round ≤ rounds + parted = p.within in
+      let Early : FloorLine → Type 0 = λ y. y.round ≤ rounds → IsRoundBound c from given y in
+      record {
+        floors = All-append (λ y. IsLowerBound c from given y.bound) lines (x ∷ []) p.floors (All-cons (λ y. IsLowerBound c from given y.bound) x [] below (All-nil (λ y. IsLowerBound c from given y.bound)));
+        each = All-append Early lines (x ∷ []) p.each (All-cons Early x [] (λ early. absurd (omega (arith, early))) (All-nil Early));
+        rises = rises_more no_line lines x p.rises (omega arith) (omega arith);
+        within = omega (arith, ap (λ (y : FloorLine). y.round) (last_is no_line lines x));
+        first = λ any. omega (arith, p.first any, ap (λ (y : FloorLine). y.bound) (last_is no_line lines x));
+      }
+
+  pub reached-raised : (rounds parted after bound : ℕ) (mid new : Watched W) (reached : Reached) → HasReached contents c from given (record { rounds = rounds; nodes = parted }) old mid reached → reached.bound < bound → IsLowerBound c from given bound
+      → Sends contents mid new reached.sent after (floor_line (record { round = rounds + parted + 1; bound = bound }))
+      → HasReached contents c from given (record { rounds = rounds; nodes = parted + 1 }) old new (record { bound = bound; sent = after })
+  reached-raised rounds parted after bound mid new reached p more below q =
+      let x : FloorLine = record { round = rounds + parted + 1; bound = bound } in
+      record {
+        lines = p.lines ++ x ∷ [];
+        is_log = parted_log rounds parted reached.bound bound p.lines p.is_log p.bound_is more below;
+        sends = subst (Sends contents old new 0 after) (text_more p.lines x) (Sends-append contents old mid new 0 reached.sent after (floor_text c given p.lines) (floor_line x) p.sends q);
+        bound_is = sym (ap (λ (y : FloorLine). y.bound) (last_is no_line p.lines x));
+      }
+
+  -- its line broke off
+  pub parted_breaks : (rounds parted bound : ℕ) (mid new : Watched W) (reached : Reached) (fault : WriteFault) → HasReached contents c from given (record { rounds = rounds; nodes = parted }) old mid reached → reached.bound < bound → IsLowerBound c from given bound
+      → BreaksIn contents mid new reached.sent (floor_line (record { round = rounds + parted + 1; bound = bound })) fault
+      → FloorLogStops contents c from given (record { rounds = rounds; nodes = parted + 1 }) old new (LogFailed (sent_of fault))
+  parted_breaks rounds parted bound mid new reached fault p more below q =
+      let x : FloorLine = record { round = rounds + parted + 1; bound = bound } in
+      let front : reached.sent ≡ saturated (0 + length (floor_text c given p.lines)) = p.sends.counted in
+      let count : saturated (reached.sent + q.sent) ≡ saturated (length (floor_text c given p.lines) + q.sent) = omega arith in
+      record {
+        lines = p.lines ++ x ∷ [];
+        is_log = parted_log rounds parted reached.bound bound p.lines p.is_log p.bound_is more below;
+        sent = length (floor_text c given p.lines) + q.sent;
+        stops = subst (λ text. StopsAt contents old new text (length (floor_text c given p.lines) + q.sent)) (text_more p.lines x) (StopsAt-after contents old mid new (floor_text c given p.lines) (floor_line x) q.sent p.sends.writes q.stops);
+        counted = ap (λ f. LogFailed (sent_of f)) q.counted ∙ ap LogFailed count;
+      }

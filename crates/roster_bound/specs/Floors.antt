@@ -1,12 +1,14 @@
 -- The log of a run that raises a floor, and a run whose log a writer took, or on which it stopped (our own).
-use Rattle.std.specs.Prelude.{◌≡◌, ℕ, ◌<◌, ◌≤◌, All, List, [], ◌∷◌, ◌++◌, codes, decimal, flat_map, Option}
-use Rattle.roster_text.specs.Io.{StopsAt, Watched, Writes, saturated}
+use Rattle.std.specs.Prelude.{◌≡◌, ℕ, ◌+◌, ◌*◌, ◌<◌, ◌≤◌, All, List, [], ◌∷◌, ◌++◌, codes, decimal, flat_map, Option}
+use Rattle.roster_text.specs.Io.{Sends, StopsAt, Watched, Writes, saturated}
 use Rattle.roster_instance.specs.Meaning.{Meaning}
 use Rattle.roster_instance.specs.Rosters.{Rows}
 use Rattle.roster_rules.specs.Penalties.{penalty}
 use Rattle.roster_rules.specs.Improver.{line, start_word}
 use Rattle.roster_log.specs.declared.fault.LogFault.{LogFault}
 use Rattle.roster_log.specs.declared.fault.LogFault.TheVariants.{LogFailed}
+use Rattle.roster_bound.specs.declared.effort.Effort.{Effort}
+use Rattle.roster_bound.specs.declared.effort.Reached.{Reached}
 use Rattle.roster_bound.specs.Worths.{AreWorths, IsLowerBound, PlaceWorths, bound_by, first_bound}
 
 -- a line of the log: a round, and the floor that it reached
@@ -36,14 +38,26 @@ pub record IsRoundBound (c : Meaning) (from : ℕ) (given : Rows) (x : FloorLine
   pub first : x.round ≡ 1 → x.bound ≡ first_bound c from given
   pub no_less : first_bound c from given ≤ x.bound
 
--- each line has its round's bound, a floor, greater than the one before, and no round is beyond the number of rounds; with a round or
--- more the last floor is no less than the first round's bound
-pub record IsFloorLog (c : Meaning) (from : ℕ) (given : Rows) (rounds : ℕ) (lines : List FloorLine) : Type 0 where
+-- how many rounds are made in a part at most
+abbrev pub part_rounds : ℕ
+part_rounds = 12
+
+-- how many rounds of searches that is at most: a parting takes those of two parts
+abbrev pub rounds_of : Effort → ℕ
+rounds_of effort = effort.rounds + effort.nodes * (2 * part_rounds)
+
+-- no parting
+abbrev pub rounds_alone : ℕ → Effort
+rounds_alone rounds = record { rounds = rounds; nodes = 0 }
+
+-- each line is a floor, greater than the one before, and no line is beyond the rounds and the partings, which are numbered after them;
+-- a round's floor is its bound; with a round or more the last floor is no less than the first round's bound
+pub record IsFloorLog (c : Meaning) (from : ℕ) (given : Rows) (effort : Effort) (lines : List FloorLine) : Type 0 where
   pub floors : All (λ x. IsLowerBound c from given x.bound) lines
-  pub each : All (IsRoundBound c from given) lines
+  pub each : All (λ x. x.round ≤ effort.rounds → IsRoundBound c from given x) lines
   pub rises : Rises no_line lines
-  pub within : (last_line no_line lines).round ≤ rounds
-  pub first : 0 < rounds → first_bound c from given ≤ (last_line no_line lines).bound
+  pub within : (last_line no_line lines).round ≤ effort.rounds + effort.nodes
+  pub first : 0 < effort.rounds → first_bound c from given ≤ (last_line no_line lines).bound
 
 -- ---- the text: the penalty of the given roster, then each floor
 
@@ -55,17 +69,24 @@ floor_text c given lines = line (start_word c) (penalty c given) ++ flat_map flo
 
 -- ---- a writer that takes all, and one that stops
 
--- the log of some floors went out, and the answer is the last of them
-pub record RaisesFloor {W : Type 0} (contents : W → Option (List ℕ)) (c : Meaning) (from : ℕ) (given : Rows) (rounds : ℕ) (old new : Watched W) (bound : ℕ) : Type 0 where
+-- the log of some floors was sent, the last of which was reached, and so many bytes
+pub record HasReached {W : Type 0} (contents : W → Option (List ℕ)) (c : Meaning) (from : ℕ) (given : Rows) (effort : Effort) (old new : Watched W) (reached : Reached) : Type 0 where
   pub lines : List FloorLine
-  pub is_log : IsFloorLog c from given rounds lines
+  pub is_log : IsFloorLog c from given effort lines
+  pub sends : Sends contents old new 0 reached.sent (floor_text c given lines)
+  pub bound_is : reached.bound ≡ (last_line no_line lines).bound
+
+-- the log of some floors went out, and the answer is the last of them
+pub record RaisesFloor {W : Type 0} (contents : W → Option (List ℕ)) (c : Meaning) (from : ℕ) (given : Rows) (effort : Effort) (old new : Watched W) (bound : ℕ) : Type 0 where
+  pub lines : List FloorLine
+  pub is_log : IsFloorLog c from given effort lines
   pub writes : Writes contents old new (floor_text c given lines)
   pub bound_is : bound ≡ (last_line no_line lines).bound
 
 -- just the first bytes of the log of some floors went out
-pub record FloorLogStops {W : Type 0} (contents : W → Option (List ℕ)) (c : Meaning) (from : ℕ) (given : Rows) (rounds : ℕ) (old new : Watched W) (fault : LogFault) : Type 0 where
+pub record FloorLogStops {W : Type 0} (contents : W → Option (List ℕ)) (c : Meaning) (from : ℕ) (given : Rows) (effort : Effort) (old new : Watched W) (fault : LogFault) : Type 0 where
   pub lines : List FloorLine
-  pub is_log : IsFloorLog c from given rounds lines
+  pub is_log : IsFloorLog c from given effort lines
   pub sent : ℕ
   pub stops : StopsAt contents old new (floor_text c given lines) sent
   pub counted : fault ≡ LogFailed (saturated sent)

@@ -1,7 +1,7 @@
 -- A floor under the penalty of every roster. A place is a day, a shift and a skill. It pays its worth to each nurse that works there:
 -- what the places pay is what the nurses earn, so that pay changes no penalty. But then each place and each nurse has a least cost of
 -- its own, and no roster costs less than all of these together (our own, by weak duality).
-use Rattle.std.specs.Prelude.{◌≡◌, ℕ, ◌+◌, ◌-◌, ◌*◌, ◌/◌, ◌%◌, ◌<◌, ◌≤◌, ◌==◌, min, max, Bool, true, ◌&&◌, ◌||◌, nat_lt, if◌then◌else◌, List, length, filter, Option}
+use Rattle.std.specs.Prelude.{◌≡◌, ℕ, ◌+◌, ◌-◌, ◌*◌, ◌/◌, ◌%◌, ◌<◌, ◌≤◌, ◌==◌, min, max, Bool, true, ◌&&◌, ◌||◌, nat_lt, if◌then◌else◌, List, filter, Option}
 use Rattle.std.specs.Option.{option_map_or}
 use Rattle.roster_instance.specs.declared.choice.Choice.{Choice}
 use Rattle.roster_instance.specs.declared.choice.Choice.TheVariants.{Off, Work}
@@ -9,12 +9,13 @@ use Rattle.roster_instance.specs.Choices.{all_choices, all_rows, days_of, shift_
 use Rattle.roster_instance.specs.Counting.{sum_below}
 use Rattle.roster_instance.specs.Limits.{most_small}
 use Rattle.roster_instance.specs.Meaning.{Meaning, day_count, minimum, nurse_count, optimum, shift_count, skill_count}
-use Rattle.roster_instance.specs.Rosters.{Row, Rows, choice_on, fits_case, is_row_of}
+use Rattle.roster_instance.specs.Rosters.{Row, Rows, fits_case, is_row_of}
 use Rattle.roster_rules.specs.AllowedRows.{first_least, keeps_frozen_days}
 use Rattle.roster_rules.specs.HardRules.{keeps_absences, keeps_hard, keeps_skills, keeps_successions}
-use Rattle.roster_rules.specs.Penalties.{own_cost, penalty, request_cost_on}
+use Rattle.roster_rules.specs.Penalties.{penalty, request_cost_on}
 use Rattle.roster_rules.specs.Weights.{staffing_weight}
 use Rattle.roster_laws.specs.FrozenDays.{FrozenDaysStay}
+use Rattle.roster_offers.specs.Offers.{row_cost_at}
 
 -- no roster of the case that keeps the hard rules, and agrees with the given one on each day before week `from`, costs less
 abbrev pub IsLowerBound : Meaning → ℕ → Rows → ℕ → Type 0
@@ -67,7 +68,7 @@ price_by c w n d choice = (most_worth - earned w d choice) + request_cost_on c n
 
 -- what a row costs its nurse at these prices
 abbrev pub row_cost_by : Meaning → PlaceWorths → (n : ℕ) → Row → ℕ
-row_cost_by c w n row = own_cost c n (days_of row) + sum_below (length row) (λ d. price_by c w n d (choice_on row d))
+row_cost_by c w n row = row_cost_at c n (price_by c w n) row
 
 -- the nurse has the skills for the row, no absence is worked, no shift of it is forbidden by the one before, and it agrees with the given one on each frozen day
 abbrev pub can_work : Meaning → ℕ → Rows → ℕ → Row → Bool
@@ -86,18 +87,28 @@ pub record HasRow (c : Meaning) (from : ℕ) (given : Rows) (n : ℕ) : Type 0 w
 abbrev pub HaveRows : Meaning → ℕ → Rows → Type 0
 HaveRows c from given = (n : ℕ) → n < nurse_count c → HasRow c from given n
 
--- the first of the cheapest of these, and its cost
+-- the first of the cheapest of these at prices, and its cost
+abbrev pub cheapest_row : Meaning → ℕ → Rows → (ℕ → Choice → ℕ) → (n : ℕ) → Option Row
+cheapest_row c from given price n = first_least (row_cost_at c n price) (own_rows c from given n)
+
+abbrev pub cheapest_cost : Meaning → ℕ → Rows → (ℕ → Choice → ℕ) → (n : ℕ) → ℕ
+cheapest_cost c from given price n = option_map_or (row_cost_at c n price) (cheapest_row c from given price n) 0
+
+-- the same by worths
 abbrev pub floor_row : Meaning → ℕ → Rows → PlaceWorths → (n : ℕ) → Option Row
-floor_row c from given w n = first_least (row_cost_by c w n) (own_rows c from given n)
+floor_row c from given w n = cheapest_row c from given (price_by c w n) n
 
 abbrev pub row_floor : Meaning → ℕ → Rows → PlaceWorths → (n : ℕ) → ℕ
-row_floor c from given w n = option_map_or (row_cost_by c w n) (floor_row c from given w n) 0
+row_floor c from given w n = cheapest_cost c from given (price_by c w n) n
 
 -- ---- both together
 
--- what the places and the nurses cost at least, less the most that a nurse earns, which stands in the price of each day
+-- what the places cost at least, and the nurses, less the most that a nurse earns, which stands in the price of each day
+abbrev pub with_floors : Meaning → PlaceWorths → (ℕ → ℕ) → ℕ
+with_floors c w floor = places_floor c w + sum_below (nurse_count c) floor - nurse_count c * (day_count c * most_worth)
+
 abbrev pub floors_together : Meaning → ℕ → Rows → PlaceWorths → ℕ
-floors_together c from given w = places_floor c w + sum_below (nurse_count c) (row_floor c from given w) - nurse_count c * (day_count c * most_worth)
+floors_together c from given w = with_floors c w (row_floor c from given w)
 
 -- the next multiple of 5, which each penalty is, unless a roster is kept at a number of points that isn't one
 abbrev pub rounded_up : Meaning → ℕ → ℕ

@@ -6,12 +6,14 @@ ghost use Rattle.roster_instance.specs.Limits.{most_days, most_nurses};
 ghost use Rattle.roster_instance.specs.Meaning.{day_count, nurse_count};
 ghost use Rattle.roster_laws.specs.Greatest.{extension_count, greatest_extension_count};
 ghost use Rattle.roster_partial.specs.Workspaces.{fits_space};
-ghost use Rattle.roster_bound.specs.Days.{AreWorthOffers, shift_offers_by_worth};
+ghost use Rattle.roster_bound.specs.Days.{ArePricedOffers, AreWorthOffers, shift_priced_offers};
+ghost use Rattle.roster_bound.specs.Parts.{IsLowerBoundIn, bound_in, price_in, row_floor_in};
 ghost use Rattle.roster_bound.specs.Seen.{FitsSeen};
 ghost use Rattle.roster_bound.specs.Tables.{worths_of};
 ghost use Rattle.roster_bound.specs.Workspaces.{FitsRows};
-ghost use Rattle.roster_bound.specs.Worths.{HasRow, HaveRows, IsLowerBound, bound_by, floor_row, most_worth, rounded_up, row_floor};
+ghost use Rattle.roster_bound.specs.Worths.{HasRow, HaveRows, IsLowerBound, bound_by, cheapest_row, most_worth, rounded_up};
 
+use crate::decisions::Decision;
 use crate::moves::count_row;
 use crate::offers::{DayTerms, Terms};
 use crate::places::places_floor;
@@ -48,13 +50,40 @@ pub fn lower_bound(
     ensures counted { meter.new ≤ meter.old + nurse_count terms.now.case.now
         * greatest_extension_count terms.now.case.now }
 {
+    lower_bound_in(terms, &[], rows, seen, meter)
+}
+
+/// The same under the rosters of a part alone.
+pub(crate) fn lower_bound_in(
+    terms: &Terms<'_>,
+    part: &[Decision],
+    rows: &mut RowSpace,
+    seen: &mut Seen,
+    meter: &mut Meter,
+) -> u64
+    requires each { HaveRows terms.now.case.now terms.now.from terms.now.given.now }
+    requires rows { FitsRows terms.now.case.now rows.old }
+    requires seen { FitsSeen terms.now.case.now seen.old }
+    requires room { meter.old + nurse_count terms.now.case.now * greatest_extension_count
+        terms.now.case.now ≤ greatest_u64 }
+    ensures below { IsLowerBoundIn terms.now.case.now terms.now.from terms.now.given.now part.now
+        result }
+    ensures bound { result ≡ bound_in terms.now.case.now terms.now.from terms.now.given.now
+        (worths_of terms.now.worths.now) part.now }
+    ensures rows { FitsRows terms.now.case.now rows.new }
+    ensures seen { FitsSeen terms.now.case.now seen.new }
+    ensures made { meter.old + nurse_count terms.now.case.now * day_count terms.now.case.now
+        ≤ meter.new }
+    ensures counted { meter.new ≤ meter.old + nurse_count terms.now.case.now
+        * greatest_extension_count terms.now.case.now }
+{
     let case = terms.case;
     case.keeps_limits();
     terms.worths.keep_most();
     rows.forget();
     let mut floors = places_floor(case, terms.worths);
     for nurse in 0..case.nurses() {
-        let floor = row_floor(terms, nurse, rows, meter);
+        let floor = row_floor_in(terms, part, nurse, rows, meter);
         seen.keep(case, nurse, rows.workspace.row(), floor, terms.worths);
         floors += floor;
     }
@@ -82,17 +111,25 @@ fn most_earned(case: &Case) -> u64
     case.nurses() as u64 * (case.days() as u64 * MOST_WORTH as u64)
 }
 
-/// The least that a row of the nurse costs by worths. The workspace then shows the first of the cheapest rows, and the cover counts it.
-pub fn row_floor(terms: &Terms<'_>, nurse: usize, rows: &mut RowSpace, meter: &mut Meter) -> u64
+/// The least that a row of the nurse costs by worths, where a choice that goes against a decision of the part costs more. The workspace
+/// then shows the first of the cheapest rows, and the cover counts it.
+fn row_floor_in(
+    terms: &Terms<'_>,
+    part: &[Decision],
+    nurse: usize,
+    rows: &mut RowSpace,
+    meter: &mut Meter,
+) -> u64
     requires row { HasRow terms.now.case.now terms.now.from terms.now.given.now nurse }
     requires nurse { nurse < nurse_count terms.now.case.now }
     requires rows { FitsRows terms.now.case.now rows.old }
     requires room { meter.old + extension_count terms.now.case.now nurse ≤ greatest_u64 }
-    ensures floor { result ≡ row_floor terms.now.case.now terms.now.from terms.now.given.now
-        (worths_of terms.now.worths.now) nurse }
+    ensures floor { result ≡ row_floor_in terms.now.case.now terms.now.from terms.now.given.now
+        (worths_of terms.now.worths.now) part.now nurse }
     ensures within { result ≤ 8589934590 }
-    ensures row { floor_row terms.now.case.now terms.now.from terms.now.given.now
-        (worths_of terms.now.worths.now) nurse ≡ Some rows.new.workspace.row }
+    ensures row { cheapest_row terms.now.case.now terms.now.from terms.now.given.now
+        (price_in terms.now.case.now (worths_of terms.now.worths.now) part.now nurse) nurse
+        ≡ Some rows.new.workspace.row }
     ensures rows { FitsRows terms.now.case.now rows.new }
     ensures each_day { meter.old + day_count terms.now.case.now ≤ meter.new }
     ensures counted { meter.new ≤ meter.old + extension_count terms.now.case.now nurse }
@@ -100,7 +137,7 @@ pub fn row_floor(terms: &Terms<'_>, nurse: usize, rows: &mut RowSpace, meter: &m
     let case = terms.case;
     case.keeps_limits();
     let RowSpace { workspace, cover } = rows;
-    offer_days(terms, nurse, workspace);
+    offer_days_in(terms, part, nurse, workspace);
     let cost = workspace.search_offers(case, nurse, meter);
     count_row(workspace.row(), cover);
     let (_, owed) = start(case, nurse);
@@ -116,21 +153,44 @@ pub fn offer_days(terms: &Terms<'_>, nurse: usize, workspace: &mut Workspace)
         (worths_of terms.now.worths.now) nurse workspace.new.offers }
     ensures fits { fits_space terms.now.case.now workspace.new ≡ true }
 {
+    offer_days_in(terms, &[], nurse, workspace)
+}
+
+/// The same in a part.
+fn offer_days_in(terms: &Terms<'_>, part: &[Decision], nurse: usize, workspace: &mut Workspace)
+    requires nurse { nurse < nurse_count terms.now.case.now }
+    requires fits { fits_space terms.now.case.now workspace.old ≡ true }
+    ensures offers { ArePricedOffers terms.now.case.now terms.now.from terms.now.given.now
+        (price_in terms.now.case.now (worths_of terms.now.worths.now) part.now nurse) nurse
+        workspace.new.offers }
+    ensures fits { fits_space terms.now.case.now workspace.new ≡ true }
+{
     terms.case.keeps_limits();
     workspace.clear_offers();
     for day in 0..terms.case.days() {
-        workspace.push_offers(offers_of_day(terms, nurse, day));
+        workspace.push_offers(offers_of_day(terms, part, nurse, day));
     }
 }
 
-/// The offers of one day.
-fn offers_of_day(terms: &Terms<'_>, nurse: usize, day: u16) -> ArrayVec<Offer, MOST_OFFERS>
+/// The offers of one day in a part.
+fn offers_of_day(
+    terms: &Terms<'_>,
+    part: &[Decision],
+    nurse: usize,
+    day: u16,
+) -> ArrayVec<Offer, MOST_OFFERS>
     requires nurse { nurse < nurse_count terms.now.case.now }
     requires day { day < day_count terms.now.case.now }
-    ensures offers { result.items ≡ shift_offers_by_worth terms.now.case.now terms.now.from
-        terms.now.given.now (worths_of terms.now.worths.now) nurse day }
+    ensures offers { result.items ≡ shift_priced_offers terms.now.case.now terms.now.from
+        terms.now.given.now (price_in terms.now.case.now (worths_of terms.now.worths.now)
+        part.now nurse) nurse day }
 {
     let case = terms.case;
     let frozen = is_frozen(case, terms.from, nurse, day);
-    offers_by_shift(&NurseDay { case, nurse, day }, &DayTerms { terms, frozen })
+    let by = DayTerms {
+        terms,
+        part,
+        frozen,
+    };
+    offers_by_shift(&NurseDay { case, nurse, day }, &by)
 }

@@ -1,10 +1,12 @@
 //! No roster costs less than the floors. The functions here do nothing: each is a law, and its clauses say it.
 
-ghost use Rattle.std.specs.Prelude.{◌≡◌, ◌%◌, ◌≤◌, ℕ, true};
+ghost use Rattle.std.specs.Prelude.{◌≡◌, ◌%◌, ◌≤◌, ◌⊎◌, ◌++◌, [], ◌∷◌, List, ℕ, true};
 ghost use Rattle.roster_instance.specs.Meaning.{Meaning};
 ghost use Rattle.roster_instance.specs.Rosters.{Rows, fits_case};
 ghost use Rattle.roster_rules.specs.HardRules.{keeps_hard};
 ghost use Rattle.roster_rules.specs.Penalties.{penalty};
+ghost use Rattle.roster_bound.specs.declared.decisions.Decision.{Decision};
+ghost use Rattle.roster_bound.specs.Parts.{IsLowerBoundIn, IsLowerBoundInBoth, is_in_part, other_way};
 ghost use Rattle.roster_bound.specs.Worths.{AreWorths, HaveRows, IsLeast, IsLowerBound, PlaceWorths, bound_by, rounded_up};
 
 use roster_instance::{Case, Roster};
@@ -37,4 +39,17 @@ pub fn bounds_are_rounded_up()
     ensures bounds { (c : Meaning) (from : ℕ) (given : Rows) (bound : ℕ) →
         IsLowerBound c from given bound →
         IsLowerBound c from given (rounded_up c bound) }
+{}
+
+/// Each roster of a part is in one of two: where a decision is kept, or where it is kept the other way round. So what bounds both bounds the
+/// part, and the part without decisions is all rosters.
+pub fn parts_make_all()
+    ensures one_of_two { (part : List Decision) (x : Decision) (r : Rows) →
+        is_in_part part r ≡ true → (is_in_part (part ++ x ∷ []) r ≡ true)
+        ⊎ (is_in_part (part ++ other_way x ∷ []) r ≡ true) }
+    ensures both { (c : Meaning) (from : ℕ) (given : Rows) (part : List Decision) (x : Decision)
+        (bound : ℕ) → IsLowerBoundInBoth c from given part x bound →
+        IsLowerBoundIn c from given part bound }
+    ensures all { (c : Meaning) (from : ℕ) (given : Rows) (bound : ℕ) →
+        IsLowerBoundIn c from given [] bound → IsLowerBound c from given bound }
 {}

@@ -6,28 +6,38 @@
 //! all that it tells is the bound of a round, and no less than the first round's. `improve_worths` gives worths alone.
 #![tactic(auto)]
 
+mod choosing;
 mod climb;
+mod decisions;
+mod effort;
 mod fading;
 mod floors;
+mod known;
 mod laws;
 mod moves;
 mod offers;
+mod parts;
 mod places;
 mod rounds;
 mod seen;
+mod tree;
 mod workspace;
 mod worths;
 
+pub use decisions::Decision;
+pub use effort::{Effort, Reached};
 pub use fading::{
     Fading, WHOLE, count_rows, follow_cover, lacks_nurses, pay_places, price_of, put_row,
     raise_missed, take_row,
 };
 pub use floors::{lower_bound, offer_days};
 pub use laws::{
-    bounds_are_rounded_up, met_bound_is_least, no_roster_is_below_the_bound, rows_are_had,
+    bounds_are_rounded_up, met_bound_is_least, no_roster_is_below_the_bound, parts_make_all,
+    rows_are_had,
 };
 pub use offers::{Base, Terms};
 pub use rounds::{MOVES, Pace, improve_worths, raise_floor};
 pub use seen::Seen;
+pub use tree::BoundSpace;
 pub use workspace::{FloorWorkspace, RowSpace};
 pub use worths::{MOST_WORTH, PARTS, Worths};

@@ -6,6 +6,7 @@ ghost use Rattle.roster_instance.specs.Rosters.{is_choice_of};
 ghost use Rattle.roster_bound.specs.Tables.{worths_of};
 ghost use Rattle.roster_bound.specs.Worths.{earned, most_worth};
 
+use crate::decisions::{AGAINST, Decision, is_against};
 use crate::worths::{MOST_WORTH, Worths};
 use roster_instance::{Case, Choice, Roster, Shift, Skill, choice_on};
 use roster_offers::{NurseDay, Offer, Offering};
@@ -30,18 +31,19 @@ pub struct Base<'a> {
 }
 
 /// What offers a nurse the choices of a day by terms: those that a frozen day doesn't forbid, at what she earns less than the most, and
-/// what the requests cost.
+/// what the requests cost. In a part a choice that goes against a decision costs more.
 #[derive(Clone, Copy)]
 pub(crate) struct DayTerms<'a> {
     pub(crate) terms: &'a Terms<'a>,
+    pub(crate) part: &'a [Decision],
     pub(crate) frozen: bool,
 }
 
 impl Offering for DayTerms<'_> {
     ghost use Rattle.std.specs.Prelude.{◌≡◌};
     ghost use Rattle.roster_rules.specs.AllowedRows.{is_frozen, keeps_frozen_day};
+    ghost use Rattle.roster_bound.specs.Parts.{price_in};
     ghost use Rattle.roster_bound.specs.Tables.{worths_of};
-    ghost use Rattle.roster_bound.specs.Worths.{price_by};
 
     ghost Serves = { λ o c n d. (o.terms.now.case.now ≡ c)
         × (o.frozen ≡ is_frozen c o.terms.now.from n d) };
@@ -49,8 +51,8 @@ impl Offering for DayTerms<'_> {
     ghost is_open = { λ o n d choice. keeps_frozen_day o.terms.now.case.now o.terms.now.from
         o.terms.now.given.now n d choice };
 
-    ghost price = { λ o n d choice. price_by o.terms.now.case.now (worths_of o.terms.now.worths.now)
-        n d choice };
+    ghost price = { λ o n d choice. price_in o.terms.now.case.now (worths_of o.terms.now.worths.now)
+        o.part.now n d choice };
 
     fn offer(&self, at: &NurseDay<'_>, choice: Choice, asked: u32) -> Option<Offer> {
         let given = choice_on(self.terms.given.row(at.nurse), at.day);
@@ -58,6 +60,11 @@ impl Offering for DayTerms<'_> {
             return None;
         }
         let price = MOST_WORTH - earned(self.terms, at.day, choice) + asked;
+        let price = if is_against(self.part, at.nurse, at.day, choice) {
+            AGAINST + price
+        } else {
+            price
+        };
         Some(Offer { choice, price })
     }
 }

@@ -7,16 +7,18 @@ ghost use Rattle.roster_instance.specs.Rosters.{fits_case};
 ghost use Rattle.roster_rules.specs.HardRules.{keeps_hard};
 ghost use Rattle.roster_rules.specs.Penalties.{penalty};
 ghost use Rattle.roster_laws.specs.Greatest.{extensions_in, greatest_extension_count};
-ghost use Rattle.roster_bound.specs.Floors.{FloorLogStops, RaisesFloor};
+ghost use Rattle.roster_bound.specs.Floors.{FloorLogStops, HasReached, RaisesFloor, rounds_alone, rounds_of};
 ghost use Rattle.roster_bound.specs.Workspaces.{FitsFloor};
 ghost use Rattle.roster_bound.specs.Tables.{worths_of};
 ghost use Rattle.roster_bound.specs.Worths.{AreWorths, HaveRows, IsLowerBound, bound_by};
 
 use crate::climb::climb;
+use crate::effort::{Effort, Reached};
 use crate::floors::lower_bound;
 use crate::laws::rows_are_had;
 use crate::moves::{Step, farthest, learn};
 use crate::offers::{Base, Terms};
+use crate::tree::{BoundSpace, Under, log_parting, part_least};
 use crate::workspace::FloorWorkspace;
 use roster_case::Held;
 use roster_instance::Case;
@@ -37,35 +39,37 @@ pub struct Pace {
 pub const MOVES: u16 = 20;
 
 /// Raises a floor under every roster of a case that keeps the hard rules and agrees with the held one on the days before week `from`:
-/// so many rounds, each by other worths, or fewer where the floor comes to be what the held roster costs, since none is greater. The log
-/// gets the penalty of the held roster, and then each round in which the floor rose, as it comes. The answer is the last of these floors,
-/// 0 where there was no round: the bound of a round, and no less than the first round's. It takes no memory.
+/// so many rounds, each by other worths, and then so many partings of the rosters, or fewer where the floor comes to be what the held
+/// roster costs, since none is greater. The log gets the penalty of the held roster, and then each round in which the floor rose, as it
+/// comes; a parting has the number of a round after them. The answer is the last of these floors, 0 where there was none: it is no less
+/// than the first round's. It takes no memory.
 ///
 /// # Errors
 ///
 /// The log failed.
 pub fn raise_floor<W: Write>(
     held: &Held,
-    rounds: u16,
+    effort: Effort,
     from: u16,
-    workspace: &mut FloorWorkspace,
+    space: &mut BoundSpace,
     meter: &mut Meter,
     log: &mut Watch<W>,
 ) -> Result<u64, LogFault>
-    requires fits { FitsFloor held.now.case workspace.old }
-    requires room { meter.old + extensions_in held.now.case rounds ≤ greatest_u64 }
-    ensures ok { IfOk result (RaisesFloor W.contents held.now.case from held.now.roster rounds
-        log.old log.new) }
-    ensures err { IfErr result (FloorLogStops W.contents held.now.case from held.now.roster rounds
-        log.old log.new) }
+    requires fits { FitsFloor held.now.case space.old.floor }
+    requires room { meter.old + extensions_in held.now.case (rounds_of effort) ≤ greatest_u64 }
+    ensures ok { IfOk result (RaisesFloor W.contents held.now.case from held.now.roster
+        effort log.old log.new) }
+    ensures err { IfErr result (FloorLogStops W.contents held.now.case from held.now.roster
+        effort log.old log.new) }
     ensures below { IfOk result (IsLowerBound held.now.case from held.now.roster) }
     ensures within { IfOk result (λ bound. bound ≤ penalty held.now.case held.now.roster) }
 
     // A round is left out only where the floor is what the roster costs.
     ensures made { IfOk result (λ bound. bound < penalty held.now.case held.now.roster →
-        meter.old + rounds * (nurse_count held.now.case * day_count held.now.case) ≤ meter.new) }
-    ensures counted { meter.new ≤ meter.old + extensions_in held.now.case rounds }
-    ensures fits { FitsFloor held.now.case workspace.new }
+        meter.old + effort.rounds * (nurse_count held.now.case * day_count held.now.case)
+        ≤ meter.new) }
+    ensures counted { meter.new ≤ meter.old + extensions_in held.now.case (rounds_of effort) }
+    ensures fits { FitsFloor held.now.case space.new.floor }
 {
     held.keeps_rules();
     let base = Base {
@@ -73,32 +77,98 @@ pub fn raise_floor<W: Write>(
         given: held.roster(),
         from,
     };
-    raise_under(&base, held.total(), rounds, workspace, meter, log)
+    let under = Under {
+        base: &base,
+        total: held.total(),
+    };
+    raise_under(&under, effort, space, meter, log)
 }
 
 /// The same under a roster that keeps the hard rules and costs so much.
 fn raise_under<W: Write>(
+    under: &Under<'_>,
+    effort: Effort,
+    space: &mut BoundSpace,
+    meter: &mut Meter,
+    log: &mut Watch<W>,
+) -> Result<u64, LogFault>
+    requires given { fits_case under.now.base.now.case.now under.now.base.now.given.now ≡ true }
+    requires keeps { keeps_hard under.now.base.now.case.now under.now.base.now.given.now ≡ true }
+    requires total { under.now.total ≡ penalty under.now.base.now.case.now
+        under.now.base.now.given.now }
+    requires fits { FitsFloor under.now.base.now.case.now space.old.floor }
+    requires room { meter.old + extensions_in under.now.base.now.case.now (rounds_of effort)
+        ≤ greatest_u64 }
+    ensures ok { IfOk result (RaisesFloor W.contents under.now.base.now.case.now
+        under.now.base.now.from under.now.base.now.given.now effort log.old log.new) }
+    ensures err { IfErr result (FloorLogStops W.contents under.now.base.now.case.now
+        under.now.base.now.from under.now.base.now.given.now effort log.old log.new) }
+    ensures below { IfOk result (IsLowerBound under.now.base.now.case.now under.now.base.now.from
+        under.now.base.now.given.now) }
+    ensures within { IfOk result (λ bound. bound ≤ under.now.total) }
+    ensures made { IfOk result (λ bound. bound < under.now.total →
+        meter.old + effort.rounds * (nurse_count under.now.base.now.case.now
+        * day_count under.now.base.now.case.now) ≤ meter.new) }
+    ensures counted { meter.new ≤ meter.old + extensions_in under.now.base.now.case.now
+        (rounds_of effort) }
+    ensures fits { FitsFloor under.now.base.now.case.now space.new.floor }
+{
+    let base = under.base;
+    rows_are_had(base.case, base.given, base.from);
+    let mut reached = make_rounds(
+        base,
+        under.total,
+        effort.rounds,
+        &mut space.floor,
+        meter,
+        log,
+    )?;
+    if !space.parts.begin(reached.bound) {
+        return Ok(reached.bound);
+    }
+    for parted in 0..effort.nodes {
+        if reached.bound >= under.total {
+            return Ok(reached.bound);
+        }
+        let is_parted = part_least(under, space, meter);
+        if !is_parted {
+            return Ok(reached.bound);
+        }
+        let bound = space.parts.floor();
+        if bound <= reached.bound {
+            continue;
+        }
+        let round = effort.rounds as u64 + parted as u64 + 1;
+        let sent = log_parting(log, reached.sent, round, bound)?;
+        reached = Reached { bound, sent };
+    }
+    Ok(reached.bound)
+}
+
+/// The rounds alone, under a roster that keeps the hard rules and costs so much.
+fn make_rounds<W: Write>(
     base: &Base<'_>,
     total: u64,
     rounds: u16,
     workspace: &mut FloorWorkspace,
     meter: &mut Meter,
     log: &mut Watch<W>,
-) -> Result<u64, LogFault>
+) -> Result<Reached, LogFault>
     requires given { fits_case base.now.case.now base.now.given.now ≡ true }
     requires keeps { keeps_hard base.now.case.now base.now.given.now ≡ true }
-    requires total { total ≡ penalty base.now.case.now base.now.given.now }
+    requires total { total ≡ penalty base.now.case.now
+        base.now.given.now }
     requires fits { FitsFloor base.now.case.now workspace.old }
     requires room { meter.old + extensions_in base.now.case.now rounds ≤ greatest_u64 }
-    ensures ok { IfOk result (RaisesFloor W.contents base.now.case.now base.now.from
-        base.now.given.now rounds log.old log.new) }
-    ensures err { IfErr result (FloorLogStops W.contents base.now.case.now base.now.from
-        base.now.given.now rounds log.old log.new) }
-    ensures below { IfOk result (IsLowerBound base.now.case.now base.now.from base.now.given.now) }
-    ensures within { IfOk result (λ bound. bound ≤ total) }
-    ensures made { IfOk result (λ bound. bound < total →
-        meter.old + rounds * (nurse_count base.now.case.now * day_count base.now.case.now)
-        ≤ meter.new) }
+    ensures ok { IfOk result (HasReached W.contents base.now.case.now
+        base.now.from base.now.given.now (rounds_alone rounds) log.old log.new) }
+    ensures err { IfErr result (FloorLogStops W.contents base.now.case.now
+        base.now.from base.now.given.now (rounds_alone rounds) log.old log.new) }
+    ensures below { IfOk result (λ reached. IsLowerBound base.now.case.now
+        base.now.from base.now.given.now reached.bound) }
+    ensures made { IfOk result (λ reached. reached.bound < total →
+        meter.old + rounds * (nurse_count base.now.case.now
+        * day_count base.now.case.now) ≤ meter.new) }
     ensures counted { meter.new ≤ meter.old + extensions_in base.now.case.now rounds }
     ensures fits { FitsFloor base.now.case.now workspace.new }
 {
@@ -112,17 +182,23 @@ fn raise_under<W: Write>(
     let mut sent = log_start(log, 0, base.case, total)?;
     for rounds_before in 0..rounds {
         if best >= total {
-            return Ok(best);
+            return Ok(Reached { bound: best, sent });
         }
         let bound = make_round(base, workspace, meter);
-        prepare_next(base.case, rounds_before, pace, is_late(rounds_before, rounds), workspace);
+        prepare_next(
+            base.case,
+            rounds_before,
+            pace,
+            is_late(rounds_before, rounds),
+            workspace,
+        );
         if bound <= best {
             continue;
         }
         best = bound;
         sent = log_round(log, sent, rounds_before + 1, bound)?;
     }
-    Ok(best)
+    Ok(Reached { bound: best, sent })
 }
 
 /// Improves the worths of a workspace as `raise_floor` does, and tells no floor. It makes a search for each nurse in each round, of which
@@ -188,13 +264,7 @@ fn is_late(made: u16, rounds: u16) -> bool {
 }
 
 /// Moves the worths after a round, and puts those of the next one: the same, or where they climb, whole points about them.
-fn prepare_next(
-    case: &Case,
-    made: u16,
-    pace: Pace,
-    climbs: bool,
-    workspace: &mut FloorWorkspace,
-)
+fn prepare_next(case: &Case, made: u16, pace: Pace, climbs: bool, workspace: &mut FloorWorkspace)
     requires fits { FitsFloor case.now workspace.old }
     ensures { FitsFloor case.now workspace.new }
 {
@@ -246,7 +316,7 @@ fn count_known_rows(case: &Case, workspace: &mut FloorWorkspace)
 }
 
 /// Moves each worth by the rows that are counted, by such a step at most.
-fn move_once(case: &Case, step: Step, workspace: &mut FloorWorkspace)
+pub(crate) fn move_once(case: &Case, step: Step, workspace: &mut FloorWorkspace)
     requires fits { FitsFloor case.now workspace.old }
     ensures { FitsFloor case.now workspace.new }
 {

@@ -43,7 +43,7 @@ impl Drop for Seen {
 }
 
 /// The place of a day off: no case has so many.
-const NOWHERE: u16 = u16::MAX;
+pub(crate) const NOWHERE: u16 = u16::MAX;
 
 impl Seen {
     /// Room for rows of the nurses of a case, by two growths. None is kept.
@@ -192,7 +192,7 @@ impl Seen {
     }
 
     /// Counts a row at its places.
-    fn count_row(&self, case: &Case, at: usize, cover: &mut [u16])
+    pub(crate) fn count_row(&self, case: &Case, at: usize, cover: &mut [u16])
         requires fits { FitsSeen case.now self.now }
         requires at { at < length self.now.marks.items }
         ensures { length cover.new ≡ length cover.old }
@@ -208,7 +208,7 @@ impl Seen {
 }
 
 /// The place of a choice on a day.
-fn place_on(choice: Choice, day: usize) -> u16 {
+pub(crate) fn place_on(choice: Choice, day: usize) -> u16 {
     let Choice::Work(shift, skill) = choice else {
         return NOWHERE;
     };

@@ -295,7 +295,7 @@ fn asks_for_bound(alloc: Global, words: &[&str], (rounds, from, keep): (u16, u16
     let Ok(request) = request_of(alloc, words) else {
         return false;
     };
-    matches!(request.command, Command::Bound { rounds: some, from: first, keep: kept }
+    matches!(request.command, Command::Bound { rounds: some, nodes: 0, from: first, keep: kept }
         if some == rounds && first == from && kept == keep)
 }
 

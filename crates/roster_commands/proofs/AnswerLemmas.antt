@@ -135,7 +135,7 @@ some_report command.Cost c r = (cost_report c r, refl)
 some_report command.Sizes c r = (plain (sizes_text c), refl)
 some_report (command.Best nurse from keep) c r = (best_report (string_bytes nurse) from c r, refl)
 some_report (command.Improve rounds from keep) c r = (improve_report rounds from c r, refl)
-some_report (command.Bound rounds from keep) c r = let some = some_log c from r rounds in (bound_report some.0 c r, of_floors rounds from c r some.0 some.1)
+some_report (command.Bound rounds nodes from keep) c r = let some = some_log c from r (record { rounds = rounds; nodes = nodes }) in (bound_report some.0 c r, of_floors (record { rounds = rounds; nodes = nodes }) from c r some.0 some.1)
 some_report (command.Polish searches seed from kicks keep) c r = (kickless from c r, no_kick (searches_for c searches) from kicks c r)
 some_report (command.Who day shift skill from) c r =
     let names : AskedNames = record { day = string_bytes day; shift = string_bytes shift; skill = option_map string_bytes skill } in

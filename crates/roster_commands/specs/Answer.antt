@@ -29,7 +29,7 @@ use Rattle.roster_instance.specs.declared.fault.CaseFault.TheVariants.{Memory}
 use Rattle.roster_rules.specs.declared.fault.HardFault.{HardFault}
 use Rattle.roster_rules.specs.Improver.{log_of, run}
 use Rattle.roster_rounds.specs.RunLogs.{text_of}
-use Rattle.roster_laws.specs.FrozenDays.{FrozenDaysStay}
+use Rattle.roster_bound.specs.declared.effort.Effort.{Effort}
 use Rattle.roster_bound.specs.Floors.{FloorLine, IsFloorLog, floor_text, last_line, no_line}
 use Rattle.roster_bound.specs.Worths.{IsLowerBound}
 use Rattle.roster_rounds.specs.PutIn.{IsAccepted}
@@ -230,16 +230,16 @@ abbrev pub improve_report : (rounds from : ℕ) → Meaning → Rows → Report
 improve_report rounds from c r =
     record (plain (weeks_text c (improved c rounds from r))) { is_held = true; broken = hard_faults c r; log = Some (run_log c rounds from r) }
 
--- what the roster costs, and the last of the floors that some rounds reached, each with its round; 0 where there is none
+-- what the roster costs, and the last of the floors that were reached, each with its round; 0 where there is none
 abbrev pub bound_report : List FloorLine → Meaning → Rows → Report
 bound_report lines c r =
     record (plain (bound_text (penalty c r) (last_line no_line lines).bound)) { is_held = true; broken = hard_faults c r; log = Some (floor_text c r lines) }
 
--- it is of floors under each roster that keeps the hard rules and the days before a week: bounds of rounds, no less than the first
--- round's, which is said; how high later ones get isn't
-pub record IsBoundReport (rounds from : ℕ) (c : Meaning) (r : Rows) (p : Report) : Type 0 where
+-- it is of floors under each roster that keeps the hard rules and the days before a week, no less than the bound of the first round,
+-- which is said; how high later ones get isn't
+pub record IsBoundReport (effort : Effort) (from : ℕ) (c : Meaning) (r : Rows) (p : Report) : Type 0 where
   pub lines : List FloorLine
-  pub is_log : IsFloorLog c from r rounds lines
+  pub is_log : IsFloorLog c from r effort lines
   pub below : IsLowerBound c from r (last_line no_line lines).bound
   pub is : p ≡ bound_report lines c r
 
@@ -328,7 +328,7 @@ searches_for c (Some searches) = searches
 abbrev pub keep_of : Command → ℕ
 keep_of (command.Best nurse from keep) = min keep most_keep
 keep_of (command.Improve rounds from keep) = min keep most_keep
-keep_of (command.Bound rounds from keep) = min keep most_keep
+keep_of (command.Bound rounds nodes from keep) = min keep most_keep
 keep_of (command.Polish searches seed from kicks keep) = min keep most_keep
 keep_of (command.Plan searches seed from keep) = min keep most_keep
 keep_of _ = 0
@@ -344,7 +344,7 @@ IsReportIn command.Cost c r p = p ≡ cost_report c r
 IsReportIn command.Sizes c r p = p ≡ plain (sizes_text c)
 IsReportIn (command.Best nurse from keep) c r p = p ≡ best_report (string_bytes nurse) from c r
 IsReportIn (command.Improve rounds from keep) c r p = p ≡ improve_report rounds from c r
-IsReportIn (command.Bound rounds from keep) c r p = IsBoundReport rounds from c r p
+IsReportIn (command.Bound rounds nodes from keep) c r p = IsBoundReport (record { rounds = rounds; nodes = nodes }) from c r p
 IsReportIn (command.Polish searches seed from kicks keep) c r p = IsPolishReport (searches_for c searches) from kicks c r p
 IsReportIn (command.Plan searches seed from keep) c r p = IsPlanReport (searches_for c searches) from false c r p
 IsReportIn (command.Who day shift skill from) c r p = IsWhoReport (record { day = string_bytes day; shift = string_bytes shift; skill = option_map string_bytes skill }) from c r p
@@ -358,8 +358,8 @@ IsReportOf command c r p = IsReportIn command (case_for command c r) r p
 abbrev pub IsReportFor : Command → Instance → Report → Type 0
 IsReportFor command instance p = IsReportIn command instance.case instance.roster p
 
-abbrev pub IsBoundFor : (rounds from : ℕ) → Instance → Report → Type 0
-IsBoundFor rounds from instance p = IsBoundReport rounds from instance.case instance.roster p
+abbrev pub IsBoundFor : Effort → (from : ℕ) → Instance → Report → Type 0
+IsBoundFor effort from instance p = IsBoundReport effort from instance.case instance.roster p
 
 abbrev pub IsPolishFor : Course → Instance → Report → Type 0
 IsPolishFor course instance p = IsPolishReport course.searches course.from course.kicks instance.case instance.roster p

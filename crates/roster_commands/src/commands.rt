@@ -18,6 +18,7 @@ use crate::polish::report_polish;
 use crate::reading::Instance;
 use crate::weeks::show_weeks;
 use crate::who::report_who;
+use roster_bound::Effort;
 use roster_instance::Case;
 use roster_polish::Course;
 use roster_reports::{write_costs, write_sizes};
@@ -59,8 +60,17 @@ pub(crate) fn report<'a, Out: Write, Log: Write>(
         Command::Improve { rounds, from, .. } => {
             report_improve(alloc, *rounds, *from, source, instance, output, log)
         }
-        Command::Bound { rounds, from, .. } => {
-            report_bound(alloc, *rounds, *from, source, instance, output, log)
+        Command::Bound {
+            rounds,
+            nodes,
+            from,
+            ..
+        } => {
+            let effort = Effort {
+                rounds: *rounds,
+                nodes: *nodes,
+            };
+            report_bound(alloc, effort, *from, source, instance, output, log)
         }
         Command::Polish {
             searches,

@@ -14,8 +14,8 @@ use Rattle.clap.specs.declared.parser.matches.Found.{Found}
 use Rattle.clap.proofs.CallerReads.{signed_reads}
 use Rattle.clap.proofs.ValueTestLemmas.{accepts-Accepts}
 use Rattle.clap.proofs.WalkLemmas.{one_text-rows}
-use Rattle.roster_request.specs.Limits.{most_from, most_keep, most_rounds, most_searches, most_seed}
-use Rattle.roster_request.specs.CommandLine.{HasFrom, HasKeep, HasNumber, HasRounds, HasSearches, HasSeed, IsNumberOf, Meets, program, with_from, with_keep, with_rounds, with_searches}
+use Rattle.roster_request.specs.Limits.{most_from, most_keep, most_nodes, most_rounds, most_searches, most_seed}
+use Rattle.roster_request.specs.CommandLine.{HasFrom, HasKeep, HasNodes, HasNumber, HasRounds, HasSearches, HasSeed, IsNumberOf, Meets, program, with_from, with_keep, with_nodes, with_rounds, with_searches}
 use Rattle.roster_request.proofs.OptionLemmas.{AllHave, FirstPasses, HasIfGiven, HasValue, meets_if_given, meets_value, there_by_default}
 
 passed : (t : Bool) (k : ErrorKind) → cond t [] (k ∷ []) ≡ [] → t ≡ true
@@ -62,6 +62,9 @@ module _ (name : Text) (most : ℕ) where
 
 pub meets_rounds : (words : List Text) → fault_of program words ≡ [] → Meets with_rounds HasRounds (subcommand_of program words)
 meets_rounds = meets_number (codes "rounds") most_rounds (codes "100") with_rounds refl refl
+
+pub meets_nodes : (words : List Text) → fault_of program words ≡ [] → Meets with_nodes HasNodes (subcommand_of program words)
+meets_nodes = meets_number (codes "nodes") most_nodes (codes "0") with_nodes refl refl
 
 pub meets_searches : (words : List Text) → fault_of program words ≡ [] → Meets with_searches HasSearches (subcommand_of program words)
 meets_searches = meets_number_if_given (codes "searches") most_searches with_searches refl

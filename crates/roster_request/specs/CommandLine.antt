@@ -14,7 +14,7 @@ use Rattle.roster_request.specs.declared.request.Command.TheVariants as command
 use Rattle.roster_request.specs.declared.request.CliFault.{CliFault}
 use Rattle.roster_request.specs.declared.request.CliFault.TheVariants as fault
 use Rattle.roster_request.specs.declared.request.Request.{Request}
-use Rattle.roster_request.specs.Limits.{most_from, most_keep, most_rounds, most_searches, most_seed}
+use Rattle.roster_request.specs.Limits.{most_from, most_keep, most_nodes, most_rounds, most_searches, most_seed}
 
 -- any number of files
 abbrev pub files_rule : Rule
@@ -60,6 +60,10 @@ number_rule name most default = record (value_rule name) {
 -- how many rounds a run may make
 abbrev pub rounds_rule : Rule
 rounds_rule = number_rule (codes "rounds") most_rounds (codes "100")
+
+-- how often a floor may part the rosters
+abbrev pub nodes_rule : Rule
+nodes_rule = number_rule (codes "nodes") most_nodes (codes "0")
 
 -- how many searches a run may make, a number that may be left out
 abbrev pub searches_rule : Rule
@@ -113,7 +117,7 @@ abbrev pub commands : List Shape
 commands =
     (command_of (codes "show")).top ∷ (command_of (codes "cost")).top ∷ (command_of (codes "sizes")).top
     ∷ (own_command_of (nurse_rule ∷ from_rule ∷ keep_rule ∷ []) (codes "best")).top ∷ (own_command_of (rounds_rule ∷ from_rule ∷ keep_rule ∷ []) (codes "improve")).top
-    ∷ (own_command_of (rounds_rule ∷ from_rule ∷ keep_rule ∷ []) (codes "bound")).top ∷ (own_command_of (searches_rule ∷ seed_rule ∷ kicks_rule ∷ from_rule ∷ keep_rule ∷ []) (codes "polish")).top
+    ∷ (own_command_of (rounds_rule ∷ nodes_rule ∷ from_rule ∷ keep_rule ∷ []) (codes "bound")).top ∷ (own_command_of (searches_rule ∷ seed_rule ∷ kicks_rule ∷ from_rule ∷ keep_rule ∷ []) (codes "polish")).top
     ∷ plan.top ∷ who.top ∷ []
 
 -- the program's definition for clap
@@ -127,7 +131,7 @@ name_of command.Cost = codes "cost"
 name_of command.Sizes = codes "sizes"
 name_of (command.Best nurse from keep) = codes "best"
 name_of (command.Improve rounds from keep) = codes "improve"
-name_of (command.Bound rounds from keep) = codes "bound"
+name_of (command.Bound rounds nodes from keep) = codes "bound"
 name_of (command.Polish searches seed from kicks keep) = codes "polish"
 name_of (command.Plan searches seed from keep) = codes "plan"
 name_of (command.Who day shift skill from) = codes "who"
@@ -149,6 +153,9 @@ pub record HasNumber (name : Text) (most : ℕ) (rows : List Row) : Type 0 where
 
 abbrev pub HasRounds : List Row → Type 0
 HasRounds rows = HasNumber (codes "rounds") most_rounds rows
+
+abbrev pub HasNodes : List Row → Type 0
+HasNodes rows = HasNumber (codes "nodes") most_nodes rows
 
 abbrev pub HasSearches : List Row → Type 0
 HasSearches rows = (one_of (codes "searches") rows ≡ None) ⊎ HasNumber (codes "searches") most_searches rows
@@ -178,6 +185,10 @@ with_assignment = codes "who" ∷ []
 -- some weeks as they are
 abbrev pub with_rounds : List Text
 with_rounds = codes "improve" ∷ codes "bound" ∷ []
+
+-- the one that may part the rosters
+abbrev pub with_nodes : List Text
+with_nodes = codes "bound" ∷ []
 
 abbrev pub with_searches : List Text
 with_searches = codes "polish" ∷ codes "plan" ∷ []
@@ -220,7 +231,8 @@ pub record IsFlag (name : Text) (is_given : Bool) (rows : List Row) : Type 0 whe
 abbrev pub HasArguments : Command → List Row → Type 0
 HasArguments (command.Best nurse from keep) rows = (first_of (codes "nurse") rows ≡ Some (string_bytes nurse)) × IsNumberOf (codes "from") from rows × IsNumberOf (codes "keep") keep rows
 HasArguments (command.Improve rounds from keep) rows = IsNumberOf (codes "rounds") rounds rows × IsNumberOf (codes "from") from rows × IsNumberOf (codes "keep") keep rows
-HasArguments (command.Bound rounds from keep) rows = IsNumberOf (codes "rounds") rounds rows × IsNumberOf (codes "from") from rows × IsNumberOf (codes "keep") keep rows
+HasArguments (command.Bound rounds nodes from keep) rows =
+    IsNumberOf (codes "rounds") rounds rows × IsNumberOf (codes "nodes") nodes rows × IsNumberOf (codes "from") from rows × IsNumberOf (codes "keep") keep rows
 HasArguments (command.Polish searches seed from kicks keep) rows =
     IsNumberIfGiven (codes "searches") searches rows × IsNumberOf (codes "seed") seed rows × IsNumberOf (codes "from") from rows × IsFlag (codes "kicks") kicks rows × IsNumberOf (codes "keep") keep rows
 HasArguments (command.Plan searches seed from keep) rows = IsNumberIfGiven (codes "searches") searches rows × IsNumberOf (codes "seed") seed rows × IsNumberOf (codes "from") from rows × IsNumberOf (codes "keep") keep rows
@@ -228,11 +240,11 @@ HasArguments (command.Who day shift skill from) rows =
     (first_of (codes "day") rows ≡ Some (string_bytes day)) × (first_of (codes "shift") rows ≡ Some (string_bytes shift)) × (first_of (codes "skill") rows ≡ option_map string_bytes skill) × IsNumberOf (codes "from") from rows
 HasArguments _ rows = Unit {0}
 
--- the rounds or searches of a command that has some are within their limit, and so are its first week and its points
+-- the rounds, partings or searches of a command that has some are within their limit, and so are its first week and its points
 abbrev pub IsInRange : Command → Type 0
 IsInRange (command.Best nurse from keep) = (from ≤ most_from) × (keep ≤ most_keep)
 IsInRange (command.Improve rounds from keep) = (rounds ≤ most_rounds) × (from ≤ most_from) × (keep ≤ most_keep)
-IsInRange (command.Bound rounds from keep) = (rounds ≤ most_rounds) × (from ≤ most_from) × (keep ≤ most_keep)
+IsInRange (command.Bound rounds nodes from keep) = (rounds ≤ most_rounds) × (nodes ≤ most_nodes) × (from ≤ most_from) × (keep ≤ most_keep)
 IsInRange (command.Polish searches seed from kicks keep) = IfSome searches (λ n. n ≤ most_searches) × (from ≤ most_from) × (keep ≤ most_keep)
 IsInRange (command.Plan searches seed from keep) = IfSome searches (λ n. n ≤ most_searches) × (from ≤ most_from) × (keep ≤ most_keep)
 IsInRange (command.Who day shift skill from) = from ≤ most_from

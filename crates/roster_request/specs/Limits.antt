@@ -5,6 +5,10 @@ use Rattle.std.specs.Prelude.{ℕ}
 abbrev pub most_rounds : ℕ
 most_rounds = 1000
 
+-- how often a floor may part the rosters
+abbrev pub most_nodes : ℕ
+most_nodes = 10000
+
 -- the most searches that a run may be asked for
 abbrev pub most_searches : ℕ
 most_searches = 10000000

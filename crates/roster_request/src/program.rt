@@ -3,13 +3,13 @@
 ghost use Rattle.std.specs.Prelude.{◌≡◌, [], ◌∷◌, codes, drop, IfOk, IsOkAnd, false, true};
 ghost use Rattle.std.specs.List.{fold};
 ghost use Rattle.clap.specs.Words.{app_of, new_app, rule_of, with_rule, with_subcommand};
-ghost use Rattle.roster_request.specs.CommandLine.{bare, command_of, commands, files_rule, from_rule, given_rule, keep_rule, kicks_rule, number_rule, own_command_of, nurse_rule, plan, program, rounds_rule, searches_rule, searching, seed_rule, skill_rule, value_rule, who};
+ghost use Rattle.roster_request.specs.CommandLine.{bare, command_of, commands, files_rule, from_rule, given_rule, keep_rule, kicks_rule, nodes_rule, number_rule, own_command_of, nurse_rule, plan, program, rounds_rule, searches_rule, searching, seed_rule, skill_rule, value_rule, who};
 
 use crate::texts::{
     ABOUT, BEST, BEST_HELP, BOUND, BOUND_HELP, COST, COST_HELP, EXAMPLES, FIRST_WEEK, IMPROVE,
-    IMPROVE_HELP, KEPT_POINTS, KICKS_ALONE, NURSE_NAME, PLAN, PLAN_HELP, POLISH, POLISH_HELP,
-    ROUND_COUNT, SEARCH_COUNT, SEED_NUMBER, SHIFT_NAME, SHOW, SHOW_HELP, SIZES, SIZES_HELP,
-    SKILL_NAME, TEXTS, WEEK_AND_DAY, WHO, WHO_HELP,
+    IMPROVE_HELP, KEPT_POINTS, KICKS_ALONE, NODE_COUNT, NURSE_NAME, PLAN, PLAN_HELP, POLISH,
+    POLISH_HELP, ROUND_COUNT, SEARCH_COUNT, SEED_NUMBER, SHIFT_NAME, SHOW, SHOW_HELP, SIZES,
+    SIZES_HELP, SKILL_NAME, TEXTS, WEEK_AND_DAY, WHO, WHO_HELP,
 };
 use clap::builder::ValueParser;
 use clap::{Arg, ArgAction, Command};
@@ -49,6 +49,15 @@ pub(crate) const ROUNDS: NumberOption = NumberOption {
     most: 1000,
     default: "100",
     help: ROUND_COUNT,
+};
+
+/// How often a floor may part the rosters.
+pub(crate) const NODES: NumberOption = NumberOption {
+    name: "nodes",
+    value: "N",
+    most: 10_000,
+    default: "0",
+    help: NODE_COUNT,
 };
 
 /// The name by which a number of searches is asked for, and the greatest.
@@ -102,10 +111,8 @@ fn with_search_commands<'a>(alloc: Global, program: Made<'a>) -> Made<'a>
         (λ p. app_of c ≡ fold with_subcommand (app_of p) (drop 3 commands))) }
 {
     let with_best = with_command(program, best_command(alloc));
-    let improve = rounds_command(alloc, "improve", IMPROVE, IMPROVE_HELP);
-    let with_improve = with_command(with_best, improve);
-    let bound = rounds_command(alloc, "bound", BOUND, BOUND_HELP);
-    let with_bound = with_command(with_improve, bound);
+    let with_improve = with_command(with_best, improve_command(alloc));
+    let with_bound = with_command(with_improve, bound_command(alloc));
     let with_polish = with_command(with_bound, polish_command(alloc));
     let with_plan = with_command(with_polish, plan_command(alloc));
     with_command(with_plan, who_command(alloc))
@@ -176,13 +183,23 @@ fn who_command<'a>(alloc: Global) -> Made<'a>
     with_files(alloc, with_from)
 }
 
-/// A command that makes rounds.
-fn rounds_command<'a>(alloc: Global, name: &'a str, about: &'a str, help: &'a str) -> Made<'a>
+/// The command `improve`.
+fn improve_command<'a>(alloc: Global) -> Made<'a>
     ensures { IfOk result (λ c. app_of c ≡ own_command_of (rounds_rule ∷ from_rule ∷ keep_rule ∷ [])
-        name.now) }
+        (codes "improve")) }
 {
-    let command = Ok(command(alloc, name, about, help));
+    let command = Ok(command(alloc, "improve", IMPROVE, IMPROVE_HELP));
     with_weeks(alloc, with_number(alloc, command, ROUNDS))
+}
+
+/// The command `bound`.
+fn bound_command<'a>(alloc: Global) -> Made<'a>
+    ensures { IfOk result (λ c. app_of c ≡ own_command_of
+        (rounds_rule ∷ nodes_rule ∷ from_rule ∷ keep_rule ∷ []) (codes "bound")) }
+{
+    let command = Ok(command(alloc, "bound", BOUND, BOUND_HELP));
+    let with_rounds = with_number(alloc, command, ROUNDS);
+    with_weeks(alloc, with_number(alloc, with_rounds, NODES))
 }
 
 /// The command `polish`.

@@ -29,9 +29,10 @@ pub enum Command {
         keep: u16,
     },
     /// Writes a number that no roster costs less than: none that keeps the hard rules and the weeks before week `from` as they stand.
-    /// It is the last that rises in so many rounds.
+    /// It is the last that rises in so many rounds, and then in so many partings of the rosters.
     Bound {
         rounds: u16,
+        nodes: u16,
         from: u16,
         keep: u16,
     },

@@ -180,6 +180,11 @@ mostly find a greater bound, but not always. With --rounds 0 the bound is 0.
 Where it comes to be what the roster costs, the run ends: no roster of these is
 cheaper.
 
+With --nodes N the rosters are then parted, N times at most: those in which a
+nurse does a certain choice on a day, and those in which she doesn't. The bound
+is the least of the bounds of the parts, and the part that has it is parted next.
+The log numbers this as further rounds.
+
 With --from V the weeks 0 to V - 1 are frozen: the bound is for those rosters in
 which each nurse's days in them, and those of the section FIXED, are as they
 stand. Where V is above the last week, that is the given roster alone.
@@ -195,10 +200,14 @@ run takes. For its memory and the greatest number of steps for a nurse see
 Examples:
   roster bound examples/ward.txt
   roster bound --rounds 300 examples/ward.txt
+  roster bound --nodes 100 examples/ward.txt
   roster bound --rounds 1 --from 2 examples/ward.txt
 
 The files are read one after another, in the order given. Without a file, the
 texts are read from standard input.";
+
+pub(crate) const NODE_COUNT: &str =
+    "After the rounds the run parts the rosters so often at most, 0 to 10000";
 
 pub(crate) const SEARCH_COUNT: &str =
     "Apart from the first settling the run takes so many searches at most, 0 to 10000000; if it is \

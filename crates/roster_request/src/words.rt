@@ -2,12 +2,12 @@
 
 ghost use Rattle.std.specs.Prelude.{◌≡◌, ◌≢◌, ◌≤◌, [], Some, codes, IfOk, IfErr, IfSome, OnOk, IsSomeAnd, map, option_map, string_bytes};
 ghost use Rattle.clap.specs.Words.{fault_of, first_of, found_of, kind_of, rows_of, subcommand_rows_of};
-ghost use Rattle.roster_request.specs.CommandLine.{HasArguments, HasFrom, HasKeep, HasNumber, HasRounds, HasSearches, HasSeed, HasText, IsAsked, IsAskedIn, IsFlag, IsGiven, IsInRange, IsNameOf, IsNumberIfGiven, IsNumberOf, IsOneOf, Meets, Refuses, TellsKind, commands, files_in, name_of, program, with_assignment, with_from, with_keep, with_nurse, with_rounds, with_searches};
-ghost use Rattle.roster_request.specs.Limits.{most_from, most_keep, most_rounds, most_searches};
+ghost use Rattle.roster_request.specs.CommandLine.{HasArguments, HasFrom, HasKeep, HasNodes, HasNumber, HasRounds, HasSearches, HasSeed, HasText, IsAsked, IsAskedIn, IsFlag, IsGiven, IsInRange, IsNameOf, IsNumberIfGiven, IsNumberOf, IsOneOf, Meets, Refuses, TellsKind, commands, files_in, name_of, program, with_assignment, with_from, with_keep, with_nodes, with_nurse, with_rounds, with_searches};
+ghost use Rattle.roster_request.specs.Limits.{most_from, most_keep, most_nodes, most_rounds, most_searches};
 
 use crate::program::{
-    DAY, FILES, FROM, KEEP, KICKS, NURSE, NumberOption, ROUNDS, SEARCHES, SEED, SHIFT, SKILL,
-    program,
+    DAY, FILES, FROM, KEEP, KICKS, NODES, NURSE, NumberOption, ROUNDS, SEARCHES, SEED, SHIFT,
+    SKILL, program,
 };
 use crate::request::{CliFault, Command, Request};
 use crate::texts::EXAMPLES;
@@ -20,7 +20,7 @@ use std::convert::AsStr;
 pub fn request_of<S: AsStr>(alloc: Global, words: &[S]) -> Result<Request, CliFault>
     // The command with its arguments, and the files, are those that clap's matches give for the words.
     ensures request { IfOk result (IsAsked (map S.text words.now)) }
-    // The rounds and the searches of a run, the first week that may change, and the points are within their limits.
+    // The rounds, the partings and the searches of a run, the first week that may change, and the points are within their limits.
     ensures range { IfOk result (λ r. IsInRange r.command) }
     ensures faultless { OnOk result (fault_of program (map S.text words.now) ≡ []) }
     ensures refusal { IfErr result (Refuses (map S.text words.now)) }
@@ -39,6 +39,7 @@ fn request_in(alloc: Global, matches: &ArgMatches<'_>) -> Result<Request, CliFau
     requires shift { Meets with_assignment (IsGiven (codes "shift"))
         (subcommand_rows_of matches.now) }
     requires rounds { Meets with_rounds HasRounds (subcommand_rows_of matches.now) }
+    requires nodes { Meets with_nodes HasNodes (subcommand_rows_of matches.now) }
     requires searches { Meets with_searches HasSearches (subcommand_rows_of matches.now) }
     requires seed { Meets with_searches HasSeed (subcommand_rows_of matches.now) }
     requires from { Meets with_from HasFrom (subcommand_rows_of matches.now) }
@@ -66,6 +67,7 @@ fn command_in(alloc: Global, name: &str, given: &ArgMatches<'_>) -> Result<Comma
     requires shift { IsOneOf with_assignment name.now →
         IsGiven (codes "shift") (rows_of (found_of given.now)) }
     requires rounds { IsOneOf with_rounds name.now → HasRounds (rows_of (found_of given.now)) }
+    requires nodes { IsOneOf with_nodes name.now → HasNodes (rows_of (found_of given.now)) }
     requires searches { IsOneOf with_searches name.now →
         HasSearches (rows_of (found_of given.now)) }
     requires seed { IsOneOf with_searches name.now → HasSeed (rows_of (found_of given.now)) }
@@ -92,6 +94,7 @@ fn command_in(alloc: Global, name: &str, given: &ArgMatches<'_>) -> Result<Comma
         }),
         "bound" => Ok(Command::Bound {
             rounds: rounds_of(given),
+            nodes: nodes_of(given),
             from: from_of(given),
             keep: keep_of(given),
         }),
@@ -152,6 +155,15 @@ fn rounds_of(given: &ArgMatches<'_>) -> u16
     ensures range { result ≤ most_rounds }
 {
     number_of(given, ROUNDS) as u16
+}
+
+/// How often a floor may part the rosters.
+fn nodes_of(given: &ArgMatches<'_>) -> u16
+    requires { HasNodes (rows_of (found_of given.now)) }
+    ensures nodes { IsNumberOf (codes "nodes") result (rows_of (found_of given.now)) }
+    ensures range { result ≤ most_nodes }
+{
+    number_of(given, NODES) as u16
 }
 
 /// The number of searches, where one is given.

@@ -86,6 +86,7 @@ fn command_of(alloc: Global, name: &str) -> Result<Command, AllocError> {
         },
         "bound" => Command::Bound {
             rounds: 1,
+            nodes: 1,
             from: 0,
             keep: 0,
         },

@@ -40,6 +40,7 @@ complete -c roster -n '__roster_is improve' -l keep -x -d 'Each day of a nurse t
 complete -c roster -n '__roster_is improve' -s h -l help -d 'Print help'
 complete -c roster -n '__roster_is bound' -F
 complete -c roster -n '__roster_is bound' -l rounds -x -d 'The run makes so many rounds at most, 0 to 1000 [default: 100]'
+complete -c roster -n '__roster_is bound' -l nodes -x -d 'After the rounds the run parts the rosters so often at most, 0 to 10000 [default: 0]'
 complete -c roster -n '__roster_is bound' -l from -x -d 'The first week that may change, 0 to 52: the weeks before it stay as they stand [default: 0]'
 complete -c roster -n '__roster_is bound' -l keep -x -d 'Each day of a nurse that becomes another than in the given roster costs so many points more, 0 to 100 [default: 0]'
 complete -c roster -n '__roster_is bound' -s h -l help -d 'Print help'

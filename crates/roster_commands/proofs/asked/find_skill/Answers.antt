@@ -1,4 +1,4 @@
-use Rattle.std.proofs.Common.{◌≡◌, ◌∙◌, [], ap, arith, below_more, option_map, sym}
+use Rattle.std.proofs.Common.{◌∙◌, ap, arith, below_more, option_map, sym}
 use Rattle.std.specs.Prelude.{bytes_eq}
 use Rattle.roster_instance.specs.Meaning.{skill_at}
 use Rattle.roster_commands.proofs.AskedLemmas.{found_at, none_found}

@@ -16,6 +16,9 @@ from_of-requires-in-improve c = c.requires.from (inr (inr (inr (inr (inl c.in-im
 pub rounds_of-requires-in-bound : goal.rounds_of-requires-in-bound
 rounds_of-requires-in-bound c = c.requires.rounds (inr (inl c.in-bound.is))
 
+pub nodes_of-requires : goal.nodes_of-requires
+nodes_of-requires c = c.requires.nodes (inl c.in-bound.is)
+
 pub from_of-requires-in-bound : goal.from_of-requires-in-bound
 from_of-requires-in-bound c = c.requires.from (inr (inr (inr (inr (inr (inl c.in-bound.is))))))
 

@@ -5,12 +5,13 @@ use Rattle.roster_laws.specs.Greatest.{greatest_extension_count}
 use Rattle.roster_bound.specs.Seen.{FitsSeen}
 use Rattle.roster_bound.specs.Tables.{worths_of}
 use Rattle.roster_bound.specs.Workspaces.{FitsRows}
-use Rattle.roster_bound.specs.Worths.{places_floor, row_floor}
-use Rattle.roster_bound.proofs.floors.lower_bound.Given as goal
+use Rattle.roster_bound.specs.Parts.{row_floor_in}
+use Rattle.roster_bound.specs.Worths.{places_floor}
+use Rattle.roster_bound.proofs.floors.lower_bound_in.Given as goal
 
 abbrev pub invariant-loop-nurse : goal.invariant-loop-nurse
 invariant-loop-nurse l = record {
-  so_far : l.floors ≡ places_floor l.terms.case.now (worths_of l.terms.worths.now) + sum_below l.nurse (row_floor l.terms.case.now l.terms.from l.terms.given.now (worths_of l.terms.worths.now));
+  so_far : l.floors ≡ places_floor l.terms.case.now (worths_of l.terms.worths.now) + sum_below l.nurse (row_floor_in l.terms.case.now l.terms.from l.terms.given.now (worths_of l.terms.worths.now) l.part);
   within : l.floors ≤ places_floor l.terms.case.now (worths_of l.terms.worths.now) + l.nurse * 8589934590;
   rows : FitsRows l.terms.case.now l.rows;
   seen : FitsSeen l.terms.case.now l.seen;

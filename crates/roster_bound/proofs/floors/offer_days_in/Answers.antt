@@ -5,9 +5,10 @@ use Rattle.arrayvec.specs.ArrayVec.{ArrayVec}
 use Rattle.roster_offers.specs.declared.offer.Offer.{Offer}
 use Rattle.roster_offers.specs.Lists.{offers_on}
 use Rattle.roster_partial.specs.Workspaces.{Space, fits_space}
-use Rattle.roster_bound.specs.Days.{shift_offers_by_worth}
+use Rattle.roster_bound.specs.Days.{shift_priced_offers}
+use Rattle.roster_bound.specs.Parts.{price_in}
 use Rattle.roster_bound.specs.Tables.{worths_of}
-use Rattle.roster_bound.proofs.floors.offer_days.Goals as goal
+use Rattle.roster_bound.proofs.floors.offer_days_in.Goals as goal
 
 -- one day more
 day_more : (of : ℕ → List Offer) (old new : List (ArrayVec Offer)) (day : ℕ) (offers : ArrayVec Offer) → length old ≡ day → ((d : ℕ) → d < day → offers_on old d ≡ of d) → new ≡ old ++ offers ∷ [] → offers.items ≡ of day
@@ -27,7 +28,7 @@ loop-day-preserved c =
     let pushed = ap (λ (w : Space). w.offers) c.push_offers.ensures in
     record {
       days = ap length pushed ∙ length_push c.loop-day.workspace.offers c.offers_of_day.result ∙ ap (λ n. n + 1) c.loop-day.invariant.days;
-      each = day_more (shift_offers_by_worth t.case.now t.from t.given.now (worths_of t.worths.now) c.args.nurse) c.loop-day.workspace.offers c.push_offers.new.self.offers c.loop-day.day c.offers_of_day.result c.loop-day.invariant.days
+      each = day_more (shift_priced_offers t.case.now t.from t.given.now (price_in t.case.now (worths_of t.worths.now) c.args.part.now c.args.nurse) c.args.nurse) c.loop-day.workspace.offers c.push_offers.new.self.offers c.loop-day.day c.offers_of_day.result c.loop-day.invariant.days
           c.loop-day.invariant.each pushed c.offers_of_day.ensures.offers;
       fits = ap (λ (w : Space). fits_space t.case.now w) c.push_offers.ensures ∙ c.loop-day.invariant.fits;
     }

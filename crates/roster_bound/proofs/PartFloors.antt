@@ -1,0 +1,95 @@
+-- A floor under the rosters of a part: a row of one of them costs what it costs, since it goes against no decision.
+use Rattle.std.proofs.Common.{◌≡◌, ◌∙◌, ◌+◌, ◌≤◌, ◌==◌, ◌&&◌, ◌||◌, ℕ, Bool, true, false, not, ap, arith, refl, subst, sym, List, [], ◌∷◌, IsSome, Some, length, if◌then◌else◌}
+use Rattle.std.proofs.lemmas.Bool.{and_parts, eqb-true}
+use Rattle.arrayvec.specs.ArrayVec.{ArrayVec}
+use Rattle.roster_instance.specs.declared.choice.Choice.{Choice}
+use Rattle.roster_instance.specs.Choices.{days_of, shift_of}
+use Rattle.roster_instance.specs.Limits.{most_keep}
+use Rattle.roster_instance.specs.Meaning.{Meaning}
+use Rattle.roster_instance.specs.Rosters.{Row, Rows, choice_on, row_of}
+use Rattle.roster_rules.specs.Penalties.{own_cost}
+use Rattle.roster_rules.specs.Prefix.{due}
+use Rattle.roster_rules.proofs.Bounds.{request_on-within}
+use Rattle.roster_rules.proofs.RunSums.{sum_same}
+use Rattle.roster_offers.specs.declared.offer.Offer.{Offer}
+use Rattle.roster_offers.specs.Lists.{AreOffers, IsFound, best_over, most_price, offers_on}
+use Rattle.roster_offers.specs.Offers.{row_cost_at}
+use Rattle.roster_bound.specs.declared.decisions.Decision.{Decision}
+use Rattle.roster_bound.specs.Days.{ArePricedOffers}
+use Rattle.roster_bound.specs.Parts.{IsLowerBoundIn, against_price, bound_in, is_against, is_as_decided, is_in_part, price_in, row_floor_in}
+use Rattle.roster_bound.specs.Worths.{AreWorths, HasRow, PlaceWorths, bound_by, cheapest_row, own_rows, price_by, row_cost_by}
+use Rattle.roster_bound.proofs.Duality.{among, below}
+use Rattle.roster_bound.proofs.LeastCosts.{least_below}
+use Rattle.roster_bound.proofs.PricedRows.{can_search_priced, cost_is, row_is, some_priced}
+
+-- ---- what a roster of the part does goes against no decision
+
+one_kept : (x : Decision) (r : Rows) (n d : ℕ) → is_as_decided x (choice_on (row_of r x.nurse) x.day) ≡ true → ((x.nurse == n) && (x.day == d) && not (is_as_decided x (choice_on (row_of r n) d))) ≡ false
+one_kept x r n d kept = go (x.nurse == n) (x.day == d) refl refl
+  where
+    go : (a b : Bool) → (x.nurse == n) ≡ a → (x.day == d) ≡ b → (a && b && not (is_as_decided x (choice_on (row_of r n) d))) ≡ false
+    go false b e f = refl
+    go true false e f = refl
+    go true true e f =
+        let nurse : x.nurse ≡ n = eqb-true x.nurse n e in
+        let day : x.day ≡ d = eqb-true x.day d f in
+        let same : is_as_decided x (choice_on (row_of r x.nurse) x.day) ≡ is_as_decided x (choice_on (row_of r n) d) = λ i. is_as_decided x (choice_on (row_of r (nurse i)) (day i)) in
+        ap not (sym same ∙ kept)
+
+pub none_against : (part : List Decision) (r : Rows) (n d : ℕ) → is_in_part part r ≡ true → is_against part n d (choice_on (row_of r n) d) ≡ false
+none_against [] r n d kept = refl
+none_against (x ∷ xs) r n d kept =
+    let both = and_parts (is_as_decided x (choice_on (row_of r x.nurse) x.day)) (is_in_part xs r) kept in
+    go _ _ (one_kept x r n d both.0) (none_against xs r n d both.1)
+  where
+    go : (a b : Bool) → a ≡ false → b ≡ false → (a || b) ≡ false
+    go false false e f = refl
+    go false true e f = f
+    go true b e f = e
+
+module _ (c : Meaning) (w : PlaceWorths) (part : List Decision) where
+  price_kept : (r : Rows) (n d : ℕ) → is_in_part part r ≡ true → price_in c w part n d (choice_on (row_of r n) d) ≡ price_by c w n d (choice_on (row_of r n) d)
+  price_kept r n d kept =
+      let p : ℕ = price_by c w n d (choice_on (row_of r n) d) in
+      ap (λ b. if b then against_price + p else p) (none_against part r n d kept)
+
+  pub cost_kept : (r : Rows) (n : ℕ) → is_in_part part r ≡ true → row_cost_at c n (price_in c w part n) (row_of r n) ≡ row_cost_by c w n (row_of r n)
+  cost_kept r n kept =
+      let row : Row = row_of r n in
+      ap (λ m. own_cost c n (days_of row) + m) (sum_same (length row) (λ d. price_in c w part n d (choice_on row d)) (λ d. price_by c w n d (choice_on row d)) (λ d inside. price_kept r n d kept))
+
+  -- no roster of the part costs less than the bound
+  pub none_below_in : (from : ℕ) (given : Rows) → AreWorths w → IsLowerBoundIn c from given part (bound_in c from given w part)
+  unfolding bound_in
+  none_below_in from given are r fits keeps stays kept =
+      below c from given w are r fits keeps stays (row_floor_in c from given w part)
+      (λ n inside. subst (λ m. row_floor_in c from given w part n ≤ m) (cost_kept r n kept)
+      (least_below (row_cost_at c n (price_in c w part n)) (own_rows c from given n) (row_of r n) (among c from given w are r fits keeps stays n inside)))
+
+  -- ---- what the search finds
+
+  low_in : (n : ℕ) → c.keep ≤ most_keep → (d : ℕ) (x : Choice) → price_in c w part n d x ≤ most_price
+  low_in n few d x = go (is_against part n d x)
+    where
+      go : (b : Bool) → (if b then against_price + price_by c w n d x else price_by c w n d x) ≤ most_price
+      go true = omega (arith, request_on-within c n d (shift_of x) few)
+      go false = omega (arith, request_on-within c n d (shift_of x) few)
+
+  module _ (from : ℕ) (given : Rows) (n : ℕ) (own : HasRow c from given n) (table : List (ArrayVec Offer)) (are : ArePricedOffers c from given (price_in c w part n) n table) where
+    pub can_search_in : c.keep ≤ most_keep → AreOffers c n table
+    can_search_in = can_search_priced c from given (price_in c w part n) n (low_in n) own table are
+
+    pub some_in : IsSome (best_over c n (offers_on table))
+    some_in = some_priced c from given (price_in c w part n) n (low_in n) own table are
+
+    module _ (cost : ℕ) (row : Row) (found : IsFound (best_over c n (offers_on table)) cost row) where
+      pub floor_in_is : due c n [] + cost ≡ row_floor_in c from given w part n
+      floor_in_is = cost_is c from given (price_in c w part n) n (low_in n) own table are cost row found
+
+      pub row_in_is : cheapest_row c from given (price_in c w part n) n ≡ Some row
+      row_in_is = row_is c from given (price_in c w part n) n (low_in n) own table are cost row found
+
+-- the part without decisions
+pub bound_whole : (c : Meaning) (from : ℕ) (given : Rows) (w : PlaceWorths) → bound_in c from given w [] ≡ bound_by c from given w
+unfolding bound_in bound_by
+bound_whole c from given w = refl

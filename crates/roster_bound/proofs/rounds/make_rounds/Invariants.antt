@@ -1,0 +1,21 @@
+-- The rounds so far are made, and the lines so far are sent. Before the first the worths are those of the first.
+use Rattle.std.proofs.Common.{◌≡◌, ◌+◌, ◌*◌, ◌≤◌}
+use Rattle.roster_instance.specs.Meaning.{day_count, nurse_count}
+use Rattle.roster_rules.specs.Penalties.{penalty}
+use Rattle.roster_laws.specs.Greatest.{extensions_in}
+use Rattle.roster_bound.specs.Tables.{worths_of}
+use Rattle.roster_bound.specs.Workspaces.{FitsFloor}
+use Rattle.roster_bound.specs.Worths.{IsLowerBound, SameWorths, first_worths}
+use Rattle.roster_bound.proofs.FloorLogs.{Going}
+use Rattle.roster_bound.proofs.rounds.make_rounds.Given as goal
+
+abbrev pub invariant-loop-rounds_before : goal.invariant-loop-rounds_before
+invariant-loop-rounds_before g l = record {
+  going : Going g.W.Write.contents l.base.case.now l.base.from l.base.given.now l.fn.log l.log l.rounds_before l.sent l.best;
+  first : l.rounds_before ≡ 0 → SameWorths l.base.case.now (worths_of l.workspace.tried) (first_worths l.base.case.now);
+  below : IsLowerBound l.base.case.now l.base.from l.base.given.now l.best;
+  within : l.best ≤ penalty l.base.case.now l.base.given.now;
+  made : l.fn.meter + l.rounds_before * (nurse_count l.base.case.now * day_count l.base.case.now) ≤ l.meter;
+  counted : l.meter ≤ l.fn.meter + extensions_in l.base.case.now l.rounds_before;
+  fits : FitsFloor l.base.case.now l.workspace;
+}

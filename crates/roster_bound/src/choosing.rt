@@ -1,0 +1,180 @@
+//! By which decision a part is parted.
+
+ghost use Rattle.std.specs.Prelude.{◌≡◌, ◌<◌, ◌≤◌, IfSome, length};
+ghost use Rattle.roster_instance.specs.Meaning.{nurse_count};
+ghost use Rattle.roster_bound.specs.Parting.{AreTwoOf};
+ghost use Rattle.roster_bound.specs.Seen.{FitsSeen};
+ghost use Rattle.roster_bound.specs.Workspaces.{FitsFloor};
+
+use crate::decisions::Decision;
+use crate::known::{move_by_known_rows, place_at};
+use crate::parts::{Part, Two};
+use crate::seen::{KEPT, NOWHERE, Seen};
+use crate::workspace::FloorWorkspace;
+use arrayvec::ArrayVec;
+use roster_instance::{Case, Choice, Shift, Skill};
+
+/// A decision, and how many uses a nurse's rows have with it or without it, whichever is less.
+#[derive(Clone, Copy, Default)]
+struct Candidate {
+    decision: Decision,
+    uses: u32,
+}
+
+/// A place of a row on a day.
+#[derive(Clone, Copy)]
+struct Spot {
+    day: u16,
+    place: u16,
+}
+
+/// So many decisions are tried at most.
+const TRIED: usize = 40;
+
+/// How often the worths move before decisions are looked for, and in a trial of one.
+const MOVES_BEFORE: u16 = 300;
+
+const MOVES_IN_TRIAL: u16 = 100;
+
+/// The two parts of a part for which the known rows promise most: of those decisions that part them most evenly, the one with which the
+/// lower of the two bounds is greatest. None where each nurse has but one row, or no more decisions have room.
+pub(crate) fn choose(
+    case: &Case,
+    part: &Part,
+    floor: &mut FloorWorkspace,
+    uses: &mut [u32],
+) -> Option<Two>
+    requires { FitsFloor case.now floor.old }
+    ensures two { IfSome result (λ two. AreTwoOf part.now two.with two.without) }
+    ensures fits { FitsFloor case.now floor.new }
+{
+    move_by_known_rows(case, part.decisions.as_slice(), MOVES_BEFORE, floor, uses);
+    let tried = candidates(case, &floor.seen, uses);
+    let mut chosen = None;
+    let mut most = 0;
+    for candidate in tried.as_slice() {
+        let Some(two) = part.in_two(candidate.decision) else {
+            return None;
+        };
+        let promise = promise_of(case, &two, floor);
+        if promise <= most {
+            continue;
+        }
+        most = promise;
+        chosen = Some(two);
+    }
+    chosen
+}
+
+/// The lower of the bounds that the known rows give for two parts.
+fn promise_of(case: &Case, two: &Two, floor: &mut FloorWorkspace) -> u64
+    requires { FitsFloor case.now floor.old }
+    ensures { FitsFloor case.now floor.new }
+{
+    let with = two.with.decisions.as_slice();
+    let without = two.without.decisions.as_slice();
+    let one = move_by_known_rows(case, with, MOVES_IN_TRIAL, floor, &mut []);
+    let other = move_by_known_rows(case, without, MOVES_IN_TRIAL, floor, &mut []);
+    one.min(other)
+}
+
+/// The decisions, one of each nurse and day, that part the uses of the nurses' rows most evenly.
+fn candidates(case: &Case, seen: &Seen, uses: &[u32]) -> ArrayVec<Candidate, TRIED>
+    requires fits { FitsSeen case.now seen.now }
+{
+    case.keeps_limits();
+    let mut found = ArrayVec::new();
+    for nurse in 0..case.nurses() {
+        for day in 0..case.days() {
+            let candidate = even_share(case, seen, uses, nurse, day);
+            if candidate.uses > 0 {
+                keep_more_even(&mut found, candidate);
+            }
+        }
+    }
+    found
+}
+
+/// Keeps a decision among others, in the place of the least even one where there is no room, if it is more even than that.
+fn keep_more_even(found: &mut ArrayVec<Candidate, TRIED>, candidate: Candidate) {
+    if !found.is_full() {
+        found.push(candidate);
+        return;
+    }
+    let kept = found.as_mut_slice();
+    let mut least = 0;
+    for at in 1..kept.len() {
+        if kept[at].uses < kept[least].uses {
+            least = at;
+        }
+    }
+    if least < kept.len() && kept[least].uses < candidate.uses {
+        kept[least] = candidate;
+    }
+}
+
+/// The decision on a day that parts the uses of a nurse's rows most evenly.
+fn even_share(case: &Case, seen: &Seen, uses: &[u32], nurse: usize, day: u16) -> Candidate
+    requires nurse { nurse < nurse_count case.now }
+    requires few { nurse_count case.now ≤ 400 }
+    requires fits { FitsSeen case.now seen.now }
+{
+    let first = KEPT * nurse;
+    let mut all: u32 = 0;
+    for at in first..first + KEPT {
+        all = all.saturating_add(uses_of(uses, at));
+    }
+    let mut place = NOWHERE;
+    let mut even = 0;
+    for at in first..first + KEPT {
+        if uses_of(uses, at) == 0 {
+            continue;
+        }
+        let here = place_at(case, at, day, seen);
+        let with = uses_with(case, seen, uses, nurse, Spot { day, place: here });
+        let less = with.min(all.saturating_sub(with));
+        if less > even {
+            place = here;
+            even = less;
+        }
+    }
+    let decision = Decision {
+        nurse: nurse as u16,
+        day,
+        choice: choice_at(place),
+        does: true,
+    };
+    Candidate {
+        decision,
+        uses: even,
+    }
+}
+
+/// How many uses a nurse's rows have with a place on a day.
+fn uses_with(case: &Case, seen: &Seen, uses: &[u32], nurse: usize, on: Spot) -> u32
+    requires nurse { nurse < nurse_count case.now }
+    requires fits { FitsSeen case.now seen.now }
+{
+    let first = KEPT * nurse;
+    let mut with: u32 = 0;
+    for at in first..first + KEPT {
+        let used = uses_of(uses, at);
+        if used > 0 && place_at(case, at, on.day, seen) == on.place {
+            with = with.saturating_add(used);
+        }
+    }
+    with
+}
+
+/// The uses of a row; none beyond all rows.
+fn uses_of(uses: &[u32], at: usize) -> u32 {
+    if at < uses.len() { uses[at] } else { 0 }
+}
+
+/// The choice of a place.
+fn choice_at(place: u16) -> Choice {
+    if place == NOWHERE {
+        return Choice::Off;
+    }
+    Choice::Work(Shift((place % 64 / 8) as u8), Skill((place % 8) as u8))
+}

@@ -1,0 +1,222 @@
+//! How the worths move in a part, by its rows that were seen.
+
+ghost use Rattle.std.specs.Prelude.{◌≡◌, ◌*◌, ◌<◌, IfSome, length};
+ghost use Rattle.roster_instance.specs.Meaning.{day_count, nurse_count};
+ghost use Rattle.roster_bound.specs.Seen.{FitsSeen};
+ghost use Rattle.roster_bound.specs.Workspaces.{FitsFloor};
+
+use crate::decisions::Decision;
+use crate::fading::need_at;
+use crate::moves::Step;
+use crate::rounds::{Pace, move_once};
+use crate::seen::{KEPT, NOWHERE, Seen, place_on};
+use crate::workspace::FloorWorkspace;
+use crate::worths::{PARTS, Worths};
+use roster_instance::Case;
+use roster_rules::weights::STAFFING;
+
+/// How often worths move between two rounds of searches in a part.
+const MOVES_IN_PART: u64 = 60;
+
+/// Steps are those of the last moves of so many: a point at first.
+const PACE: Pace = Pace {
+    rounds: 600,
+    moves: 20,
+};
+
+/// A step after so many of some moves.
+fn step_after(made: u64, all: u64) -> Step
+    requires made { made < 100000 }
+    requires all { 0 < all }
+{
+    Step::after(7_400 + made * 4_600 / all, PACE)
+}
+
+/// Moves the worths so often by the rows that are known of a part, and counts how often each was the cheapest of its nurse in the second
+/// half of these moves. The answer is the greatest of the bounds that these rows alone would give, in parts of a point, with what all
+/// nurses earn at most: none of them is a floor.
+pub(crate) fn move_by_known_rows(
+    case: &Case,
+    part: &[Decision],
+    moves: u16,
+    floor: &mut FloorWorkspace,
+    uses: &mut [u32],
+) -> u64
+    requires { FitsFloor case.now floor.old }
+    ensures { FitsFloor case.now floor.new }
+{
+    let mut most = 0;
+    uses.fill(0);
+    for made in 0..moves {
+        count_known_rows(case, part, floor);
+        most = most.max(known_bound(case, part, floor));
+        if made >= moves / 2 {
+            count_uses(case, part, floor, uses);
+        }
+        move_once(case, step_after(made as u64, moves as u64), floor);
+    }
+    most
+}
+
+/// Moves them after a round of searches in a part, `made` of so many having been made before it.
+pub(crate) fn move_in_part(
+    case: &Case,
+    part: &[Decision],
+    made: u16,
+    rounds: u16,
+    floor: &mut FloorWorkspace,
+)
+    requires made { made < rounds }
+    requires rounds { rounds < 1000 }
+    requires fits { FitsFloor case.now floor.old }
+    ensures { FitsFloor case.now floor.new }
+{
+    let all = rounds as u64 * MOVES_IN_PART;
+    for moved in 0..MOVES_IN_PART {
+        if moved > 0 {
+            count_known_rows(case, part, floor);
+        }
+        let before = made as u64 * MOVES_IN_PART + moved;
+        move_once(case, step_after(before, all), floor);
+    }
+}
+
+/// Counts each nurse's cheapest row of those that are known of a part, and no others.
+fn count_known_rows(case: &Case, part: &[Decision], floor: &mut FloorWorkspace)
+    requires { FitsFloor case.now floor.old }
+    ensures { FitsFloor case.now floor.new }
+{
+    let FloorWorkspace {
+        rows,
+        worths,
+        seen,
+        ..
+    } = floor;
+    rows.forget();
+    count_cheapest_in(case, part, seen, worths, &mut rows.cover);
+}
+
+/// Counts, for each nurse, the one of her rows in a part that is cheapest by the worths at its places.
+fn count_cheapest_in(
+    case: &Case,
+    part: &[Decision],
+    seen: &Seen,
+    worths: &Worths,
+    cover: &mut [u16],
+)
+    requires fits { FitsSeen case.now seen.now }
+    ensures { length cover.new ≡ length cover.old }
+{
+    for nurse in 0..case.nurses() {
+        if let Some(at) = cheapest_in(case, part, nurse, seen, worths) {
+            seen.count_row(case, at, cover);
+        }
+    }
+}
+
+/// Counts one use more of each nurse's cheapest row of those that are known of a part.
+fn count_uses(case: &Case, part: &[Decision], floor: &FloorWorkspace, uses: &mut [u32])
+    requires { FitsFloor case.now floor.now }
+{
+    for nurse in 0..case.nurses() {
+        if let Some(at) = cheapest_in(case, part, nurse, &floor.seen, &floor.worths) {
+            if at < uses.len() {
+                uses[at] = uses[at].saturating_add(1);
+            }
+        }
+    }
+}
+
+/// The row of a nurse that is cheapest by the worths, of those that keep the decisions of a part.
+fn cheapest_in(
+    case: &Case,
+    part: &[Decision],
+    nurse: usize,
+    seen: &Seen,
+    worths: &Worths,
+) -> Option<usize>
+    requires nurse { nurse < nurse_count case.now }
+    requires fits { FitsSeen case.now seen.now }
+    ensures { IfSome result (λ at. at < length seen.now.marks.items) }
+{
+    let first = KEPT * nurse;
+    let mut cheapest = None;
+    let mut least = u64::MAX;
+    for at in first..first + KEPT {
+        if seen.marks[at].turn == 0 {
+            break;
+        }
+        let cost = seen.cost_by(case, at, worths);
+        if cost < least && keeps_decisions(case, part, nurse, at, seen) {
+            least = cost;
+            cheapest = Some(at);
+        }
+    }
+    cheapest
+}
+
+/// Whether a row of a nurse keeps the decisions of a part.
+fn keeps_decisions(case: &Case, part: &[Decision], nurse: usize, at: usize, seen: &Seen) -> bool
+    requires fits { FitsSeen case.now seen.now }
+    requires at { at < length seen.now.marks.items }
+{
+    for decision in part {
+        if decision.nurse as usize == nurse {
+            let place = place_at(case, at, decision.day, seen);
+            let does = place == place_on(decision.choice, decision.day as usize);
+            if does != decision.does {
+                return false;
+            }
+        }
+    }
+    true
+}
+
+/// The place of a row on a day; that of a day off beyond all days.
+pub(crate) fn place_at(case: &Case, at: usize, day: u16, seen: &Seen) -> u16
+    requires fits { FitsSeen case.now seen.now }
+    requires at { at < length seen.now.marks.items }
+{
+    let first = at * seen.days;
+    let day = day as usize;
+    if day < seen.days {
+        seen.places[first + day]
+    } else {
+        NOWHERE
+    }
+}
+
+/// What the places and the known rows of a part cost at least by the worths, in parts of a point, where each nurse earns less than the
+/// most on each day; a nurse without such a row costs more than any.
+fn known_bound(case: &Case, part: &[Decision], floor: &FloorWorkspace) -> u64
+    requires { FitsFloor case.now floor.now }
+{
+    let mut bound: u64 = 0;
+    for place in 0..64 * case.days() as usize {
+        bound = bound.saturating_add(fine_floor(case, place, floor));
+    }
+    for nurse in 0..case.nurses() {
+        let cost = match cheapest_in(case, part, nurse, &floor.seen, &floor.worths) {
+            Some(at) => floor.seen.cost_by(case, at, &floor.worths),
+            None => NO_KNOWN_ROW,
+        };
+        bound = bound.saturating_add(cost);
+    }
+    bound
+}
+
+/// What a nurse without a known row costs.
+const NO_KNOWN_ROW: u64 = 1 << 52;
+
+/// The least that a place costs, in parts of a point.
+fn fine_floor(case: &Case, place: usize, floor: &FloorWorkspace) -> u64
+    requires place { place < 64 * day_count case.now }
+    requires fits { FitsFloor case.now floor.now }
+{
+    let need = need_at(case, place);
+    let fine = floor.worths.fine_at(place) as u64;
+    let missing = need.optimum.saturating_sub(need.minimum) as u64;
+    let at_minimum = PARTS as u64 * (STAFFING as u64 * missing) + fine * need.minimum as u64;
+    let at_optimum = fine * need.minimum.max(need.optimum) as u64;
+    at_minimum.min(at_optimum)
+}
