@@ -1,6 +1,7 @@
 //! By which decision a part is parted.
 
 ghost use Rattle.std.specs.Prelude.{◌≡◌, ◌<◌, ◌≤◌, IfSome, length};
+ghost use Rattle.roster_instance.specs.Limits.{most_nurses};
 ghost use Rattle.roster_instance.specs.Meaning.{nurse_count};
 ghost use Rattle.roster_bound.specs.Parting.{AreTwoOf};
 ghost use Rattle.roster_bound.specs.Seen.{FitsSeen};
@@ -11,6 +12,7 @@ use crate::known::{move_by_known_rows, place_at};
 use crate::parts::{Part, Two};
 use crate::seen::{KEPT, NOWHERE, Seen};
 use crate::workspace::FloorWorkspace;
+use crate::worths::PARTS;
 use arrayvec::ArrayVec;
 use roster_instance::{Case, Choice, Shift, Skill};
 
@@ -36,8 +38,14 @@ const MOVES_BEFORE: u16 = 300;
 
 const MOVES_IN_TRIAL: u16 = 100;
 
+/// A part's gain counts up to ten points, so that a decision isn't worth more where it leaves hardly a roster, and a hundredth of a point
+/// more, so that a part that gains nothing doesn't make all others alike.
+const MOST_GAIN: u64 = 10 * PARTS as u64;
+
+const LEAST_GAIN: u64 = PARTS as u64 / 100;
+
 /// The two parts of a part for which the known rows promise most: of those decisions that part them most evenly, the one with which the
-/// lower of the two bounds is greatest. None where each nurse has but one row, or no more decisions have room.
+/// gains of the two have the greatest product. None where each nurse has but one row, or no more decisions have room.
 pub(crate) fn choose(
     case: &Case,
     part: &Part,
@@ -48,34 +56,42 @@ pub(crate) fn choose(
     ensures two { IfSome result (λ two. AreTwoOf part.now two.with two.without) }
     ensures fits { FitsFloor case.now floor.new }
 {
-    move_by_known_rows(case, part.decisions.as_slice(), MOVES_BEFORE, floor, uses);
+    let decisions = part.decisions.as_slice();
+    move_by_known_rows(case, decisions, MOVES_BEFORE, floor, uses);
     let tried = candidates(case, &floor.seen, uses);
+    floor.set_worths_aside(case);
+    let now = move_by_known_rows(case, decisions, 1, floor, &mut []);
     let mut chosen = None;
     let mut most = 0;
     for candidate in tried.as_slice() {
         let Some(two) = part.in_two(candidate.decision) else {
             return None;
         };
-        let promise = promise_of(case, &two, floor);
+        let promise = gain_of(case, &two.with, now, floor).saturating_mul(gain_of(
+            case,
+            &two.without,
+            now,
+            floor,
+        ));
         if promise <= most {
             continue;
         }
         most = promise;
         chosen = Some(two);
     }
+    floor.take_worths_back(case);
     chosen
 }
 
-/// The lower of the bounds that the known rows give for two parts.
-fn promise_of(case: &Case, two: &Two, floor: &mut FloorWorkspace) -> u64
+/// By how much the bound that the known rows give is greater in a part, by moves from the worths that were set aside.
+fn gain_of(case: &Case, part: &Part, now: u64, floor: &mut FloorWorkspace) -> u64
     requires { FitsFloor case.now floor.old }
     ensures { FitsFloor case.now floor.new }
 {
-    let with = two.with.decisions.as_slice();
-    let without = two.without.decisions.as_slice();
-    let one = move_by_known_rows(case, with, MOVES_IN_TRIAL, floor, &mut []);
-    let other = move_by_known_rows(case, without, MOVES_IN_TRIAL, floor, &mut []);
-    one.min(other)
+    floor.take_worths_back(case);
+    let decisions = part.decisions.as_slice();
+    let bound = move_by_known_rows(case, decisions, MOVES_IN_TRIAL, floor, &mut []);
+    bound.saturating_sub(now).min(MOST_GAIN) + LEAST_GAIN
 }
 
 /// The decisions, one of each nurse and day, that part the uses of the nurses' rows most evenly.
@@ -116,7 +132,7 @@ fn keep_more_even(found: &mut ArrayVec<Candidate, TRIED>, candidate: Candidate) 
 /// The decision on a day that parts the uses of a nurse's rows most evenly.
 fn even_share(case: &Case, seen: &Seen, uses: &[u32], nurse: usize, day: u16) -> Candidate
     requires nurse { nurse < nurse_count case.now }
-    requires few { nurse_count case.now ≤ 400 }
+    requires few { nurse_count case.now ≤ most_nurses }
     requires fits { FitsSeen case.now seen.now }
 {
     let first = KEPT * nurse;

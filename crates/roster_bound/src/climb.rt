@@ -40,7 +40,7 @@ fn climb_at(case: &Case, place: usize, fine: u32, tried: &mut Worths, seen: &mut
     let need = need_at(case, place);
     let points = tried.points_or_none(place);
     let whole = PARTS.saturating_mul(points);
-    if whole < fine && seen.may_take(case, place) < wanted_from(need, points) {
+    if whole < fine && seen.nurses_who(case, place, true) < wanted_from(need, points) {
         tried.put_points(place, points.saturating_add(1));
         seen.make_dearer(case, place, false);
         return;
@@ -157,36 +157,30 @@ impl Seen {
         self.marks[at] = Mark { above, ..mark };
     }
 
-    /// How many nurses take a place in one of their cheapest rows.
-    fn may_take(&self, case: &Case, place: usize) -> u16
-        requires place { place < 64 * day_count case.now }
-        requires fits { FitsSeen case.now self.now }
-    {
-        let mut nurses: u16 = 0;
-        for nurse in 0..case.nurses() {
-            if self.is_in_some(case, nurse, place) {
-                nurses = nurses.saturating_add(1);
-            }
-        }
-        nurses
-    }
-
     /// How many nurses take a place in each of their cheapest rows.
     fn must_take(&self, case: &Case, place: usize) -> u16
         requires place { place < 64 * day_count case.now }
         requires fits { FitsSeen case.now self.now }
     {
+        (case.nurses() as u16).saturating_sub(self.nurses_who(case, place, false))
+    }
+
+    /// How many nurses take a place in one of their cheapest rows, or leave it in one.
+    fn nurses_who(&self, case: &Case, place: usize, takes: bool) -> u16
+        requires place { place < 64 * day_count case.now }
+        requires fits { FitsSeen case.now self.now }
+    {
         let mut nurses: u16 = 0;
         for nurse in 0..case.nurses() {
-            if self.is_in_each(case, nurse, place) {
+            if self.is_in_some(case, nurse, place, takes) {
                 nurses = nurses.saturating_add(1);
             }
         }
         nurses
     }
 
-    /// Whether one of a nurse's cheapest rows takes a place.
-    fn is_in_some(&self, case: &Case, nurse: usize, place: usize) -> bool
+    /// Whether one of a nurse's cheapest rows takes a place, or leaves it.
+    fn is_in_some(&self, case: &Case, nurse: usize, place: usize, takes: bool) -> bool
         requires nurse { nurse < nurse_count case.now }
         requires place { place < 64 * day_count case.now }
         requires fits { FitsSeen case.now self.now }
@@ -197,30 +191,11 @@ impl Seen {
             if mark.turn == 0 {
                 break;
             }
-            if mark.above == 0 && self.takes(case, at, place) {
+            if mark.above == 0 && self.takes(case, at, place) == takes {
                 return true;
             }
         }
         false
-    }
-
-    /// Whether each of a nurse's cheapest rows takes a place.
-    fn is_in_each(&self, case: &Case, nurse: usize, place: usize) -> bool
-        requires nurse { nurse < nurse_count case.now }
-        requires place { place < 64 * day_count case.now }
-        requires fits { FitsSeen case.now self.now }
-    {
-        let first = KEPT * nurse;
-        for at in first..first + KEPT {
-            let mark = self.marks[at];
-            if mark.turn == 0 {
-                break;
-            }
-            if mark.above == 0 && !self.takes(case, at, place) {
-                return false;
-            }
-        }
-        true
     }
 
     /// Whether a row takes a place.

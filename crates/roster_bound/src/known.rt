@@ -46,13 +46,12 @@ pub(crate) fn move_by_known_rows(
     ensures { FitsFloor case.now floor.new }
 {
     let mut most = 0;
-    uses.fill(0);
     for made in 0..moves {
-        count_known_rows(case, part, floor);
-        most = most.max(known_bound(case, part, floor));
-        if made >= moves / 2 {
-            count_uses(case, part, floor, uses);
+        if made == moves / 2 {
+            uses.fill(0);
         }
+        let cost = count_known_rows(case, part, floor, uses);
+        most = most.max(cost.saturating_add(cost_of_places(case, floor)));
         move_once(case, step_after(made as u64, moves as u64), floor);
     }
     most
@@ -74,15 +73,28 @@ pub(crate) fn move_in_part(
     let all = rounds as u64 * MOVES_IN_PART;
     for moved in 0..MOVES_IN_PART {
         if moved > 0 {
-            count_known_rows(case, part, floor);
+            count_known_rows(case, part, floor, &mut []);
         }
         let before = made as u64 * MOVES_IN_PART + moved;
         move_once(case, step_after(before, all), floor);
     }
 }
 
-/// Counts each nurse's cheapest row of those that are known of a part, and no others.
-fn count_known_rows(case: &Case, part: &[Decision], floor: &mut FloorWorkspace)
+/// A row that is known, and what it costs by the worths, as `Seen::cost_by` tells it.
+#[derive(Clone, Copy)]
+struct Known {
+    at: usize,
+    cost: u64,
+}
+
+/// Counts each nurse's cheapest row of those that are known of a part, and no others, and one use more of each. The answer is what these
+/// rows cost together; a nurse without such a row costs more than any.
+pub(crate) fn count_known_rows(
+    case: &Case,
+    part: &[Decision],
+    floor: &mut FloorWorkspace,
+    uses: &mut [u32],
+) -> u64
     requires { FitsFloor case.now floor.old }
     ensures { FitsFloor case.now floor.new }
 {
@@ -93,51 +105,50 @@ fn count_known_rows(case: &Case, part: &[Decision], floor: &mut FloorWorkspace)
         ..
     } = floor;
     rows.forget();
-    count_cheapest_in(case, part, seen, worths, &mut rows.cover);
+    count_cheapest(case, part, seen, worths, &mut rows.cover, uses)
 }
 
-/// Counts, for each nurse, the one of her rows in a part that is cheapest by the worths at its places.
-fn count_cheapest_in(
+/// The same, where no row is counted yet.
+fn count_cheapest(
     case: &Case,
     part: &[Decision],
     seen: &Seen,
     worths: &Worths,
     cover: &mut [u16],
-)
+    uses: &mut [u32],
+) -> u64
     requires fits { FitsSeen case.now seen.now }
     ensures { length cover.new ≡ length cover.old }
 {
+    let mut cost: u64 = 0;
     for nurse in 0..case.nurses() {
-        if let Some(at) = cheapest_in(case, part, nurse, seen, worths) {
-            seen.count_row(case, at, cover);
+        let Some(known) = cheapest(case, part, nurse, seen, worths) else {
+            cost = cost.saturating_add(NO_KNOWN_ROW);
+            continue;
+        };
+        cost = cost.saturating_add(known.cost);
+        seen.count_row(case, known.at, cover);
+        if known.at < uses.len() {
+            uses[known.at] = uses[known.at].saturating_add(1);
         }
     }
+    cost
 }
 
-/// Counts one use more of each nurse's cheapest row of those that are known of a part.
-fn count_uses(case: &Case, part: &[Decision], floor: &FloorWorkspace, uses: &mut [u32])
-    requires { FitsFloor case.now floor.now }
-{
-    for nurse in 0..case.nurses() {
-        if let Some(at) = cheapest_in(case, part, nurse, &floor.seen, &floor.worths) {
-            if at < uses.len() {
-                uses[at] = uses[at].saturating_add(1);
-            }
-        }
-    }
-}
+/// What a nurse without a known row costs.
+const NO_KNOWN_ROW: u64 = 1 << 52;
 
-/// The row of a nurse that is cheapest by the worths, of those that keep the decisions of a part.
-fn cheapest_in(
+/// The row of a nurse that is cheapest by the worths, of those that keep the decisions of a part: the first where several are.
+fn cheapest(
     case: &Case,
     part: &[Decision],
     nurse: usize,
     seen: &Seen,
     worths: &Worths,
-) -> Option<usize>
+) -> Option<Known>
     requires nurse { nurse < nurse_count case.now }
     requires fits { FitsSeen case.now seen.now }
-    ensures { IfSome result (λ at. at < length seen.now.marks.items) }
+    ensures { IfSome result (λ known. known.at < length seen.now.marks.items) }
 {
     let first = KEPT * nurse;
     let mut cheapest = None;
@@ -149,7 +160,7 @@ fn cheapest_in(
         let cost = seen.cost_by(case, at, worths);
         if cost < least && keeps_decisions(case, part, nurse, at, seen) {
             least = cost;
-            cheapest = Some(at);
+            cheapest = Some(Known { at, cost });
         }
     }
     cheapest
@@ -186,27 +197,16 @@ pub(crate) fn place_at(case: &Case, at: usize, day: u16, seen: &Seen) -> u16
     }
 }
 
-/// What the places and the known rows of a part cost at least by the worths, in parts of a point, where each nurse earns less than the
-/// most on each day; a nurse without such a row costs more than any.
-fn known_bound(case: &Case, part: &[Decision], floor: &FloorWorkspace) -> u64
+/// What all places cost at least by the worths, in parts of a point.
+fn cost_of_places(case: &Case, floor: &FloorWorkspace) -> u64
     requires { FitsFloor case.now floor.now }
 {
-    let mut bound: u64 = 0;
+    let mut cost: u64 = 0;
     for place in 0..64 * case.days() as usize {
-        bound = bound.saturating_add(fine_floor(case, place, floor));
+        cost = cost.saturating_add(fine_floor(case, place, floor));
     }
-    for nurse in 0..case.nurses() {
-        let cost = match cheapest_in(case, part, nurse, &floor.seen, &floor.worths) {
-            Some(at) => floor.seen.cost_by(case, at, &floor.worths),
-            None => NO_KNOWN_ROW,
-        };
-        bound = bound.saturating_add(cost);
-    }
-    bound
+    cost
 }
-
-/// What a nurse without a known row costs.
-const NO_KNOWN_ROW: u64 = 1 << 52;
 
 /// The least that a place costs, in parts of a point.
 fn fine_floor(case: &Case, place: usize, floor: &FloorWorkspace) -> u64

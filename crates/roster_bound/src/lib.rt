@@ -4,6 +4,10 @@
 //! held in `specs/Tables.antt`, what a nurse is offered by them in `specs/Days.antt`, and the log of a run in `specs/Floors.antt`.
 //! `no_roster_is_below_the_bound` promises that the floor by any worths is one. `lower_bound` promises to be it, and `raise_floor` that
 //! all that it tells is the bound of a round, and no less than the first round's. `improve_worths` gives worths alone.
+//!
+//! How worths move is proved of nothing but their ranges: `moves` by covers, `known` and `climb` by the rows that were `seen`. A floor
+//! over parts of the rosters is defined in `specs/Parts.antt` and `specs/Parting.antt`: `decisions` make a part, `choosing` takes the
+//! next one, and `part_least` (`tree`) promises that the parts still make up all rosters, each with a floor under it (`ArePartsOf`).
 #![tactic(auto)]
 
 mod choosing;

@@ -22,6 +22,17 @@ impl Drop for Covers {
     }
 }
 
+impl Covers {
+    /// Forgets all rounds.
+    pub(crate) fn forget(&mut self)
+        ensures wanted { length self.new.wanted.items ≡ length self.old.wanted.items }
+        ensures had { length self.new.had.items ≡ length self.old.had.items }
+    {
+        self.wanted.fill(0);
+        self.had.fill(0);
+    }
+}
+
 /// Adds a round to the covers, by the worths and by the rows of that round. In fine steps the places that ask for no nurse are left out.
 pub(crate) fn learn(case: &Case, worths: &Worths, step: Step, cover: &[u16], covers: &mut Covers)
     requires worths { worths.now.days ≡ day_count case.now }

@@ -15,10 +15,11 @@ ghost use Rattle.roster_bound.specs.Worths.{AreWorths, HaveRows, IsLowerBound, b
 use crate::climb::climb;
 use crate::effort::{Effort, Reached};
 use crate::floors::lower_bound;
+use crate::known::count_known_rows;
 use crate::laws::rows_are_had;
 use crate::moves::{Step, farthest, learn};
 use crate::offers::{Base, Terms};
-use crate::tree::{BoundSpace, Under, log_parting, part_least};
+use crate::tree::{BoundSpace, Under, part_least};
 use crate::workspace::FloorWorkspace;
 use roster_case::Held;
 use roster_instance::Case;
@@ -139,7 +140,7 @@ fn raise_under<W: Write>(
             continue;
         }
         let round = effort.rounds as u64 + parted as u64 + 1;
-        let sent = log_parting(log, reached.sent, round, bound)?;
+        let sent = log_round(log, reached.sent, round, bound)?;
         reached = Reached { bound, sent };
     }
     Ok(reached.bound)
@@ -196,7 +197,7 @@ fn make_rounds<W: Write>(
             continue;
         }
         best = bound;
-        sent = log_round(log, sent, rounds_before + 1, bound)?;
+        sent = log_round(log, sent, rounds_before as u64 + 1, bound)?;
     }
     Ok(Reached { bound: best, sent })
 }
@@ -293,26 +294,11 @@ fn move_worths(case: &Case, made: u16, pace: Pace, workspace: &mut FloorWorkspac
     let before = made as u64 * pace.moves as u64;
     for moves_before in 0..pace.moves {
         if moves_before > 0 {
-            count_known_rows(case, workspace);
+            count_known_rows(case, &[], workspace, &mut []);
         }
         let moves = before + moves_before as u64 + 1;
         move_once(case, Step::after(moves, pace), workspace);
     }
-}
-
-/// Counts each nurse's cheapest row of those that were seen, and no others.
-fn count_known_rows(case: &Case, workspace: &mut FloorWorkspace)
-    requires fits { FitsFloor case.now workspace.old }
-    ensures { FitsFloor case.now workspace.new }
-{
-    let FloorWorkspace {
-        rows,
-        worths,
-        seen,
-        ..
-    } = workspace;
-    rows.forget();
-    seen.count_cheapest(case, worths, &mut rows.cover);
 }
 
 /// Moves each worth by the rows that are counted, by such a step at most.

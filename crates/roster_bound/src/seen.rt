@@ -145,40 +145,6 @@ impl Seen {
         }
     }
 
-    /// Counts, for each nurse, the one of her rows that is cheapest by the worths at its places.
-    pub(crate) fn count_cheapest(&self, case: &Case, worths: &Worths, cover: &mut [u16])
-        requires fits { FitsSeen case.now self.now }
-        ensures { length cover.new ≡ length cover.old }
-    {
-        for nurse in 0..case.nurses() {
-            if let Some(at) = self.cheapest(case, nurse, worths) {
-                self.count_row(case, at, cover);
-            }
-        }
-    }
-
-    /// The row of a nurse that is cheapest by the worths, the first where several are; none where no row of hers is kept.
-    pub(crate) fn cheapest(&self, case: &Case, nurse: usize, worths: &Worths) -> Option<usize>
-        requires nurse { nurse < nurse_count case.now }
-        requires fits { FitsSeen case.now self.now }
-        ensures { IfSome result (λ at. at < length self.now.marks.items) }
-    {
-        let first = KEPT * nurse;
-        let mut cheapest = None;
-        let mut least = u64::MAX;
-        for at in first..first + KEPT {
-            if self.marks[at].turn == 0 {
-                break;
-            }
-            let cost = self.cost_by(case, at, worths);
-            if cost < least {
-                least = cost;
-                cheapest = Some(at);
-            }
-        }
-        cheapest
-    }
-
     /// What a row costs by the worths, in parts of a point, where the nurse earns less than the most on each day.
     pub(crate) fn cost_by(&self, case: &Case, at: usize, worths: &Worths) -> u64
         requires fits { FitsSeen case.now self.now }

@@ -67,31 +67,6 @@ const PART_ROUNDS: u16 = 12;
 /// How often the worths move by known rows before these rounds.
 const MOVES_BEFORE: u16 = 300;
 
-/// The line of a parting, numbered after the rounds.
-pub(crate) fn log_parting<W: Write>(
-    log: &mut Watch<W>,
-    sent: usize,
-    round: u64,
-    bound: u64,
-) -> Result<usize, WriteFault>
-    ensures ok { IfOk result (λ after. Sends W.contents log.old log.new sent after
-        (floor_line (record { round = round; bound = bound }))) }
-    ensures err { IfErr result (BreaksIn W.contents log.old log.new sent
-        (floor_line (record { round = round; bound = bound }))) }
-{
-    send_pieces(
-        log,
-        sent,
-        &[
-            Piece::Bytes(b"round "),
-            Piece::Number(round),
-            Piece::Bytes(b" "),
-            Piece::Number(bound),
-            Piece::Bytes(b"\n"),
-        ],
-    )
-}
-
 /// Parts the rosters of the part with the least floor, once more. Tells whether that could be.
 pub(crate) fn part_least(under: &Under<'_>, space: &mut BoundSpace, meter: &mut Meter) -> bool
     requires each { HaveRows under.now.base.now.case.now under.now.base.now.from

@@ -75,9 +75,7 @@ impl RowSpace {
         ensures workspace { self.new.workspace ≡ self.old.workspace }
         ensures cover { length self.new.cover.items ≡ length self.old.cover.items }
     {
-        for place in 0..self.cover.len() {
-            self.cover[place] = 0;
-        }
+        self.cover.fill(0);
     }
 }
 
@@ -109,14 +107,28 @@ impl FloorWorkspace {
         ensures fits { FitsFloor case.now self.new }
         ensures worths { SameWorths case.now (worths_of self.new.tried) (first_worths case.now) }
     {
-        for place in 0..self.covers.wanted.len() {
-            self.covers.wanted[place] = 0;
-        }
-        for place in 0..self.covers.had.len() {
-            self.covers.had[place] = 0;
-        }
+        self.covers.forget();
         self.worths.set_all(case, FIRST);
         self.tried.set_all(case, FIRST);
         self.seen.forget();
+    }
+
+    /// Sets the worths aside, in the room of those of a round.
+    pub(crate) fn set_worths_aside(&mut self, case: &Case)
+        requires { FitsFloor case.now self.old }
+        ensures { FitsFloor case.now self.new }
+    {
+        let FloorWorkspace { worths, tried, .. } = self;
+        tried.copy(worths);
+    }
+
+    /// Takes the worths back that were set aside, and forgets how they have moved since.
+    pub(crate) fn take_worths_back(&mut self, case: &Case)
+        requires { FitsFloor case.now self.old }
+        ensures { FitsFloor case.now self.new }
+    {
+        self.covers.forget();
+        let FloorWorkspace { worths, tried, .. } = self;
+        worths.copy(tried);
     }
 }

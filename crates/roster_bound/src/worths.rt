@@ -87,12 +87,15 @@ impl Worths {
     /// What all these places pay together, in parts of a point, but for those beyond the places of all days.
     pub(crate) fn fine_of(&self, places: &[u16]) -> u64 {
         let fine = self.fine.as_slice();
+        let Some(last) = fine.len().checked_sub(1) else {
+            return 0;
+        };
         let mut paid: u64 = 0;
         for place in places {
             let place = *place as usize;
-            if place < fine.len() {
-                paid = paid.wrapping_add(fine[place] as u64);
-            }
+            // Read in any case, so that no branch is needed.
+            let pay = fine[place.min(last)] as u64;
+            paid = paid.wrapping_add(if place <= last { pay } else { 0 });
         }
         paid
     }

@@ -92,7 +92,7 @@ pub fn log_change<W: Write>(
 pub fn log_round<W: Write>(
     log: &mut Watch<W>,
     sent: usize,
-    round: u16,
+    round: u64,
     total: u64,
 ) -> Result<usize, WriteFault>
     ensures ok { IfOk result (λ after. Sends W.contents log.old log.new sent after
@@ -105,7 +105,7 @@ pub fn log_round<W: Write>(
         sent,
         &[
             Piece::Bytes(b"round "),
-            Piece::Number(round as u64),
+            Piece::Number(round),
             Piece::Bytes(b" "),
             Piece::Number(total),
             Piece::Bytes(b"\n"),

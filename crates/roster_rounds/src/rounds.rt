@@ -157,6 +157,6 @@ fn make_round<W: Write, S: Steps>(
             step.after,
         )?;
     }
-    sent = log_round(log, sent, plan.round, held.total())?;
+    sent = log_round(log, sent, plan.round as u64, held.total())?;
     Ok(Round { sent, changes })
 }

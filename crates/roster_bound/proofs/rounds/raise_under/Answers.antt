@@ -19,8 +19,8 @@ returns-in_err-sent-clause-err g c =
     let p = err_from_is_err_and c.from_residual-in_err-sent.result c.from_residual-in_err-sent.ensures.1 in
     let below : IsLowerBound b.case.now b.from b.given.now c.floor-bound.result = floor_of_all b.case.now b.from b.given.now c.part_least-is_parted.new.space.parts.items.items c.floor-bound.result c.part_least-is_parted.ensures.parts c.floor-bound.ensures in
     rw (p.1, p.2)
-    (stops-later g.W.Write.contents b.case.now b.from b.given.now c.args.log.now (record { rounds = c.args.effort.rounds; nodes = l.parted + 1 }) c.args.effort.nodes c.log_parting.new.log _ (omega (arith, c.loop-parted-test.true))
-    (parted_breaks g.W.Write.contents b.case.now b.from b.given.now c.args.log.now c.args.effort.rounds l.parted c.floor-bound.result l.log c.log_parting.new.log l.reached c.in_err-sent.field-0.0 l.invariant.reached c.if-bound-reached.false below c.in_err-sent.ensures.err))
+    (stops-later g.W.Write.contents b.case.now b.from b.given.now c.args.log.now (record { rounds = c.args.effort.rounds; nodes = l.parted + 1 }) c.args.effort.nodes c.log_round.new.log _ (omega (arith, c.loop-parted-test.true))
+    (parted_breaks g.W.Write.contents b.case.now b.from b.given.now c.args.log.now c.args.effort.rounds l.parted c.floor-bound.result l.log c.log_round.new.log l.reached c.in_err-sent.field-0.0 l.invariant.reached c.if-bound-reached.false below c.in_err-sent.ensures.err))
 
 pub returns-in_err-sent-clause-counted : goal.returns-in_err-sent-clause-counted
 returns-in_err-sent-clause-counted g c =
@@ -33,7 +33,7 @@ loop-parted-preserved g c =
     let b = c.args.under.now.base.now in
     let below : IsLowerBound b.case.now b.from b.given.now c.floor-bound.result = floor_of_all b.case.now b.from b.given.now c.part_least-is_parted.new.space.parts.items.items c.floor-bound.result c.part_least-is_parted.ensures.parts c.floor-bound.ensures in
     record {
-      reached = reached-raised g.W.Write.contents b.case.now b.from b.given.now c.args.log.now c.args.effort.rounds l.parted c.in_ok-sent.sent c.floor-bound.result l.log c.log_parting.new.log l.reached l.invariant.reached c.if-bound-reached.false below c.in_ok-sent.ensures.ok;
+      reached = reached-raised g.W.Write.contents b.case.now b.from b.given.now c.args.log.now c.args.effort.rounds l.parted c.in_ok-sent.sent c.floor-bound.result l.log c.log_round.new.log l.reached l.invariant.reached c.if-bound-reached.false below c.in_ok-sent.ensures.ok;
       below = below;
       parts = c.part_least-is_parted.ensures.parts;
       made = λ short. omega (arith, short, l.invariant.made (omega (arith, c.if-reached-under.false)), c.part_least-is_parted.ensures.grows);
