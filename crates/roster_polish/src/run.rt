@@ -153,7 +153,7 @@ fn begin(held: &Held, course: &Course, space: &mut PolishSpace, meter: &mut Mete
 {
     held.case().keeps_limits();
     let nurses = held.case().nurses() as u32;
-    let parts = if course.kicks { 2 } else { 4 };
+    let parts = if course.kicks { 2 } else { 3 };
     let rounds = rounds_within(course.searches, parts, nurses);
     let base = Base {
         case: held.case(),

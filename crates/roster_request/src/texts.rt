@@ -246,8 +246,8 @@ end after 1,000,000 rounds, and neither the fade nor a kick stayed.
 
 A search is one for the best row of a nurse. The first settling takes as many as
 it needs, in up to 1,000,000 rounds. After it the run takes at most as many as
---searches allows: up to a quarter of them to find prices; of the others nearly
-all for the fade, if it needs so many, or about a third where they are too few
+--searches allows: up to a third of them to find prices; of the others nearly
+all for the fade, if it needs so many, or about a quarter where they are too few
 for 25 of each nurse; and what is left for kicks.
 With --kicks it is up to a half to find prices, and the others for kicks. With
 --searches 0 there is neither. The same texts, --searches, --seed, --kicks and
