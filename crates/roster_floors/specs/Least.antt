@@ -1,33 +1,21 @@
--- Floors as they are kept for a search, with what is looked up once (our own).
-use Rattle.std.specs.Prelude.{◌≡◌, ℕ, ◌+◌, ◌-◌, ◌*◌, ◌/◌, ◌<◌, ◌≤◌, List, Some, length, min}
-use Rattle.roster_instance.specs.Meaning.{Meaning, contract_of, day_count, nurse_count}
+-- What floors tell of the rest of a row (our own).
+use Rattle.std.specs.Prelude.{◌≡◌, ℕ, ◌+◌, ◌-◌, ◌*◌, ◌/◌, ◌≤◌, List, Some, length, min}
+use Rattle.roster_instance.specs.Meaning.{Meaning, contract_of, day_count}
 use Rattle.roster_instance.specs.Sizes.{cap}
 use Rattle.roster_rules.specs.Prefix.{Summary}
 use Rattle.roster_rules.specs.Weights.{assignment_weight}
 use Rattle.roster_offers.specs.declared.lists.RowSearch.{RowSearch}
 use Rattle.roster_offers.specs.declared.offer.Offer.{Offer}
-use Rattle.roster_offers.specs.Lists.{AreOffers, offers_on}
+use Rattle.roster_offers.specs.Lists.{offers_on}
 use Rattle.roster_offers.specs.Offers.{best_of_offers}
 use Rattle.roster_state.specs.Codes.{Sizes, sizes_of}
-use Rattle.roster_floors.specs.Floors.{AreFloors, AreSmallRates, floor_count}
 use Rattle.roster_floors.specs.declared.least.Beside.{Beside}
-use Rattle.roster_floors.specs.declared.least.Floors.{Floors}
+use Rattle.roster_floors.specs.declared.floors.Floors.{Floors}
 use Rattle.roster_floors.specs.declared.rates.Rates.{Rates}
 
 -- the sizes of a search's nurse
 abbrev pub search_sizes : RowSearch → Sizes
 search_sizes search = sizes_of search.case.now search.nurse
-
--- the floors are those of the search's days and offers, and what is looked up is its nurse's
-pub record AreReady (floors : Floors) : Type 0 where
-  pub nurse : floors.search.nurse < nurse_count floors.search.case.now
-  pub offers : AreOffers floors.search.case.now floors.search.nurse floors.search.offers.now
-  pub small : AreSmallRates floors.rates
-  pub under : AreFloors floors.search.case.now floors.search.nurse floors.rates (offers_on floors.search.offers.now) floors.cells.now
-  pub inside : (day_count floors.search.case.now + 1) * floor_count (sizes_of floors.search.case.now floors.search.nurse) ≤ length floors.cells.now
-  pub days : floors.days ≡ day_count floors.search.case.now
-  pub ranges : floors.ranges ≡ sizes_of floors.search.case.now floors.search.nurse
-  pub least : floors.least ≡ (contract_of floors.search.case.now floors.search.nurse).total.least
 
 -- how many assignments, and worked weekends, are still told apart before a day on, at most
 abbrev pub days_to_come : Meaning → ℕ → (day assignments : ℕ) → ℕ

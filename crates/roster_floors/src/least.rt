@@ -1,49 +1,14 @@
 //! What the rest of a row costs at least, by floors and by what is counted over all days.
 
 ghost use Rattle.std.specs.Prelude.{◌≡◌, ◌+◌, ◌*◌, ◌<◌, ◌≤◌, length, true};
-ghost use Rattle.roster_instance.specs.Meaning.{day_count, nurse_count};
-ghost use Rattle.roster_offers.specs.Lists.{AreOffers};
+ghost use Rattle.roster_instance.specs.Meaning.{day_count};
 ghost use Rattle.roster_state.specs.Codes.{fits_sizes};
-ghost use Rattle.roster_floors.specs.Floors.{AreFloorsOf, AreSmallRates, floor_count, floor_place, search_cells};
-ghost use Rattle.roster_floors.specs.Least.{AreReady, IsBesideOf, IsUnderRest, search_sizes};
+ghost use Rattle.roster_floors.specs.Floors.{floor_count, floor_place};
+ghost use Rattle.roster_floors.specs.Least.{IsBesideOf, IsUnderRest, search_sizes};
 
-use crate::rates::Rates;
-use roster_offers::RowSearch;
+use crate::floors::Floors;
 use roster_rules::weights::ASSIGNMENT;
-use roster_state::{Ranges, State};
-
-/// The floors of a search, at their rates, with what is looked up once: how many days there are, the ranges, and the least total.
-#[derive(Clone, Copy)]
-pub struct Floors<'a> {
-    pub search: RowSearch<'a>,
-    pub rates: Rates,
-    pub cells: &'a [u32],
-    pub days: u16,
-    pub ranges: Ranges,
-    pub least: u16,
-}
-
-impl<'a> Floors<'a> {
-    /// Those that `set_floors` has set in cells.
-    pub fn of(search: &RowSearch<'a>, rates: Rates, cells: &'a [u32]) -> Floors<'a>
-        requires nurse { search.now.nurse < nurse_count search.now.case.now }
-        requires offers { AreOffers search.now.case.now search.now.nurse search.now.offers.now }
-        requires small { AreSmallRates rates }
-        requires inside { search_cells search.now ≤ length cells.now }
-        requires floors { AreFloorsOf search.now rates cells.now }
-        ensures search { result.search ≡ search.now }
-        ensures ready { AreReady result }
-    {
-        Floors {
-            search: *search,
-            rates,
-            cells,
-            days: search.case.days(),
-            ranges: Ranges::of(search.case, search.nurse),
-            least: search.case.contract_rules(search.nurse).total.least,
-        }
-    }
-}
+use roster_state::State;
 
 /// What assignments and worked weekends still cost before a day on, whatever comes, and what a floor takes for them.
 #[derive(Clone, Copy)]
@@ -57,7 +22,6 @@ pub struct Beside {
 /// What a floor leaves out, or takes too much, after so many assignments and worked weekends before a day.
 #[inline(always)]
 pub fn beside_floor(floors: &Floors<'_>, day: u16, assignments: u16, weekends: u16) -> Beside
-    requires ready { AreReady floors.now }
     requires day { day ≤ day_count floors.now.search.case.now }
     requires assignments { assignments < (search_sizes floors.now.search).assignments }
     requires weekends { weekends < (search_sizes floors.now.search).weekends }
@@ -78,7 +42,6 @@ pub fn beside_floor(floors: &Floors<'_>, day: u16, assignments: u16, weekends: u
 /// weekends still cost, whatever comes, less what the floor takes for them.
 #[inline(always)]
 pub fn at_least_beside(floors: &Floors<'_>, day: u16, state: &State, beside: &Beside) -> u32
-    requires ready { AreReady floors.now }
     requires day { day ≤ day_count floors.now.search.case.now }
     requires fits { fits_sizes (search_sizes floors.now.search) state.now ≡ true }
     requires beside { IsBesideOf floors.now day state.now.assignments state.now.weekends
@@ -94,7 +57,6 @@ pub fn at_least_beside(floors: &Floors<'_>, day: u16, state: &State, beside: &Be
 /// The same, where nothing is known of what is beside the floor.
 #[inline(always)]
 pub fn at_least(floors: &Floors<'_>, day: u16, state: &State) -> u32
-    requires ready { AreReady floors.now }
     requires day { day ≤ day_count floors.now.search.case.now }
     requires fits { fits_sizes (search_sizes floors.now.search) state.now ≡ true }
     ensures least { IsUnderRest floors.now.search day state.now result }

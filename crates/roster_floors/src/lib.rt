@@ -7,6 +7,7 @@
 
 mod day;
 mod floor_day;
+mod floors;
 mod laws;
 mod least;
 mod off;
@@ -15,7 +16,8 @@ mod set;
 mod shift;
 mod ways;
 
+pub use floors::Floors;
 pub use laws::floors_lie_under_the_rest;
-pub use least::{Beside, Floors, at_least, at_least_beside, beside_floor};
+pub use least::{Beside, at_least, at_least_beside, beside_floor};
 pub use rates::Rates;
 pub use set::{floor_cells, floor_steps, set_floors};

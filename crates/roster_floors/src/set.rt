@@ -3,19 +3,18 @@
 ghost use Rattle.std.specs.Prelude.{◌≡◌, ◌↔◌, ◌+◌, ◌*◌, ◌<◌, ◌≤◌, false, length, true};
 ghost use Rattle.roster_bundle.specs.Limits.{greatest_u64};
 ghost use Rattle.roster_instance.specs.Limits.{most_days};
-ghost use Rattle.roster_instance.specs.Meaning.{day_count, nurse_count};
-ghost use Rattle.roster_offers.specs.Lists.{AreOffers, offers_on};
+ghost use Rattle.roster_instance.specs.Meaning.{day_count};
+ghost use Rattle.roster_offers.specs.Lists.{offers_on};
 ghost use Rattle.roster_state.specs.Codes.{sizes_of};
 ghost use Rattle.roster_floors.specs.Bounds.{AreKeptFrom, AreLowFrom};
 ghost use Rattle.roster_state.specs.FloorLines.{AreLow};
 ghost use Rattle.roster_floors.specs.Floors.{AreFloorsOf, AreSmallRates, LieUnder, floor_count, search_cells, search_steps};
 ghost use Rattle.roster_floors.specs.Lines.{IsFloorDayOf};
-ghost use Rattle.roster_floors.specs.Once.{AreSmallRates-prop, HasOffers, HasOffers-prop};
+ghost use Rattle.roster_floors.specs.Once.{AreSmallRates-prop};
 
 use crate::day::set_day;
 use crate::floor_day::FloorDay;
 use crate::rates::Rates;
-use roster_instance::Case;
 use roster_offers::RowSearch;
 use roster_state::{Meter, Ranges};
 
@@ -26,8 +25,6 @@ struct Setting<'a> {
     rates: Rates,
     ranges: Ranges,
     count: usize,
-    ghost nurse: { search.nurse < nurse_count search.case.now },
-    ghost offers: { HasOffers search } by { HasOffers-prop search },
     ghost small: { AreSmallRates rates } by { AreSmallRates-prop rates },
     ghost sizes: { ranges ≡ sizes_of search.case.now search.nurse },
     ghost counted: { count ≡ floor_count ranges },
@@ -42,8 +39,6 @@ pub fn set_floors(
     floors: &mut [u32],
     meter: &mut Meter,
 ) -> bool
-    requires nurse { search.now.nurse < nurse_count search.now.case.now }
-    requires offers { AreOffers search.now.case.now search.now.nurse search.now.offers.now }
     requires small { AreSmallRates rates }
     requires room { meter.old + search_steps search.now ≤ greatest_u64 }
     ensures floors { result ≡ true → AreFloorsOf search.now rates floors.new }
@@ -73,18 +68,15 @@ pub fn set_floors(
     true
 }
 
-/// How many floors a nurse takes: those of all days and of the end.
-pub fn floor_cells(case: &Case, nurse: usize) -> usize
-    requires nurse { nurse < nurse_count case.now }
-    ensures { result ≡ (day_count case.now + 1) * floor_count (sizes_of case.now nurse) }
+/// How many floors a search takes: those of all days and of the end.
+pub fn floor_cells(search: &RowSearch<'_>) -> usize
+    ensures { result ≡ search_cells search.now }
 {
-    (case.days() as usize + 1) * floor_count(&Ranges::of(case, nurse))
+    (search.case.days() as usize + 1) * floor_count(&Ranges::of(search.case, search.nurse))
 }
 
 /// How many steps it takes to set the floors of all days once: each floor by each offer of its day.
 pub fn floor_steps(search: &RowSearch<'_>) -> u64
-    requires nurse { search.now.nurse < nurse_count search.now.case.now }
-    requires offers { AreOffers search.now.case.now search.now.nurse search.now.offers.now }
     ensures steps { result ≡ search_steps search.now }
     ensures within { result ≤ 9000000 * (most_days * 9) }
 {

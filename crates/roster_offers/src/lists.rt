@@ -1,5 +1,9 @@
 //! The lists of offers that a search goes over.
 
+ghost use Rattle.std.specs.Prelude.{◌<◌};
+ghost use Rattle.roster_instance.specs.Meaning.{nurse_count};
+ghost use Rattle.roster_offers.specs.Lists.{AreOffers};
+
 use crate::offer::{MOST_OFFERS, Offer};
 use arrayvec::ArrayVec;
 use roster_instance::Case;
@@ -16,4 +20,6 @@ pub struct RowSearch<'a> {
     pub case: &'a Case,
     pub nurse: usize,
     pub offers: &'a [ArrayVec<Offer, MOST_OFFERS>],
+    pub ghost in_case: { nurse < nurse_count case.now },
+    pub ghost for_nurse: { AreOffers case.now nurse offers.now },
 }

@@ -2,7 +2,7 @@
 
 ghost use Rattle.std.specs.Prelude.{◌≡◌, ◌+◌, ◌*◌, ◌<◌, ◌≤◌, ℕ, [], IfSome, IsNone, None, length, option_map, take};
 ghost use Rattle.roster_offers.specs.Offers.{choices_of};
-ghost use Rattle.roster_offers.specs.Lists.{AreOffers, IsFound, no_row};
+ghost use Rattle.roster_offers.specs.Lists.{IsFound, no_row};
 ghost use Rattle.roster_state.specs.Codes.{shift_digit};
 ghost use Rattle.roster_partial.specs.Rates.{FitsNurse, most_offers};
 ghost use Rattle.roster_partial.specs.Rows.{AreKept, IsEntryOf, IsLinked, best_of, count_in, entry_numbered, rows_in, within};
@@ -177,7 +177,6 @@ fn cost_at_end(limited: &LimitedSearch<'_>, rows: &[u32], place: usize) -> Optio
 
 /// Reads the choices of a partial row of all days backward, by the places that it and those before it name.
 fn read_row(search: &RowSearch<'_>, rows: &[u32], last: usize, row: &mut [Choice])
-    requires offers { AreOffers search.now.case.now search.now.nurse search.now.offers.now }
     requires row_room { days_in search.now ≤ length row.old }
     requires kept { AreKept rows.now }
     requires inside { last < count_in rows.now }

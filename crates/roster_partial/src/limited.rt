@@ -1,9 +1,8 @@
 //! What partial rows are searched for, and what the search may take.
 
 ghost use Rattle.std.specs.Prelude.{◌≡◌, ◌<◌, ◌≤◌};
-ghost use Rattle.roster_instance.specs.Meaning.{contract_of, nurse_count};
-ghost use Rattle.roster_offers.specs.Lists.{AreOffers, no_row};
-ghost use Rattle.roster_floors.specs.Least.{AreReady};
+ghost use Rattle.roster_instance.specs.Meaning.{contract_of};
+ghost use Rattle.roster_offers.specs.Lists.{no_row};
 ghost use Rattle.roster_partial.specs.Rows.{most_rows};
 
 use roster_floors::Floors;
@@ -15,8 +14,6 @@ use roster_offers::RowSearch;
 pub struct Bounded<'a> {
     pub search: RowSearch<'a>,
     pub most: u64,
-    ghost nurse: { search.nurse < nurse_count search.case.now },
-    ghost offers: { AreOffers search.case.now search.nurse search.offers.now },
 }
 
 /// What partial rows are searched for: a nurse's rows of at most so many penalty points, with floors under what the rest of a row costs.
@@ -29,7 +26,6 @@ pub struct LimitedSearch<'a> {
     pub most: usize,
     /// The nurse's rules.
     pub rules: ContractRules,
-    ghost ready: { AreReady floors },
     ghost low: { limit < no_row },
     ghost few: { most ≤ most_rows },
     ghost own: { rules ≡ contract_of floors.search.case.now floors.search.nurse },

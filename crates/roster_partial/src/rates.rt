@@ -5,7 +5,6 @@ ghost use Rattle.roster_bundle.specs.Limits.{greatest_u64};
 ghost use Rattle.roster_instance.specs.Meaning.{day_count};
 ghost use Rattle.roster_offers.specs.Lists.{offers_on};
 ghost use Rattle.roster_floors.specs.Floors.{AreSmallRates, search_steps};
-ghost use Rattle.roster_floors.specs.Least.{AreReady};
 ghost use Rattle.roster_partial.specs.Counts.{CountsSets, most_sets};
 ghost use Rattle.roster_partial.specs.Rates.{AreSetAt, FitsNurse, IsTried, NoRoom, most_offers, row_steps, trial_steps};
 
@@ -79,7 +78,7 @@ pub fn set_best_floors(
 {
     let (search, most) = (&bounded.search, bounded.most);
     let each = steps_of_trial(bounded);
-    if floors.len() < floor_cells(search.case, search.nurse) || most - meter.count() < 2 * each {
+    if floors.len() < floor_cells(search) || most - meter.count() < 2 * each {
         return None;
     }
     let plan = plan_by(bounded, guess, meter);
@@ -145,7 +144,7 @@ fn plan_by(bounded: &Bounded<'_>, guess: Option<Guess>, meter: &mut Meter) -> Tr
                 bounded,
                 none,
                 ASSIGNMENT + WEEKEND,
-                follow(bounded, None, meter),
+                follow(&bounded.search, None, meter),
             ),
             step: FIRST_STEP,
             trials: min(MOST_TRIALS, first),
@@ -206,7 +205,7 @@ fn trial(bounded: &Bounded<'_>, rates: Rates, floors: &[u32], meter: &mut Meter)
     let floors = Floors::of(&here, rates, floors);
     let (state, _) = start(case, nurse);
     let low = at_least(&floors, 0, &state);
-    let followed = follow(bounded, Some(&floors), meter);
+    let followed = follow(&here, Some(&floors), meter);
     let high = match followed {
         Some(row) => row.cost,
         None => u32::MAX,
@@ -343,14 +342,16 @@ struct DayStep {
 
 /// Follows floors from the start on, on each day by the step that is cheapest with the floor after it; by the cheapest step where there
 /// are no floors yet. None where a day has no step.
-fn follow(bounded: &Bounded<'_>, floors: Option<&Floors<'_>>, meter: &mut Meter) -> Option<Followed>
-    requires ready { IfSome floors
-        (λ at. AreReady at.now × (at.now.search ≡ bounded.now.search)) }
-    requires room { meter.old + row_steps bounded.now.search ≤ greatest_u64 }
-    ensures counted { (meter.old ≤ meter.new)
-        × (meter.new ≤ meter.old + row_steps bounded.now.search) }
+fn follow(
+    search: &RowSearch<'_>,
+    floors: Option<&Floors<'_>>,
+    meter: &mut Meter,
+) -> Option<Followed>
+    requires same { IfSome floors (λ at. at.now.search ≡ search.now) }
+    requires room { meter.old + row_steps search.now ≤ greatest_u64 }
+    ensures counted { (meter.old ≤ meter.new) × (meter.new ≤ meter.old + row_steps search.now) }
 {
-    let RowSearch { case, nurse, .. } = bounded.search;
+    let RowSearch { case, nurse, .. } = *search;
     let (mut state, _) = start(case, nurse);
     let mut row = Followed {
         cost: 0,
@@ -358,7 +359,7 @@ fn follow(bounded: &Bounded<'_>, floors: Option<&Floors<'_>>, meter: &mut Meter)
         weekends: state.weekends() as u32,
     };
     for day in 0..case.days() {
-        let step = best_step(bounded, floors, day, state, meter)?;
+        let step = best_step(search, floors, day, state, meter)?;
         row = with_step(row, day, &state, &step);
         state = step.state;
     }
@@ -385,25 +386,24 @@ fn with_step(row: Followed, day: u16, before: &State, step: &DayStep) -> Followe
 /// The step from a state by an offer of a day that is cheapest, with the floor after it where there is one, of equally cheap ones the
 /// first. None where the last shift forbids each of them.
 fn best_step(
-    bounded: &Bounded<'_>,
+    search: &RowSearch<'_>,
     floors: Option<&Floors<'_>>,
     day: u16,
     state: State,
     meter: &mut Meter,
 ) -> Option<DayStep>
-    requires ready { IfSome floors
-        (λ at. AreReady at.now × (at.now.search ≡ bounded.now.search)) }
-    requires day { day < day_count bounded.now.search.case.now }
-    requires fits { FitsNurse bounded.now.search state }
+    requires same { IfSome floors (λ at. at.now.search ≡ search.now) }
+    requires day { day < day_count search.now.case.now }
+    requires fits { FitsNurse search.now state }
     requires room { meter.old + most_offers ≤ greatest_u64 }
-    ensures fits { IfSome result (λ step. FitsNurse bounded.now.search step.state) }
+    ensures fits { IfSome result (λ step. FitsNurse search.now step.state) }
     ensures counted { (meter.old ≤ meter.new) × (meter.new ≤ meter.old + most_offers) }
 {
     let RowSearch {
         case,
         nurse,
         offers,
-    } = bounded.search;
+    } = *search;
     case.keeps_limits();
     let offers = offers[day as usize].as_slice();
     let days = NurseDays::of(case, nurse);

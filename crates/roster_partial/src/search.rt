@@ -2,9 +2,8 @@
 
 ghost use Rattle.std.specs.Prelude.{◌≡◌, ◌+◌, ◌-◌, ◌*◌, ◌/◌, ◌<◌, ◌≤◌, ℕ, IfSome, IsSome, None, length, min, take};
 ghost use Rattle.roster_bundle.specs.Limits.{greatest_u64};
-ghost use Rattle.roster_instance.specs.Meaning.{nurse_count};
 ghost use Rattle.roster_laws.specs.Greatest.{extension_count};
-ghost use Rattle.roster_offers.specs.Lists.{AreOffers, IsFound, no_row};
+ghost use Rattle.roster_offers.specs.Lists.{IsFound, no_row};
 ghost use Rattle.roster_search.specs.Search.{HasTables};
 ghost use Rattle.roster_partial.specs.Counts.{CountsPartial, CountsSearch};
 ghost use Rattle.roster_partial.specs.Rates.{AreSetAt, most_offers};
@@ -55,13 +54,11 @@ impl Hints {
 
     /// Whether a search begins with partial rows. The tables search at once where the nurse has more floors than they take steps at most,
     /// and in the searches that are left to them since partial rows found nothing for her (`Guesses::miss`): a call uses up one of these.
-    fn begins(&mut self, search: &RowSearch<'_>, steps: u64) -> bool
-        requires nurse { search.now.nurse < nurse_count search.now.case.now }
-    {
+    fn begins(&mut self, search: &RowSearch<'_>, steps: u64) -> bool {
         if self.guesses.waits(search.nurse) {
             return false;
         }
-        floor_cells(search.case, search.nurse) as u64 <= steps
+        floor_cells(search) as u64 <= steps
     }
 }
 
@@ -78,8 +75,6 @@ pub fn search_row(
     row: &mut [Choice],
     meter: &mut Meter,
 ) -> u32
-    requires nurse { search.now.nurse < nurse_count search.now.case.now }
-    requires offers { AreOffers search.now.case.now search.now.nurse search.now.offers.now }
     requires some { IsSome (best_in search.now) }
     requires tables { HasTables search.now.case.now search.now.nurse tables.old }
     requires row_room { days_in search.now ≤ length row.old }
@@ -162,28 +157,17 @@ fn search_partial(
     ensures most { meter.new ≤ bounded.now.most }
     ensures length { length row.new ≡ length row.old }
 {
-    let RowSearch {
-        case,
-        nurse,
-        offers,
-    } = bounded.search;
     let guess = hints.guesses.of(&bounded.search);
     let best = set_best_floors(bounded, guess, floors, meter)?;
     let mut limit = best.low.saturating_add(first_gap(guess));
     let mut more = 10;
     'limits: for _tried in 0..MOST_LIMITS {
         let attempt = Attempt {
-            search: RowSearch {
-                case,
-                nurse,
-                offers,
-            },
             floors,
             rates: best.rates,
             limit: limit.min(best.high).min(NO_ROW - 1),
-            most: bounded.most,
         };
-        match search_within(&attempt, rows, &mut hints.seen, row, meter) {
+        match search_within(bounded, &attempt, rows, &mut hints.seen, row, meter) {
             Within::Found(cost) => {
                 hints.guesses.learn(&bounded.search, &best, cost);
                 return Some(cost);
@@ -209,51 +193,57 @@ fn first_gap(guess: Option<Guess>) -> u32 {
     }
 }
 
-/// A limit that is tried: the search, its floors with the rates at which they were set, the limit in penalty points, and what the meter
-/// may count to.
+/// A limit that is tried, in penalty points, with floors and the rates at which they were set.
 #[derive(Clone, Copy)]
 struct Attempt<'a> {
-    search: RowSearch<'a>,
     floors: &'a [u32],
     rates: Rates,
     limit: u32,
-    most: u64,
-    ghost nurse: { search.nurse < nurse_count search.case.now },
-    ghost offers: { AreOffers search.case.now search.nurse search.offers.now },
-    ghost set: { AreSetAt search rates floors.now },
     ghost low: { limit < no_row },
 }
 
 /// Searches the best row by the partial rows within a limit, no more at once than there are cells for.
 fn search_within(
+    bounded: &Bounded<'_>,
     attempt: &Attempt<'_>,
     rows: &mut [u32],
     seen: &mut Seen,
     row: &mut [Choice],
     meter: &mut Meter,
 ) -> Within
+    requires set { AreSetAt bounded.now.search attempt.now.rates attempt.now.floors.now }
     requires cells { 0 < length rows.old }
-    requires row_room { days_in attempt.now.search ≤ length row.old }
-    requires room { meter.old ≤ attempt.now.most }
-    ensures best { (cost : ℕ) → result ≡ Found cost → IsFound (best_in attempt.now.search) cost
-        (take (days_in attempt.now.search) row.new) }
+    requires row_room { days_in bounded.now.search ≤ length row.old }
+    requires room { meter.old ≤ bounded.now.most }
+    ensures best { (cost : ℕ) → result ≡ Found cost → IsFound (best_in bounded.now.search) cost
+        (take (days_in bounded.now.search) row.new) }
     ensures below { (cost : ℕ) → result ≡ Found cost → cost < no_row }
     ensures full { result ≡ Full
-        → IsFull (min ((length rows.old - 1) / 4) most_rows) attempt.now.most rows.new meter.new }
+        → IsFull (min ((length rows.old - 1) / 4) most_rows) bounded.now.most rows.new meter.new }
     ensures dearer { result ≡ Dearer
-        → within attempt.now.limit (best_in attempt.now.search) ≡ None }
+        → within attempt.now.limit (best_in bounded.now.search) ≡ None }
     ensures each_day { (cost : ℕ) → result ≡ Found cost →
-        meter.old + days_in attempt.now.search ≤ meter.new }
-    ensures counted { (meter.old ≤ meter.new) × (meter.new ≤ attempt.now.most) }
+        meter.old + days_in bounded.now.search ≤ meter.new }
+    ensures counted { (meter.old ≤ meter.new) × (meter.new ≤ bounded.now.most) }
     ensures brief { meter.new ≤ meter.old + most_offers * most_rows }
     ensures length { length row.new ≡ length row.old }
 {
-    let RowSearch { case, nurse, .. } = attempt.search;
+    let RowSearch {
+        case,
+        nurse,
+        offers,
+    } = bounded.search;
+    // (a search by itself, since the floors are lent for a shorter time)
+    let here = RowSearch {
+        case,
+        nurse,
+        offers,
+    };
     let limited = LimitedSearch {
-        floors: Floors::of(&attempt.search, attempt.rates, attempt.floors),
+        floors: Floors::of(&here, attempt.rates, attempt.floors),
         limit: attempt.limit,
         most: ((rows.len() - 1) / ROW_CELLS).min(MOST_ROWS),
         rules: case.contract_rules(nurse),
     };
-    row_within(&limited, attempt.most, rows, seen, row, meter)
+    row_within(&limited, bounded.most, rows, seen, row, meter)
 }

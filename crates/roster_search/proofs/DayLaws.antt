@@ -180,13 +180,13 @@ module _ (c : Meaning) (n : ℕ) (areas : List Area) where
 
 -- how many states stand, of those before a last shift, before a run with it, and before a run of the shift with both
 abbrev pub lasts_below : OpenDay → ℕ → ℕ
-lasts_below day last = sum_below last (states_of_last day.days.case.now day.days.nurse day.areas.now)
+lasts_below day last = sum_below last (states_of_last day.days.search.case.now day.days.search.nurse day.areas.now)
 
 abbrev pub runs_below : OpenDay → (last run : ℕ) → ℕ
-runs_below day last run = lasts_below day last + sum_to (area_at day.areas.now last).run run (states_of_run day.days.case.now day.days.nurse day.areas.now last)
+runs_below day last run = lasts_below day last + sum_to (area_at day.areas.now last).run run (states_of_run day.days.search.case.now day.days.search.nurse day.areas.now last)
 
 abbrev pub groups_below : OpenDay → (last run shift_run : ℕ) → ℕ
-groups_below day last run shift_run = runs_below day last run + sum_to (area_at day.areas.now last).shift_run shift_run (λ q. states_with day.days.case.now day.days.nurse day.areas.now (group_of last run q))
+groups_below day last run shift_run = runs_below day last run + sum_to (area_at day.areas.now last).shift_run shift_run (λ q. states_with day.days.search.case.now day.days.search.nurse day.areas.now (group_of last run q))
 
 -- the tables of the states before a key, the rest of them, and the meter after so many states
 pub record DayDone (day : OpenDay) (key states : ℕ) (labels_old labels pointers_old pointers : List ℕ) (initial counted : ℕ) : Type 0 where
@@ -207,12 +207,12 @@ done_on {day} {initial = initial} {counted = counted} old next more none same = 
 pub record GroupDone (day : OpenDay) (group : Summary) (labels_old labels pointers_old pointers : List ℕ) (counted new : ℕ) : Type 0 where
   pub tables : AreTables day (StandsBy day group) labels pointers
   pub beside : KeepTables day (code_of day.days.ranges group) (group_places day.days) labels_old labels pointers_old pointers
-  pub exactly : new ≡ counted + states_with day.days.case.now day.days.nurse day.areas.now group * length day.offers.now
+  pub exactly : new ≡ counted + states_with day.days.search.case.now day.days.search.nurse day.areas.now group * length day.offers.now
 
-module _ (day : OpenDay) (last run shift_run : ℕ) (last_fits : last < day.days.ranges.last) {first_run end_run : ℕ} (runs : Goes (area_at day.areas.now last).run (sizes_of day.days.case.now day.days.nurse).run first_run end_run) (run_low : first_run ≤ run) (run_high : run < end_run)
-    {first_shift_run end_shift_run : ℕ} (shift_runs : Goes (area_at day.areas.now last).shift_run (sizes_of day.days.case.now day.days.nurse).shift_run first_shift_run end_shift_run) (shift_run_low : first_shift_run ≤ shift_run) (shift_run_high : shift_run < end_shift_run) where
+module _ (day : OpenDay) (last run shift_run : ℕ) (last_fits : last < day.days.ranges.last) {first_run end_run : ℕ} (runs : Goes (area_at day.areas.now last).run (sizes_of day.days.search.case.now day.days.search.nurse).run first_run end_run) (run_low : first_run ≤ run) (run_high : run < end_run)
+    {first_shift_run end_shift_run : ℕ} (shift_runs : Goes (area_at day.areas.now last).shift_run (sizes_of day.days.search.case.now day.days.search.nurse).shift_run first_shift_run end_shift_run) (shift_run_low : first_shift_run ≤ shift_run) (shift_run_high : shift_run < end_shift_run) where
   abbrev y : Sizes
-  y = sizes_of day.days.case.now day.days.nurse
+  y = sizes_of day.days.search.case.now day.days.search.nurse
 
   abbrev group_here : Summary
   group_here = group_of last run shift_run
@@ -224,13 +224,13 @@ module _ (day : OpenDay) (last run shift_run : ℕ) (last_fits : last < day.days
   shift_run_fits = omega (arith, shift_run_high, (goes_within shift_runs).1)
 
   last_in : last < y.last
-  last_in = subst (λ (x : Sizes). last < x.last) day.days.search.ranges last_fits
+  last_in = subst (λ (x : Sizes). last < x.last) day.days.own_ranges last_fits
 
   pub group_is : IsGroupOf day group_here
   group_is =
       let digit = sym (group_digit last run shift_run) in
       record {
-        fits = subst (λ x. fits_sizes x group_here ≡ true) (sym day.days.search.ranges) (group_fits y last run shift_run last_in run_fits shift_run_fits (omega arith) (omega arith));
+        fits = subst (λ x. fits_sizes x group_here ≡ true) (sym day.days.own_ranges) (group_fits y last run shift_run last_in run_fits shift_run_fits (omega arith) (omega arith));
         no_weekends = refl;
         no_assignments = refl;
         run = subst (λ d. InSpan (area_at day.areas.now d).run run) digit (goes_only runs run_low run_high);
@@ -238,11 +238,11 @@ module _ (day : OpenDay) (last run shift_run : ℕ) (last_fits : last < day.days
       }
 
   -- it is one of the states of the day
-  pub group_part : groups_below day last run shift_run + states_with day.days.case.now day.days.nurse day.areas.now group_here ≤ states_on day.days.case.now day.days.nurse day.areas.now
+  pub group_part : groups_below day last run shift_run + states_with day.days.search.case.now day.days.search.nurse day.areas.now group_here ≤ states_on day.days.search.case.now day.days.search.nurse day.areas.now
   group_part =
-      let of_run = over_part shift_runs shift_run (λ q. states_with day.days.case.now day.days.nurse day.areas.now (group_of last run q)) shift_run_low shift_run_high in
-      let of_last = over_part runs run (states_of_run day.days.case.now day.days.nurse day.areas.now last) run_low run_high in
-      omega (arith, of_run, of_last, sum_part last y.last (states_of_last day.days.case.now day.days.nurse day.areas.now) last_in)
+      let of_run = over_part shift_runs shift_run (λ q. states_with day.days.search.case.now day.days.search.nurse day.areas.now (group_of last run q)) shift_run_low shift_run_high in
+      let of_last = over_part runs run (states_of_run day.days.search.case.now day.days.search.nurse day.areas.now last) run_low run_high in
+      omega (arith, of_run, of_last, sum_part last y.last (states_of_last day.days.search.case.now day.days.search.nurse day.areas.now) last_in)
 
   module _ (few : FewRuns y) {labels_old labels pointers_old pointers : List ℕ} {initial counted : ℕ} (old : DayDone day (group_key last run shift_run) (groups_below day last run shift_run) labels_old labels pointers_old pointers initial counted)
       {labels_new pointers_new : List ℕ} {new : ℕ} (done : GroupDone day group_here labels labels_new pointers pointers_new counted new) where
@@ -254,9 +254,9 @@ module _ (day : OpenDay) (last run shift_run : ℕ) (last_fits : last < day.days
 
     pub group_done : DayDone day (group_key last run (shift_run + 1)) (groups_below day last run (shift_run + 1)) labels_old labels_new pointers_old pointers_new initial new
     group_done =
-        let same_code = ap (λ x. code_of x group_here) (sym day.days.search.ranges) in
-        let end = subst (λ (x : Sizes). code_of x group_here + x.weekends * x.assignments ≤ product x) (sym day.days.search.ranges) (group_end y last run shift_run last_in run_fits shift_run_fits) in
-        let grouped = cells_grouped day.days.case.now day.days.nurse day.areas.now few last run shift_run few_runs few_shift_runs in
+        let same_code = ap (λ x. code_of x group_here) (sym day.days.own_ranges) in
+        let end = subst (λ (x : Sizes). code_of x group_here + x.weekends * x.assignments ≤ product x) (sym day.days.own_ranges) (group_end y last run shift_run last_in run_fits shift_run_fits) in
+        let grouped = cells_grouped day.days.search.case.now day.days.search.nurse day.areas.now few last run shift_run few_runs few_shift_runs in
         record {
           tables = record {
             labels_are = grouped (λ s label. label ≡ label_of (best_from day s)) (λ j. j) labels labels_new (λ j low. done.beside.of_labels.others.before j (omega (arith, low, same_code))) done.tables.labels_are old.tables.labels_are;
@@ -265,24 +265,24 @@ module _ (day : OpenDay) (last run shift_run : ℕ) (last_fits : last < day.days
           };
           beside = tables_then old.beside (tables_wider done.beside 0 (product day.days.ranges) (omega arith) (omega (arith, end)));
           exactly =
-              let more = sum_more shift_runs shift_run (λ q. states_with day.days.case.now day.days.nurse day.areas.now (group_of last run q)) shift_run_low shift_run_high in
-              exactly_more (groups_below day last run shift_run) (states_with day.days.case.now day.days.nurse day.areas.now group_here) (groups_below day last run (shift_run + 1)) (length day.offers.now) initial counted new old.exactly done.exactly (omega (arith, more));
+              let more = sum_more shift_runs shift_run (λ q. states_with day.days.search.case.now day.days.search.nurse day.areas.now (group_of last run q)) shift_run_low shift_run_high in
+              exactly_more (groups_below day last run shift_run) (states_with day.days.search.case.now day.days.search.nurse day.areas.now group_here) (groups_below day last run (shift_run + 1)) (length day.offers.now) initial counted new old.exactly done.exactly (omega (arith, more));
         }
 
 -- ---- what is done after the last day
 
 pub record EndDone (days : SearchDays) (areas : List Area) (key : ℕ) (old labels : List ℕ) : Type 0 where
-  pub labels_are : EndLabels (λ s. Stands days.case.now days.nurse areas s × (key_of s < key)) days labels
+  pub labels_are : EndLabels (λ s. Stands days.search.case.now days.search.nurse areas s × (key_of s < key)) days labels
   pub length_stays : length labels ≡ length old
 
-pub end_on : {days : SearchDays} {areas : List Area} {key : ℕ} {old labels : List ℕ} → EndDone days areas key old labels → (next : ℕ) → ((s : Summary) → Stands days.case.now days.nurse areas s → key_of s < next → key_of s < key) → EndDone days areas next old labels
+pub end_on : {days : SearchDays} {areas : List Area} {key : ℕ} {old labels : List ℕ} → EndDone days areas key old labels → (next : ℕ) → ((s : Summary) → Stands days.search.case.now days.search.nurse areas s → key_of s < next → key_of s < key) → EndDone days areas next old labels
 end_on done next none = record { labels_are = λ s which. done.labels_are s (which.0, none s which.0 which.1); length_stays = done.length_stays }
 
-module _ (days : SearchDays) (areas : List Area) (few : FewRuns (sizes_of days.case.now days.nurse)) (last run shift_run : ℕ) (in_run : run < (sizes_of days.case.now days.nurse).run) (in_shift_run : shift_run < (sizes_of days.case.now days.nurse).shift_run) where
-  pub end_more : {old labels new : List ℕ} → EndDone days areas (group_key last run shift_run) old labels → EndLabels (StandsLike days.case.now days.nurse areas (group_of last run shift_run)) days new → KeepsRest (code_of days.ranges (group_of last run shift_run)) (group_places days) labels new
+module _ (days : SearchDays) (areas : List Area) (few : FewRuns (sizes_of days.search.case.now days.search.nurse)) (last run shift_run : ℕ) (in_run : run < (sizes_of days.search.case.now days.search.nurse).run) (in_shift_run : shift_run < (sizes_of days.search.case.now days.search.nurse).shift_run) where
+  pub end_more : {old labels new : List ℕ} → EndDone days areas (group_key last run shift_run) old labels → EndLabels (StandsLike days.search.case.now days.search.nurse areas (group_of last run shift_run)) days new → KeepsRest (code_of days.ranges (group_of last run shift_run)) (group_places days) labels new
       → EndDone days areas (group_key last run (shift_run + 1)) old new
   end_more {old} {labels} {new} done here beside = record {
-    labels_are = cells_grouped days.case.now days.nurse areas few last run shift_run (omega (arith, in_run, few.run)) (omega (arith, in_shift_run, few.shift_run)) (λ s label. label ≡ label_of (best_at_end days.case.now days.nurse s)) (λ j. j) labels new
-        (λ j low. beside.others.before j (omega (arith, low, ap (λ x. code_of x (group_of last run shift_run)) (sym days.search.ranges)))) here done.labels_are;
+    labels_are = cells_grouped days.search.case.now days.search.nurse areas few last run shift_run (omega (arith, in_run, few.run)) (omega (arith, in_shift_run, few.shift_run)) (λ s label. label ≡ label_of (best_at_end days.search.case.now days.search.nurse s)) (λ j. j) labels new
+        (λ j low. beside.others.before j (omega (arith, low, ap (λ x. code_of x (group_of last run shift_run)) (sym days.own_ranges)))) here done.labels_are;
     length_stays = beside.length_stays ∙ done.length_stays;
   }

@@ -89,12 +89,12 @@ weekends_fit z group w fits inside =
     all-fit z (with_weekends group w) (record { last = f.last; run = f.run; shift_run = f.shift_run; assignments = f.assignments; weekends = inside })
 
 -- each state of the group in the area stands, if a row may lead to it
-pub place_stands : (day : OpenDay) (group : Summary) → IsGroupOf day group → can_be day.days.case.now day.days.nurse group ≡ true → (w a : ℕ) → w < day.days.ranges.weekends → a < day.days.ranges.assignments
+pub place_stands : (day : OpenDay) (group : Summary) → IsGroupOf day group → can_be day.days.search.case.now day.days.search.nurse group ≡ true → (w a : ℕ) → w < day.days.ranges.weekends → a < day.days.ranges.assignments
     → InSpan (area_at day.areas.now (shift_digit group.last)).weekends w → InSpan (area_at day.areas.now (shift_digit group.last)).assignments a → StandsOn day (with_assignments (with_weekends group w) a)
 place_stands day group good may_be w a w_fits a_fits w_in a_in =
     let f = fits-all day.days.ranges group good.fits in
     record {
-      fits = subst (λ z. fits_sizes z (with_assignments (with_weekends group w) a) ≡ true) day.days.search.ranges
+      fits = subst (λ z. fits_sizes z (with_assignments (with_weekends group w) a) ≡ true) day.days.own_ranges
           (all-fit day.days.ranges (with_assignments (with_weekends group w) a) (record { last = f.last; run = f.run; shift_run = f.shift_run; assignments = a_fits; weekends = w_fits }));
       can_be = may_be;
       inside = record { run = good.run; shift_run = good.shift_run; weekends = w_in; assignments = a_in };

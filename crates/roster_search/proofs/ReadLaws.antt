@@ -118,10 +118,10 @@ module _ (c : Meaning) (at : SearchDay) (later : BestOnward) (s : Summary) (offe
 
 -- ---- what is read on a day of a search
 
-pub points_here : (days : SearchDays) (d : ℕ) → d < day_count days.case.now → (s : Summary) → StandsIn days d s → (pointers : List ℕ) → PointersOn days 0 pointers → (first code : ℕ) → first ≡ d * product days.ranges → code ≡ code_of days.ranges s
-    → (row : ℕ × List Offer) → best_here days d s ≡ Some row → row.0 < no_row → PointsToBest (best_by days.case.now (day_of days d) (best_next days d) s) (offers_on days.offers.now d) row (slice_index_or pointers (first + code) 0)
+pub points_here : (days : SearchDays) (d : ℕ) → d < day_count days.search.case.now → (s : Summary) → StandsIn days d s → (pointers : List ℕ) → PointersOn days 0 pointers → (first code : ℕ) → first ≡ d * product days.ranges → code ≡ code_of days.ranges s
+    → (row : ℕ × List Offer) → best_here days d s ≡ Some row → row.0 < no_row → PointsToBest (best_by days.search.case.now (day_of days d) (best_next days d) s) (offers_on days.search.offers.now d) row (slice_index_or pointers (first + code) 0)
 points_here days d within s stands pointers right first code first_is code_is row is low =
-    let place : d * product (sizes_of days.case.now days.nurse) ≡ first = sym (first_is ∙ ap (λ z. d * product z) days.search.ranges) in
-    subst (λ k. PointsToBest (best_by days.case.now (day_of days d) (best_next days d) s) (offers_on days.offers.now d) row (slice_index_or pointers (k + code) 0)) place
-    (points_at days.case.now (day_of days d) (areas_on days.areas.now d) (offers_on days.offers.now d) (best_next days d) (d * product (sizes_of days.case.now days.nurse)) pointers (right d (omega arith) within) s code
-    (code_is ∙ ap (λ z. code_of z s) days.search.ranges) stands row is low)
+    let place : d * product (sizes_of days.search.case.now days.search.nurse) ≡ first = sym (first_is ∙ ap (λ z. d * product z) days.own_ranges) in
+    subst (λ k. PointsToBest (best_by days.search.case.now (day_of days d) (best_next days d) s) (offers_on days.search.offers.now d) row (slice_index_or pointers (k + code) 0)) place
+    (points_at days.search.case.now (day_of days d) (areas_on days.areas.now d) (offers_on days.search.offers.now d) (best_next days d) (d * product (sizes_of days.search.case.now days.search.nurse)) pointers (right d (omega arith) within) s code
+    (code_is ∙ ap (λ z. code_of z s) days.own_ranges) stands row is low)

@@ -216,10 +216,10 @@ first_label c n offers s label cost best start is found low =
 
 -- ---- a day that is still to be labelled is one of the search's
 
-module _ {days : SearchDays} {d : ℕ} {later : List ℕ} {day : OpenDay} (is : IsDayOf days d later day) (within : d < day_count days.case.now) where
+module _ {days : SearchDays} {d : ℕ} {later : List ℕ} {day : OpenDay} (is : IsDayOf days d later day) (within : d < day_count days.search.case.now) where
   pub opened_labels : (labels pointers : List ℕ) → AreTables day (StandsOn day) labels pointers → LabelsOn days d labels
   opened_labels labels pointers tables =
-      labels_before days.case.now days.nurse (offers_on days.offers.now) d within (areas_on days.areas.now d) labels
+      labels_before days.search.case.now days.search.nurse (offers_on days.search.offers.now) d within (areas_on days.areas.now d) labels
       (transport (λ i. AreLabels (is.case_is i) (is.nurse_is i) (is.areas i) (best_on (is.case_is i) (search_day (is.case_is i) (is.nurse_is i) (is.day i)) (is.offers i) (onward (is.case_is i) (is.nurse_is i) (offers_on (is.table_is i)) (is.day i + 1))) labels) tables.labels_are)
 
   pub opened_size : product day.days.ranges ≡ product days.ranges
@@ -227,16 +227,16 @@ module _ {days : SearchDays} {d : ℕ} {later : List ℕ} {day : OpenDay} (is : 
 
   pub opened_pointers : (labels_old labels pointers_old pointers : List ℕ) → AreTables day (StandsOn day) labels pointers → KeepTables day 0 (product day.days.ranges) labels_old labels pointers_old pointers → PointersOn days (d + 1) pointers_old → PointersOn days d pointers
   opened_pointers labels_old labels pointers_old pointers tables beside before =
-      let size : product day.days.ranges ≡ product (sizes_of days.case.now days.nurse) = opened_size ∙ ap product days.search.ranges in
-      pointers_before days.case.now days.nurse (offers_on days.offers.now) days.areas.now d day.first pointers_old pointers (is.first ∙ ap (λ z. d * product z) days.search.ranges)
+      let size : product day.days.ranges ≡ product (sizes_of days.search.case.now days.search.nurse) = opened_size ∙ ap product days.own_ranges in
+      pointers_before days.search.case.now days.search.nurse (offers_on days.search.offers.now) days.areas.now d day.first pointers_old pointers (is.first ∙ ap (λ z. d * product z) days.own_ranges)
       (transport (λ i. ArePointers (is.case_is i) (search_day (is.case_is i) (is.nurse_is i) (is.day i)) (is.areas i) (is.offers i) (onward (is.case_is i) (is.nurse_is i) (offers_on (is.table_is i)) (is.day i + 1)) day.first pointers) tables.pointers_are)
       (outside_wider _ _ _ _ pointers_old pointers (omega arith) (omega (arith, size)) beside.of_pointers.others) before
 
-  pub opened_steps : day_steps day ≡ steps_on days.case.now days.nurse (offers_on days.offers.now) days.areas.now d
+  pub opened_steps : day_steps day ≡ steps_on days.search.case.now days.search.nurse (offers_on days.search.offers.now) days.areas.now d
   opened_steps = λ i. states_on (is.case_is i) (is.nurse_is i) (is.areas i) * length (is.offers i)
 
   pub opened_room : (labels pointers : List ℕ) → product days.ranges ≤ length labels → all_pointers days ≤ length pointers → HaveRoom day labels pointers
   opened_room labels pointers labels_room pointers_room = record {
     labels_room = omega (arith, opened_size, labels_room);
-    pointers_room = omega (arith, opened_size, is.first, pointers_room, mul-le (d + 1) (product days.ranges) (day_count days.case.now) (product days.ranges) (omega (arith, within)) (omega arith));
+    pointers_room = omega (arith, opened_size, is.first, pointers_room, mul-le (d + 1) (product days.ranges) (day_count days.search.case.now) (product days.ranges) (omega (arith, within)) (omega arith));
   }

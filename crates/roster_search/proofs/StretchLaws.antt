@@ -69,26 +69,26 @@ module _ (day : OpenDay) (stretch : Stretch) (place : ℕ) (inside : place < len
   state i b = stretch_state stretch.block stretch.from i b
 
   abbrev step_on : Summary → Option Shift → Option (Summary × ℕ)
-  step_on s x = step_of day.days.case.now day.days.nurse day.day s x
+  step_on s x = step_of day.days.search.case.now day.days.search.nurse day.day s x
 
   -- it is an offer of the case, at a price within range
-  pub of_case : IsOfferOf day.days.case.now offer
-  of_case = All-get_or (IsOfferOf day.days.case.now) day.offers.now place no_offer inside day.ready.of_case
+  pub of_case : IsOfferOf day.days.search.case.now offer
+  of_case = All-get_or (IsOfferOf day.days.search.case.now) day.offers.now place no_offer inside day.ready.of_case
 
   by_choice : (i b : ℕ) (o : Option (Summary × ℕ)) → o ≡ step_on (state i b) shift → step_on (state i b) (shift_of offer.choice) ≡ o
   by_choice i b o is = sym (is ∙ ap (step_on (state i b)) chosen)
 
   pub refused_by : ((i b : ℕ) → i < stretch.rows → b < width → None ≡ step_on (state i b) shift) → AreRefusedBy day stretch place
   refused_by none i b d in_rows in_width =
-      label_refused day.days.case.now (the_day day) (onward_of day) (state i b) offer (by_choice i b None (none i b in_rows in_width)) ∙ ap (λ x. label_of (best_with day (state i b) x)) (get_or_default day.offers.now place no_offer d inside)
+      label_refused day.days.search.case.now (the_day day) (onward_of day) (state i b) offer (by_choice i b None (none i b in_rows in_width)) ∙ ap (λ x. label_of (best_with day (state i b) x)) (get_or_default day.offers.now place no_offer d inside)
 
   module _ (good : IsStretchOf day stretch) (step : Summary × ℕ) (cost : step.1 ≤ most_of_step) (steps : (i b : ℕ) → i < stretch.rows → b < width → Some (moved_on i b step) ≡ step_on (state i b) shift) (first : ℕ) (code : first ≡ code_of day.days.ranges step.0) where
     abbrev reached : ℕ → ℕ → Summary × ℕ
     reached i b = moved_on i b step
 
-    reached_stands : (i b : ℕ) → i < stretch.rows → b < width → Stands day.days.case.now day.days.nurse (areas_next day.days day.day) (reached i b).0
+    reached_stands : (i b : ℕ) → i < stretch.rows → b < width → Stands day.days.search.case.now day.days.search.nurse (areas_next day.days day.day) (reached i b).0
     reached_stands i b in_rows in_width =
-        All-get_or (LeadsOn day.days.case.now (the_day day) day.areas.now (areas_next day.days day.day)) day.offers.now place no_offer inside day.ready.leads
+        All-get_or (LeadsOn day.days.search.case.now (the_day day) day.areas.now (areas_next day.days day.day)) day.offers.now place no_offer inside day.ready.leads
         (state i b) (reached i b) (good.stands i b in_rows in_width) (by_choice i b (Some (reached i b)) (steps i b in_rows in_width))
 
     code_is : (i b : ℕ) → code_of day.days.ranges (reached i b).0 ≡ first + (i * side + b)
@@ -100,7 +100,7 @@ module _ (day : OpenDay) (stretch : Stretch) (place : ℕ) (inside : place < len
         let last_row : stretch.rows - 1 < stretch.rows = omega (arith, good.some_rows) in
         let some : 0 < width = omega (arith, good.some_places) in
         let last_place : width - 1 < width = omega (arith, some) in
-        let fits = subst (λ z. code_of z (reached (stretch.rows - 1) (width - 1)).0 < product z) (sym day.days.search.ranges) (numbered-within _ _ (reached_stands (stretch.rows - 1) (width - 1) last_row last_place).fits) in
+        let fits = subst (λ z. code_of z (reached (stretch.rows - 1) (width - 1)).0 < product z) (sym day.days.own_ranges) (numbered-within _ _ (reached_stands (stretch.rows - 1) (width - 1) last_row last_place).fits) in
         omega (arith, fits, code_is (stretch.rows - 1) (width - 1), some, day.ready.room)
 
     pub labels_by : AreLabelsBy day stretch place first (offer.price + step.1)
@@ -111,10 +111,10 @@ module _ (day : OpenDay) (stretch : Stretch) (place : ℕ) (inside : place < len
       few = omega (arith, of_case.price, cost);
       low = λ i b in_rows in_width.
           subst (λ k. slice_index_or day.later.now k 0 ≤ no_row) (code_is i b)
-          (step_low day.days.case.now (the_day day) day.days.ranges day.days.search.ranges (areas_next day.days day.day) (onward_of day) day.later.now day.ready.later (reached i b).0 (reached_stands i b in_rows in_width));
+          (step_low day.days.search.case.now (the_day day) day.days.ranges day.days.own_ranges (areas_next day.days day.day) (onward_of day) day.later.now day.ready.later (reached i b).0 (reached_stands i b in_rows in_width));
       labels = λ i b in_rows in_width.
           ap (λ k. min (offer.price + step.1 + slice_index_or day.later.now k 0) no_row) (sym (code_is i b))
-          ∙ label_at-is day.days.case.now (the_day day) day.days.ranges day.days.search.ranges (areas_next day.days day.day) (onward_of day) day.later.now day.ready.later
+          ∙ label_at-is day.days.search.case.now (the_day day) day.days.ranges day.days.own_ranges (areas_next day.days day.day) (onward_of day) day.later.now day.ready.later
           (state i b) offer (reached i b) (by_choice i b (Some (reached i b)) (steps i b in_rows in_width)) (reached_stands i b in_rows in_width);
     }
 
@@ -463,18 +463,18 @@ module _ (day : OpenDay) (group : Summary) (from end first to more : ℕ) (whole
 
 -- all of them
 pub group_tables : (day : OpenDay) (group : Summary) → group.weekends ≡ 0 → group.assignments ≡ 0
-    → {first last : ℕ} → Goes (area_at day.areas.now (shift_digit group.last)).weekends (sizes_of day.days.case.now day.days.nurse).weekends first last
-    → {from end : ℕ} → Goes (area_at day.areas.now (shift_digit group.last)).assignments (sizes_of day.days.case.now day.days.nurse).assignments from end
+    → {first last : ℕ} → Goes (area_at day.areas.now (shift_digit group.last)).weekends (sizes_of day.days.search.case.now day.days.search.nurse).weekends first last
+    → {from end : ℕ} → Goes (area_at day.areas.now (shift_digit group.last)).assignments (sizes_of day.days.search.case.now day.days.search.nurse).assignments from end
     → (to : ℕ) → last ≤ to → (labels pointers : List ℕ) → GroupCells day group from end first to labels pointers → AreTables day (StandsBy day group) labels pointers
 group_tables day group no_weekends no_assignments weekends places to at_end labels pointers cells =
     record { labels_are = λ s like. (cell s like).least; pointers_are = λ s like. (cell s like).points }
   where
-    cell : (s : Summary) → StandsBy day group s → AreOfLeast (best_with day s) day.offers.now (slice_index_or labels (code_of (sizes_of day.days.case.now day.days.nurse) s) 0) (slice_index_or pointers (day.first + code_of (sizes_of day.days.case.now day.days.nurse) s) 0)
+    cell : (s : Summary) → StandsBy day group s → AreOfLeast (best_with day s) day.offers.now (slice_index_or labels (code_of (sizes_of day.days.search.case.now day.days.search.nurse) s) 0) (slice_index_or pointers (day.first + code_of (sizes_of day.days.search.case.now day.days.search.nurse) s) 0)
     cell s like =
         let w = like_weekends like weekends in
         let a = like_place like places in
-        let code = like_code like day.days.ranges day.days.search.ranges no_weekends no_assignments in
-        let at_code : code_of day.days.ranges group + (s.weekends * day.days.ranges.assignments + s.assignments) ≡ code_of (sizes_of day.days.case.now day.days.nurse) s = omega (arith, code) in
-        let at_first : day.first + code_of day.days.ranges group + (s.weekends * day.days.ranges.assignments + s.assignments) ≡ day.first + code_of (sizes_of day.days.case.now day.days.nurse) s = omega (arith, code) in
+        let code = like_code like day.days.ranges day.days.own_ranges no_weekends no_assignments in
+        let at_code : code_of day.days.ranges group + (s.weekends * day.days.ranges.assignments + s.assignments) ≡ code_of (sizes_of day.days.search.case.now day.days.search.nurse) s = omega (arith, code) in
+        let at_first : day.first + code_of day.days.ranges group + (s.weekends * day.days.ranges.assignments + s.assignments) ≡ day.first + code_of (sizes_of day.days.search.case.now day.days.search.nurse) s = omega (arith, code) in
         let state = as_place like s.weekends refl in
         transport (λ q. AreOfLeast (best_with day (state q)) day.offers.now (slice_index_or labels (at_code q) 0) (slice_index_or pointers (at_first q) 0)) (cells s.weekends s.assignments w.0 (omega (arith, w.1, at_end)) a.0 a.1)

@@ -27,13 +27,13 @@ use Rattle.roster_offers.specs.Lists.{no_row, offers_on}
 
 -- it is a day of these, with its areas, its offers, these labels of the next day, and its first pointer after those of the days before it
 pub record IsDayOf (days : SearchDays) (d : ℕ) (labels : List ℕ) (it : OpenDay) : Type 0 where
-  pub case_is : it.days.case.now ≡ days.case.now
-  pub nurse_is : it.days.nurse ≡ days.nurse
+  pub case_is : it.days.search.case.now ≡ days.search.case.now
+  pub nurse_is : it.days.search.nurse ≡ days.search.nurse
   pub ranges_are : it.days.ranges ≡ days.ranges
-  pub table_is : it.days.offers.now ≡ days.offers.now
+  pub table_is : it.days.search.offers.now ≡ days.search.offers.now
   pub day : it.day ≡ d
   pub areas : it.areas.now ≡ areas_on days.areas.now d
-  pub offers : it.offers.now ≡ offers_on days.offers.now d
+  pub offers : it.offers.now ≡ offers_on days.search.offers.now d
   pub later : it.later.now ≡ labels
   pub first : it.first ≡ d * product days.ranges
 
@@ -45,23 +45,23 @@ abbrev pub onward_of : OpenDay → BestOnward
 onward_of day = best_next day.days day.day
 
 abbrev pub best_from : OpenDay → BestOnward
-best_from day = best_on day.days.case.now (the_day day) day.offers.now (onward_of day)
+best_from day = best_on day.days.search.case.now (the_day day) day.offers.now (onward_of day)
 
 -- and by an offer
 abbrev pub best_with : OpenDay → Summary → Offer → Priced (List Offer)
-best_with day = best_by day.days.case.now (the_day day) (onward_of day)
+best_with day = best_by day.days.search.case.now (the_day day) (onward_of day)
 
 -- the states that stand on it, and those of them that differ from one in their worked weekends and assignments alone
 abbrev pub StandsOn : OpenDay → Summary → Type 0
-StandsOn day = Stands day.days.case.now day.days.nurse day.areas.now
+StandsOn day = Stands day.days.search.case.now day.days.search.nurse day.areas.now
 
 abbrev pub StandsBy : OpenDay → Summary → Summary → Type 0
-StandsBy day group = StandsLike day.days.case.now day.days.nurse day.areas.now group
+StandsBy day group = StandsLike day.days.search.case.now day.days.search.nurse day.areas.now group
 
 -- the labels and the pointers of some states are right
 pub record AreTables (day : OpenDay) (which : Summary → Type 0) (labels pointers : List ℕ) : Type 0 where
-  pub labels_are : LabelsOf which day.days.case.now day.days.nurse (best_from day) labels
-  pub pointers_are : PointersOf which day.days.case.now (the_day day) day.offers.now (onward_of day) day.first pointers
+  pub labels_are : LabelsOf which day.days.search.case.now day.days.search.nurse (best_from day) labels
+  pub pointers_are : PointersOf which day.days.search.case.now (the_day day) day.offers.now (onward_of day) day.first pointers
 
 -- there is room for all of the day's labels and pointers
 pub record HaveRoom (day : OpenDay) (labels pointers : List ℕ) : Type 0 where
@@ -96,10 +96,10 @@ group_places days = days.ranges.weekends * days.ranges.assignments
 
 -- how many steps it takes, and the whole day
 abbrev pub group_steps : OpenDay → Summary → ℕ
-group_steps day group = states_with day.days.case.now day.days.nurse day.areas.now group * length day.offers.now
+group_steps day group = states_with day.days.search.case.now day.days.search.nurse day.areas.now group * length day.offers.now
 
 abbrev pub day_steps : OpenDay → ℕ
-day_steps day = states_on day.days.case.now day.days.nurse day.areas.now * length day.offers.now
+day_steps day = states_on day.days.search.case.now day.days.search.nurse day.areas.now * length day.offers.now
 
 -- ---- a stretch of states
 
@@ -121,11 +121,11 @@ pub record IsStretchOf (day : OpenDay) (stretch : Stretch) : Type 0 where
 -- the day takes its rows alike
 abbrev pub RowsAlike : OpenDay → Stretch → Type 0
 RowsAlike day rows =
-    1 < rows.rows → rows.block.weekends + rows.rows + weekends_more day.day (is_some rows.block.last) true ≤ (contract_of day.days.case.now day.days.nurse).weekends + 1
+    1 < rows.rows → rows.block.weekends + rows.rows + weekends_more day.day (is_some rows.block.last) true ≤ (contract_of day.days.search.case.now day.days.search.nurse).weekends + 1
 
 -- the day takes all of its states alike
 abbrev pub AllAlike : OpenDay → Stretch → Type 0
-AllAlike day stretch = IsAlike day.days.case.now day.days.nurse day.day stretch.block stretch.rows stretch.from stretch.end
+AllAlike day stretch = IsAlike day.days.search.case.now day.days.search.nurse day.day stretch.block stretch.rows stretch.from stretch.end
 
 -- its rows, in a list that begins with its first place
 abbrev pub shape_of : OpenDay → Stretch → RowShape
@@ -133,11 +133,11 @@ shape_of day stretch = record { rows = stretch.rows; width = stretch.end - stret
 
 -- the rules are the nurse's, its rows are told, and what a worked day brings is what it brings to its first state
 pub record IsStretchDay (day : OpenDay) (from : StretchDay) : Type 0 where
-  pub rules : from.rules ≡ contract_of day.days.case.now day.days.nurse
+  pub rules : from.rules ≡ contract_of day.days.search.case.now day.days.search.nurse
   pub of_day : IsStretchOf day from.stretch
   pub alike : AllAlike day from.stretch
   pub shape : from.shape ≡ shape_of day from.stretch
-  pub worked : IsWorkedDay day.days.case.now day.days.nurse day.day (with_assignments from.stretch.block from.stretch.from) from.worked
+  pub worked : IsWorkedDay day.days.search.case.now day.days.search.nurse day.day (with_assignments from.stretch.block from.stretch.from) from.worked
 
 -- how many states it has, and how many steps it takes
 abbrev pub states_of : Stretch → ℕ

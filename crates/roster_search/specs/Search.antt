@@ -62,15 +62,6 @@ pub record AreStanding (c : Meaning) (n : ℕ) (offers : ℕ → List Offer) (ar
   pub lead : AreasLead c n offers areas
   pub long : day_count c < length areas
 
--- what is known of a search's days: the nurse is one of the case's, with these rules and ranges, the offers are right, and the nurse's rows
--- stay in the areas
-pub record AreSearchDays (c : Meaning) (n : ℕ) (own : ContractRules) (z : Sizes) (table : List (ArrayVec Offer)) (areas : List (List Area)) : Type 0 where
-  pub nurse : n < nurse_count c
-  pub rules : own ≡ contract_of c n
-  pub ranges : z ≡ sizes_of c n
-  pub offers : AreOffers c n table
-  pub standing : AreStanding c n (offers_on table) areas
-
 -- a state that stands in these areas
 pub record SomeStands (c : Meaning) (n : ℕ) (areas : List Area) : Type 0 where
   pub state : Summary

@@ -6,7 +6,7 @@ ghost use Rattle.roster_instance.specs.Limits.{most_shifts};
 ghost use Rattle.roster_state.specs.Areas.{area_at};
 ghost use Rattle.roster_state.specs.Codes.{code_of, fits_sizes, product};
 ghost use Rattle.roster_search.specs.Days.{BlockLabels, EndLabels};
-ghost use Rattle.roster_search.specs.OpenDays.{AllAlike, AreLabelsBy, ArePointersPut, AreRefusedBy, AreHalfBytes, AreTables, HaveLength, HaveRoom, IsGroupOf, IsLowered, IsPut, IsStretchDay, IsStretchOf, KeepBeside, KeepLengths, KeepTables, KeepsRest, NoneYet, RowsAlike, RunCells, StandsBy, StandsOn, StretchCells, day_steps, group_places, group_steps, most_places, places_of, shape_of, states_of, stretch_steps};
+ghost use Rattle.roster_search.specs.OpenDays.{AllAlike, AreLabelsBy, ArePointersPut, AreRefusedBy, AreHalfBytes, AreTables, HaveLength, HaveRoom, IsGroupOf, IsLowered, IsPut, IsStretchDay, IsStretchOf, KeepLengths, KeepTables, KeepsRest, NoneYet, RowsAlike, RunCells, StandsBy, StandsOn, day_steps, group_places, group_steps, most_places, places_of, shape_of, states_of, stretch_steps};
 ghost use Rattle.roster_search.specs.Rows.{BetweenRowsKept};
 ghost use Rattle.roster_search.specs.Tables.{Stands, StandsLike};
 
@@ -15,6 +15,7 @@ use crate::days::SearchDays;
 use crate::pointers::Pointers;
 use crate::rows::{RowShape, clear_rows, lower_rows, set_rows};
 use roster_instance::ContractRules;
+use roster_offers::RowSearch;
 use roster_state::{AREAS, Area, Block, Meter, NurseDays, Stretch, WorkedDay, end_cost};
 
 /// The label of a state from which no row goes on. Each row costs less.
@@ -23,8 +24,8 @@ pub const NO_ROW: u32 = 1_073_741_824;
 /// The labels after the last day, of the states that stand there: what is missing in the end.
 pub fn label_end(days: &SearchDays<'_>, areas: &[Area; AREAS], labels: &mut [u32])
     requires room { product days.now.ranges ≤ length labels.old }
-    ensures labels { EndLabels (Stands days.now.case.now days.now.nurse areas.now) days.now
-        labels.new }
+    ensures labels { EndLabels
+        (Stands days.now.search.case.now days.now.search.nurse areas.now) days.now labels.new }
     ensures length { length labels.new ≡ length labels.old }
 {
     let ranges = &days.ranges;
@@ -48,12 +49,13 @@ fn label_group_end(days: &SearchDays<'_>, areas: &[Area; AREAS], group: Block, l
     requires no_weekends { group.weekends ≡ 0 }
     requires no_assignments { group.assignments ≡ 0 }
     requires room { product days.now.ranges ≤ length labels.old }
-    ensures labels { EndLabels (StandsLike days.now.case.now days.now.nurse areas.now group)
-        days.now labels.new }
+    ensures labels { EndLabels
+        (StandsLike days.now.search.case.now days.now.search.nurse areas.now group) days.now
+        labels.new }
     ensures beside { KeepsRest (code_of days.now.ranges group) (group_places days.now) labels.old
         labels.new }
 {
-    days.case.keeps_limits();
+    days.search.case.keeps_limits();
     let area = area_of(areas, group.last_number());
     let (first, end) = area.weekends.below(days.ranges.weekends());
     for weekends in first..end {
@@ -70,10 +72,11 @@ fn label_block_end(days: &SearchDays<'_>, block: Block, labels: &mut [u32])
     ensures beside { KeepsRest (code_of days.now.ranges block) days.now.ranges.assignments
         labels.old labels.new }
 {
+    let (case, nurse) = (days.search.case, days.search.nurse);
     let ranges = &days.ranges;
     let code = block.first(ranges) as usize;
     for place in 0..block.places(ranges) as u16 {
-        labels[code + place as usize] = end_cost(days.case, days.nurse, block.state(place));
+        labels[code + place as usize] = end_cost(case, nurse, block.state(place));
     }
 }
 
@@ -152,10 +155,10 @@ fn label_group(
     ensures exactly { meter.new ≡ meter.old + group_steps day.now group }
 {
     let days = &day.days;
-    days.case.keeps_limits();
+    days.search.case.keeps_limits();
     let own = NurseDays {
-        case: days.case,
-        nurse: days.nurse,
+        case: days.search.case,
+        nurse: days.search.nurse,
         rules: days.rules,
     };
     if !own.can_be(&group) {
@@ -217,8 +220,7 @@ fn label_rows(
     ensures counted { meter.new ≡ meter.old + stretch_steps day.now rows.now }
 {
     let SearchDays {
-        case,
-        nurse,
+        search: RowSearch { case, nurse, .. },
         rules,
         ..
     } = day.days;
@@ -348,8 +350,7 @@ fn label_run(
     ensures counted { meter.new ≡ meter.old + stretch_steps day.now stretch.now }
 {
     let SearchDays {
-        case,
-        nurse,
+        search: RowSearch { case, nurse, .. },
         rules,
         ..
     } = day.days;
@@ -405,8 +406,8 @@ fn labels_by(
     let offer = day.offers[place];
     let shift = offer.choice.shift();
     let days = NurseDays {
-        case: day.days.case,
-        nurse: day.days.nurse,
+        case: day.days.search.case,
+        nurse: day.days.search.nurse,
         rules: from.rules,
     };
     let (stretch, worked) = (&from.stretch, &from.worked);

@@ -20,7 +20,7 @@ pub fn read_day(
     state: &State,
     pointers: &Pointers,
 ) -> (Choice, State)
-    requires day { day < day_count days.now.case.now }
+    requires day { day < day_count days.now.search.case.now }
     requires stands { StandsIn days.now day state.now }
     requires pointers { PointersOn days.now 0 pointers.now }
     requires room { all_pointers days.now ≤ length pointers.now }
@@ -30,13 +30,13 @@ pub fn read_day(
         BeginsWith (best_next days.now day) row result.0 result.1 }
     ensures stands { StandsIn days.now (day + 1) result.1 }
 {
-    let case = days.case;
+    let case = days.search.case;
     case.keeps_limits();
-    let offers = days.offers[day as usize].as_slice();
+    let offers = days.search.offers[day as usize].as_slice();
     let first = day as u32 * days.ranges.product();
     let pointer = pointers.get(first as usize + state.code(&days.ranges) as usize);
     let offer = offers[pointer as usize];
-    match after(case, days.nurse, day, *state, offer.choice.shift()) {
+    match after(case, days.search.nurse, day, *state, offer.choice.shift()) {
         Some(next) => (offer.choice, next),
         None => unreachable!(),
     }

@@ -2,11 +2,11 @@
 
 ghost use Rattle.std.specs.Prelude.{◌≡◌, ◌+◌, ◌*◌, ◌<◌, ◌≤◌, ℕ, IfSome, IsSome, List, Some, length, take};
 ghost use Rattle.roster_bundle.specs.Limits.{greatest_u64};
-ghost use Rattle.roster_instance.specs.Meaning.{day_count, nurse_count};
+ghost use Rattle.roster_instance.specs.Meaning.{day_count};
 ghost use Rattle.roster_laws.specs.Greatest.{extension_count};
 ghost use Rattle.roster_state.specs.Codes.{product};
 ghost use Rattle.roster_offers.specs.Offers.{choices_of};
-ghost use Rattle.roster_offers.specs.Lists.{AreOffers, IsFound, best_over, no_row, offers_on};
+ghost use Rattle.roster_offers.specs.Lists.{IsFound, best_over, no_row, offers_on};
 ghost use Rattle.roster_offers.specs.declared.offer.Offer.{Offer};
 ghost use Rattle.roster_search.specs.Days.{LabelsOn, PointersOn, all_pointers, best_of_days, steps_below};
 ghost use Rattle.roster_search.specs.OpenDays.{IsDayOf, KeepLengths};
@@ -20,7 +20,7 @@ use crate::read::read_day;
 use crate::stand::DayAreas;
 use crate::tables::Tables;
 use roster_instance::Choice;
-use roster_offers::{Offer, RowSearch};
+use roster_offers::RowSearch;
 use roster_state::{Meter, Ranges, start};
 
 /// Searches the best row over a table of offers, wherever these come from. `row` then begins with its choices, one for each day, and the
@@ -34,8 +34,6 @@ pub fn search_states(
     row: &mut [Choice],
     meter: &mut Meter,
 ) -> u32
-    requires nurse { search.now.nurse < nurse_count search.now.case.now }
-    requires offers { AreOffers search.now.case.now search.now.nurse search.now.offers.now }
     requires some { IsSome (best_over search.now.case.now search.now.nurse
         (offers_on search.now.offers.now)) }
     requires tables { HasTables search.now.case.now search.now.nurse tables.old }
@@ -58,11 +56,7 @@ pub fn search_states(
         (offers_on search.now.offers.now) areas.now.days }
     ensures tables { tables.new ≡ tables.old }
 {
-    let RowSearch {
-        case,
-        nurse,
-        offers,
-    } = *search;
+    let (case, nurse) = (search.case, search.nurse);
     case.keeps_limits();
     case.weeks();
     let ranges = Ranges::of(case, nurse);
@@ -73,11 +67,9 @@ pub fn search_states(
         room,
     } = tables;
     let days = SearchDays {
-        case,
-        nurse,
+        search: *search,
         rules: case.contract_rules(nurse),
         ranges,
-        offers,
         areas: &areas.days,
     };
     label_days(&days, labels, later, pointers, room, meter);
@@ -99,14 +91,16 @@ fn label_days(
     requires labels_room { product days.now.ranges ≤ length even.old }
     requires same_room { length odd.old ≡ length even.old }
     requires pointers_room { all_pointers days.now ≤ length pointers.old }
-    requires room { meter.old + steps_below days.now (day_count days.now.case.now) ≤ greatest_u64 }
+    requires room { meter.old + steps_below days.now (day_count days.now.search.case.now)
+        ≤ greatest_u64 }
     ensures labels { LabelsOn days.now 0 even.new }
     ensures pointers { PointersOn days.now 0 pointers.new }
     ensures lengths { KeepLengths even.old even.new odd.old odd.new }
     ensures pointers_length { length pointers.new ≡ length pointers.old }
-    ensures exactly { meter.new ≡ meter.old + steps_below days.now (day_count days.now.case.now) }
+    ensures exactly { meter.new ≡ meter.old
+        + steps_below days.now (day_count days.now.search.case.now) }
 {
-    let count = days.case.days();
+    let count = days.search.case.days();
     let last = &days.areas[count as usize];
     if count % 2 == 0 {
         label_end(days, last, even);
@@ -114,49 +108,47 @@ fn label_days(
         label_end(days, last, odd);
     }
     for day in (0..count).rev() {
-        let offers = days.offers[day as usize].as_slice();
         if day % 2 == 0 {
-            let open = open_day(days, day, offers, odd);
+            let open = open_day(days, day, odd);
             label_day(&open, even, pointers, room, meter);
         } else {
-            let open = open_day(days, day, offers, even);
+            let open = open_day(days, day, even);
             label_day(&open, odd, pointers, room, meter);
         }
     }
 }
 
 /// A day that is still to be labelled, with the labels of the day after it.
-fn open_day<'a, 'b>(
-    days: &SearchDays<'a>,
-    day: u16,
-    offers: &'a [Offer],
-    later: &'b [u32],
-) -> OpenDay<'a, 'b>
-    requires day { day < day_count days.now.case.now }
-    requires offers { offers.now ≡ offers_on days.now.offers.now day }
-    requires few { length offers.now ≤ 16 }
+fn open_day<'a, 'b>(days: &SearchDays<'a>, day: u16, later: &'b [u32]) -> OpenDay<'a, 'b>
+    requires day { day < day_count days.now.search.case.now }
     requires later { LabelsOn days.now (day + 1) later.now }
     requires room { product days.now.ranges ≤ length later.now }
     ensures { IsDayOf days.now day later.now result }
 {
     let SearchDays {
-        case,
-        nurse,
+        search: RowSearch {
+            case,
+            nurse,
+            offers: table,
+        },
         rules,
         ranges,
-        offers: table,
         areas: all,
     } = *days;
     case.keeps_limits();
     let areas = &all[day as usize];
+    let offers = table[day as usize].as_slice();
     let first = day as u32 * ranges.product();
     // Field by field, since the borrow checker's part of a proof doesn't cover a copy of the whole out from behind the reference.
-    let days = SearchDays {
+    let search = RowSearch {
         case,
         nurse,
+        offers: table,
+    };
+    let days = SearchDays {
+        search,
         rules,
         ranges,
-        offers: table,
         areas: all,
     };
     OpenDay {
@@ -173,15 +165,15 @@ fn open_day<'a, 'b>(
 fn read_row(days: &SearchDays<'_>, pointers: &Pointers, row: &mut [Choice])
     requires pointers { PointersOn days.now 0 pointers.now }
     requires pointers_room { all_pointers days.now ≤ length pointers.now }
-    requires row_room { day_count days.now.case.now ≤ length row.old }
+    requires row_room { day_count days.now.search.case.now ≤ length row.old }
     requires some { IsSome (best_of_days days.now) }
     requires low { IfSome (best_of_days days.now) (λ row. row.0 < no_row) }
     ensures row { (cost : ℕ) (offers : List Offer) → best_of_days days.now ≡ Some (cost, offers) →
-        take (day_count days.now.case.now) row.new ≡ choices_of offers }
+        take (day_count days.now.search.case.now) row.new ≡ choices_of offers }
     ensures length { length row.new ≡ length row.old }
 {
-    let case = days.case;
-    let (mut state, _) = start(case, days.nurse);
+    let case = days.search.case;
+    let (mut state, _) = start(case, days.search.nurse);
     for day in 0..case.days() {
         let (choice, next) = read_day(days, day, &state, pointers);
         row[day as usize] = choice;

@@ -2,10 +2,9 @@
 
 ghost use Rattle.std.specs.Prelude.{◌≡◌, ◌*◌, ◌<◌, ◌≤◌};
 ghost use Rattle.roster_instance.specs.Limits.{most_days, most_states};
-ghost use Rattle.roster_instance.specs.Meaning.{nurse_count};
 ghost use Rattle.roster_laws.specs.Greatest.{extension_count};
 ghost use Rattle.roster_state.specs.Codes.{product};
-ghost use Rattle.roster_offers.specs.Lists.{AreOffers, offers_on};
+ghost use Rattle.roster_offers.specs.Lists.{offers_on};
 ghost use Rattle.roster_search.specs.Counts.{numbers_in, states_in, states_in_areas};
 ghost use Rattle.roster_search.specs.Search.{standing_steps};
 
@@ -16,8 +15,6 @@ use roster_state::{AREAS, Area, Ranges, Span};
 /// How many steps the tables of a search take at most, by the areas of its days alone: for each day the states in its areas, whether a
 /// row may lead to them or not, each once for each of the day's offers.
 pub fn steps_at_most(search: &RowSearch<'_>, areas: &DayAreas) -> u64
-    requires nurse { search.now.nurse < nurse_count search.now.case.now }
-    requires offers { AreOffers search.now.case.now search.now.nurse search.now.offers.now }
     ensures all { standing_steps search.now.case.now search.now.nurse
         (offers_on search.now.offers.now) areas.now.days ≤ result }
     ensures within { result ≤ extension_count search.now.case.now search.now.nurse }

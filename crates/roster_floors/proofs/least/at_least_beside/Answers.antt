@@ -10,9 +10,9 @@ pub returns : goal.returns
 returns c =
     let floors = c.args.floors.now in
     let s = c.args.state.now in
-    let at = ap (λ z. slice_index_or floors.cells.now z 0) (c.place.ensures.place ∙ ap (λ z. floor_place z c.args.day s) c.requires.ready.ranges) in
+    let at = ap (λ z. slice_index_or floors.cells.now z 0) (c.place.ensures.place ∙ ap (λ z. floor_place z c.args.day s) floors.own_ranges) in
     record {
-      least = least_is_low floors c.requires.ready c.args.day s c.requires.day c.requires.fits c.args.beside.now c.requires.beside c.saturating_sub.result (omega (arith, at, c.saturating_sub.ensures, c.saturating_add.ensures));
+      least = least_is_low floors c.args.day s c.requires.day c.requires.fits c.args.beside.now c.requires.beside c.saturating_sub.result (omega (arith, at, c.saturating_sub.ensures, c.saturating_add.ensures));
     }
 
 pub place-requires-clause-inside : goal.place-requires-clause-inside
@@ -20,4 +20,4 @@ place-requires-clause-inside c =
     let floors = c.args.floors.now in
     let count = floor_count (sizes_of floors.search.case.now floors.search.nurse) in
     let days = mul-le (c.args.day + 1) count (day_count floors.search.case.now + 1) count (omega (arith, c.requires.day)) (omega arith) in
-    omega (arith, days, ap (λ (z : Sizes). (c.args.day + 1) * floor_count z) c.requires.ready.ranges, c.requires.ready.inside)
+    omega (arith, days, ap (λ (z : Sizes). (c.args.day + 1) * floor_count z) floors.own_ranges, floors.inside)

@@ -13,7 +13,7 @@ use Rattle.roster_partial.proofs.all_days.add_days.Goals.{After-len-offers}
 offers : (c : After-len-offers) → c.len-offers.result ≡ length (offered c.args.limited.now.floors.search c.loop-day.day)
 offers c =
     let search = c.args.limited.now.floors.search in
-    c.len-offers.ensures.value ∙ ap length (offers_read search.case.now search.nurse search.offers.now c.args.limited.now.ready.offers c.loop-day.day (omega (arith, c.loop-day-test.true, c.days-day-end.ensures.count)) _ c.index-search-day.result refl)
+    c.len-offers.ensures.value ∙ ap length (offers_read search.case.now search.nurse search.offers.now c.args.limited.now.floors.search.for_nurse c.loop-day.day (omega (arith, c.loop-day-test.true, c.days-day-end.ensures.count)) _ c.index-search-day.result refl)
 
 -- the steps of the day, as they are reckoned
 steps : (c : After-len-offers) → (c.row_count-end.result - c.loop-day.first) * c.len-offers.result ≡ (c.row_count-end.result - c.loop-day.first) * length (offered c.args.limited.now.floors.search c.loop-day.day)

@@ -23,7 +23,7 @@ loop-day-preserved c =
     let again : c.loop-day.day ≡ suc day = omega (arith, c.loop-day-test.true) in
     let here = subst (λ d. IsReadFrom offers rows (day_count k) last d e c.loop-day.row) again i.read in
     let long : day_count k ≤ length c.loop-day.row = omega (arith, i.length, c.requires.row_room) in
-    let of_day : c.deref.result.now ≡ offers day = c.deref.ensures.0 ∙ offers_read k search.nurse search.offers.now c.requires.offers day within _ c.index-search-day.result refl in
+    let of_day : c.deref.result.now ≡ offers day = c.deref.ensures.0 ∙ offers_read k search.nurse search.offers.now search.for_nurse day within _ c.index-search-day.result refl in
     let before : e.before ≡ c.link_at-link.result.before = sym (c.link_at-link.ensures.before) in
     let offer : e.offer ≡ c.link_at-link.result.offer = sym (c.link_at-link.ensures.offer) in
     record {

@@ -23,7 +23,7 @@ use Rattle.roster_partial.proofs.one_day.add_day.Goals.{After-places_after, In-b
 offers : (c : In-befores) → c.as_slice-offers.result.now ≡ offered c.args.limited.now.floors.search c.args.at.day
 offers c =
     let search = c.args.limited.now.floors.search in
-    c.as_slice-offers.ensures.value ∙ sym (read_day search.offers.now c.args.at.day c.index-offers-at.result (omega (arith, c.requires.day, c.args.limited.now.ready.offers.days)) c.index-offers-at.is)
+    c.as_slice-offers.ensures.value ∙ sym (read_day search.offers.now c.args.at.day c.index-offers-at.result (omega (arith, c.requires.day, c.args.limited.now.floors.search.for_nurse.days)) c.index-offers-at.is)
 
 -- the partial row, as it stands before those that were put
 read : (c : In-befores) → entry_numbered (rows_in c.befores.rows) c.befores.before ≡ entry_before c.args.at c.befores.rows c.befores.before

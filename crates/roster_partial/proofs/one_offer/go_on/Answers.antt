@@ -26,14 +26,14 @@ use Rattle.roster_partial.proofs.one_offer.go_on.Goals.{After-extend, After-shif
 day_offers : (c : After-shift-shift) → c.as_slice-day_offers.result.now ≡ offered c.args.limited.now.floors.search c.args.at.day
 day_offers c =
     let search = c.args.limited.now.floors.search in
-    c.as_slice-day_offers.ensures.value ∙ sym (read_day search.offers.now c.args.at.day c.index-offers-at.result (omega (arith, c.requires.day, c.args.limited.now.ready.offers.days)) c.index-offers-at.is)
+    c.as_slice-day_offers.ensures.value ∙ sym (read_day search.offers.now c.args.at.day c.index-offers-at.result (omega (arith, c.requires.day, c.args.limited.now.floors.search.for_nurse.days)) c.index-offers-at.is)
 
 -- the offer is one of the case's
 of_case : (c : After-shift-shift) → IsOfferOf c.args.limited.now.floors.search.case.now (offer_numbered c.as_slice-day_offers.result.now c.args.going.link.offer)
 of_case c =
     let search = c.args.limited.now.floors.search in
     let place = c.args.going.link.offer in
-    subst (λ xs. IsOfferOf search.case.now (offer_numbered xs place)) (sym (day_offers c)) (All-get_or (IsOfferOf search.case.now) (offered search c.args.at.day) place _ c.requires.going.offer (c.args.limited.now.ready.offers.each c.args.at.day c.requires.day).of_case)
+    subst (λ xs. IsOfferOf search.case.now (offer_numbered xs place)) (sym (day_offers c)) (All-get_or (IsOfferOf search.case.now) (offered search c.args.at.day) place _ c.requires.going.offer (c.args.limited.now.floors.search.for_nurse.each c.args.at.day c.requires.day).of_case)
 
 -- the step by it
 step : (c : After-extend) → c.as_slice-day_offers.result.now ≡ offered c.args.limited.now.floors.search c.args.at.day

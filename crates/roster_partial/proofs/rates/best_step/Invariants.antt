@@ -4,7 +4,7 @@ use Rattle.roster_partial.proofs.rates.best_step.Given as goal
 
 abbrev pub invariant-loop-place : goal.invariant-loop-place
 invariant-loop-place l = record {
-  fits : IfSome l.best (λ step. FitsNurse l.bounded.search step.state);
+  fits : IfSome l.best (λ step. FitsNurse l.search step.state);
   from : l.fn.meter ≤ l.meter;
   few : l.meter ≤ l.fn.meter + l.place;
 }

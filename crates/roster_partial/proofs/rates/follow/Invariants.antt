@@ -4,7 +4,7 @@ use Rattle.roster_partial.proofs.rates.follow.Given as goal
 
 abbrev pub invariant-loop-day : goal.invariant-loop-day
 invariant-loop-day l = record {
-  fits : FitsNurse l.bounded.search l.state;
+  fits : FitsNurse l.search l.state;
   from : l.fn.meter ≤ l.meter;
   few : l.meter ≤ l.fn.meter + most_offers * l.day;
 }

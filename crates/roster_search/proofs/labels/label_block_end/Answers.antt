@@ -32,8 +32,8 @@ pub end_cost-requires-clause-fits : goal.end_cost-requires-clause-fits
 end_cost-requires-clause-fits c =
     let days = c.args.days.now in
     let inside : c.loop-place.place < days.ranges.assignments = omega (arith, c.loop-place-test.true, c.places-place-end.ensures.places) in
-    subst (λ (s : Summary). fits_sizes (sizes_of days.case.now days.nurse) s ≡ true) (sym c.state.ensures)
-    (subst (λ z. fits_sizes z (with_assignments c.args.block c.loop-place.place) ≡ true) days.search.ranges (place-fits days.ranges c.args.block c.loop-place.place inside c.requires.fits))
+    subst (λ (s : Summary). fits_sizes (sizes_of days.search.case.now days.search.nurse) s ≡ true) (sym c.state.ensures)
+    (subst (λ z. fits_sizes z (with_assignments c.args.block c.loop-place.place) ≡ true) days.own_ranges (place-fits days.ranges c.args.block c.loop-place.place inside c.requires.fits))
 
 pub bounds-labels-code : goal.bounds-labels-code
 bounds-labels-code c =
@@ -42,8 +42,8 @@ bounds-labels-code c =
 pub loop-place-preserved : goal.loop-place-preserved
 loop-place-preserved c =
     let days = c.args.days.now in
-    let k = days.case.now in
-    let n = days.nurse in
+    let k = days.search.case.now in
+    let n = days.search.nurse in
     let block = c.args.block in
     let place = c.loop-place.place in
     let labels = c.loop-place.labels in

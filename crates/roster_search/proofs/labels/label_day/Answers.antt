@@ -12,24 +12,24 @@ use Rattle.roster_search.proofs.labels.label_day.Goals as goal
 use Rattle.roster_search.proofs.labels.label_day.Goals.{After-below-first_run, After-below-first_shift_run, After-shift_run-shift_runs}
 
 -- the runs are few
-few_here : (c : After-shift_run-shift_runs) → FewRuns (sizes_of c.args.day.now.days.case.now c.args.day.now.days.nurse)
-few_here c = few_of c.args.day.now.days.ranges _ c.run-runs.result c.shift_run-shift_runs.result c.args.day.now.days.search.ranges c.run-runs.ensures.run c.run-runs.ensures.within c.shift_run-shift_runs.ensures.shift_run c.shift_run-shift_runs.ensures.within
+few_here : (c : After-shift_run-shift_runs) → FewRuns (sizes_of c.args.day.now.days.search.case.now c.args.day.now.days.search.nurse)
+few_here c = few_of c.args.day.now.days.ranges _ c.run-runs.result c.shift_run-shift_runs.result c.args.day.now.days.own_ranges c.run-runs.ensures.run c.run-runs.ensures.within c.shift_run-shift_runs.ensures.shift_run c.shift_run-shift_runs.ensures.within
 
 -- the runs that are gone through, and the runs of the shift
-runs_here : (c : After-below-first_run) → Goes (area_at c.args.day.now.areas.now c.loop-last.last).run (sizes_of c.args.day.now.days.case.now c.args.day.now.days.nurse).run c.below-first_run.result.0 c.below-first_run.result.1
+runs_here : (c : After-below-first_run) → Goes (area_at c.args.day.now.areas.now c.loop-last.last).run (sizes_of c.args.day.now.days.search.case.now c.args.day.now.days.search.nurse).run c.below-first_run.result.0 c.below-first_run.result.1
 runs_here c =
     let is = c.area_of-area.ensures in
-    let size = c.run-runs.ensures.run ∙ ap (λ (y : Sizes). y.run) c.args.day.now.days.search.ranges in
+    let size = c.run-runs.ensures.run ∙ ap (λ (y : Sizes). y.run) c.args.day.now.days.own_ranges in
     record { end_is = c.below-first_run.ensures.end ∙ (λ i. min ((is i).run.greatest + 1) (size i)); from_is = c.below-first_run.ensures.first ∙ ap (λ (x : Area). min x.run.least c.below-first_run.result.1) is }
 
-shift_runs_here : (c : After-below-first_shift_run) → Goes (area_at c.args.day.now.areas.now c.loop-last.last).shift_run (sizes_of c.args.day.now.days.case.now c.args.day.now.days.nurse).shift_run c.below-first_shift_run.result.0 c.below-first_shift_run.result.1
+shift_runs_here : (c : After-below-first_shift_run) → Goes (area_at c.args.day.now.areas.now c.loop-last.last).shift_run (sizes_of c.args.day.now.days.search.case.now c.args.day.now.days.search.nurse).shift_run c.below-first_shift_run.result.0 c.below-first_shift_run.result.1
 shift_runs_here c =
     let is = c.area_of-area.ensures in
-    let size = c.shift_run-shift_runs.ensures.shift_run ∙ ap (λ (y : Sizes). y.shift_run) c.args.day.now.days.search.ranges in
+    let size = c.shift_run-shift_runs.ensures.shift_run ∙ ap (λ (y : Sizes). y.shift_run) c.args.day.now.days.own_ranges in
     record { end_is = c.below-first_shift_run.ensures.end ∙ (λ i. min ((is i).shift_run.greatest + 1) (size i)); from_is = c.below-first_shift_run.ensures.first ∙ ap (λ (x : Area). min x.shift_run.least c.below-first_shift_run.result.1) is }
 
 -- the run that is gone through
-run_in : (c : After-below-first_run) (run : ℕ) → run < c.below-first_run.result.1 → run < (sizes_of c.args.day.now.days.case.now c.args.day.now.days.nurse).run
+run_in : (c : After-below-first_run) (run : ℕ) → run < c.below-first_run.result.1 → run < (sizes_of c.args.day.now.days.search.case.now c.args.day.now.days.search.nurse).run
 run_in c run below = omega (arith, below, (goes_within (runs_here c)).1)
 
 pub loop-last-init : goal.loop-last-init
@@ -46,7 +46,7 @@ loop-run-init c =
     let last = c.loop-last.last in
     let from = c.below-first_run.result.0 in
     let runs = runs_here at.After-below-first_run in
-    let none = sum_begun runs (states_of_run day.days.case.now day.days.nurse day.areas.now last) in
+    let none = sum_begun runs (states_of_run day.days.search.case.now day.days.search.nurse day.areas.now last) in
     done_on c.loop-last.invariant (group_key last from 0) (runs_below day last from) (λ s stands. before_first_run _ _ _ (few_here at.After-shift_run-shift_runs) s stands last runs) (omega (arith, none))
 
 pub loop-shift_run-init : goal.loop-shift_run-init
@@ -57,7 +57,7 @@ loop-shift_run-init c =
     let run = c.loop-run.run in
     let from = c.below-first_shift_run.result.0 in
     let shift_runs = shift_runs_here at.After-below-first_shift_run in
-    let none = sum_begun shift_runs (λ q. states_with day.days.case.now day.days.nurse day.areas.now (group_of last run q)) in
+    let none = sum_begun shift_runs (λ q. states_with day.days.search.case.now day.days.search.nurse day.areas.now (group_of last run q)) in
     done_on c.loop-run.invariant (group_key last run from) (groups_below day last run from)
     (λ s stands. before_first_shift_run _ _ _ (few_here at.After-shift_run-shift_runs) s stands last run (run_in at.After-below-first_run run c.loop-run-test.true) shift_runs) (omega (arith, none))
 
@@ -97,8 +97,8 @@ loop-run-preserved c =
     let run = c.loop-run.run in
     let shift_runs = shift_runs_here at.After-below-first_shift_run in
     let is : c.loop-shift_run.shift_run ≡ c.below-first_shift_run.result.1 = omega (arith, c.loop-shift_run.auto.shift_run-end, c.below-first_shift_run.ensures.order, c.loop-shift_run-test.false) in
-    let all = sum_ended shift_runs c.loop-shift_run.shift_run (λ q. states_with day.days.case.now day.days.nurse day.areas.now (group_of last run q)) is in
-    let more = sum_more (runs_here at.After-below-first_run) run (states_of_run day.days.case.now day.days.nurse day.areas.now last) c.loop-run.auto.run c.loop-run-test.true in
+    let all = sum_ended shift_runs c.loop-shift_run.shift_run (λ q. states_with day.days.search.case.now day.days.search.nurse day.areas.now (group_of last run q)) is in
+    let more = sum_more (runs_here at.After-below-first_run) run (states_of_run day.days.search.case.now day.days.search.nurse day.areas.now last) c.loop-run.auto.run c.loop-run-test.true in
     done_on c.loop-shift_run.invariant (group_key last (run + 1) 0) (runs_below day last (run + 1))
     (λ s stands. after_last_shift_run _ _ _ (few_here at.After-shift_run-shift_runs) s stands last run (run_in at.After-below-first_run run c.loop-run-test.true) shift_runs c.loop-shift_run.shift_run is) (omega (arith, all, more))
 
@@ -109,7 +109,7 @@ loop-last-preserved c =
     let last = c.loop-last.last in
     let runs = runs_here at.After-below-first_run in
     let is : c.loop-run.run ≡ c.below-first_run.result.1 = omega (arith, c.loop-run.auto.run-end, c.below-first_run.ensures.order, c.loop-run-test.false) in
-    let all = sum_ended runs c.loop-run.run (states_of_run day.days.case.now day.days.nurse day.areas.now last) is in
+    let all = sum_ended runs c.loop-run.run (states_of_run day.days.search.case.now day.days.search.nurse day.areas.now last) is in
     let next : suc last ≡ last + 1 = omega arith in
     done_on c.loop-run.invariant (group_key (last + 1) 0 0) (lasts_below day (last + 1)) (λ s stands. after_last_run _ _ _ (few_here at.After-shift_run-shift_runs) s stands last runs c.loop-run.run is) (omega (arith, all) ∙ ap (lasts_below day) next)
 
@@ -120,10 +120,10 @@ returns-clause-tables c =
     let few = few_here (goal.at.returns-clause-tables c).After-shift_run-shift_runs in
     let tables = c.loop-last.invariant.tables in
     let last = c.loop-last.last in
-    let all : (sizes_of c.args.day.now.days.case.now c.args.day.now.days.nurse).last ≤ last = omega (arith, c.loop-last-test.false, c.last-last-end.ensures.last, ap (λ (y : Sizes). y.last) c.args.day.now.days.search.ranges) in
+    let all : (sizes_of c.args.day.now.days.search.case.now c.args.day.now.days.search.nurse).last ≤ last = omega (arith, c.loop-last-test.false, c.last-last-end.ensures.last, ap (λ (y : Sizes). y.last) c.args.day.now.days.own_ranges) in
     record { labels_are = λ s stands. tables.labels_are s (stands, before_all _ _ _ few s stands last all); pointers_are = λ s stands. tables.pointers_are s (stands, before_all _ _ _ few s stands last all) }
 
 pub returns-clause-exactly : goal.returns-clause-exactly
 returns-clause-exactly c =
-    let all : c.loop-last.last ≡ (sizes_of c.args.day.now.days.case.now c.args.day.now.days.nurse).last = omega (arith, c.loop-last.auto.last-end, c.loop-last-test.false, c.last-last-end.ensures.last, ap (λ (y : Sizes). y.last) c.args.day.now.days.search.ranges) in
+    let all : c.loop-last.last ≡ (sizes_of c.args.day.now.days.search.case.now c.args.day.now.days.search.nurse).last = omega (arith, c.loop-last.auto.last-end, c.loop-last-test.false, c.last-last-end.ensures.last, ap (λ (y : Sizes). y.last) c.args.day.now.days.own_ranges) in
     exactly_on (length c.args.day.now.offers.now) c.args.meter.now c.loop-last.meter c.loop-last.invariant.exactly (ap (lasts_below c.args.day.now) all)

@@ -12,24 +12,24 @@ use Rattle.roster_search.proofs.labels.label_end.Goals as goal
 use Rattle.roster_search.proofs.labels.label_end.Goals.{After-below-first_run, After-below-first_shift_run, After-shift_run-shift_runs}
 
 -- the runs are few
-few_here : (c : After-shift_run-shift_runs) → FewRuns (sizes_of c.args.days.now.case.now c.args.days.now.nurse)
-few_here c = few_of c.args.days.now.ranges _ c.run-runs.result c.shift_run-shift_runs.result c.args.days.now.search.ranges c.run-runs.ensures.run c.run-runs.ensures.within c.shift_run-shift_runs.ensures.shift_run c.shift_run-shift_runs.ensures.within
+few_here : (c : After-shift_run-shift_runs) → FewRuns (sizes_of c.args.days.now.search.case.now c.args.days.now.search.nurse)
+few_here c = few_of c.args.days.now.ranges _ c.run-runs.result c.shift_run-shift_runs.result c.args.days.now.own_ranges c.run-runs.ensures.run c.run-runs.ensures.within c.shift_run-shift_runs.ensures.shift_run c.shift_run-shift_runs.ensures.within
 
 -- the runs that are gone through, and the runs of the shift
-runs_here : (c : After-below-first_run) → Goes (area_at c.args.areas.now c.loop-last.last).run (sizes_of c.args.days.now.case.now c.args.days.now.nurse).run c.below-first_run.result.0 c.below-first_run.result.1
+runs_here : (c : After-below-first_run) → Goes (area_at c.args.areas.now c.loop-last.last).run (sizes_of c.args.days.now.search.case.now c.args.days.now.search.nurse).run c.below-first_run.result.0 c.below-first_run.result.1
 runs_here c =
     let is = c.area_of-area.ensures in
-    let size = c.run-runs.ensures.run ∙ ap (λ (y : Sizes). y.run) c.args.days.now.search.ranges in
+    let size = c.run-runs.ensures.run ∙ ap (λ (y : Sizes). y.run) c.args.days.now.own_ranges in
     record { end_is = c.below-first_run.ensures.end ∙ (λ i. min ((is i).run.greatest + 1) (size i)); from_is = c.below-first_run.ensures.first ∙ ap (λ (x : Area). min x.run.least c.below-first_run.result.1) is }
 
-shift_runs_here : (c : After-below-first_shift_run) → Goes (area_at c.args.areas.now c.loop-last.last).shift_run (sizes_of c.args.days.now.case.now c.args.days.now.nurse).shift_run c.below-first_shift_run.result.0 c.below-first_shift_run.result.1
+shift_runs_here : (c : After-below-first_shift_run) → Goes (area_at c.args.areas.now c.loop-last.last).shift_run (sizes_of c.args.days.now.search.case.now c.args.days.now.search.nurse).shift_run c.below-first_shift_run.result.0 c.below-first_shift_run.result.1
 shift_runs_here c =
     let is = c.area_of-area.ensures in
-    let size = c.shift_run-shift_runs.ensures.shift_run ∙ ap (λ (y : Sizes). y.shift_run) c.args.days.now.search.ranges in
+    let size = c.shift_run-shift_runs.ensures.shift_run ∙ ap (λ (y : Sizes). y.shift_run) c.args.days.now.own_ranges in
     record { end_is = c.below-first_shift_run.ensures.end ∙ (λ i. min ((is i).shift_run.greatest + 1) (size i)); from_is = c.below-first_shift_run.ensures.first ∙ ap (λ (x : Area). min x.shift_run.least c.below-first_shift_run.result.1) is }
 
 -- the run that is gone through
-run_in : (c : After-below-first_run) (run : _) → run < c.below-first_run.result.1 → run < (sizes_of c.args.days.now.case.now c.args.days.now.nurse).run
+run_in : (c : After-below-first_run) (run : _) → run < c.below-first_run.result.1 → run < (sizes_of c.args.days.now.search.case.now c.args.days.now.search.nurse).run
 run_in c run below = omega (arith, below, (goes_within (runs_here c)).1)
 
 pub loop-run-init : goal.loop-run-init
@@ -49,7 +49,7 @@ label_group_end-requires-clause-fits c =
     let shift_run_in : c.loop-shift_run.shift_run < days.ranges.shift_run = omega (arith, c.loop-shift_run-test.true, c.below-first_shift_run.ensures.order, c.shift_run-shift_runs.ensures.shift_run) in
     subst (λ (s : Summary). fits_sizes days.ranges s ≡ true) (sym c.of_runs-group.ensures)
     (group_fits days.ranges c.loop-last.last c.loop-run.run c.loop-shift_run.shift_run (omega (arith, c.loop-last-test.true, c.last-last-end.ensures.last)) (omega (arith, c.loop-run-test.true, c.below-first_run.ensures.order, c.run-runs.ensures.run)) shift_run_in
-    (omega (arith, ap (λ (y : Sizes). y.weekends) days.search.ranges)) (omega (arith, ap (λ (y : Sizes). y.assignments) days.search.ranges)))
+    (omega (arith, ap (λ (y : Sizes). y.weekends) days.own_ranges)) (omega (arith, ap (λ (y : Sizes). y.assignments) days.own_ranges)))
 
 pub label_group_end-requires-clause-no_weekends : goal.label_group_end-requires-clause-no_weekends
 label_group_end-requires-clause-no_weekends c = ap (λ (s : Summary). s.weekends) c.of_runs-group.ensures
@@ -63,9 +63,9 @@ loop-shift_run-preserved c =
     let at = goal.at.loop-shift_run-preserved c in
     let e = c.label_group_end.ensures in
     let new = c.label_group_end.new.labels in
-    let shift_run_in : c.loop-shift_run.shift_run < (sizes_of days.case.now days.nurse).shift_run = omega (arith, c.loop-shift_run-test.true, (goes_within (shift_runs_here at.After-below-first_shift_run)).1) in
+    let shift_run_in : c.loop-shift_run.shift_run < (sizes_of days.search.case.now days.search.nurse).shift_run = omega (arith, c.loop-shift_run-test.true, (goes_within (shift_runs_here at.After-below-first_shift_run)).1) in
     end_more days c.args.areas.now (few_here at.After-shift_run-shift_runs) c.loop-last.last c.loop-run.run c.loop-shift_run.shift_run (run_in at.After-below-first_run c.loop-run.run c.loop-run-test.true) shift_run_in c.loop-shift_run.invariant
-    (subst (λ (s : Summary). EndLabels (StandsLike days.case.now days.nurse c.args.areas.now s) days new) c.of_runs-group.ensures e.labels)
+    (subst (λ (s : Summary). EndLabels (StandsLike days.search.case.now days.search.nurse c.args.areas.now s) days new) c.of_runs-group.ensures e.labels)
     (subst (λ (s : Summary). KeepsRest (code_of days.ranges s) (group_places days) c.loop-shift_run.labels new) c.of_runs-group.ensures e.beside)
 
 pub loop-run-preserved : goal.loop-run-preserved
@@ -84,4 +84,4 @@ loop-last-preserved c =
 pub returns-clause-labels : goal.returns-clause-labels
 returns-clause-labels c s stands =
     let few = few_here (goal.at.returns-clause-labels c).After-shift_run-shift_runs in
-    c.loop-last.invariant.labels_are s (stands, before_all _ _ _ few s stands c.loop-last.last (omega (arith, c.loop-last-test.false, c.last-last-end.ensures.last, ap (λ (y : Sizes). y.last) c.args.days.now.search.ranges)))
+    c.loop-last.invariant.labels_are s (stands, before_all _ _ _ few s stands c.loop-last.last (omega (arith, c.loop-last-test.false, c.last-last-end.ensures.last, ap (λ (y : Sizes). y.last) c.args.days.now.own_ranges)))

@@ -19,28 +19,28 @@ use Rattle.roster_search.proofs.labels.label_group.Goals.{After-below-first, Aft
 -- ---- what is known of the group
 
 -- the assignments that are gone through, and the weekends
-places_here : (c : After-below-first) → Goes (area_at c.args.day.now.areas.now (shift_digit c.args.group.last)).assignments (sizes_of c.args.day.now.days.case.now c.args.day.now.days.nurse).assignments c.below-from.result.0 c.below-from.result.1
+places_here : (c : After-below-first) → Goes (area_at c.args.day.now.areas.now (shift_digit c.args.group.last)).assignments (sizes_of c.args.day.now.days.search.case.now c.args.day.now.days.search.nurse).assignments c.below-from.result.0 c.below-from.result.1
 places_here c =
     let is = c.area_of-area.ensures ∙ ap (area_at c.args.day.now.areas.now) c.last_number.ensures.number in
-    let size = c.assignments-side.ensures.assignments ∙ ap (λ (y : Sizes). y.assignments) c.args.day.now.days.search.ranges in
+    let size = c.assignments-side.ensures.assignments ∙ ap (λ (y : Sizes). y.assignments) c.args.day.now.days.own_ranges in
     record { end_is = c.below-from.ensures.end ∙ (λ i. min ((is i).assignments.greatest + 1) (size i)); from_is = c.below-from.ensures.first ∙ ap (λ (x : Area). min x.assignments.least c.below-from.result.1) is }
 
-weekends_here : (c : After-below-first) → Goes (area_at c.args.day.now.areas.now (shift_digit c.args.group.last)).weekends (sizes_of c.args.day.now.days.case.now c.args.day.now.days.nurse).weekends c.below-first.result.0 c.below-first.result.1
+weekends_here : (c : After-below-first) → Goes (area_at c.args.day.now.areas.now (shift_digit c.args.group.last)).weekends (sizes_of c.args.day.now.days.search.case.now c.args.day.now.days.search.nurse).weekends c.below-first.result.0 c.below-first.result.1
 weekends_here c =
     let is = c.area_of-area.ensures ∙ ap (area_at c.args.day.now.areas.now) c.last_number.ensures.number in
-    let size = c.weekends.ensures.weekends ∙ ap (λ (y : Sizes). y.weekends) c.args.day.now.days.search.ranges in
+    let size = c.weekends.ensures.weekends ∙ ap (λ (y : Sizes). y.weekends) c.args.day.now.days.own_ranges in
     record { end_is = c.below-first.ensures.end ∙ (λ i. min ((is i).weekends.greatest + 1) (size i)); from_is = c.below-first.ensures.first ∙ ap (λ (x : Area). min x.weekends.least c.below-first.result.1) is }
 
 -- a row may lead to its states, and how many stand
-may_be : (c : After-below-first) → can_be c.args.day.now.days.case.now c.args.day.now.days.nurse c.args.group ≡ true
+may_be : (c : After-below-first) → can_be c.args.day.now.days.search.case.now c.args.day.now.days.search.nurse c.args.group ≡ true
 may_be c = sym c.can_be.ensures ∙ c.if-not-can_be.false
 
-states_here : (c : After-below-first) → (c.below-first.result.1 - c.below-first.result.0) * (c.below-from.result.1 - c.below-from.result.0) ≡ states_with c.args.day.now.days.case.now c.args.day.now.days.nurse c.args.day.now.areas.now c.args.group
-states_here c = (λ i. numbers_are (weekends_here c) i * numbers_are (places_here c) i) ∙ sym (some_with c.args.day.now.days.case.now c.args.day.now.days.nurse c.args.day.now.areas.now c.args.group (may_be c))
+states_here : (c : After-below-first) → (c.below-first.result.1 - c.below-first.result.0) * (c.below-from.result.1 - c.below-from.result.0) ≡ states_with c.args.day.now.days.search.case.now c.args.day.now.days.search.nurse c.args.day.now.areas.now c.args.group
+states_here c = (λ i. numbers_are (weekends_here c) i * numbers_are (places_here c) i) ∙ sym (some_with c.args.day.now.days.search.case.now c.args.day.now.days.search.nurse c.args.day.now.areas.now c.args.group (may_be c))
 
 pub area_of-area-requires : goal.area_of-area-requires
 area_of-area-requires c =
-    omega (arith, c.last_number.ensures, (fits-all c.args.day.now.days.ranges c.args.group c.requires.group.fits).last, ap (λ (z : Sizes). z.last) c.args.day.now.days.search.ranges, c.keeps_limits.ensures.shifts)
+    omega (arith, c.last_number.ensures, (fits-all c.args.day.now.days.ranges c.args.group c.requires.group.fits).last, ap (λ (z : Sizes). z.last) c.args.day.now.days.own_ranges, c.keeps_limits.ensures.shifts)
 
 -- ---- where no state of the group stands
 
@@ -59,7 +59,7 @@ returns-then-not-can_be-clause-beside c = tables_same c.args.day.now _ _ c.args.
 
 pub returns-then-not-can_be-clause-exactly : goal.returns-then-not-can_be-clause-exactly
 returns-then-not-can_be-clause-exactly c =
-    exactly_on {states = 0} (length c.args.day.now.offers.now) c.args.meter.now c.args.meter.now (omega arith) (sym (none_with c.args.day.now.days.case.now c.args.day.now.days.nurse c.args.day.now.areas.now c.args.group (sym c.can_be.ensures ∙ c.if-not-can_be.true)))
+    exactly_on {states = 0} (length c.args.day.now.offers.now) c.args.meter.now c.args.meter.now (omega arith) (sym (none_with c.args.day.now.days.search.case.now c.args.day.now.days.search.nurse c.args.day.now.areas.now c.args.group (sym c.can_be.ensures ∙ c.if-not-can_be.true)))
 
 none_between : (c : After-below-first) → c.below-from.result.1 ≤ c.below-from.result.0 → (s : Summary) → StandsBy c.args.day.now c.args.group s → ⊥
 none_between c short s like = let inside = like_place like (places_here c) in omega (arith, inside.0, inside.1, short)
@@ -134,7 +134,7 @@ label_rows-requires-clause-room c =
     let states = states_here (goal.at.label_rows-requires-clause-room c).After-below-first in
     let few : w + rows - first ≤ c.below-first.result.1 - first = omega (arith, c.rows_with_room-rows.ensures.within, c.alike_rows-alike.ensures.within, c.loop-weekends-test.true) in
     let most = mul-le (w + rows - first) width (c.below-first.result.1 - first) width few (omega arith) in
-    let all = mul-le long ((w + rows - first) * width) long (states_with c.args.day.now.days.case.now c.args.day.now.days.nurse c.args.day.now.areas.now c.args.group) (omega arith) (omega (arith, most, states)) in
+    let all = mul-le long ((w + rows - first) * width) long (states_with c.args.day.now.days.search.case.now c.args.day.now.days.search.nurse c.args.day.now.areas.now c.args.group) (omega arith) (omega (arith, most, states)) in
     omega (arith, old.counted, rows_counted long first w rows width old.begun, all, c.requires.room)
 
 pub loop-weekends-preserved : goal.loop-weekends-preserved

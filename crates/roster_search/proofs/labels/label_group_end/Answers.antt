@@ -13,15 +13,15 @@ use Rattle.roster_search.proofs.labels.label_group_end.Goals as goal
 use Rattle.roster_search.proofs.labels.label_group_end.Goals.{After-below-first}
 
 -- the numbers of weekends that are gone through
-weekends_here : (c : After-below-first) → Goes (area_at c.args.areas.now (shift_digit c.args.group.last)).weekends (sizes_of c.args.days.now.case.now c.args.days.now.nurse).weekends c.below-first.result.0 c.below-first.result.1
+weekends_here : (c : After-below-first) → Goes (area_at c.args.areas.now (shift_digit c.args.group.last)).weekends (sizes_of c.args.days.now.search.case.now c.args.days.now.search.nurse).weekends c.below-first.result.0 c.below-first.result.1
 weekends_here c =
     let is = c.area_of-area.ensures ∙ ap (area_at c.args.areas.now) c.last_number.ensures.number in
-    let size = c.weekends.ensures.weekends ∙ ap (λ (z : Sizes). z.weekends) c.args.days.now.search.ranges in
+    let size = c.weekends.ensures.weekends ∙ ap (λ (z : Sizes). z.weekends) c.args.days.now.own_ranges in
     record { end_is = c.below-first.ensures.end ∙ (λ i. min ((is i).weekends.greatest + 1) (size i)); from_is = c.below-first.ensures.first ∙ ap (λ (x : Area). min x.weekends.least c.below-first.result.1) is }
 
 pub area_of-area-requires : goal.area_of-area-requires
 area_of-area-requires c =
-    omega (arith, c.last_number.ensures, (fits-all c.args.days.now.ranges c.args.group c.requires.fits).last, ap (λ (z : Sizes). z.last) c.args.days.now.search.ranges, c.keeps_limits.ensures.shifts)
+    omega (arith, c.last_number.ensures, (fits-all c.args.days.now.ranges c.args.group c.requires.fits).last, ap (λ (z : Sizes). z.last) c.args.days.now.own_ranges, c.keeps_limits.ensures.shifts)
 
 pub loop-weekends-init : goal.loop-weekends-init
 loop-weekends-init c = record {
@@ -32,8 +32,8 @@ loop-weekends-init c = record {
 pub loop-weekends-preserved : goal.loop-weekends-preserved
 loop-weekends-preserved c =
     let days = c.args.days.now in
-    let k = days.case.now in
-    let n = days.nurse in
+    let k = days.search.case.now in
+    let n = days.search.nurse in
     let z = days.ranges in
     let group = c.args.group in
     let r = c.requires in
@@ -48,9 +48,9 @@ loop-weekends-preserved c =
     λ a below. subst (λ j. slice_index_or c.label_block_end.new.labels (j + a) 0 ≡ label_of (best_at_end k n (with_assignments (with_weekends group w) a))) code_is
     (subst (λ (b : Summary). slice_index_or c.label_block_end.new.labels (code_of z c.with_weekends-block.result + a) 0 ≡ label_of (best_at_end k n (with_assignments b a))) (sym is) (e.labels a below)) in
     record {
-      labels = cells_of_weekends k n c.args.areas.now group z days.search.ranges r.no_weekends r.no_assignments (λ s label. label ≡ label_of (best_at_end k n s)) (λ code. code) c.loop-weekends.labels c.label_block_end.new.labels w 0 z.assignments
+      labels = cells_of_weekends k n c.args.areas.now group z days.own_ranges r.no_weekends r.no_assignments (λ s label. label ≡ label_of (best_at_end k n s)) (λ code. code) c.loop-weekends.labels c.label_block_end.new.labels w 0 z.assignments
           (λ j low. e.beside.others.before j (omega (arith, low, code_is))) (λ a low below. set a below)
-          (λ s like. (omega arith, omega (arith, (like_fits like).assignments, ap (λ (y : Sizes). y.assignments) days.search.ranges))) old.labels;
+          (λ s like. (omega arith, omega (arith, (like_fits like).assignments, ap (λ (y : Sizes). y.assignments) days.own_ranges))) old.labels;
       beside = rest_then old.beside (rest_wider e.beside _ _ (omega (arith, code_is)) (omega (arith, code_is, within)));
     }
 

@@ -18,19 +18,19 @@ use Rattle.roster_search.proofs.read.read_day.Goals as goal
 use Rattle.roster_search.proofs.read.read_day.Goals.{After-get-pointer}
 
 -- the day's offers, as they are read from the table
-offers_here : (c : After-get-pointer) → c.as_slice-offers.result.now ≡ offers_on c.args.days.now.offers.now c.args.day
-offers_here c = c.as_slice-offers.ensures.value ∙ offers_read c.args.days.now.case.now c.args.days.now.nurse c.args.days.now.offers.now c.args.days.now.search.offers c.args.day c.requires.day _ c.index-days-day.result refl
+offers_here : (c : After-get-pointer) → c.as_slice-offers.result.now ≡ offers_on c.args.days.now.search.offers.now c.args.day
+offers_here c = c.as_slice-offers.ensures.value ∙ offers_read c.args.days.now.search.case.now c.args.days.now.search.nurse c.args.days.now.search.offers.now c.args.days.now.search.for_nurse c.args.day c.requires.day _ c.index-days-day.result refl
 
 -- what the pointer points to
-pointed : (c : After-get-pointer) (best : LowRow (best_here c.args.days.now c.args.day c.args.state.now)) → PointsToBest (best_by c.args.days.now.case.now (day_of c.args.days.now c.args.day) (best_next c.args.days.now c.args.day) c.args.state.now) c.as_slice-offers.result.now best.row c.get-pointer.result
+pointed : (c : After-get-pointer) (best : LowRow (best_here c.args.days.now c.args.day c.args.state.now)) → PointsToBest (best_by c.args.days.now.search.case.now (day_of c.args.days.now c.args.day) (best_next c.args.days.now c.args.day) c.args.state.now) c.as_slice-offers.result.now best.row c.get-pointer.result
 pointed c best =
     let days = c.args.days.now in
     let first = ap (λ n. c.args.day * n) c.product.ensures.product in
-    transport (λ i. PointsToBest (best_by days.case.now (day_of days c.args.day) (best_next days c.args.day) c.args.state.now) (sym (offers_here c) i) best.row (sym c.get-pointer.ensures.value i))
+    transport (λ i. PointsToBest (best_by days.search.case.now (day_of days c.args.day) (best_next days c.args.day) c.args.state.now) (sym (offers_here c) i) best.row (sym c.get-pointer.ensures.value i))
     (points_here days c.args.day c.requires.day c.args.state.now c.requires.stands c.args.pointers.now c.requires.pointers (c.args.day * c.product.result) c.code.result first c.code.ensures.code best.row best.is best.low)
 
 pub bounds-days-day : goal.bounds-days-day
-bounds-days-day c = omega (arith, c.requires.day, c.args.days.now.search.offers.days)
+bounds-days-day c = omega (arith, c.requires.day, c.args.days.now.search.for_nurse.days)
 
 pub overflow_mul-first : goal.overflow_mul-first
 overflow_mul-first c =
@@ -38,12 +38,12 @@ overflow_mul-first c =
     omega (arith, mul-le c.args.day c.product.result 364 1048576 day (omega (arith, c.product.ensures.within)))
 
 pub code-requires : goal.code-requires
-code-requires c = subst (λ (z : Sizes). fits_sizes z c.args.state.now ≡ true) (sym c.args.days.now.search.ranges) c.requires.stands.fits
+code-requires c = subst (λ (z : Sizes). fits_sizes z c.args.state.now ≡ true) (sym c.args.days.now.own_ranges) c.requires.stands.fits
 
 pub get-pointer-requires : goal.get-pointer-requires
 get-pointer-requires c =
     let size = product c.args.days.now.ranges in
-    omega (arith, c.code.ensures.within, c.requires.room, ap (λ n. c.args.day * n) c.product.ensures.product, mul-le (c.args.day + 1) size (day_count c.args.days.now.case.now) size (omega (arith, c.requires.day)) (omega arith))
+    omega (arith, c.code.ensures.within, c.requires.room, ap (λ n. c.args.day * n) c.product.ensures.product, mul-le (c.args.day + 1) size (day_count c.args.days.now.search.case.now) size (omega (arith, c.requires.day)) (omega arith))
 
 pub bounds-offers-pointer : goal.bounds-offers-pointer
 bounds-offers-pointer c =
@@ -52,12 +52,12 @@ bounds-offers-pointer c =
 
 pub after-requires-clause-shift : goal.after-requires-clause-shift
 after-requires-clause-shift c =
-    let k = c.args.days.now.case.now in
+    let k = c.args.days.now.search.case.now in
     let at = (goal.at.after-requires-clause-shift c).After-get-pointer in
     let offers = c.as_slice-offers.result.now in
     let place = c.get-pointer.result in
     let best = low_row _ c.requires.some c.requires.low in
-    let all = subst (All (IsOfferOf k)) (sym (offers_here at)) (c.args.days.now.search.offers.each c.args.day c.requires.day).of_case in
+    let all = subst (All (IsOfferOf k)) (sym (offers_here at)) (c.args.days.now.search.for_nurse.each c.args.day c.requires.day).of_case in
     let of_case = All-get_or (IsOfferOf k) offers place no_offer (pointer_within _ offers best.row place (pointed at best)) all in
     subst (λ (x : Option Shift). IfSome x (λ u. u.0 < shift_count k)) (sym c.shift.ensures) (shift_of_case k (slice_index_or offers place no_offer).choice of_case.choice)
 
@@ -65,23 +65,23 @@ pub unreachable-requires : goal.unreachable-requires
 unreachable-requires c =
     let days = c.args.days.now in
     let best = low_row _ c.requires.some c.requires.low in
-    read_goes_on days.case.now (day_of days c.args.day) (best_next days c.args.day) c.args.state.now c.as_slice-offers.result.now best.row c.get-pointer.result (pointed (goal.at.unreachable-requires c).After-get-pointer best) _ c.shift.result c.shift.ensures c.after.result c.after.ensures.state c.in-None.is
+    read_goes_on days.search.case.now (day_of days c.args.day) (best_next days c.args.day) c.args.state.now c.as_slice-offers.result.now best.row c.get-pointer.result (pointed (goal.at.unreachable-requires c).After-get-pointer best) _ c.shift.result c.shift.ensures c.after.result c.after.ensures.state c.in-None.is
 
 pub returns-clause-begins : goal.returns-clause-begins
 returns-clause-begins c row is =
     let days = c.args.days.now in
     let best : LowRow (best_here days c.args.day c.args.state.now) = record { row = row; is = is; low = low_of _ row is c.requires.low } in
-    read_begins days.case.now (day_of days c.args.day) (best_next days c.args.day) c.args.state.now c.as_slice-offers.result.now row c.get-pointer.result (pointed (goal.at.returns-clause-begins c).After-get-pointer best) _ c.shift.result c.shift.ensures c.after.result c.after.ensures.state c.in-Some.next c.in-Some.is
+    read_begins days.search.case.now (day_of days c.args.day) (best_next days c.args.day) c.args.state.now c.as_slice-offers.result.now row c.get-pointer.result (pointed (goal.at.returns-clause-begins c).After-get-pointer best) _ c.shift.result c.shift.ensures c.after.result c.after.ensures.state c.in-Some.next c.in-Some.is
 
 pub returns-clause-stands : goal.returns-clause-stands
 returns-clause-stands c =
     let days = c.args.days.now in
-    let k = days.case.now in
+    let k = days.search.case.now in
     let at = (goal.at.returns-clause-stands c).After-get-pointer in
     let offers = c.as_slice-offers.result.now in
     let place = c.get-pointer.result in
     let best = low_row _ c.requires.some c.requires.low in
     let Leads = LeadsOn k (day_of days c.args.day) (areas_on days.areas.now c.args.day) (areas_next days c.args.day) in
-    let leads = subst (All Leads) (sym (offers_here at)) (days.search.standing.lead c.args.day c.requires.day) in
+    let leads = subst (All Leads) (sym (offers_here at)) (days.standing.lead c.args.day c.requires.day) in
     after_stands k (day_of days c.args.day) c.args.state.now c.in-Some.next c.shift.result (areas_on days.areas.now c.args.day) (areas_next days c.args.day) (slice_index_or offers place no_offer)
     (All-get_or Leads offers place no_offer (pointer_within _ offers best.row place (pointed at best)) leads) c.requires.stands c.shift.ensures (sym c.in-Some.is ∙ c.after.ensures.state)

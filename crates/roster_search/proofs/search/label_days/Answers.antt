@@ -1,20 +1,19 @@
 use Rattle.std.proofs.Common.{◌≡◌, ◌∙◌, ◌+◌, ◌-◌, ◌<◌, ◌%◌, suc, ap, arith, refl, subst}
 use Rattle.roster_instance.specs.Meaning.{day_count}
 use Rattle.roster_offers.specs.Lists.{offers_on}
-use Rattle.roster_offers.proofs.ListLaws.{offers_read}
 use Rattle.roster_search.specs.Days.{LabelsOn, PointersOn, steps_below}
 use Rattle.roster_search.specs.Search.{steps_on}
 use Rattle.roster_search.proofs.SearchLaws.{opened_labels, opened_pointers, opened_room, opened_steps}
 use Rattle.roster_search.proofs.search.label_days.Goals as goal
-use Rattle.roster_search.proofs.search.label_days.Goals.{After-as_slice-offers, In-loop-day}
+use Rattle.roster_search.proofs.search.label_days.Goals.{In-loop-day}
 
 -- ---- a day more
 
 -- the day, and its steps
 record DayHere (c : In-loop-day) : Type 0 where
   again : c.loop-day.day ≡ c.loop-day.day - 1 + 1
-  within : c.loop-day.day - 1 < day_count c.args.days.now.case.now
-  sum : steps_below c.args.days.now c.loop-day.day ≡ steps_below c.args.days.now (c.loop-day.day - 1) + steps_on c.args.days.now.case.now c.args.days.now.nurse (offers_on c.args.days.now.offers.now) c.args.days.now.areas.now (c.loop-day.day - 1)
+  within : c.loop-day.day - 1 < day_count c.args.days.now.search.case.now
+  sum : steps_below c.args.days.now c.loop-day.day ≡ steps_below c.args.days.now (c.loop-day.day - 1) + steps_on c.args.days.now.search.case.now c.args.days.now.search.nurse (offers_on c.args.days.now.search.offers.now) c.args.days.now.areas.now (c.loop-day.day - 1)
 
 day_here : (c : In-loop-day) → DayHere c
 day_here c =
@@ -25,18 +24,7 @@ day_here c =
       sum = ap (steps_below c.args.days.now) next;
     }
 
--- the day's offers, as they are read from the table
-offers_here : (c : After-as_slice-offers) → (within : c.loop-day.day - 1 < day_count c.args.days.now.case.now) → c.as_slice-offers.result.now ≡ offers_on c.args.days.now.offers.now (c.loop-day.day - 1)
-offers_here c within =
-    c.as_slice-offers.ensures.value ∙ offers_read c.args.days.now.case.now c.args.days.now.nurse c.args.days.now.offers.now c.args.days.now.search.offers (c.loop-day.day - 1) within _ c.index-days-day.result refl
-
-pub bounds-days-day : goal.bounds-days-day
-bounds-days-day c = omega (arith, (day_here (goal.at.bounds-days-day c).In-loop-day).within, c.args.days.now.search.offers.days)
-
 -- ---- an even day
-
-pub open_day-open-requires-clause-offers : goal.open_day-open-requires-clause-offers
-open_day-open-requires-clause-offers c = let at = goal.at.open_day-open-requires-clause-offers c in offers_here at.After-as_slice-offers (day_here at.In-loop-day).within
 
 pub open_day-open-requires-clause-day : goal.open_day-open-requires-clause-day
 open_day-open-requires-clause-day c = (day_here (goal.at.open_day-open-requires-clause-day c).In-loop-day).within
@@ -72,9 +60,6 @@ loop-day-preserved-then-day-eq0 c =
     }
 
 -- ---- an odd day
-
-pub open_day-open-requires-else-day-eq0-clause-offers : goal.open_day-open-requires-else-day-eq0-clause-offers
-open_day-open-requires-else-day-eq0-clause-offers c = let at = goal.at.open_day-open-requires-else-day-eq0-clause-offers c in offers_here at.After-as_slice-offers (day_here at.In-loop-day).within
 
 pub open_day-open-requires-else-day-eq0-clause-day : goal.open_day-open-requires-else-day-eq0-clause-day
 open_day-open-requires-else-day-eq0-clause-day c = (day_here (goal.at.open_day-open-requires-else-day-eq0-clause-day c).In-loop-day).within

@@ -11,5 +11,5 @@ invariant-loop-day l = record {
   pointers : PointersOn l.days l.day l.pointers;
   lengths : KeepLengths l.fn.even l.even l.fn.odd l.odd;
   pointers_length : length l.pointers ≡ length l.fn.pointers;
-  exactly : l.meter + steps_below l.days l.day ≡ l.fn.meter + steps_below l.days (day_count l.days.case.now);
+  exactly : l.meter + steps_below l.days l.day ≡ l.fn.meter + steps_below l.days (day_count l.days.search.case.now);
 }

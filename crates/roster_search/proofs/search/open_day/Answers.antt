@@ -1,12 +1,20 @@
-use Rattle.std.proofs.Common.{◌*◌, ◌≤◌, ap, arith, refl, subst, sym}
+use Rattle.std.proofs.Common.{◌≡◌, ◌∙◌, ◌*◌, ◌≤◌, ap, arith, refl, subst, sym}
 use Rattle.std.proofs.Math.Path.{transport}
 use Rattle.std.proofs.lemmas.Nat.{mul-le}
 use Rattle.std.specs.List.{All}
-use Rattle.roster_offers.specs.Lists.{IsOfferOf}
+use Rattle.roster_offers.specs.Lists.{IsOfferOf, offers_on}
+use Rattle.roster_offers.proofs.ListLaws.{offers_read}
 use Rattle.roster_search.specs.Days.{areas_next, day_of}
 use Rattle.roster_search.specs.Tables.{LeadsOn}
 use Rattle.roster_search.proofs.SearchLaws.{areas_read}
 use Rattle.roster_search.proofs.search.open_day.Goals as goal
+use Rattle.roster_search.proofs.search.open_day.Goals.{After-as_slice-offers}
+
+-- the day's offers, as they are read from the table
+offers_here : (c : After-as_slice-offers) → c.as_slice-offers.result.now ≡ offers_on c.args.days.now.search.offers.now c.args.day
+offers_here c =
+    let search = c.args.days.now.search in
+    c.as_slice-offers.ensures.value ∙ offers_read search.case.now search.nurse search.offers.now search.for_nurse c.args.day c.requires.day c.index-table-day.result c.index-table-day.result c.index-table-day.is
 
 pub overflow_mul-first : goal.overflow_mul-first
 overflow_mul-first c =
@@ -17,14 +25,14 @@ pub invariant_of-result : goal.invariant_of-result
 invariant_of-result c =
     let days = c.args.days.now in
     let d = c.args.day in
-    let back = sym c.requires.offers in
-    let areas = sym (areas_read days.areas.now d _ (omega (arith, c.requires.day, days.search.standing.long))) in
+    let back = sym (offers_here (goal.at.invariant_of-result c).After-as_slice-offers) in
+    let areas = sym (areas_read days.areas.now d _ (omega (arith, c.requires.day, days.standing.long))) in
     record {
       ready = record {
         day = c.requires.day;
-        few = c.requires.few;
-        of_case = subst (All (IsOfferOf days.case.now)) back (days.search.offers.each d c.requires.day).of_case;
-        leads = transport (λ i. All (LeadsOn days.case.now (day_of days d) (areas i) (areas_next days d)) (back i)) (days.search.standing.lead d c.requires.day);
+        few = omega (arith, c.as_slice-offers.ensures.fits);
+        of_case = subst (All (IsOfferOf days.search.case.now)) back (days.search.for_nurse.each d c.requires.day).of_case;
+        leads = transport (λ i. All (LeadsOn days.search.case.now (day_of days d) (areas i) (areas_next days d)) (back i)) (days.standing.lead d c.requires.day);
         later = c.requires.later;
         room = c.requires.room;
       };
@@ -37,8 +45,8 @@ returns c = record {
   ranges_are = refl;
   table_is = refl;
   day = refl;
-  areas = areas_read c.args.days.now.areas.now c.args.day _ (omega (arith, c.requires.day, c.args.days.now.search.standing.long));
-  offers = c.requires.offers;
+  areas = areas_read c.args.days.now.areas.now c.args.day _ (omega (arith, c.requires.day, c.args.days.now.standing.long));
+  offers = offers_here (goal.at.returns c).After-as_slice-offers;
   later = refl;
   first = ap (λ n. c.args.day * n) c.product.ensures.product;
 }

@@ -13,12 +13,12 @@ pub loop-day-init : goal.loop-day-init
 loop-day-init c =
     let days = c.args.days.now in
     record {
-      stands = subst (StandsIn days 0) (sym c.start-state.ensures.state) days.search.standing.start;
-      read = λ cost best is. read_first days.case.now days.nurse (offers_on days.offers.now) cost best c.start-state.result.0 c.args.row.now c.start-state.ensures.state is (low_of _ (cost, best) is c.requires.low);
+      stands = subst (StandsIn days 0) (sym c.start-state.ensures.state) days.standing.start;
+      read = λ cost best is. read_first days.search.case.now days.search.nurse (offers_on days.search.offers.now) cost best c.start-state.result.0 c.args.row.now c.start-state.ensures.state is (low_of _ (cost, best) is c.requires.low);
       same_length = refl;
     }
 
-day_in : (c : In-loop-day) → c.loop-day.day < day_count c.args.days.now.case.now
+day_in : (c : In-loop-day) → c.loop-day.day < day_count c.args.days.now.search.case.now
 day_in c = omega (arith, c.loop-day-test.true, c.days-day-end.ensures.count)
 
 pub read_day-choice-requires-clause-day : goal.read_day-choice-requires-clause-day
@@ -28,19 +28,19 @@ pub read_day-choice-requires-clause-some : goal.read_day-choice-requires-clause-
 read_day-choice-requires-clause-some c =
     let days = c.args.days.now in
     let low = low_row (best_of_days days) c.requires.some c.requires.low in
-    reads_some days.case.now days.nurse (offers_on days.offers.now) c.loop-day.day (day_in (goal.at.read_day-choice-requires-clause-some c).In-loop-day) c.loop-day.state c.loop-day.row low.row.1 (c.loop-day.invariant.read low.row.0 low.row.1 low.is)
+    reads_some days.search.case.now days.search.nurse (offers_on days.search.offers.now) c.loop-day.day (day_in (goal.at.read_day-choice-requires-clause-some c).In-loop-day) c.loop-day.state c.loop-day.row low.row.1 (c.loop-day.invariant.read low.row.0 low.row.1 low.is)
 
 pub read_day-choice-requires-clause-low : goal.read_day-choice-requires-clause-low
 read_day-choice-requires-clause-low c =
     let days = c.args.days.now in
     let low = low_row (best_of_days days) c.requires.some c.requires.low in
-    reads_low days.case.now days.nurse (offers_on days.offers.now) c.loop-day.day (day_in (goal.at.read_day-choice-requires-clause-low c).In-loop-day) c.loop-day.state c.loop-day.row low.row.1 (c.loop-day.invariant.read low.row.0 low.row.1 low.is)
+    reads_low days.search.case.now days.search.nurse (offers_on days.search.offers.now) c.loop-day.day (day_in (goal.at.read_day-choice-requires-clause-low c).In-loop-day) c.loop-day.state c.loop-day.row low.row.1 (c.loop-day.invariant.read low.row.0 low.row.1 low.is)
 
 pub loop-day-preserved : goal.loop-day-preserved
 loop-day-preserved c =
-    let k = c.args.days.now.case.now in
-    let offers = offers_on c.args.days.now.offers.now in
-    let n = c.args.days.now.nurse in
+    let k = c.args.days.now.search.case.now in
+    let offers = offers_on c.args.days.now.search.offers.now in
+    let n = c.args.days.now.search.nurse in
     let day = c.loop-day.day in
     let i = c.loop-day.invariant in
     let within = day_in (goal.at.loop-day-preserved c).In-loop-day in
@@ -55,8 +55,8 @@ loop-day-preserved c =
 
 pub returns-clause-row : goal.returns-clause-row
 returns-clause-row c cost best is =
-    let k = c.args.days.now.case.now in
-    let offers = offers_on c.args.days.now.offers.now in
-    let n = c.args.days.now.nurse in
+    let k = c.args.days.now.search.case.now in
+    let offers = offers_on c.args.days.now.search.offers.now in
+    let n = c.args.days.now.search.nurse in
     let all : c.loop-day.day ≡ day_count k = omega (arith, c.loop-day-test.false, c.loop-day.auto.day-end, c.days-day-end.ensures.count) in
     read_last k n offers c.loop-day.state c.loop-day.row best (subst (λ d. IsReadTo k n offers d c.loop-day.state c.loop-day.row best) all (c.loop-day.invariant.read cost best is))

@@ -16,10 +16,10 @@ use Rattle.roster_search.proofs.search.search_states.Goals.{After-index, After-o
 
 -- the best row, and it is low
 found : (c : After-of-ranges) → LowRow (best_over c.args.search.now.case.now c.args.search.now.nurse (offers_on c.args.search.now.offers.now))
-found c = low_over c.args.search.now.case.now c.args.search.now.nurse (offers_on c.args.search.now.offers.now) (λ day within. (c.requires.offers.each day within).of_case) c.keeps_limits.ensures.small c.keeps_limits.ensures.weeks c.requires.some
+found c = low_over c.args.search.now.case.now c.args.search.now.nurse (offers_on c.args.search.now.offers.now) (λ day within. (c.args.search.now.for_nurse.each day within).of_case) c.keeps_limits.ensures.small c.keeps_limits.ensures.weeks c.requires.some
 
 pub invariant_of-days : goal.invariant_of-days
-invariant_of-days c = record { search = record { nurse = c.requires.nurse; rules = c.contract_rules.ensures.rules; ranges = c.of-ranges.ensures.sizes; offers = c.requires.offers; standing = c.requires.standing } }
+invariant_of-days c = record { own_rules = c.contract_rules.ensures.rules; own_ranges = c.of-ranges.ensures.sizes; standing = c.requires.standing }
 
 pub label_days-requires-clause-labels_room : goal.label_days-requires-clause-labels_room
 label_days-requires-clause-labels_room c =
@@ -96,12 +96,12 @@ returns-clause-each_day c =
     let standing = c.requires.standing in
     let some = standing_some k n offers areas (λ day within.
     let at = goes_on k n offers areas standing.lead standing.start c.requires.some day (omega (arith, within)) in
-    (record { state = at.state; stands = at.stands }, (c.requires.offers.each day within).some)) in
+    (record { state = at.state; stands = at.stands }, (c.args.search.now.for_nurse.each day within).some)) in
     omega (arith, c.label_days.ensures.exactly, some)
 
 pub returns-clause-counted : goal.returns-clause-counted
 returns-clause-counted c =
-    let all = standing_within c.args.search.now.case.now c.args.search.now.nurse (offers_on c.args.search.now.offers.now) c.args.areas.now.days (λ day within. (c.requires.offers.each day within).few) in
+    let all = standing_within c.args.search.now.case.now c.args.search.now.nurse (offers_on c.args.search.now.offers.now) c.args.areas.now.days (λ day within. (c.args.search.now.for_nurse.each day within).few) in
     omega (arith, c.label_days.ensures.exactly, all)
 
 -- ---- the tables after it

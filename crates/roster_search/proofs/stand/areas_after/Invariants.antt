@@ -5,4 +5,4 @@ use Rattle.roster_search.specs.Tables.{LeadsOn}
 use Rattle.roster_search.proofs.stand.areas_after.Given as goal
 
 abbrev pub invariant-loop-place : goal.invariant-loop-place
-invariant-loop-place l = All (LeadsOn l.case (search_day l.case l.nurse l.day) l.areas l.after) (take l.place l.offers)
+invariant-loop-place l = All (LeadsOn l.search.case.now (search_day l.search.case.now l.search.nurse l.day) l.areas l.after) (take l.place l.offers)

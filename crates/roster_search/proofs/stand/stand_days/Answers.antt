@@ -8,15 +8,13 @@ use Rattle.roster_rules.specs.Prefix.{summary_of}
 use Rattle.roster_state.specs.declared.area.Area.{Area}
 use Rattle.roster_state.specs.Codes.{shift_digit}
 use Rattle.roster_state.proofs.CodeLemmas.{fits-all}
-use Rattle.roster_offers.specs.Lists.{IsOfferOf, offers_on}
-use Rattle.roster_offers.proofs.ListLaws.{offers_read}
+use Rattle.roster_offers.specs.Lists.{offers_on}
 use Rattle.roster_search.specs.Counts.{states_on}
 use Rattle.roster_search.specs.Search.{areas_on, search_day}
 use Rattle.roster_search.specs.Tables.{LeadsOn, Stands}
 use Rattle.roster_search.proofs.SearchLaws.{areas_read, day_kept, lead_more}
 use Rattle.roster_search.proofs.MostLaws.{one_stands}
 use Rattle.roster_search.proofs.stand.stand_days.Goals as goal
-use Rattle.roster_search.proofs.stand.stand_days.Goals.{After-as_slice-offers}
 
 pub areas_of-requires : goal.areas_of-requires
 areas_of-requires c = omega (arith, (fits-all _ c.start-state.result.0 c.start-state.ensures.fits).last, c.keeps_limits.ensures.shifts)
@@ -36,16 +34,6 @@ loop-day-init c =
       length = length-set c.args.areas.now.days 0 c.areas_of.result;
     }
 
--- a day's offers, as they are read from the table
-offers_here : (c : After-as_slice-offers) → c.as_slice-offers.result.now ≡ offers_on c.args.search.now.offers.now c.loop-day.day
-offers_here c =
-    c.as_slice-offers.ensures.value ∙ offers_read c.args.search.now.case.now c.args.search.now.nurse c.args.search.now.offers.now c.requires.offers c.loop-day.day (omega (arith, c.loop-day-test.true, c.days-day-end.ensures.count)) _ c.index-search-day.result refl
-
-pub areas_after-requires-clause-offers : goal.areas_after-requires-clause-offers
-areas_after-requires-clause-offers c =
-    let inside : c.loop-day.day < day_count c.args.search.now.case.now = omega (arith, c.loop-day-test.true, c.days-day-end.ensures.count) in
-    subst (All (IsOfferOf c.args.search.now.case.now)) (sym (offers_here (goal.at.areas_after-requires-clause-offers c).After-as_slice-offers)) (c.requires.offers.each c.loop-day.day inside).of_case
-
 pub loop-day-preserved : goal.loop-day-preserved
 loop-day-preserved c =
     let k = c.args.search.now.case.now in
@@ -55,8 +43,7 @@ loop-day-preserved c =
     let old = c.loop-day.invariant in
     let inside : day + 1 < length c.loop-day.areas.days = omega (arith, c.loop-day-test.true, c.days-day-end.ensures.count, old.length) in
     let read = areas_read c.loop-day.areas.days day _ (omega (arith, inside)) in
-    let offers = offers_here (goal.at.loop-day-preserved c).After-as_slice-offers in
-    let here = transport (λ i. All (LeadsOn k (search_day k n day) (read i) c.areas_after.result) (offers i)) c.areas_after.ensures in
+    let here = transport (λ i. All (LeadsOn k (search_day k n day) (read i) c.areas_after.result) (table day)) c.areas_after.ensures in
     record {
       start = subst (λ (x : _). Stands k n x (summary_of k n [])) (sym (day_kept k n table c.loop-day.areas.days day inside c.areas_after.result 0 (omega arith))) old.start;
       first = subst (λ (x : List Area). states_on k n x ≤ 1) (sym (day_kept k n table c.loop-day.areas.days day inside c.areas_after.result 0 (omega arith))) old.first;

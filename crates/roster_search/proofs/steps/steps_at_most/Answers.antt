@@ -16,7 +16,7 @@ use Rattle.roster_search.proofs.steps.steps_at_most.Goals.{After-states_in_areas
 -- the day's offers, as they are read from the table
 offers_here : (c : After-states_in_areas) → c.as_slice-offers.result.now ≡ offers_on c.args.search.now.offers.now c.loop-day.day
 offers_here c =
-    c.as_slice-offers.ensures.value ∙ offers_read c.args.search.now.case.now c.args.search.now.nurse c.args.search.now.offers.now c.requires.offers c.loop-day.day (omega (arith, c.loop-day-test.true, c.days-day-end.ensures.count)) _ c.index-search-day.result refl
+    c.as_slice-offers.ensures.value ∙ offers_read c.args.search.now.case.now c.args.search.now.nurse c.args.search.now.offers.now c.args.search.now.for_nurse c.loop-day.day (omega (arith, c.loop-day-test.true, c.days-day-end.ensures.count)) _ c.index-search-day.result refl
 
 -- what a day takes, and at most
 record DayHere (c : After-states_in_areas) : Type 0 where
@@ -41,11 +41,11 @@ day_here c =
     let sizes : states_in_areas z (areas_on table day) ≡ states_in_areas (sizes_of k n) (areas_on table day) = ap (λ (y : Sizes). states_in_areas y (areas_on table day)) c.of-ranges.ensures.sizes in
     let over : states_on k n (areas_on table day) ≤ states = omega (arith, is, sizes, states_in_few k n (areas_on table day)) in
     let up_to : states ≤ product z = omega (arith, is, areas_few z (areas_on table day) z.last (omega arith)) in
-    let few : length offers ≤ choice_count k n = omega (arith, (c.requires.offers.each day inside).few, long_offers) in
+    let few : length offers ≤ choice_count k n = omega (arith, (c.args.search.now.for_nurse.each day inside).few, long_offers) in
     record {
       all = mul-le (states_on k n (areas_on table day)) (length (offers_on c.args.search.now.offers.now day)) states (length offers) over (omega (arith, long_offers));
       within = mul-le states (length offers) (product z) (choice_count k n) up_to few;
-      small = omega (arith, mul-le states (length offers) 1048576 16 (omega (arith, up_to, c.of-ranges.ensures.states, c.keeps_sizes.ensures.states n c.requires.nurse)) (omega (arith, c.as_slice-offers.ensures.fits)));
+      small = omega (arith, mul-le states (length offers) 1048576 16 (omega (arith, up_to, c.of-ranges.ensures.states, c.keeps_sizes.ensures.states n c.args.search.now.in_case)) (omega (arith, c.as_slice-offers.ensures.fits)));
     }
 
 pub overflow_mul-steps : goal.overflow_mul-steps
