@@ -1,5 +1,5 @@
 -- What floors tell of the rest of a row (our own).
-use Rattle.std.specs.Prelude.{◌≡◌, ℕ, ◌+◌, ◌-◌, ◌*◌, ◌/◌, ◌≤◌, List, Some, length, min}
+use Rattle.std.specs.Prelude.{◌≡◌, ℕ, ◌+◌, ◌-◌, ◌*◌, ◌/◌, ◌≤◌, List, Some, min}
 use Rattle.roster_instance.specs.Meaning.{Meaning, contract_of, day_count}
 use Rattle.roster_instance.specs.Sizes.{cap}
 use Rattle.roster_rules.specs.Prefix.{Summary}

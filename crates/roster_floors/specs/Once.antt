@@ -1,5 +1,5 @@
 -- Facts of which there is one proof at most, as a ghost field asks (our own).
-use Rattle.std.specs.Prelude.{◌≡◌, ℕ, All, List, true}
+use Rattle.std.specs.Prelude.{◌≡◌, All, List, true}
 use Rattle.std.specs.Coded.{le_prop}
 use denote.Struct.Props as logic
 use Rattle.roster_instance.specs.declared.choice.Choice.{Choice}

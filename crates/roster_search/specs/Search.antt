@@ -1,13 +1,11 @@
 -- A search over a table of offers: the room that it takes, its days, and how many states it goes over (our own).
-use Rattle.std.specs.Prelude.{◌≡◌, ℕ, ◌+◌, ◌-◌, ◌*◌, ◌<◌, ◌≤◌, All, List, [], length, slice_index_or}
-use Rattle.arrayvec.specs.ArrayVec.{ArrayVec}
-use Rattle.roster_instance.specs.Meaning.{Meaning, contract_of, day_count, nurse_count}
-use Rattle.roster_instance.specs.declared.rules.ContractRules.{ContractRules}
+use Rattle.std.specs.Prelude.{ℕ, ◌+◌, ◌-◌, ◌*◌, ◌<◌, ◌≤◌, All, List, [], length, slice_index_or}
+use Rattle.roster_instance.specs.Meaning.{Meaning, day_count}
 use Rattle.roster_instance.specs.Sizes.{state_count}
 use Rattle.roster_instance.specs.Counting.{sum_below}
 use Rattle.roster_rules.specs.Prefix.{Summary, summary_of}
 use Rattle.roster_state.specs.declared.area.Area.{Area}
-use Rattle.roster_state.specs.Codes.{Sizes, product, sizes_of}
+use Rattle.roster_state.specs.Codes.{product, sizes_of}
 use Rattle.roster_offers.specs.declared.offer.Offer.{Offer}
 use Rattle.roster_offers.specs.Offers.{best_of_offers}
 use Rattle.roster_search.specs.Counts.{states_on}

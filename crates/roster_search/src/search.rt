@@ -1,6 +1,6 @@
 //! The search over a table of offers.
 
-ghost use Rattle.std.specs.Prelude.{◌≡◌, ◌+◌, ◌*◌, ◌<◌, ◌≤◌, ℕ, IfSome, IsSome, List, Some, length, take};
+ghost use Rattle.std.specs.Prelude.{◌≡◌, ◌+◌, ◌*◌, ◌<◌, ◌≤◌, ℕ, IsSome, List, Some, length, take};
 ghost use Rattle.roster_bundle.specs.Limits.{greatest_u64};
 ghost use Rattle.roster_instance.specs.Meaning.{day_count};
 ghost use Rattle.roster_laws.specs.Greatest.{extension_count};
@@ -167,12 +167,12 @@ fn read_row(days: &SearchDays<'_>, pointers: &Pointers, row: &mut [Choice])
     requires pointers_room { all_pointers days.now ≤ length pointers.now }
     requires row_room { day_count days.now.search.case.now ≤ length row.old }
     requires some { IsSome (best_of_days days.now) }
-    requires low { IfSome (best_of_days days.now) (λ row. row.0 < no_row) }
     ensures row { (cost : ℕ) (offers : List Offer) → best_of_days days.now ≡ Some (cost, offers) →
         take (day_count days.now.search.case.now) row.new ≡ choices_of offers }
     ensures length { length row.new ≡ length row.old }
 {
     let case = days.search.case;
+    case.keeps_limits();
     let (mut state, _) = start(case, days.search.nurse);
     for day in 0..case.days() {
         let (choice, next) = read_day(days, day, &state, pointers);

@@ -1,20 +1,34 @@
-use Rattle.std.proofs.Common.{◌≡◌, ◌∙◌, ◌<◌, ap, arith, refl, subst, sym}
+use Rattle.std.proofs.Common.{◌≡◌, ◌∙◌, ◌<◌, IfSome, List, ap, arith, refl, subst, sym}
 use Rattle.std.proofs.lemmas.List.{length-set}
 use Rattle.roster_instance.specs.Meaning.{day_count}
-use Rattle.roster_offers.specs.Lists.{offers_on}
+use Rattle.roster_offers.specs.declared.offer.Offer.{Offer}
+use Rattle.roster_offers.specs.Cheapest.{Priced}
+use Rattle.roster_offers.specs.Lists.{no_row, offers_on}
+use Rattle.roster_offers.proofs.LowRows.{LowRow, low_over}
 use Rattle.roster_search.specs.Days.{StandsIn, best_of_days}
 use Rattle.roster_search.specs.Tables.{BestOnward}
-use Rattle.roster_search.proofs.ReadLaws.{low_of, low_row}
+use Rattle.roster_search.proofs.ReadLaws.{low_of}
 use Rattle.roster_search.proofs.SearchLaws.{IsReadTo, onward-day, read_first, read_last, read_on, reads_low, reads_some}
 use Rattle.roster_search.proofs.search.read_row.Goals as goal
-use Rattle.roster_search.proofs.search.read_row.Goals.{In-loop-day}
+use Rattle.roster_search.proofs.search.read_row.Goals.{After-keeps_limits, In-loop-day}
+
+-- the best row, and it is low
+found : (c : After-keeps_limits) → LowRow (best_of_days c.args.days.now)
+found c =
+    let search = c.args.days.now.search in
+    low_over search.case.now search.nurse (offers_on search.offers.now) (λ day within. (search.for_nurse.each day within).of_case) c.keeps_limits.ensures.small c.keeps_limits.ensures.weeks c.requires.some
+
+is_low : (c : After-keeps_limits) → IfSome (best_of_days c.args.days.now) (λ row. row.0 < no_row)
+is_low c =
+    let best = found c in
+    subst (λ (o : Priced (List Offer)). IfSome o (λ row. row.0 < no_row)) (sym best.is) best.low
 
 pub loop-day-init : goal.loop-day-init
 loop-day-init c =
     let days = c.args.days.now in
     record {
       stands = subst (StandsIn days 0) (sym c.start-state.ensures.state) days.standing.start;
-      read = λ cost best is. read_first days.search.case.now days.search.nurse (offers_on days.search.offers.now) cost best c.start-state.result.0 c.args.row.now c.start-state.ensures.state is (low_of _ (cost, best) is c.requires.low);
+      read = λ cost best is. read_first days.search.case.now days.search.nurse (offers_on days.search.offers.now) cost best c.start-state.result.0 c.args.row.now c.start-state.ensures.state is (low_of _ (cost, best) is (is_low (goal.at.loop-day-init c).After-keeps_limits));
       same_length = refl;
     }
 
@@ -27,13 +41,13 @@ read_day-choice-requires-clause-day c = day_in (goal.at.read_day-choice-requires
 pub read_day-choice-requires-clause-some : goal.read_day-choice-requires-clause-some
 read_day-choice-requires-clause-some c =
     let days = c.args.days.now in
-    let low = low_row (best_of_days days) c.requires.some c.requires.low in
+    let low = found (goal.at.read_day-choice-requires-clause-some c).After-keeps_limits in
     reads_some days.search.case.now days.search.nurse (offers_on days.search.offers.now) c.loop-day.day (day_in (goal.at.read_day-choice-requires-clause-some c).In-loop-day) c.loop-day.state c.loop-day.row low.row.1 (c.loop-day.invariant.read low.row.0 low.row.1 low.is)
 
 pub read_day-choice-requires-clause-low : goal.read_day-choice-requires-clause-low
 read_day-choice-requires-clause-low c =
     let days = c.args.days.now in
-    let low = low_row (best_of_days days) c.requires.some c.requires.low in
+    let low = found (goal.at.read_day-choice-requires-clause-low c).After-keeps_limits in
     reads_low days.search.case.now days.search.nurse (offers_on days.search.offers.now) c.loop-day.day (day_in (goal.at.read_day-choice-requires-clause-low c).In-loop-day) c.loop-day.state c.loop-day.row low.row.1 (c.loop-day.invariant.read low.row.0 low.row.1 low.is)
 
 pub loop-day-preserved : goal.loop-day-preserved

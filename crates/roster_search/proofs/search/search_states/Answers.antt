@@ -1,11 +1,9 @@
-use Rattle.std.proofs.Common.{◌≡◌, ◌∙◌, ◌*◌, ◌<◌, ◌≤◌, IfSome, ℕ, List, Some, vec_capacity, ap, arith, length, slice_index_or, subst, sym, ◌+◌, true}
+use Rattle.std.proofs.Common.{◌≡◌, ◌∙◌, ◌*◌, ◌≤◌, ℕ, List, Some, vec_capacity, ap, arith, length, slice_index_or, subst, sym, ◌+◌, true}
 use Rattle.std.specs.Vec.{with_items}
 use Rattle.std.proofs.lemmas.List.{get_or_read_under, with_items_is}
 use Rattle.roster_instance.specs.Meaning.{day_count}
 use Rattle.roster_state.specs.Codes.{code_of, product, sizes_of, Sizes, fits_sizes}
-use Rattle.roster_offers.specs.declared.offer.Offer.{Offer}
-use Rattle.roster_offers.specs.Cheapest.{Priced}
-use Rattle.roster_offers.specs.Lists.{best_over, no_row, offers_on}
+use Rattle.roster_offers.specs.Lists.{best_over, offers_on}
 use Rattle.roster_offers.proofs.LowRows.{LowRow, low_over}
 use Rattle.roster_search.specs.Search.{TableRoom, areas_on}
 use Rattle.roster_search.specs.Tables.{Stands}
@@ -31,11 +29,6 @@ label_days-requires-clause-pointers_room c =
 
 pub label_days-requires-clause-same_room : goal.label_days-requires-clause-same_room
 label_days-requires-clause-same_room c = ap length c.deref_mut-2.ensures.value ∙ sym c.tables.invariant ∙ sym (ap length c.deref_mut.ensures.value)
-
-pub read_row-requires-clause-low : goal.read_row-requires-clause-low
-read_row-requires-clause-low c =
-    let best = found (goal.at.read_row-requires-clause-low c).After-of-ranges in
-    subst (λ (o : Priced (List Offer)). IfSome o (λ row. row.0 < no_row)) (sym best.is) best.low
 
 pub read_row-requires-clause-pointers_room : goal.read_row-requires-clause-pointers_room
 read_row-requires-clause-pointers_room c =

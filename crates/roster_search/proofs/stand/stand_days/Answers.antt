@@ -3,7 +3,6 @@ use Rattle.std.proofs.Math.Path.{transport}
 use Rattle.std.proofs.lemmas.Grind.{get_or-set_at}
 use Rattle.std.proofs.lemmas.List.{length-set}
 use Rattle.std.specs.List.{All}
-use Rattle.roster_instance.specs.Meaning.{day_count}
 use Rattle.roster_rules.specs.Prefix.{summary_of}
 use Rattle.roster_state.specs.declared.area.Area.{Area}
 use Rattle.roster_state.specs.Codes.{shift_digit}
