@@ -63,7 +63,7 @@ def docstring(text, at):
 @functools.lru_cache(maxsize=None)
 def calls_of(crate):
     """What the sources say of each function and method that a crate exports, by its name: those of other crates too, which it hands on."""
-    folder, methods, free, found = f"{TOP}/crates/{crate}/src", {}, {}, {}
+    folder, methods, free, found, aliases = f"{TOP}/crates/{crate}/src", {}, {}, {}, {}
     if not os.path.isfile(f"{folder}/lib.rt"):
         return found
     for path in sorted(os.listdir(folder)):
@@ -71,6 +71,7 @@ def calls_of(crate):
             source = file.read()
         text = silenced(source)
         blocks = owners(text)
+        aliases |= {it[1]: (it[2], it[3]) for it in re.finditer(r"\bpub\s+type\s+(\w+)\s*=\s*(roster_\w+)::(\w+)", text)}
         for it in re.finditer(r"\bpub\s+(?:const\s+|unsafe\s+)*fn\s+(\w+)", text):
             around = [name for start, end, name in blocks if start < it.start() < end]
             (methods.setdefault(around[-1], {}) if around else free)[it[1]] = docstring(source, it.start())
@@ -81,6 +82,9 @@ def calls_of(crate):
         for name in re.findall(r"\w+", names):
             own = {f"{name}::{method}": said for method, said in methods.get(name, {}).items()}
             own |= {name: free[name]} if name in free else {}
+            if name in aliases:
+                home, called = aliases[name]
+                own |= {it.replace(called, name, 1): said for it, said in calls_of(home).items() if it.startswith(f"{called}::")}
             found |= own or {it: said for it, said in below.items() if it.split("::")[0] == name}
     return found
 

@@ -20,7 +20,7 @@ followed_by minimum optimum nurses fine step =
     if (minimum == 0) && (optimum == 0) then fine else moved_by (wanted_at minimum optimum fine) nurses fine step
 
 -- each place's worth has followed, by the nurses that are counted there, which stay
-pub record HaveFollowed (c : Meaning) (step : ℕ) (old new : FloorWorkspace) : Type 0 where
+pub record HaveFollowed {T : Type 0} (c : Meaning) (step : ℕ) (old new : FloorWorkspace T) : Type 0 where
   pub rows : new.rows ≡ old.rows
   pub each : (place : ℕ) → place < 64 * day_count c → slice_index_or new.worths.fine place 0
       ≡ followed_by (minimum c (place / 64) (place % 64 / 8) (place % 8)) (optimum c (place / 64) (place % 64 / 8) (place % 8)) (slice_index_or old.rows.cover.items place 0) (slice_index_or old.worths.fine place 0) step

@@ -1,18 +1,18 @@
 -- What a run that raises a floor has room for.
 use Rattle.std.specs.Prelude.{◌≡◌, ◌*◌, length, true}
 use Rattle.roster_instance.specs.Meaning.{Meaning, day_count}
-use Rattle.roster_partial.specs.Workspaces.{fits_space}
+use Rattle.roster_offers.specs.Workspaces.{fits_space}
 use Rattle.roster_bound.specs.Seen.{FitsSeen}
 use Rattle.roster_bound.specs.declared.workspace.FloorWorkspace.{FloorWorkspace}
 use Rattle.roster_bound.specs.declared.workspace.RowSpace.{RowSpace}
 
 -- for the search of each nurse, and 64 places for each day
-pub record FitsRows (c : Meaning) (w : RowSpace) : Type 0 where
+pub record FitsRows {T : Type 0} (c : Meaning) (w : RowSpace T) : Type 0 where
   pub search : fits_space c w.workspace ≡ true
   pub cover : length w.cover.items ≡ 64 * day_count c
 
 -- and two worths and two covers for each of these places, and rows of each nurse
-pub record FitsFloor (c : Meaning) (w : FloorWorkspace) : Type 0 where
+pub record FitsFloor {T : Type 0} (c : Meaning) (w : FloorWorkspace T) : Type 0 where
   pub rows : FitsRows c w.rows
   pub worths : w.worths.days ≡ day_count c
   pub tried : w.tried.days ≡ day_count c

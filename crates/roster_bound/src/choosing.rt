@@ -15,6 +15,7 @@ use crate::workspace::FloorWorkspace;
 use crate::worths::PARTS;
 use arrayvec::ArrayVec;
 use roster_instance::{Case, Choice, Shift, Skill};
+use roster_offers::RowTables;
 
 /// A decision, and how many uses a nurse's rows have with it or without it, whichever is less.
 #[derive(Clone, Copy, Default)]
@@ -46,10 +47,10 @@ const LEAST_GAIN: u64 = PARTS as u64 / 100;
 
 /// The two parts of a part for which the known rows promise most: of those decisions that part them most evenly, the one with which the
 /// gains of the two have the greatest product. None where each nurse has but one row, or no more decisions have room.
-pub(crate) fn choose(
+pub(crate) fn choose<T: RowTables>(
     case: &Case,
     part: &Part,
-    floor: &mut FloorWorkspace,
+    floor: &mut FloorWorkspace<T>,
     uses: &mut [u32],
 ) -> Option<Two>
     requires { FitsFloor case.now floor.old }
@@ -84,7 +85,7 @@ pub(crate) fn choose(
 }
 
 /// By how much the bound that the known rows give is greater in a part, by moves from the worths that were set aside.
-fn gain_of(case: &Case, part: &Part, now: u64, floor: &mut FloorWorkspace) -> u64
+fn gain_of<T: RowTables>(case: &Case, part: &Part, now: u64, floor: &mut FloorWorkspace<T>) -> u64
     requires { FitsFloor case.now floor.old }
     ensures { FitsFloor case.now floor.new }
 {

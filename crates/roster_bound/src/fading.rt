@@ -13,7 +13,7 @@ use crate::offers::{Terms, earned};
 use crate::workspace::FloorWorkspace;
 use crate::worths::{MOST_FINE, MOST_WORTH, PARTS, Worths};
 use roster_instance::{Case, Choice, Need, Roster, Shift, Skill};
-use roster_offers::request_cost;
+use roster_offers::{RowTables, request_cost};
 use roster_rules::weights::STAFFING;
 
 /// How far a fade has come: how much of what a place pays is its worth, in 1024ths, and how many points a place pays besides as long
@@ -28,7 +28,7 @@ pub struct Fading {
 pub const WHOLE: u32 = 1024;
 
 /// Counts the rows of a roster at their places, and no others.
-pub fn count_rows(case: &Case, roster: &Roster, floor: &mut FloorWorkspace)
+pub fn count_rows<T: RowTables>(case: &Case, roster: &Roster, floor: &mut FloorWorkspace<T>)
     requires { FitsFloor case.now floor.old }
     ensures { FitsFloor case.now floor.new }
 {
@@ -40,7 +40,7 @@ pub fn count_rows(case: &Case, roster: &Roster, floor: &mut FloorWorkspace)
 
 /// Moves the worth of each place that asks for nurses by so many parts of a point: up where one is missing, down where there are too
 /// many.
-pub fn follow_cover(case: &Case, step: u32, floor: &mut FloorWorkspace)
+pub fn follow_cover<T: RowTables>(case: &Case, step: u32, floor: &mut FloorWorkspace<T>)
     requires { FitsFloor case.now floor.old }
     ensures followed { HaveFollowed case.now step floor.old floor.new }
     ensures fits { FitsFloor case.now floor.new }
@@ -56,7 +56,7 @@ pub fn follow_cover(case: &Case, step: u32, floor: &mut FloorWorkspace)
 }
 
 /// Raises the worth of each place that is below its minimum by the rows that are counted, by so many points.
-pub fn raise_missed(case: &Case, points: u32, floor: &mut FloorWorkspace)
+pub fn raise_missed<T: RowTables>(case: &Case, points: u32, floor: &mut FloorWorkspace<T>)
     requires { FitsFloor case.now floor.old }
     ensures { FitsFloor case.now floor.new }
 {
@@ -70,7 +70,12 @@ pub fn raise_missed(case: &Case, points: u32, floor: &mut FloorWorkspace)
 }
 
 /// Lets each place pay what it does in a fade by the rows that are counted.
-pub fn pay_places(case: &Case, fading: Fading, floor: &FloorWorkspace, pays: &mut Worths)
+pub fn pay_places<T: RowTables>(
+    case: &Case,
+    fading: Fading,
+    floor: &FloorWorkspace<T>,
+    pays: &mut Worths,
+)
     requires fits { FitsFloor case.now floor.now }
     requires days { pays.old.days ≡ day_count case.now }
     ensures days { pays.new.days ≡ pays.old.days }
@@ -81,11 +86,11 @@ pub fn pay_places(case: &Case, fading: Fading, floor: &FloorWorkspace, pays: &mu
 }
 
 /// Counts a row at its places no more, and lets these pay what they do without it.
-pub fn take_row(
+pub fn take_row<T: RowTables>(
     case: &Case,
     row: &[Choice],
     fading: Fading,
-    floor: &mut FloorWorkspace,
+    floor: &mut FloorWorkspace<T>,
     pays: &mut Worths,
 )
     requires fits { FitsFloor case.now floor.old }
@@ -102,11 +107,11 @@ pub fn take_row(
 }
 
 /// Counts a row at its places, and lets these pay what they do with it.
-pub fn put_row(
+pub fn put_row<T: RowTables>(
     case: &Case,
     row: &[Choice],
     fading: Fading,
-    floor: &mut FloorWorkspace,
+    floor: &mut FloorWorkspace<T>,
     pays: &mut Worths,
 )
     requires fits { FitsFloor case.now floor.old }
@@ -135,7 +140,7 @@ pub fn price_of(terms: &Terms<'_>, nurse: usize, day: u16, choice: Choice) -> u3
 }
 
 /// Whether some place is below its minimum by the rows that are counted.
-pub fn lacks_nurses(case: &Case, floor: &FloorWorkspace) -> bool
+pub fn lacks_nurses<T: RowTables>(case: &Case, floor: &FloorWorkspace<T>) -> bool
     requires { FitsFloor case.now floor.now }
 {
     for place in 0..64 * case.days() as usize {
@@ -198,7 +203,13 @@ fn followed(need: Need, nurses: u16, fine: u32, step: u32) -> u32
 }
 
 /// Lets a place pay what it does in a fade.
-fn pay_place(case: &Case, place: usize, fading: Fading, floor: &FloorWorkspace, pays: &mut Worths)
+fn pay_place<T: RowTables>(
+    case: &Case,
+    place: usize,
+    fading: Fading,
+    floor: &FloorWorkspace<T>,
+    pays: &mut Worths,
+)
     requires place { place < 64 * day_count case.now }
     requires fits { FitsFloor case.now floor.now }
     requires days { pays.old.days ≡ day_count case.now }

@@ -5,7 +5,7 @@ ghost use Rattle.roster_bundle.specs.Limits.{greatest_u64};
 ghost use Rattle.roster_instance.specs.Limits.{most_days, most_nurses};
 ghost use Rattle.roster_instance.specs.Meaning.{day_count, nurse_count};
 ghost use Rattle.roster_laws.specs.Greatest.{extension_count, greatest_extension_count};
-ghost use Rattle.roster_partial.specs.Workspaces.{fits_space};
+ghost use Rattle.roster_offers.specs.Workspaces.{fits_space};
 ghost use Rattle.roster_bound.specs.Days.{ArePricedOffers, AreWorthOffers, shift_priced_offers};
 ghost use Rattle.roster_bound.specs.Parts.{IsLowerBoundIn, bound_in, price_in, row_floor_in};
 ghost use Rattle.roster_bound.specs.Seen.{FitsSeen};
@@ -22,16 +22,15 @@ use crate::workspace::RowSpace;
 use crate::worths::MOST_WORTH;
 use arrayvec::ArrayVec;
 use roster_instance::Case;
-use roster_offers::{MOST_OFFERS, NurseDay, Offer, offers_by_shift};
-use roster_partial::Workspace;
+use roster_offers::{MOST_OFFERS, NurseDay, Offer, RowTables, Workspace, offers_by_shift};
 use roster_rules::is_frozen;
 use roster_state::{Meter, start};
 
 /// A floor by worths: no roster costs less that fits the case, keeps the hard rules and agrees with the given one on the days before week
 /// `from`. The cover counts the first of each nurse's cheapest rows, and these are kept among those that were seen.
-pub fn lower_bound(
+pub fn lower_bound<T: RowTables>(
     terms: &Terms<'_>,
-    rows: &mut RowSpace,
+    rows: &mut RowSpace<T>,
     seen: &mut Seen,
     meter: &mut Meter,
 ) -> u64
@@ -54,10 +53,10 @@ pub fn lower_bound(
 }
 
 /// The same under the rosters of a part alone.
-pub(crate) fn lower_bound_in(
+pub(crate) fn lower_bound_in<T: RowTables>(
     terms: &Terms<'_>,
     part: &[Decision],
-    rows: &mut RowSpace,
+    rows: &mut RowSpace<T>,
     seen: &mut Seen,
     meter: &mut Meter,
 ) -> u64
@@ -113,11 +112,11 @@ fn most_earned(case: &Case) -> u64
 
 /// The least that a row of the nurse costs by worths, where a choice that goes against a decision of the part costs more. The workspace
 /// then shows the first of the cheapest rows, and the cover counts it.
-fn row_floor_in(
+fn row_floor_in<T: RowTables>(
     terms: &Terms<'_>,
     part: &[Decision],
     nurse: usize,
-    rows: &mut RowSpace,
+    rows: &mut RowSpace<T>,
     meter: &mut Meter,
 ) -> u64
     requires row { HasRow terms.now.case.now terms.now.from terms.now.given.now nurse }
@@ -136,17 +135,16 @@ fn row_floor_in(
 {
     let case = terms.case;
     case.keeps_limits();
-    let RowSpace { workspace, cover } = rows;
-    offer_days_in(terms, part, nurse, workspace);
-    let cost = workspace.search_offers(case, nurse, meter);
-    count_row(workspace.row(), cover);
+    offer_days_in(terms, part, nurse, &mut rows.workspace);
+    let cost = rows.workspace.search_offers(case, nurse, meter);
+    count_row(rows.workspace.row(), &mut rows.cover);
     let (_, owed) = start(case, nurse);
     owed as u64 + cost as u64
 }
 
 /// Puts a nurse's offers of each day into a workspace in the place of others: to be off, and for each shift the cheapest, of equally cheap
 /// ones the first.
-pub fn offer_days(terms: &Terms<'_>, nurse: usize, workspace: &mut Workspace)
+pub fn offer_days<T: RowTables>(terms: &Terms<'_>, nurse: usize, workspace: &mut Workspace<T>)
     requires nurse { nurse < nurse_count terms.now.case.now }
     requires fits { fits_space terms.now.case.now workspace.old ≡ true }
     ensures offers { AreWorthOffers terms.now.case.now terms.now.from terms.now.given.now
@@ -157,7 +155,12 @@ pub fn offer_days(terms: &Terms<'_>, nurse: usize, workspace: &mut Workspace)
 }
 
 /// The same in a part.
-fn offer_days_in(terms: &Terms<'_>, part: &[Decision], nurse: usize, workspace: &mut Workspace)
+fn offer_days_in<T: RowTables>(
+    terms: &Terms<'_>,
+    part: &[Decision],
+    nurse: usize,
+    workspace: &mut Workspace<T>,
+)
     requires nurse { nurse < nurse_count terms.now.case.now }
     requires fits { fits_space terms.now.case.now workspace.old ≡ true }
     ensures offers { ArePricedOffers terms.now.case.now terms.now.from terms.now.given.now

@@ -13,6 +13,7 @@ use crate::seen::{KEPT, NOWHERE, Seen, place_on};
 use crate::workspace::FloorWorkspace;
 use crate::worths::{PARTS, Worths};
 use roster_instance::Case;
+use roster_offers::RowTables;
 use roster_rules::weights::STAFFING;
 
 /// How often worths move between two rounds of searches in a part.
@@ -35,11 +36,11 @@ fn step_after(made: u64, all: u64) -> Step
 /// Moves the worths so often by the rows that are known of a part, and counts how often each was the cheapest of its nurse in the second
 /// half of these moves. The answer is the greatest of the bounds that these rows alone would give, in parts of a point, with what all
 /// nurses earn at most: none of them is a floor.
-pub(crate) fn move_by_known_rows(
+pub(crate) fn move_by_known_rows<T: RowTables>(
     case: &Case,
     part: &[Decision],
     moves: u16,
-    floor: &mut FloorWorkspace,
+    floor: &mut FloorWorkspace<T>,
     uses: &mut [u32],
 ) -> u64
     requires { FitsFloor case.now floor.old }
@@ -51,19 +52,19 @@ pub(crate) fn move_by_known_rows(
             uses.fill(0);
         }
         let cost = count_known_rows(case, part, floor, uses);
-        most = most.max(cost.saturating_add(cost_of_places(case, floor)));
+        most = most.max(cost.saturating_add(cost_of_places(case, &floor.worths)));
         move_once(case, step_after(made as u64, moves as u64), floor);
     }
     most
 }
 
 /// Moves them after a round of searches in a part, `made` of so many having been made before it.
-pub(crate) fn move_in_part(
+pub(crate) fn move_in_part<T: RowTables>(
     case: &Case,
     part: &[Decision],
     made: u16,
     rounds: u16,
-    floor: &mut FloorWorkspace,
+    floor: &mut FloorWorkspace<T>,
 )
     requires made { made < rounds }
     requires rounds { rounds < 1000 }
@@ -89,10 +90,10 @@ struct Known {
 
 /// Counts each nurse's cheapest row of those that are known of a part, and no others, and one use more of each. The answer is what these
 /// rows cost together; a nurse without such a row costs more than any.
-pub(crate) fn count_known_rows(
+pub(crate) fn count_known_rows<T: RowTables>(
     case: &Case,
     part: &[Decision],
-    floor: &mut FloorWorkspace,
+    floor: &mut FloorWorkspace<T>,
     uses: &mut [u32],
 ) -> u64
     requires { FitsFloor case.now floor.old }
@@ -198,23 +199,23 @@ pub(crate) fn place_at(case: &Case, at: usize, day: u16, seen: &Seen) -> u16
 }
 
 /// What all places cost at least by the worths, in parts of a point.
-fn cost_of_places(case: &Case, floor: &FloorWorkspace) -> u64
-    requires { FitsFloor case.now floor.now }
+fn cost_of_places(case: &Case, worths: &Worths) -> u64
+    requires { worths.now.days ≡ day_count case.now }
 {
     let mut cost: u64 = 0;
     for place in 0..64 * case.days() as usize {
-        cost = cost.saturating_add(fine_floor(case, place, floor));
+        cost = cost.saturating_add(fine_floor(case, place, worths));
     }
     cost
 }
 
 /// The least that a place costs, in parts of a point.
-fn fine_floor(case: &Case, place: usize, floor: &FloorWorkspace) -> u64
+fn fine_floor(case: &Case, place: usize, worths: &Worths) -> u64
     requires place { place < 64 * day_count case.now }
-    requires fits { FitsFloor case.now floor.now }
+    requires days { worths.now.days ≡ day_count case.now }
 {
     let need = need_at(case, place);
-    let fine = floor.worths.fine_at(place) as u64;
+    let fine = worths.fine_at(place) as u64;
     let missing = need.optimum.saturating_sub(need.minimum) as u64;
     let at_minimum = PARTS as u64 * (STAFFING as u64 * missing) + fine * need.minimum as u64;
     let at_optimum = fine * need.minimum.max(need.optimum) as u64;

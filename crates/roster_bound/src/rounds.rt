@@ -24,6 +24,7 @@ use crate::workspace::FloorWorkspace;
 use roster_case::Held;
 use roster_instance::Case;
 use roster_log::{LogFault, log_round, log_start};
+use roster_offers::RowTables;
 use roster_state::Meter;
 use roster_text::Watch;
 use std::io::Write;
@@ -48,11 +49,11 @@ pub const MOVES: u16 = 20;
 /// # Errors
 ///
 /// The log failed.
-pub fn raise_floor<W: Write>(
+pub fn raise_floor<W: Write, T: RowTables>(
     held: &Held,
     effort: Effort,
     from: u16,
-    space: &mut BoundSpace,
+    space: &mut BoundSpace<T>,
     meter: &mut Meter,
     log: &mut Watch<W>,
 ) -> Result<u64, LogFault>
@@ -86,10 +87,10 @@ pub fn raise_floor<W: Write>(
 }
 
 /// The same under a roster that keeps the hard rules and costs so much.
-fn raise_under<W: Write>(
+fn raise_under<W: Write, T: RowTables>(
     under: &Under<'_>,
     effort: Effort,
-    space: &mut BoundSpace,
+    space: &mut BoundSpace<T>,
     meter: &mut Meter,
     log: &mut Watch<W>,
 ) -> Result<u64, LogFault>
@@ -147,11 +148,11 @@ fn raise_under<W: Write>(
 }
 
 /// The rounds alone, under a roster that keeps the hard rules and costs so much.
-fn make_rounds<W: Write>(
+fn make_rounds<W: Write, T: RowTables>(
     base: &Base<'_>,
     total: u64,
     rounds: u16,
-    workspace: &mut FloorWorkspace,
+    workspace: &mut FloorWorkspace<T>,
     meter: &mut Meter,
     log: &mut Watch<W>,
 ) -> Result<Reached, LogFault>
@@ -204,10 +205,10 @@ fn make_rounds<W: Write>(
 
 /// Improves the worths of a workspace as `raise_floor` does, and tells no floor. It makes a search for each nurse in each round, of which
 /// each counts a step for each day at least. It takes no memory.
-pub fn improve_worths(
+pub fn improve_worths<T: RowTables>(
     base: &Base<'_>,
     pace: Pace,
-    workspace: &mut FloorWorkspace,
+    workspace: &mut FloorWorkspace<T>,
     meter: &mut Meter,
 )
     requires each { HaveRows base.now.case.now base.now.from base.now.given.now }
@@ -234,7 +235,11 @@ pub(crate) const FIRST: u32 = 30;
 const SECOND: u32 = 15;
 
 /// The floor by the worths of the round. Each nurse's cheapest row is counted, and kept among those that were seen.
-fn make_round(base: &Base<'_>, workspace: &mut FloorWorkspace, meter: &mut Meter) -> u64
+fn make_round<T: RowTables>(
+    base: &Base<'_>,
+    workspace: &mut FloorWorkspace<T>,
+    meter: &mut Meter,
+) -> u64
     requires each { HaveRows base.now.case.now base.now.from base.now.given.now }
     requires fits { FitsFloor base.now.case.now workspace.old }
     requires room { meter.old + nurse_count base.now.case.now * greatest_extension_count
@@ -265,7 +270,13 @@ fn is_late(made: u16, rounds: u16) -> bool {
 }
 
 /// Moves the worths after a round, and puts those of the next one: the same, or where they climb, whole points about them.
-fn prepare_next(case: &Case, made: u16, pace: Pace, climbs: bool, workspace: &mut FloorWorkspace)
+fn prepare_next<T: RowTables>(
+    case: &Case,
+    made: u16,
+    pace: Pace,
+    climbs: bool,
+    workspace: &mut FloorWorkspace<T>,
+)
     requires fits { FitsFloor case.now workspace.old }
     ensures { FitsFloor case.now workspace.new }
 {
@@ -283,7 +294,7 @@ fn prepare_next(case: &Case, made: u16, pace: Pace, climbs: bool, workspace: &mu
 }
 
 /// Moves the worths after a round, `made` of all rounds having been made before it.
-fn move_worths(case: &Case, made: u16, pace: Pace, workspace: &mut FloorWorkspace)
+fn move_worths<T: RowTables>(case: &Case, made: u16, pace: Pace, workspace: &mut FloorWorkspace<T>)
     requires fits { FitsFloor case.now workspace.old }
     ensures { FitsFloor case.now workspace.new }
 {
@@ -302,7 +313,7 @@ fn move_worths(case: &Case, made: u16, pace: Pace, workspace: &mut FloorWorkspac
 }
 
 /// Moves each worth by the rows that are counted, by such a step at most.
-pub(crate) fn move_once(case: &Case, step: Step, workspace: &mut FloorWorkspace)
+pub(crate) fn move_once<T: RowTables>(case: &Case, step: Step, workspace: &mut FloorWorkspace<T>)
     requires fits { FitsFloor case.now workspace.old }
     ensures { FitsFloor case.now workspace.new }
 {

@@ -19,7 +19,7 @@ use crate::offers::{Base, Terms};
 use crate::parts::{Part, Parts};
 use crate::workspace::FloorWorkspace;
 use roster_instance::Case;
-use roster_partial::BestFault;
+use roster_offers::{BestFault, RowTables};
 use roster_state::Meter;
 use roster_text::{Piece, Watch, WriteFault, send_pieces};
 use std::alloc::Global;
@@ -33,25 +33,25 @@ pub(crate) struct Under<'a> {
 }
 
 /// The memory of a run that raises a floor.
-pub struct BoundSpace {
-    pub floor: FloorWorkspace,
+pub struct BoundSpace<T: RowTables> {
+    pub floor: FloorWorkspace<T>,
     pub(crate) parts: Parts,
 }
 
 // By hand, so that who drops it has one call to prove.
-impl Drop for BoundSpace {
+impl<T: RowTables> Drop for BoundSpace<T> {
     fn drop(self) {
         let BoundSpace { floor: _, parts: _ } = self;
     }
 }
 
-impl BoundSpace {
+impl<T: RowTables> BoundSpace<T> {
     /// Room for a run over a case with so many partings, by at most thirteen growths.
     ///
     /// # Errors
     ///
     /// A growth was refused.
-    pub fn for_case(alloc: Global, case: &Case, nodes: u16) -> Result<BoundSpace, BestFault>
+    pub fn for_case(alloc: Global, case: &Case, nodes: u16) -> Result<BoundSpace<T>, BestFault>
         ensures { IfOk result (λ space. FitsFloor case.now space.floor) }
     {
         Ok(BoundSpace {
@@ -68,7 +68,11 @@ const PART_ROUNDS: u16 = 12;
 const MOVES_BEFORE: u16 = 300;
 
 /// Parts the rosters of the part with the least floor, once more. Tells whether that could be.
-pub(crate) fn part_least(under: &Under<'_>, space: &mut BoundSpace, meter: &mut Meter) -> bool
+pub(crate) fn part_least<T: RowTables>(
+    under: &Under<'_>,
+    space: &mut BoundSpace<T>,
+    meter: &mut Meter,
+) -> bool
     requires each { HaveRows under.now.base.now.case.now under.now.base.now.from
         under.now.base.now.given.now }
     requires fits { FitsFloor under.now.base.now.case.now space.old.floor }
@@ -98,7 +102,12 @@ pub(crate) fn part_least(under: &Under<'_>, space: &mut BoundSpace, meter: &mut 
 }
 
 /// Raises the floor under the rosters of a part.
-fn raise_part(under: &Under<'_>, part: &mut Part, floor: &mut FloorWorkspace, meter: &mut Meter)
+fn raise_part<T: RowTables>(
+    under: &Under<'_>,
+    part: &mut Part,
+    floor: &mut FloorWorkspace<T>,
+    meter: &mut Meter,
+)
     requires each { HaveRows under.now.base.now.case.now under.now.base.now.from
         under.now.base.now.given.now }
     requires fits { FitsFloor under.now.base.now.case.now floor.old }
@@ -133,10 +142,10 @@ fn raise_part(under: &Under<'_>, part: &mut Part, floor: &mut FloorWorkspace, me
 }
 
 /// The floor by the worths under the rosters of a part. Each nurse's cheapest row is counted, and kept among those that were seen.
-fn round_in_part(
+fn round_in_part<T: RowTables>(
     base: &Base<'_>,
     part: &[Decision],
-    workspace: &mut FloorWorkspace,
+    workspace: &mut FloorWorkspace<T>,
     meter: &mut Meter,
 ) -> u64
     requires each { HaveRows base.now.case.now base.now.from base.now.given.now }

@@ -11,18 +11,18 @@ use crate::rounds::FIRST;
 use crate::seen::Seen;
 use crate::worths::Worths;
 use roster_instance::Case;
-use roster_partial::{BestFault, Workspace};
+use roster_offers::{BestFault, RowTables, Workspace};
 use std::alloc::Global;
 
 /// What the searches for the nurses' cheapest rows write into: the workspace of a search, and how many of these rows are at each place,
 /// 64 places for each day.
-pub struct RowSpace {
-    pub workspace: Workspace,
+pub struct RowSpace<T: RowTables> {
+    pub workspace: Workspace<T>,
     pub(crate) cover: Vec<u16>,
 }
 
 // By hand, so that who drops it has one call to prove.
-impl Drop for RowSpace {
+impl<T: RowTables> Drop for RowSpace<T> {
     fn drop(self) {
         let RowSpace {
             workspace: _,
@@ -34,8 +34,8 @@ impl Drop for RowSpace {
 /// What a run that raises a floor writes into: what its searches do, the worths with the covers by which they move, those of the round,
 /// and the rows that were seen. Beside a search's workspace and those rows that is 64 times 18 bytes for each day: 419 kB at most. One
 /// serves one run after another.
-pub struct FloorWorkspace {
-    pub rows: RowSpace,
+pub struct FloorWorkspace<T: RowTables> {
+    pub rows: RowSpace<T>,
     pub worths: Worths,
     pub(crate) tried: Worths,
     pub(crate) covers: Covers,
@@ -43,7 +43,7 @@ pub struct FloorWorkspace {
 }
 
 // By hand, so that who drops it has one call to prove.
-impl Drop for FloorWorkspace {
+impl<T: RowTables> Drop for FloorWorkspace<T> {
     fn drop(self) {
         let FloorWorkspace {
             rows: _,
@@ -55,13 +55,13 @@ impl Drop for FloorWorkspace {
     }
 }
 
-impl RowSpace {
+impl<T: RowTables> RowSpace<T> {
     /// Room for the nurses of a case, by at most five growths.
     ///
     /// # Errors
     ///
     /// A growth was refused.
-    pub fn for_case(alloc: Global, case: &Case) -> Result<RowSpace, BestFault>
+    pub fn for_case(alloc: Global, case: &Case) -> Result<RowSpace<T>, BestFault>
         ensures { IfOk result (FitsRows case.now) }
     {
         Ok(RowSpace {
@@ -79,13 +79,13 @@ impl RowSpace {
     }
 }
 
-impl FloorWorkspace {
+impl<T: RowTables> FloorWorkspace<T> {
     /// Room for a run over a case, by at most eleven growths.
     ///
     /// # Errors
     ///
     /// A growth was refused.
-    pub fn for_case(alloc: Global, case: &Case) -> Result<FloorWorkspace, BestFault>
+    pub fn for_case(alloc: Global, case: &Case) -> Result<FloorWorkspace<T>, BestFault>
         ensures fits { IfOk result (FitsFloor case.now) }
     {
         let places = 64 * case.days() as usize;

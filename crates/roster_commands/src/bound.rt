@@ -13,6 +13,7 @@ use crate::reading::Instance;
 use roster_bound::{BoundSpace, Effort, raise_floor};
 use roster_instance::Case;
 use roster_log::LogFault;
+use roster_partial::PartialTables;
 use roster_reports::write_bound;
 use roster_rounds::extensions_are_few;
 use roster_state::Meter;
@@ -38,7 +39,8 @@ pub(crate) fn report_bound<'a, Out: Write, Log: Write>(
 {
     let mut meter = Meter::new(&mut instance.case);
     let held = hold(alloc, source, instance)?;
-    let Ok(mut space) = BoundSpace::for_case(alloc, held.case(), effort.nodes) else {
+    let Ok(mut space) = BoundSpace::<PartialTables>::for_case(alloc, held.case(), effort.nodes)
+    else {
         return Err(Fault::Workspace);
     };
     effort_has_room(held.case(), effort);

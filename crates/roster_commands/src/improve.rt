@@ -9,6 +9,7 @@ use crate::held::hold;
 use crate::reading::Instance;
 use crate::weeks::show_weeks;
 use roster_log::LogFault;
+use roster_partial::PartialTables;
 use roster_rounds::{RunSpace, improve, rounds_have_room};
 use roster_state::Meter;
 use roster_text::Watch;
@@ -35,7 +36,7 @@ pub(crate) fn report_improve<'a, Out: Write, Log: Write>(
 {
     let mut meter = Meter::new(&mut instance.case);
     let mut held = hold(alloc, source, instance)?;
-    let Ok(mut workspace) = RunSpace::for_case(alloc, held.case()) else {
+    let Ok(mut workspace) = RunSpace::<PartialTables>::for_case(alloc, held.case()) else {
         return Err(Fault::Workspace);
     };
     rounds_have_room(held.case(), rounds);

@@ -12,6 +12,7 @@ use crate::reading::Instance;
 use crate::weeks::show_weeks;
 use roster_case::Held;
 use roster_log::LogFault;
+use roster_partial::PartialTables;
 use roster_polish::{
     Course, PolishSpace, find_roster, first_unmendable, missing, polish_found, searches_have_room,
 };
@@ -41,7 +42,7 @@ pub(crate) fn report_plan<'a, Out: Write, Log: Write>(
         return Err(Fault::Hard(fault, names_of(source, &instance.bundle, fault)));
     }
     let mut meter = Meter::new(case);
-    let Ok(mut space) = PolishSpace::for_roster(alloc, case, roster) else {
+    let Ok(mut space) = PolishSpace::<PartialTables>::for_roster(alloc, case, roster) else {
         return Err(Fault::Workspace);
     };
     let course = within_room(course);

@@ -10,6 +10,7 @@ use crate::held::hold;
 use crate::reading::Instance;
 use crate::weeks::show_weeks;
 use roster_log::LogFault;
+use roster_partial::PartialTables;
 use roster_polish::{Course, MOST_SEARCHES, PolishSpace, polish, searches_have_room};
 use roster_state::Meter;
 use roster_text::Watch;
@@ -32,7 +33,7 @@ pub(crate) fn report_polish<'a, Out: Write, Log: Write>(
 {
     let mut meter = Meter::new(&mut instance.case);
     let mut held = hold(alloc, source, instance)?;
-    let Ok(mut space) = PolishSpace::for_held(alloc, &held) else {
+    let Ok(mut space) = PolishSpace::<PartialTables>::for_held(alloc, &held) else {
         return Err(Fault::Workspace);
     };
     let course = within_room(course);

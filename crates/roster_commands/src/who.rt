@@ -10,6 +10,7 @@ use crate::asked::{Asking, asked_by};
 use crate::fault::Fault;
 use crate::reading::Instance;
 use roster_instance::Case;
+use roster_partial::PartialTables;
 use roster_polish::first_unmendable;
 use roster_reports::{names_of, write_taker};
 use roster_rounds::rounds_have_room;
@@ -64,7 +65,7 @@ fn report_takers<'a, Out: Write>(
         Err(unknown) => return Err(Fault::Unknown(unknown.thing, unknown.name)),
     };
     rounds_have_room(case, 1);
-    match find_takers(alloc, case, roster, asked, asking.from, meter) {
+    match find_takers::<PartialTables>(alloc, case, roster, asked, asking.from, meter) {
         Ok(takers) => show_takers(case, &takers, output),
         Err(_) => Err(Fault::Workspace),
     }

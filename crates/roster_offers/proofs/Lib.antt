@@ -11,3 +11,4 @@ pub mod ListLaws
 pub mod LowRows
 pub mod RiseLaws
 pub mod PartLaws
+pub mod WorkspaceLaws

@@ -2,5 +2,6 @@ pub mod Cheapest
 pub mod ByStates
 pub mod Offers
 pub mod Lists
+pub mod Workspaces
 pub mod Rises
 pub mod Finds

@@ -7,6 +7,8 @@
 //! `cheapest_offered_row_is_found` what it finds whatever is offered at whatever prices, and `cost_rises_with_prices` how much less it
 //! can cost after prices have changed (`specs/Rises.antt`). `request_cost` counts what a nurse's own requests cost on a day:
 //! they are a part of an offer's price.
+//! A `Workspace` is what a search writes into: it searches by any `RowTables`, and what it has room for is defined in
+//! `specs/Workspaces.antt`.
 //! Who offers something says so by `Offering`; `offers_of_choices` and `offers_by_shift` promise all that it offers on a day, and of each
 //! shift the first of the cheapest (`offers_open`, `cheapest_by_shift`).
 #![tactic(auto)]
@@ -17,6 +19,7 @@ mod laws;
 mod lists;
 mod offer;
 mod requests;
+mod workspace;
 
 pub use by_shift::cheapest_by_shift;
 pub use day::{NurseDay, Offering, offers_by_shift, offers_of_choices};
@@ -27,3 +30,4 @@ pub use laws::{
 pub use lists::{DayOffers, MOST_DAYS, RowSearch};
 pub use offer::{MOST_CHOICES, MOST_OFFERS, Offer};
 pub use requests::request_cost;
+pub use workspace::{BestFault, RowTables, Workspace, most_steps};

@@ -5,5 +5,4 @@ mod RowLaws
 mod SearchLaws
 mod StepLaws
 pub mod AllowedLaw
-pub mod WorkspaceLaws
 pub mod CountLaws

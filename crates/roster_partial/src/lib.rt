@@ -3,7 +3,7 @@
 //! What a list of them stands for is defined in `specs/Rows.antt`: the best row that begins as one of them, if it costs no more than a
 //! limit. `put` and `leave_out` keep that, `add_day` keeps it from one day to the next, and `row_within` reads the row in the end.
 //! `set_best_floors` sets the floors by which partial rows are left out. `search_row` tries one limit after another, and then the tables
-//! of `roster_search`. A `Workspace` is what a search writes into: what it has room for is defined in `specs/Workspaces.antt`.
+//! of `roster_search`. A `Workspace` is what a search writes into: that of `roster_offers`, with the tables of such a search.
 #![tactic(auto)]
 
 mod all_days;
@@ -17,4 +17,4 @@ mod rows;
 mod search;
 mod workspace;
 
-pub use workspace::{BestFault, Workspace, most_steps};
+pub use workspace::{PartialTables, Workspace};

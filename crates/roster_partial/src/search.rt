@@ -16,10 +16,9 @@ use crate::guesses::Guesses;
 use crate::limited::{Bounded, LimitedSearch};
 use crate::rates::{Guess, set_best_floors};
 use crate::rows::{MOST_ROWS, ROW_CELLS, SEEN, Seen};
-use crate::workspace::most_steps;
 use roster_floors::{Floors, Rates, floor_cells};
 use roster_instance::Choice;
-use roster_offers::RowSearch;
+use roster_offers::{RowSearch, most_steps};
 use roster_search::{DayAreas, NO_ROW, Tables, stand_days, steps_at_most};
 use roster_state::Meter;
 

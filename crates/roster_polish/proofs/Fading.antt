@@ -23,7 +23,7 @@ made_rounds c rounds searches nurses meter new nurses_are few made =
     let so_many : rounds * (nurse_count c * day_count c) ≡ rounds * nurses * day_count c = sym (mul_assoc rounds (nurse_count c) (day_count c)) ∙ ap (λ n. rounds * n * day_count c) (sym nurses_are) in
     omega (arith, made, so_many, ap (λ m. m * day_count c) is, both_of (searches - rounds * nurses) (rounds * nurses) (day_count c))
 
-pub faded_then : {base : Base} {kicking kicking2 kicking3 : Kicking} {space space2 space3 : PolishSpace} {meter meter2 meter3 : ℕ}
+pub faded_then : {T : Type 0} {base : Base} {kicking kicking2 kicking3 : Kicking} {space space2 space3 : PolishSpace T} {meter meter2 meter3 : ℕ}
     → AreFaded base kicking kicking2 space space2 meter meter2 → AreFaded base kicking2 kicking3 space2 space3 meter2 meter3 → AreFaded base kicking kicking3 space space3 meter meter3
 faded_then {base} {kicking} {kicking2} {kicking3} {space} {space2} {space3} {meter} {meter2} {meter3} first later = record {
   kept = later.kept ∙ first.kept;

@@ -4,8 +4,8 @@ use Rattle.roster_instance.specs.Counting.{sum_below}
 use Rattle.roster_instance.specs.Meaning.{Meaning, day_count}
 use Rattle.roster_instance.specs.Rosters.{Row, Rows, choice_on}
 use Rattle.roster_offers.specs.Offers.{offer_at}
-use Rattle.roster_best.specs.Known.{most_gain, prices_on}
-use Rattle.roster_best.specs.declared.last.LastSearches.{LastSearches}
+use Rattle.roster_row.specs.Known.{most_gain, prices_on}
+use Rattle.roster_row.specs.declared.last.LastSearches.{LastSearches}
 use Rattle.roster_bound.specs.Days.{shift_offers_by_worth}
 use Rattle.roster_bound.specs.Worths.{PlaceWorths, price_by}
 use Rattle.roster_laws.specs.FrozenDays.{FrozenDaysStay}
@@ -20,7 +20,7 @@ abbrev pub AreMade : Meaning → (meter left new_meter new_left : ℕ) → Type 
 AreMade c meter left new_meter new_left = meter + left * day_count c ≤ new_meter + new_left * day_count c
 
 -- rows were faded from given ones: what is kept stays, and so do the frozen days, and searches were made that were left
-pub record AreFaded (base : Base) (kicking_old kicking : Kicking) (space_old space : PolishSpace) (meter_old meter : ℕ) : Type 0 where
+pub record AreFaded {T : Type 0} (base : Base) (kicking_old kicking : Kicking) (space_old space : PolishSpace T) (meter_old meter : ℕ) : Type 0 where
   pub kept : space.kept ≡ space_old.kept
   pub frozen : FrozenDaysStay base.case.now base.from base.given.now space.faded
   pub passes : kicking.passes ≡ kicking_old.passes

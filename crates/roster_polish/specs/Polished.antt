@@ -10,7 +10,7 @@ use Rattle.roster_rules.specs.AllowedRows.{best_row}
 use Rattle.roster_rules.specs.Improver.{Run, line, round, run, same_rows, start_word}
 use Rattle.roster_log.specs.declared.fault.LogFault.{LogFault}
 use Rattle.roster_log.specs.declared.fault.LogFault.TheVariants.{LogFailed}
-use Rattle.roster_best.specs.Known.{IsKnown}
+use Rattle.roster_row.specs.Known.{IsKnown}
 use Rattle.roster_bound.specs.Workspaces.{FitsFloor}
 use Rattle.roster_polish.specs.declared.run.Polished.{Polished}
 use Rattle.roster_polish.specs.declared.space.PolishSpace.{PolishSpace}
@@ -45,7 +45,7 @@ settling_searches c from given = rounds_made c from settling_rounds given * nurs
 
 -- room for floors, what true searches told at last and of the kept roster, nine numbers for each day, and a roster of the case; for a
 -- fade what each place pays, a roster more, and an order of the nurses
-pub record FitsPolish (c : Meaning) (w : PolishSpace) : Type 0 where
+pub record FitsPolish {T : Type 0} (c : Meaning) (w : PolishSpace T) : Type 0 where
   pub floor : FitsFloor c w.floor
   pub known : IsKnown c w.last
   pub kept_known : IsKnown c w.kept_last

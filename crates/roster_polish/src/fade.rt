@@ -26,6 +26,7 @@ use roster_bound::{
 };
 use roster_case::Held;
 use roster_costs::first_hard;
+use roster_offers::RowTables;
 use roster_state::Meter;
 
 /// How many passes a fade makes besides where places are below their minimums: two, and two, and two again.
@@ -43,10 +44,10 @@ struct Length {
 
 /// Fades the roster and settles it again. Where it is then no dearer, it stays and is kept; else the roster that was kept comes back.
 /// Says whether it stayed.
-pub(crate) fn try_fade(
+pub(crate) fn try_fade<T: RowTables>(
     held: &mut Held,
     kicking: &mut Kicking,
-    space: &mut PolishSpace,
+    space: &mut PolishSpace<T>,
     meter: &mut Meter,
 ) -> bool
     requires fits { FitsPolish held.old.case space.old }
@@ -91,10 +92,10 @@ pub(crate) fn try_fade(
 }
 
 /// Fades rows, and says whether they keep the hard rules then. The days before week `from` are as they are given.
-pub(crate) fn fade_rows(
+pub(crate) fn fade_rows<T: RowTables>(
     base: &Base<'_>,
     kicking: &mut Kicking,
-    space: &mut PolishSpace,
+    space: &mut PolishSpace<T>,
     meter: &mut Meter,
 ) -> bool
     requires given { fits_case base.now.case.now base.now.given.now ≡ true }
@@ -185,11 +186,11 @@ fn times_in(pass: u64, passes: u64) -> u32
 
 /// Gives each nurse, in an order that is drawn, the best row by what the places pay without the nurse's row, but for those who can gain
 /// little. The first one is never left out.
-pub(crate) fn make_fade_pass(
+pub(crate) fn make_fade_pass<T: RowTables>(
     base: &Base<'_>,
     fading: Fading,
     kicking: &mut Kicking,
-    space: &mut PolishSpace,
+    space: &mut PolishSpace<T>,
     meter: &mut Meter,
 )
     requires each { HaveRows base.now.case.now base.now.from base.now.given.now }
@@ -222,11 +223,11 @@ pub(crate) fn make_fade_pass(
 
 /// Gives a nurse the best row by what the places pay without the present one, or leaves her out. The days before week `from` are as they
 /// are given. Says whether she was searched.
-fn fade_nurse(
+fn fade_nurse<T: RowTables>(
     base: &Base<'_>,
     turn: Turn,
     fading: Fading,
-    space: &mut PolishSpace,
+    space: &mut PolishSpace<T>,
     meter: &mut Meter,
 ) -> bool
     requires each { HaveRows base.now.case.now base.now.from base.now.given.now }
@@ -262,7 +263,7 @@ fn fade_nurse(
     let workspace = &mut floor.rows.workspace;
     let searched = visit(&terms, turn, faded.row(nurse), workspace, last, meter);
     if searched {
-        faded.put_row(nurse, workspace.row());
+        faded.put_row(nurse, floor.rows.workspace.row());
     }
     put_row(case, faded.row(nurse), fading, floor, pays);
     searched

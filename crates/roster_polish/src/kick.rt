@@ -6,7 +6,7 @@ ghost use Rattle.roster_instance.specs.Meaning.{nurse_count};
 ghost use Rattle.roster_rules.specs.Penalties.{penalty};
 ghost use Rattle.roster_laws.specs.FrozenDays.{FrozenDaysStay};
 ghost use Rattle.roster_laws.specs.Greatest.{extension_count};
-ghost use Rattle.roster_partial.specs.Workspaces.{fits_space};
+ghost use Rattle.roster_offers.specs.Workspaces.{fits_space};
 ghost use Rattle.roster_polish.specs.Kicks.{FitsKick};
 ghost use Rattle.roster_polish.specs.Polished.{FitsPolish};
 ghost use Rattle.roster_polish.specs.Settled.{IsSettled, Spends, extensions_of};
@@ -18,7 +18,7 @@ use crate::settle::Aim;
 use crate::space::PolishSpace;
 use crate::stay::stay_if_no_dearer;
 use roster_case::Held;
-use roster_partial::Workspace;
+use roster_offers::{RowTables, Workspace};
 use roster_state::Meter;
 
 /// What a fade and kicks take: searches, and random numbers; how many passes the fade makes, none where there is no fade, and in how
@@ -44,10 +44,10 @@ struct Draw {
 
 /// Kicks a few nurses out of their rows and settles the roster again. Where it is then no dearer, it stays and is kept; else the roster
 /// that was kept comes back. Says whether it stayed.
-pub(crate) fn try_kick(
+pub(crate) fn try_kick<T: RowTables>(
     held: &mut Held,
     kicking: &mut Kicking,
-    space: &mut PolishSpace,
+    space: &mut PolishSpace<T>,
     meter: &mut Meter,
 ) -> bool
     requires fits { FitsPolish held.old.case space.old }
@@ -76,10 +76,10 @@ pub(crate) fn try_kick(
 }
 
 /// Gives one to three nurses the best rows by the prices of a kick, and answers the nurse after the last of them.
-fn kick_nurses(
+fn kick_nurses<T: RowTables>(
     held: &mut Held,
     kicking: &mut Kicking,
-    space: &mut PolishSpace,
+    space: &mut PolishSpace<T>,
     meter: &mut Meter,
 ) -> usize
     requires fits { FitsPolish held.old.case space.old }
@@ -130,11 +130,11 @@ fn draw_kick(weeks: u16, kicking: &mut Kicking) -> Draw
 }
 
 /// Kicks one nurse, any of them, and answers the nurse after.
-fn kick_one(
+fn kick_one<T: RowTables>(
     held: &mut Held,
     draw: Draw,
     kicking: &mut Kicking,
-    space: &mut PolishSpace,
+    space: &mut PolishSpace<T>,
     meter: &mut Meter,
 ) -> usize
     requires left { 0 < kicking.old.searches.left }
@@ -178,11 +178,11 @@ fn raise(draw: Draw, dearer: &mut [u8], random: &mut Random)
 }
 
 /// Gives a nurse the best row by the prices of a kick.
-fn kick_nurse(
+fn kick_nurse<T: RowTables>(
     held: &mut Held,
     nurse: usize,
     kick: &Kick<'_>,
-    workspace: &mut Workspace,
+    workspace: &mut Workspace<T>,
     meter: &mut Meter,
 )
     requires nurse { nurse < nurse_count held.old.case }

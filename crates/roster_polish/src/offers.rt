@@ -5,16 +5,17 @@ ghost use Rattle.roster_instance.specs.Meaning.{day_count, nurse_count};
 ghost use Rattle.roster_instance.specs.Rosters.{is_choice_of};
 ghost use Rattle.roster_bound.specs.Tables.{worths_of};
 ghost use Rattle.roster_bound.specs.Worths.{price_by};
-ghost use Rattle.roster_partial.specs.Workspaces.{fits_space};
+ghost use Rattle.roster_offers.specs.Workspaces.{fits_space};
 ghost use Rattle.roster_polish.specs.Kicks.{AreKickOffers, FitsKick, from_on, kick_offers, price_from, shift_place};
 
 use arrayvec::ArrayVec;
-use roster_best::choices;
 use roster_bound::{MOST_WORTH, Worths};
 use roster_case::Held;
 use roster_instance::{Case, Choice};
-use roster_offers::{MOST_CHOICES, MOST_OFFERS, Offer, cheapest_by_shift, request_cost};
-use roster_partial::Workspace;
+use roster_offers::{
+    MOST_CHOICES, MOST_OFFERS, Offer, RowTables, Workspace, cheapest_by_shift, request_cost,
+};
+use roster_row::choices;
 
 /// How a kick prices what is offered, and in which weeks it offers more than the present row.
 #[derive(Clone, Copy)]
@@ -94,7 +95,12 @@ fn shift_place(case: &Case, choice: Choice) -> u8
 }
 
 /// Puts the offers of each day, one for each shift, into a workspace in the place of others.
-pub(crate) fn offer_days(held: &Held, nurse: usize, kick: &Kick<'_>, workspace: &mut Workspace)
+pub(crate) fn offer_days<T: RowTables>(
+    held: &Held,
+    nurse: usize,
+    kick: &Kick<'_>,
+    workspace: &mut Workspace<T>,
+)
     requires nurse { nurse < nurse_count held.now.case }
     requires kick { FitsKick held.now.case kick.now }
     requires fits { fits_space held.now.case workspace.old ≡ true }

@@ -24,6 +24,7 @@ use roster_bound::{
 };
 use roster_costs::{first_absent_before, first_hard, first_succession_before};
 use roster_instance::{Case, Choice, Roster, Shift, Skill, choice_on};
+use roster_offers::RowTables;
 use roster_state::Meter;
 
 /// How many passes the first fade makes. Each later one makes twice as many as that before.
@@ -116,11 +117,11 @@ fn present(case: &Case, roster: &Roster, day: u16, shift: Shift, skill: Skill) -
 /// Looks for a roster that keeps the hard rules: fades the rows, again and again, in twice as many passes, until they do, or no search
 /// is left. Of the given roster and of those with which its fades end, it then leaves the one in which the minimums miss the fewest
 /// nurses; the given one counts where it breaks minimums alone. Answers how many searches are left. It takes no memory.
-pub fn find_roster(
+pub fn find_roster<T: RowTables>(
     case: &Case,
     roster: &mut Roster,
     course: &Course,
-    space: &mut PolishSpace,
+    space: &mut PolishSpace<T>,
     meter: &mut Meter,
 ) -> u32
     requires roster { fits_case case.now roster.old ≡ true }
@@ -162,10 +163,10 @@ fn mendable_rows_are_had(case: &Case, roster: &Roster, from: u16)
 {}
 
 /// Improves the worths from which the fades begin, and keeps the given rows.
-fn begin_plan(
+fn begin_plan<T: RowTables>(
     base: &Base<'_>,
     course: &Course,
-    space: &mut PolishSpace,
+    space: &mut PolishSpace<T>,
     meter: &mut Meter,
 ) -> Kicking
     requires roster { fits_case base.now.case.now base.now.given.now ≡ true }
@@ -201,10 +202,10 @@ fn begin_plan(
 }
 
 /// Fades the given rows until they keep the hard rules, or no search is left, and keeps the nearest ones.
-fn fade_until_kept(
+fn fade_until_kept<T: RowTables>(
     base: &Base<'_>,
     kicking: &mut Kicking,
-    space: &mut PolishSpace,
+    space: &mut PolishSpace<T>,
     meter: &mut Meter,
 )
     requires roster { fits_case base.now.case.now base.now.given.now ≡ true }
@@ -261,10 +262,10 @@ fn least_before(base: &Base<'_>) -> u64
 
 /// Fades the given rows, and mends them where they then break a minimum. Says whether they keep the hard rules. At least one search is
 /// made, and the days before week `from` are as they are given.
-fn fade_and_mend(
+fn fade_and_mend<T: RowTables>(
     base: &Base<'_>,
     kicking: &mut Kicking,
-    space: &mut PolishSpace,
+    space: &mut PolishSpace<T>,
     meter: &mut Meter,
 ) -> bool
     requires roster { fits_case base.now.case.now base.now.given.now ≡ true }
@@ -288,10 +289,10 @@ fn fade_and_mend(
 /// Gives the nurses new rows, pass by pass, while a place that misses nurses pays more each time, in the last passes more than for all
 /// else, until none does or the passes or the searches end. Says whether the rows keep the hard rules then. The days before week `from`
 /// are as they are given.
-fn mend_rows(
+fn mend_rows<T: RowTables>(
     base: &Base<'_>,
     kicking: &mut Kicking,
-    space: &mut PolishSpace,
+    space: &mut PolishSpace<T>,
     meter: &mut Meter,
 ) -> bool
     requires each { HaveRows base.now.case.now base.now.from base.now.given.now }
@@ -320,7 +321,7 @@ fn mend_rows(
 }
 
 /// Keeps the faded rows where they miss fewer nurses than the least so far. Answers the least then.
-fn keep_if_nearer(case: &Case, least: u64, space: &mut PolishSpace) -> u64
+fn keep_if_nearer<T: RowTables>(case: &Case, least: u64, space: &mut PolishSpace<T>) -> u64
     requires fits { FitsPolish case.now space.old }
     ensures kept { space.new.kept ≡ (if nat_lt (missing case.now space.old.faded) least
         then space.old.faded else space.old.kept) }

@@ -19,6 +19,7 @@ use crate::space::PolishSpace;
 use roster_bound::{Base, MOVES, Pace, improve_worths, rows_are_had};
 use roster_case::Held;
 use roster_log::{LogFault, log_start, log_word};
+use roster_offers::RowTables;
 use roster_state::Meter;
 use roster_text::Watch;
 use std::io::Write;
@@ -48,10 +49,10 @@ pub struct Polished {
 ///
 /// The log failed. The roster is then that of the first line that didn't wholly go out: the given one at the first line, and at the
 /// others the one that the line tells of.
-pub fn polish<W: Write>(
+pub fn polish<W: Write, T: RowTables>(
     held: &mut Held,
     course: &Course,
-    space: &mut PolishSpace,
+    space: &mut PolishSpace<T>,
     meter: &mut Meter,
     log: &mut Watch<W>,
 ) -> Result<Polished, LogFault>
@@ -79,11 +80,11 @@ pub fn polish<W: Write>(
 /// # Errors
 ///
 /// As those of `polish`.
-pub fn polish_found<W: Write>(
+pub fn polish_found<W: Write, T: RowTables>(
     held: &mut Held,
     course: &Course,
     start: u64,
-    space: &mut PolishSpace,
+    space: &mut PolishSpace<T>,
     meter: &mut Meter,
     log: &mut Watch<W>,
 ) -> Result<Polished, LogFault>
@@ -141,7 +142,12 @@ fn end_word(settled: bool) -> &'static [u8]
 }
 
 /// Improves the worths from which a fade begins and by which kicks price, with half of the searches at most, and keeps the roster.
-fn begin(held: &Held, course: &Course, space: &mut PolishSpace, meter: &mut Meter) -> Kicking
+fn begin<T: RowTables>(
+    held: &Held,
+    course: &Course,
+    space: &mut PolishSpace<T>,
+    meter: &mut Meter,
+) -> Kicking
     requires fits { FitsPolish held.now.case space.old }
     requires room { meter.old + extensions_of held.now.case course.now.searches ≤ greatest_u64 }
     ensures kept { space.new.kept ≡ held.now.roster }

@@ -7,8 +7,8 @@ ghost use Rattle.roster_rules.specs.AllowedRows.{best_row};
 ghost use Rattle.roster_rules.specs.Improver.{round, same_rows, step};
 ghost use Rattle.roster_rules.specs.Penalties.{penalty};
 ghost use Rattle.roster_laws.specs.FrozenDays.{FrozenDaysStay};
-ghost use Rattle.roster_partial.specs.Workspaces.{fits_space};
-ghost use Rattle.roster_best.specs.Known.{IsKnown};
+ghost use Rattle.roster_offers.specs.Workspaces.{fits_space};
+ghost use Rattle.roster_row.specs.Known.{IsKnown};
 ghost use Rattle.roster_polish.specs.declared.settle.Pass.TheVariants.{Changed, Stopped, Unchanged};
 ghost use Rattle.roster_polish.specs.Polished.{FitsPolish, IsGivenUp, first_run, first_searches, settling_searches};
 ghost use Rattle.roster_laws.specs.Settled.{HasBestRow};
@@ -16,10 +16,10 @@ ghost use Rattle.roster_polish.specs.Settled.{IsSettled, Spends, extensions_of};
 
 use crate::searches::Searches;
 use crate::space::PolishSpace;
-use roster_best::LastSearches;
 use roster_case::Held;
-use roster_partial::Workspace;
+use roster_offers::{RowTables, Workspace};
 use roster_rounds::step_unless_known;
+use roster_row::LastSearches;
 use roster_state::Meter;
 
 /// Where settling begins, and the penalty that is to be reached.
@@ -43,10 +43,10 @@ enum Pass {
 }
 
 /// Settles a roster as `improve` does, and says whether it came so far.
-pub(crate) fn settle_first(
+pub(crate) fn settle_first<T: RowTables>(
     held: &mut Held,
     from: u16,
-    space: &mut PolishSpace,
+    space: &mut PolishSpace<T>,
     meter: &mut Meter,
 ) -> bool
     requires fits { FitsPolish held.old.case space.old }
@@ -75,11 +75,11 @@ pub(crate) fn settle_first(
 }
 
 /// What `settle` does, with the workspace of a run's memory and what its last searches tell. The roster that is kept there stays.
-pub(crate) fn settle_in(
+pub(crate) fn settle_in<T: RowTables>(
     held: &mut Held,
     aim: Aim,
     searches: &mut Searches,
-    space: &mut PolishSpace,
+    space: &mut PolishSpace<T>,
     meter: &mut Meter,
 ) -> bool
     requires fits { FitsPolish held.old.case space.old }
@@ -104,11 +104,11 @@ pub(crate) fn settle_in(
 /// Makes steps until no nurse has a cheaper row, and says whether it came so far: first from a nurse on, then for all, pass by pass.
 /// Each search is one of those that are left. It gives up where none is left, or where the roster is still too far above the penalty
 /// that is to be reached.
-fn settle(
+fn settle<T: RowTables>(
     held: &mut Held,
     aim: Aim,
     searches: &mut Searches,
-    workspace: &mut Workspace,
+    workspace: &mut Workspace<T>,
     last: &mut LastSearches,
     meter: &mut Meter,
 ) -> bool
@@ -153,11 +153,11 @@ fn slack(pass: u32) -> u64 {
 }
 
 /// A step for each nurse from one on.
-fn make_pass(
+fn make_pass<T: RowTables>(
     held: &mut Held,
     first: usize,
     searches: &mut Searches,
-    workspace: &mut Workspace,
+    workspace: &mut Workspace<T>,
     last: &mut LastSearches,
     meter: &mut Meter,
 ) -> Pass
@@ -200,11 +200,11 @@ fn make_pass(
 }
 
 /// A nurse's step. Where it takes a search, that is one of those that are left. Says whether it changed the roster.
-fn step_within(
+fn step_within<T: RowTables>(
     held: &mut Held,
     nurse: usize,
     searches: &mut Searches,
-    workspace: &mut Workspace,
+    workspace: &mut Workspace<T>,
     last: &mut LastSearches,
     meter: &mut Meter,
 ) -> bool

@@ -4,19 +4,19 @@ ghost use Rattle.std.specs.Prelude.{◌≡◌, ◌<◌, ◌≤◌, ℕ, All, IfO
 ghost use Rattle.roster_instance.specs.Rosters.{fits_case};
 ghost use Rattle.roster_polish.specs.Polished.{FitsPolish};
 
-use roster_best::LastSearches;
 use roster_bound::{FloorWorkspace, Worths, count_rows};
 use roster_case::Held;
 use roster_instance::{Case, Roster};
-use roster_partial::BestFault;
+use roster_offers::{BestFault, RowTables};
+use roster_row::LastSearches;
 use std::alloc::Global;
 
 /// What a run writes into: what a run that raises a floor does, with the workspace of its searches; what the last of them tell; by
 /// how much each shift of a day is dearer in a kick; the rows of the roster that is kept, with what the last searches told of it; and
 /// what each place pays in a fade, its rows, and the order of its nurses. Beside the memory of a floor and of the last searches, twice,
 /// that is 265 bytes a day, eight a nurse, and two copies of the rows. One serves one run after another.
-pub struct PolishSpace {
-    pub(crate) floor: FloorWorkspace,
+pub struct PolishSpace<T: RowTables> {
+    pub(crate) floor: FloorWorkspace<T>,
     pub(crate) last: LastSearches,
     pub(crate) dearer: Vec<u8>,
     pub(crate) kept: Roster,
@@ -27,7 +27,7 @@ pub struct PolishSpace {
 }
 
 // By hand, so that who drops it has one call to prove.
-impl Drop for PolishSpace {
+impl<T: RowTables> Drop for PolishSpace<T> {
     fn drop(self) {
         let PolishSpace {
             floor: _,
@@ -42,13 +42,17 @@ impl Drop for PolishSpace {
     }
 }
 
-impl PolishSpace {
+impl<T: RowTables> PolishSpace<T> {
     /// Room for runs from rosters of a case, of which one is given, by at most twenty growths and two for each nurse.
     ///
     /// # Errors
     ///
     /// A growth was refused.
-    pub fn for_roster(alloc: Global, case: &Case, roster: &Roster) -> Result<PolishSpace, BestFault>
+    pub fn for_roster(
+        alloc: Global,
+        case: &Case,
+        roster: &Roster,
+    ) -> Result<PolishSpace<T>, BestFault>
         requires { fits_case case.now roster.now ≡ true }
         ensures { IfOk result (FitsPolish case.now) }
     {
@@ -69,7 +73,7 @@ impl PolishSpace {
     /// # Errors
     ///
     /// A growth was refused.
-    pub fn for_held(alloc: Global, held: &Held) -> Result<PolishSpace, BestFault>
+    pub fn for_held(alloc: Global, held: &Held) -> Result<PolishSpace<T>, BestFault>
         ensures { IfOk result (FitsPolish held.now.case) }
     {
         held.keeps_rules();

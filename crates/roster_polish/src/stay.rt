@@ -12,15 +12,16 @@ use crate::searches::Searches;
 use crate::settle::{Aim, settle_in};
 use crate::space::PolishSpace;
 use roster_case::Held;
+use roster_offers::RowTables;
 use roster_state::Meter;
 
 /// Settles a roster that was changed, to the penalty of the one that is kept. Where it is then no dearer, it stays and is kept; else the
 /// one that was kept comes back. Says whether it stayed.
-pub(crate) fn stay_if_no_dearer(
+pub(crate) fn stay_if_no_dearer<T: RowTables>(
     held: &mut Held,
     aim: Aim,
     searches: &mut Searches,
-    space: &mut PolishSpace,
+    space: &mut PolishSpace<T>,
     meter: &mut Meter,
 ) -> bool
     requires fits { FitsPolish held.old.case space.old }

@@ -5,19 +5,18 @@ ghost use Rattle.roster_bundle.specs.Limits.{greatest_u64};
 ghost use Rattle.roster_instance.specs.Meaning.{day_count, nurse_count};
 ghost use Rattle.roster_instance.specs.Rosters.{is_row_of};
 ghost use Rattle.roster_laws.specs.Greatest.{extension_count};
-ghost use Rattle.roster_best.specs.Known.{IsKnown};
+ghost use Rattle.roster_row.specs.Known.{IsKnown};
 ghost use Rattle.roster_bound.specs.Days.{AreWorthOffers};
 ghost use Rattle.roster_bound.specs.Tables.{worths_of};
 ghost use Rattle.roster_bound.specs.Worths.{HasRow, floor_row};
-ghost use Rattle.roster_partial.specs.Workspaces.{fits_space};
+ghost use Rattle.roster_offers.specs.Workspaces.{fits_space};
 ghost use Rattle.roster_polish.specs.Fades.{is_left_out};
 
 use arrayvec::ArrayVec;
-use roster_best::LastSearches;
 use roster_bound::{Terms, offer_days, price_of};
 use roster_instance::{Choice, choice_on};
-use roster_offers::{MOST_OFFERS, Offer};
-use roster_partial::Workspace;
+use roster_offers::{MOST_OFFERS, Offer, RowTables, Workspace};
+use roster_row::LastSearches;
 use roster_state::Meter;
 
 /// A nurse is left out where her row can be no more than so many points cheaper.
@@ -31,11 +30,11 @@ pub(crate) struct Turn {
 }
 
 /// Searches a nurse's best row by what places pay, or leaves her out. `row` is her present one. Says whether she was searched.
-pub(crate) fn visit(
+pub(crate) fn visit<T: RowTables>(
     terms: &Terms<'_>,
     turn: Turn,
     row: &[Choice],
-    workspace: &mut Workspace,
+    workspace: &mut Workspace<T>,
     last: &mut LastSearches,
     meter: &mut Meter,
 ) -> bool
@@ -64,10 +63,10 @@ pub(crate) fn visit(
 }
 
 /// Searches a nurse's best row by the offers that were put into a workspace, and keeps what the search tells.
-fn search_offered(
+fn search_offered<T: RowTables>(
     terms: &Terms<'_>,
     nurse: usize,
-    workspace: &mut Workspace,
+    workspace: &mut Workspace<T>,
     last: &mut LastSearches,
     meter: &mut Meter,
 )

@@ -9,13 +9,13 @@ use Rattle.roster_instance.specs.Meaning.{Meaning, day_count, nurse_count, week_
 use Rattle.roster_instance.specs.Sizes.{choice_count, greatest_of, state_count}
 use Rattle.roster_laws.specs.Greatest.{extension_count, extensions_in, greatest_extension_count}
 use Rattle.roster_laws.proofs.GreatestLemmas.{greatest_extensions}
-use Rattle.roster_partial.specs.Workspaces.{fits_space}
-use Rattle.roster_best.specs.Known.{IsKnown}
+use Rattle.roster_offers.specs.Workspaces.{fits_space}
+use Rattle.roster_row.specs.Known.{IsKnown}
 use Rattle.roster_rounds.specs.Spaces.{fits_run}
 use Rattle.roster_rounds.specs.declared.space.RunSpace.{RunSpace}
 
 -- a workspace and what is known of the last searches fit their case
-pub fits_still : (c : Meaning) (space : RunSpace) → fits_space c space.workspace ≡ true → IsKnown c space.last → fits_run c space ≡ true
+pub fits_still : {T : Type 0} (c : Meaning) (space : RunSpace T) → fits_space c space.workspace ≡ true → IsKnown c space.last → fits_run c space ≡ true
 fits_still c space fits known =
     let nurses = eq-eqb (length space.last.costs.items) (nurse_count c) known.nurses in
     let days = eq-eqb (length space.last.prices.items) (nurse_count c * day_count c) known.days in

@@ -8,22 +8,22 @@ ghost use Rattle.roster_rules.specs.Improver.{same_rows, step};
 ghost use Rattle.roster_rules.specs.Penalties.{penalty};
 ghost use Rattle.roster_laws.specs.FrozenDays.{FrozenDaysStay};
 ghost use Rattle.roster_laws.specs.Greatest.{extension_count};
-ghost use Rattle.roster_partial.specs.Workspaces.{SameRoom, fits_space};
-ghost use Rattle.roster_best.specs.Known.{IsKnown};
+ghost use Rattle.roster_offers.specs.Workspaces.{SameRoom, fits_space};
+ghost use Rattle.roster_row.specs.Known.{IsKnown};
 
 use crate::outcome::Step;
-use roster_best::{Best, LastSearches, best_row, cheaper_row};
 use roster_case::Held;
-use roster_partial::Workspace;
+use roster_offers::{RowTables, Workspace};
+use roster_row::{Best, LastSearches, best_row, cheaper_row};
 use roster_state::Meter;
 
 /// Puts a nurse's best row from a week on in where the roster's penalty becomes strictly smaller, and else changes nothing. That row
 /// stands in the workspace afterwards, put in or not.
-pub fn step(
+pub fn step<T: RowTables>(
     held: &mut Held,
     nurse: usize,
     from: u16,
-    workspace: &mut Workspace,
+    workspace: &mut Workspace<T>,
     meter: &mut Meter,
 ) -> Step
     requires nurse { nurse < nurse_count held.old.case }
@@ -48,11 +48,11 @@ pub fn step(
 
 /// The same step, but it makes no search where the nurse's last one tells that no row is cheaper than the present one. What the workspace
 /// shows afterwards is then left as it was.
-pub fn step_unless_known(
+pub fn step_unless_known<T: RowTables>(
     held: &mut Held,
     nurse: usize,
     from: u16,
-    workspace: &mut Workspace,
+    workspace: &mut Workspace<T>,
     last: &mut LastSearches,
     meter: &mut Meter,
 ) -> Step
@@ -84,7 +84,12 @@ pub fn step_unless_known(
 }
 
 /// Puts the best row that the workspace shows in where the roster's penalty becomes strictly smaller, and else changes nothing.
-fn put_in_cheaper(held: &mut Held, nurse: usize, best: Best, workspace: &Workspace) -> Step
+fn put_in_cheaper<T: RowTables>(
+    held: &mut Held,
+    nurse: usize,
+    best: Best,
+    workspace: &Workspace<T>,
+) -> Step
     requires nurse { nurse < nurse_count held.old.case }
     requires best { (from : ℕ) × IsBestRow held.old.case from held.old.roster nurse
         workspace.now.row }

@@ -7,7 +7,7 @@ ghost use Rattle.roster_instance.specs.Meaning.{nurse_count};
 ghost use Rattle.roster_laws.specs.Greatest.{extension_count, extensions_in, greatest_extension_count};
 
 use roster_instance::Case;
-use roster_partial::most_steps;
+use roster_offers::most_steps;
 
 /// How often a run of so many rounds extends a label at most. A new meter has room for it: `rounds_have_room`.
 pub fn most_extensions(case: &Case, rounds: u16) -> u64

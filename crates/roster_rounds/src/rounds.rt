@@ -7,7 +7,7 @@ ghost use Rattle.roster_rules.specs.AllowedRows.{best_row};
 ghost use Rattle.roster_rules.specs.Improver.{round_log};
 ghost use Rattle.roster_laws.specs.FrozenDays.{FrozenDaysStay};
 ghost use Rattle.roster_laws.specs.Greatest.{extensions_in, greatest_extension_count};
-ghost use Rattle.roster_partial.specs.Workspaces.{SameRoom};
+ghost use Rattle.roster_offers.specs.Workspaces.{SameRoom};
 ghost use Rattle.roster_rounds.specs.RunLogs.{BreaksAmong, LogStops, Ran, RoundMade};
 
 use crate::outcome::Outcome;

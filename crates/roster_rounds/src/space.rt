@@ -3,19 +3,19 @@
 ghost use Rattle.std.specs.Prelude.{◌≡◌, true, IfOk};
 ghost use Rattle.roster_rounds.specs.Spaces.{fits_run};
 
-use roster_best::LastSearches;
 use roster_instance::Case;
-use roster_partial::{BestFault, Workspace};
+use roster_offers::{BestFault, RowTables, Workspace};
+use roster_row::LastSearches;
 use std::alloc::Global;
 
 /// What a run writes into: the workspace of its searches, and what the last of them tell. One serves one run after another.
-pub struct RunSpace {
-    pub workspace: Workspace,
+pub struct RunSpace<T: RowTables> {
+    pub workspace: Workspace<T>,
     pub last: LastSearches,
 }
 
 // By hand, so that who drops it has one call to prove.
-impl Drop for RunSpace {
+impl<T: RowTables> Drop for RunSpace<T> {
     fn drop(self) {
         let RunSpace {
             workspace: _,
@@ -24,14 +24,14 @@ impl Drop for RunSpace {
     }
 }
 
-impl RunSpace {
+impl<T: RowTables> RunSpace<T> {
     /// Room for the runs over a case, by at most six growths. Beside the workspace it takes 36 bytes for each nurse and day and 8 for
     /// each nurse: 5,244,800 bytes at most, those of 400 nurses over 52 weeks.
     ///
     /// # Errors
     ///
     /// A growth was refused.
-    pub fn for_case(alloc: Global, case: &Case) -> Result<RunSpace, BestFault>
+    pub fn for_case(alloc: Global, case: &Case) -> Result<RunSpace<T>, BestFault>
         ensures fits { IfOk result (λ space. fits_run case.now space ≡ true) }
     {
         Ok(RunSpace {

@@ -8,15 +8,15 @@ ghost use Rattle.roster_rules.specs.Improver.{same_rows, step};
 ghost use Rattle.roster_rules.specs.Penalties.{penalty};
 ghost use Rattle.roster_laws.specs.FrozenDays.{FrozenDaysStay};
 ghost use Rattle.roster_laws.specs.Greatest.{extension_count};
-ghost use Rattle.roster_partial.specs.Workspaces.{SameRoom, Space, fits_space};
-ghost use Rattle.roster_best.specs.Known.{IsKnown};
+ghost use Rattle.roster_offers.specs.Workspaces.{SameRoom, Space, fits_space};
+ghost use Rattle.roster_row.specs.Known.{IsKnown};
 ghost use Rattle.roster_rounds.specs.Spaces.{fits_run};
 
 use crate::nurse::{step, step_unless_known};
 use crate::outcome::Step;
 use crate::space::RunSpace;
 use roster_case::Held;
-use roster_partial::Workspace;
+use roster_offers::{RowTables, Workspace};
 use roster_state::Meter;
 
 /// What makes the steps of a run, for one nurse after another: a `Workspace` by a search each, a `RunSpace` by fewer.
@@ -55,7 +55,7 @@ pub trait Steps {
 }
 
 /// A search at each step.
-impl Steps for Workspace {
+impl<T: RowTables> Steps for Workspace<T> {
     ghost fits = { λ c w. fits_space c w };
 
     ghost IsReady = { λ c w. fits_space c w ≡ true };
@@ -72,7 +72,7 @@ impl Steps for Workspace {
 }
 
 /// A search where the nurse's last one doesn't tell that no row is cheaper.
-impl Steps for RunSpace {
+impl<T: RowTables> Steps for RunSpace<T> {
     ghost fits = { λ c s. fits_run c s };
 
     ghost IsReady = { λ c s. (fits_run c s ≡ true) × IsKnown c s.last };

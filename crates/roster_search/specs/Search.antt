@@ -1,7 +1,6 @@
--- A search over a table of offers: the room that it takes, its days, and how many states it goes over (our own).
+-- A search over a table of offers: its days, and how many states it goes over (our own).
 use Rattle.std.specs.Prelude.{ℕ, ◌+◌, ◌-◌, ◌*◌, ◌<◌, ◌≤◌, All, List, [], length, slice_index_or}
 use Rattle.roster_instance.specs.Meaning.{Meaning, day_count}
-use Rattle.roster_instance.specs.Sizes.{state_count}
 use Rattle.roster_instance.specs.Counting.{sum_below}
 use Rattle.roster_rules.specs.Prefix.{Summary, summary_of}
 use Rattle.roster_state.specs.declared.area.Area.{Area}
@@ -11,21 +10,7 @@ use Rattle.roster_offers.specs.Offers.{best_of_offers}
 use Rattle.roster_search.specs.Counts.{states_on}
 use Rattle.roster_search.specs.Tables.{ArePointers, BestOnward, LeadsOn, SearchDay, Stands}
 pub use Rattle.roster_offers.specs.Lists.{AreDayOffers, AreOffers, IsFound, best_over, offers_on}
-
--- ---- the room
-
--- how many labels the two tables have together, and how many pointers there are; and for how many labels each table has room without
--- a growth
-pub record TableRoom : Type 0 where
-  pub labels : ℕ
-  pub pointers : ℕ
-  pub label_capacity : ℕ
-  pub later_capacity : ℕ
-
--- two labels for each of the nurse's states, and a pointer for each state and day
-pub record HasTables (c : Meaning) (n : ℕ) (t : TableRoom) : Type 0 where
-  pub labels : 2 * state_count c n ≤ t.labels
-  pub pointers : day_count c * state_count c n ≤ t.pointers
+pub use Rattle.roster_offers.specs.Workspaces.{HasTables, TableRoom}
 
 -- ---- the days of a search
 

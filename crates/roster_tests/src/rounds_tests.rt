@@ -5,8 +5,8 @@ ghost use Rattle.roster_bundle.specs.Limits.{greatest_u64};
 ghost use Rattle.roster_rules.specs.AllowedRows.{best_row};
 ghost use Rattle.roster_laws.specs.FrozenDays.{FrozenDaysStay};
 ghost use Rattle.roster_laws.specs.Greatest.{extensions_in};
-ghost use Rattle.roster_partial.specs.Workspaces.{SameRoom, fits_space};
-ghost use Rattle.roster_best.specs.Known.{IsKnown};
+ghost use Rattle.roster_offers.specs.Workspaces.{SameRoom, fits_space};
+ghost use Rattle.roster_row.specs.Known.{IsKnown};
 ghost use Rattle.roster_rounds.specs.RunLogs.{LogStops, Ran};
 
 use crate::best_tests::{ready, row_of};
@@ -14,6 +14,7 @@ use crate::texts::{RUN_LOG, fill};
 use roster_best::{LastSearches, Workspace, most_steps};
 use roster_case::Held;
 use roster_devices::{AtEnd, CallCounter, ShortWriter};
+use roster_partial::PartialTables;
 use roster_rounds::{
     LogFault, Outcome, RunSpace, Step, improve, most_extensions, step, step_unless_known,
 };
@@ -105,7 +106,7 @@ fn run(alloc: Global, log: &mut Log<'_>) -> Result<Left, Fail> {
 /// A run over mini that searches only where the nurse's last search doesn't tell enough.
 fn run_unless_known(alloc: Global, log: &mut Log<'_>) -> Result<Left, Fail> {
     let (mut held, _, mut meter) = ready(alloc, &[])?;
-    let Ok(mut space) = RunSpace::for_case(alloc, held.case()) else {
+    let Ok(mut space) = RunSpace::<PartialTables>::for_case(alloc, held.case()) else {
         return Err(Fail::new("no space"));
     };
     if meter.room() < most_extensions(held.case(), 100) {

@@ -8,15 +8,16 @@ ghost use Rattle.roster_laws.specs.OneRow.{others};
 ghost use Rattle.roster_rules.specs.AllowedRows.{is_frozen};
 ghost use Rattle.roster_rules.specs.Penalties.{request_cost_on};
 ghost use Rattle.roster_rules.specs.Weights.{most_request};
-ghost use Rattle.roster_partial.specs.Workspaces.{SameRoom, fits_space};
+ghost use Rattle.roster_offers.specs.Workspaces.{SameRoom, fits_space};
 ghost use Rattle.roster_who.specs.Offers.{AreTakingOffers, fills, gain_at, gain_of, is_needed, keeps_places, most_gain, offer_if_filling, shift_taking_offers};
 
 use crate::asked::{Asking, is_asked};
 use arrayvec::ArrayVec;
 use roster_costs::place;
 use roster_instance::{Choice, Shift, Skill, choice_on};
-use roster_offers::{MOST_OFFERS, NurseDay, Offer, Offering, offers_by_shift};
-use roster_partial::Workspace;
+use roster_offers::{
+    MOST_OFFERS, NurseDay, Offer, Offering, RowTables, Workspace, offers_by_shift,
+};
 use roster_rules::is_frozen;
 use roster_rules::weights::STAFFING;
 
@@ -27,7 +28,11 @@ const MISSED: u32 = 1_000_000;
 const MOST_GAIN: u32 = MISSED + STAFFING;
 
 /// Puts the offers of each day, one for each shift, into a workspace in the place of others.
-pub(crate) fn offers_of_days(asking: &Asking<'_>, nurse: usize, workspace: &mut Workspace)
+pub(crate) fn offers_of_days<T: RowTables>(
+    asking: &Asking<'_>,
+    nurse: usize,
+    workspace: &mut Workspace<T>,
+)
     requires nurse { nurse < nurse_count asking.now.case.now }
     requires fits { fits_space asking.now.case.now workspace.old ≡ true }
     ensures offers { AreTakingOffers asking.now.case.now asking.now.from asking.now.roster.now

@@ -6,7 +6,7 @@ ghost use Rattle.roster_bundle.specs.Limits.{greatest_u64};
 ghost use Rattle.roster_instance.specs.Meaning.{day_count, nurse_count};
 ghost use Rattle.roster_instance.specs.Rosters.{fits_case};
 ghost use Rattle.roster_laws.specs.Greatest.{extension_count, greatest_extension_count};
-ghost use Rattle.roster_partial.specs.Workspaces.{SameRoom, fits_space};
+ghost use Rattle.roster_offers.specs.Workspaces.{SameRoom, fits_space};
 ghost use Rattle.roster_who.specs.Who.{AreInOrder, missed, taker, takers, without_absent_work};
 
 use crate::asked::{Asked, Asking};
@@ -15,7 +15,7 @@ use crate::present::{covers_of_days, without_absent_work};
 use crate::told::{missed, taker_by};
 use crate::ways::leads_through;
 use roster_instance::{Case, Roster};
-use roster_partial::{BestFault, Workspace};
+use roster_offers::{BestFault, RowTables, Workspace};
 use roster_state::Meter;
 use std::alloc::{AllocError, Global};
 
@@ -43,7 +43,7 @@ pub struct Takers {
 /// # Errors
 ///
 /// A growth was refused.
-pub fn find_takers(
+pub fn find_takers<T: RowTables>(
     alloc: Global,
     case: &Case,
     roster: &Roster,
@@ -68,7 +68,7 @@ pub fn find_takers(
     let present = without_absent_work(alloc, case, roster)?;
     let covers = covers_of_days(alloc, case, &present)?;
     let mut trial = present.copy(alloc)?;
-    let mut workspace = Workspace::for_case(alloc, case)?;
+    let mut workspace = Workspace::<T>::for_case(alloc, case)?;
     let asking = Asking {
         case,
         roster: &present,
@@ -85,11 +85,11 @@ pub fn find_takers(
 }
 
 /// All who may take it, in the order of the scenario, by one growth.
-fn all_takers(
+fn all_takers<T: RowTables>(
     alloc: Global,
     asking: &Asking<'_>,
     trial: &mut Roster,
-    workspace: &mut Workspace,
+    workspace: &mut Workspace<T>,
     meter: &mut Meter,
 ) -> Result<Vec<Taker>, AllocError>
     requires fits { fits_space asking.now.case.now workspace.old ≡ true }
@@ -119,11 +119,11 @@ fn push_some(told: &mut Vec<Taker>, taker: Option<Taker>) -> Result<(), AllocErr
 }
 
 /// What is told of a nurse, if she has a row with the assignment.
-fn taker_of(
+fn taker_of<T: RowTables>(
     asking: &Asking<'_>,
     nurse: usize,
     trial: &mut Roster,
-    workspace: &mut Workspace,
+    workspace: &mut Workspace<T>,
     meter: &mut Meter,
 ) -> Option<Taker>
     requires nurse { nurse < nurse_count asking.now.case.now }

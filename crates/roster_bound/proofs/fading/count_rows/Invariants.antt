@@ -2,4 +2,4 @@ use Rattle.roster_bound.specs.Workspaces.{FitsFloor}
 use Rattle.roster_bound.proofs.fading.count_rows.Given as goal
 
 abbrev pub invariant-loop-nurse : goal.invariant-loop-nurse
-invariant-loop-nurse l = FitsFloor l.fn.case l.floor
+invariant-loop-nurse g l = FitsFloor l.fn.case l.floor

@@ -19,7 +19,7 @@ place_more f old now new place value here low is others before at within = go (c
     go (inr other) = others at other ∙ before at (omega (arith, within, other))
 
 pub loop-place-preserved : goal.loop-place-preserved
-loop-place-preserved c =
+loop-place-preserved g c =
     let k = c.args.case.now in
     let place = c.loop-place.place in
     let old = c.args.floor.now.worths.fine in

@@ -3,4 +3,4 @@ use Rattle.roster_instance.specs.Meaning.{day_count}
 use Rattle.roster_bound.proofs.fading.pay_places.Given as goal
 
 abbrev pub invariant-loop-place : goal.invariant-loop-place
-invariant-loop-place l = l.pays.days ≡ day_count l.fn.case
+invariant-loop-place g l = l.pays.days ≡ day_count l.fn.case

@@ -4,7 +4,7 @@ use Rattle.roster_bound.specs.Workspaces.{FitsFloor}
 use Rattle.roster_bound.proofs.fading.take_row.Given as goal
 
 abbrev pub invariant-loop-day : goal.invariant-loop-day
-invariant-loop-day l = record {
+invariant-loop-day g l = record {
   fits : FitsFloor l.fn.case l.floor;
   days : l.pays.days ≡ day_count l.fn.case;
 }

@@ -10,17 +10,17 @@ use Rattle.roster_bound.proofs.PartFloors.{none_below_in}
 use Rattle.roster_bound.proofs.floors.lower_bound_in.Goals as goal
 
 pub row_floor_in-floor-requires-clause-room : goal.row_floor_in-floor-requires-clause-room
-row_floor_in-floor-requires-clause-room c =
+row_floor_in-floor-requires-clause-room g c =
     let k = c.args.terms.now.case.now in
     let n = c.loop-nurse.nurse in
     let inside : n < nurse_count k = omega (arith, c.loop-nurse-test.true, c.nurses-nurse-end.ensures.count) in
     has_room k n c.args.meter.now c.loop-nurse.meter c.loop-nurse.invariant.counted inside 18446744073709551615 c.requires.room
 
 pub row_floor_in-floor-requires-clause-row : goal.row_floor_in-floor-requires-clause-row
-row_floor_in-floor-requires-clause-row c = c.requires.each c.loop-nurse.nurse (omega (arith, c.loop-nurse-test.true, c.nurses-nurse-end.ensures.count))
+row_floor_in-floor-requires-clause-row g c = c.requires.each c.loop-nurse.nurse (omega (arith, c.loop-nurse-test.true, c.nurses-nurse-end.ensures.count))
 
 pub loop-nurse-preserved : goal.loop-nurse-preserved
-loop-nurse-preserved c =
+loop-nurse-preserved g c =
     let k = c.args.terms.now.case.now in
     let f = row_floor_in k c.args.terms.now.from c.args.terms.now.given.now (worths_of c.args.terms.now.worths.now) c.args.part.now in
     let n = c.loop-nurse.nurse in
@@ -38,7 +38,7 @@ loop-nurse-preserved c =
 
 pub returns-clause-bound : goal.returns-clause-bound
 unfolding bound_in
-returns-clause-bound c =
+returns-clause-bound g c =
     let k = c.args.terms.now.case.now in
     let w : PlaceWorths = worths_of c.args.terms.now.worths.now in
     let f = row_floor_in k c.args.terms.now.from c.args.terms.now.given.now w c.args.part.now in
@@ -48,6 +48,6 @@ returns-clause-bound c =
     c.rounded_up.ensures ∙ ap (rounded_up k) (c.saturating_sub.ensures ∙ (λ i. floors i - earned i))
 
 pub returns-clause-below : goal.returns-clause-below
-returns-clause-below c =
+returns-clause-below g c =
     let t = c.args.terms.now in
-    subst (IsLowerBoundIn t.case.now t.from t.given.now c.args.part.now) (sym (returns-clause-bound c)) (none_below_in t.case.now (worths_of t.worths.now) c.args.part.now t.from t.given.now c.keep_most.ensures)
+    subst (IsLowerBoundIn t.case.now t.from t.given.now c.args.part.now) (sym (returns-clause-bound g c)) (none_below_in t.case.now (worths_of t.worths.now) c.args.part.now t.from t.given.now c.keep_most.ensures)

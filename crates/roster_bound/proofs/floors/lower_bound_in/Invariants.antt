@@ -10,7 +10,7 @@ use Rattle.roster_bound.specs.Worths.{places_floor}
 use Rattle.roster_bound.proofs.floors.lower_bound_in.Given as goal
 
 abbrev pub invariant-loop-nurse : goal.invariant-loop-nurse
-invariant-loop-nurse l = record {
+invariant-loop-nurse g l = record {
   so_far : l.floors ≡ places_floor l.terms.case.now (worths_of l.terms.worths.now) + sum_below l.nurse (row_floor_in l.terms.case.now l.terms.from l.terms.given.now (worths_of l.terms.worths.now) l.part);
   within : l.floors ≤ places_floor l.terms.case.now (worths_of l.terms.worths.now) + l.nurse * 8589934590;
   rows : FitsRows l.terms.case.now l.rows;

@@ -4,7 +4,7 @@ use Rattle.std.proofs.lemmas.List.{get_or_append_left, get_or_push, length_push}
 use Rattle.arrayvec.specs.ArrayVec.{ArrayVec}
 use Rattle.roster_offers.specs.declared.offer.Offer.{Offer}
 use Rattle.roster_offers.specs.Lists.{offers_on}
-use Rattle.roster_partial.specs.Workspaces.{Space, fits_space}
+use Rattle.roster_offers.specs.Workspaces.{Space, fits_space}
 use Rattle.roster_bound.specs.Days.{shift_priced_offers}
 use Rattle.roster_bound.specs.Parts.{price_in}
 use Rattle.roster_bound.specs.Tables.{worths_of}
@@ -23,7 +23,7 @@ day_more of old new day offers days each pushed is d within = ap (λ table. offe
     go (inr other) = ap (λ (o : ArrayVec Offer). o.items) (get_or_append_left old (offers ∷ []) none d (omega (arith, within, days, other))) ∙ each d (omega (arith, within, other))
 
 pub loop-day-preserved : goal.loop-day-preserved
-loop-day-preserved c =
+loop-day-preserved g c =
     let t = c.args.terms.now in
     let pushed = ap (λ (w : Space). w.offers) c.push_offers.ensures in
     record {

@@ -2,4 +2,4 @@ use Rattle.roster_bound.specs.Workspaces.{FitsFloor}
 use Rattle.roster_bound.proofs.known.move_in_part.Given as goal
 
 abbrev pub invariant-loop-moved : goal.invariant-loop-moved
-invariant-loop-moved l = FitsFloor l.case l.floor
+invariant-loop-moved g l = FitsFloor l.case l.floor

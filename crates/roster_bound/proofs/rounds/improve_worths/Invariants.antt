@@ -5,7 +5,7 @@ use Rattle.roster_bound.specs.Workspaces.{FitsFloor}
 use Rattle.roster_bound.proofs.rounds.improve_worths.Given as goal
 
 abbrev pub invariant-loop-rounds_before : goal.invariant-loop-rounds_before
-invariant-loop-rounds_before l = record {
+invariant-loop-rounds_before g l = record {
   made : l.fn.meter + l.rounds_before * (nurse_count l.base.case.now * day_count l.base.case.now) ≤ l.meter;
   counted : l.meter ≤ l.fn.meter + extensions_in l.base.case.now l.rounds_before;
   fits : FitsFloor l.base.case.now l.workspace;

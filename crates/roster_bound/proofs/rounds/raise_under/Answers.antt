@@ -1,8 +1,8 @@
 use Rattle.std.proofs.Common.{◌+◌, arith}
 use Rattle.std.proofs.lemmas.Result.{err_from_is_err_and}
 use Rattle.roster_laws.proofs.Frozen.{stays_self}
-use Rattle.roster_bound.proofs.Counted.{parting_counted, parting_room, parting_within}
-use Rattle.roster_bound.proofs.FloorLogs.{parted_breaks, reached-raised, stops-later}
+use Rattle.roster_bound.proofs.Counted.{parting_counted, parting_room, parting_within, partings_within}
+use Rattle.roster_bound.proofs.FloorLogs.{parted_breaks, reached-later, reached-raised, stops-later}
 use Rattle.roster_bound.proofs.PartLaws.{floor_of_all}
 use Rattle.roster_bound.proofs.rounds.raise_under.Goals as goal
 use Rattle.roster_bound.specs.Worths.{IsLowerBound}
@@ -45,3 +45,27 @@ pub returns-clause-within : goal.returns-clause-within
 returns-clause-within g c =
     let b = c.args.under.now.base.now in
     omega (arith, c.loop-parted.invariant.below b.given.now c.requires.given c.requires.keeps (stays_self b.case.now b.from b.given.now), c.requires.total)
+
+pub returns-then-reached-under-clause-counted : goal.returns-then-reached-under-clause-counted
+returns-then-reached-under-clause-counted g c =
+    let l = c.loop-parted in
+    partings_within c.args.under.now.base.now.case.now c.args.effort.rounds l.parted c.args.meter.now l.meter l.invariant.counted c.args.effort.nodes (omega (arith, c.loop-parted-test.true))
+
+pub returns-then-not-is_parted-clause-counted : goal.returns-then-not-is_parted-clause-counted
+returns-then-not-is_parted-clause-counted g c =
+    let l = c.loop-parted in
+    parting_within c.args.under.now.base.now.case.now c.args.effort.rounds l.parted c.args.meter.now l.meter l.invariant.counted c.args.effort.nodes c.part_least-is_parted.new.meter c.loop-parted-test.true c.part_least-is_parted.ensures.counted
+
+-- no floor is higher: the log stays as it was
+pub loop-parted-preserved-then-bound-reached : goal.loop-parted-preserved-then-bound-reached
+loop-parted-preserved-then-bound-reached g c =
+    let l = c.loop-parted in
+    let b = c.args.under.now.base.now in
+    record {
+      reached = reached-later g.W.Write.contents b.case.now b.from b.given.now c.args.log.now (record { rounds = c.args.effort.rounds; nodes = l.parted }) (l.parted + 1) l.log l.reached (omega arith) l.invariant.reached;
+      below = l.invariant.below;
+      parts = c.part_least-is_parted.ensures.parts;
+      made = λ short. omega (arith, l.invariant.made short, c.part_least-is_parted.ensures.grows);
+      counted = parting_counted b.case.now c.args.effort.rounds l.parted c.args.meter.now l.meter l.invariant.counted c.part_least-is_parted.new.meter c.part_least-is_parted.ensures.counted;
+      fits = c.part_least-is_parted.ensures.fits;
+    }

@@ -5,7 +5,7 @@ use Rattle.roster_bound.proofs.PartLaws.{parted}
 use Rattle.roster_bound.proofs.tree.part_least.Goals as goal
 
 pub returns-clause-parts : goal.returns-clause-parts
-returns-clause-parts c =
+returns-clause-parts g c =
     let b = c.args.under.now.base.now in
     let old : List Part = c.args.space.now.parts.items.items in
     let at = c.least-at.result in

@@ -8,7 +8,7 @@ use Rattle.roster_polish.proofs.fade.fade_nurse.Goals as goal
 use Rattle.roster_polish.proofs.fade.fade_nurse.Goals.{then-searched, else-searched}
 
 pub put_row-requires-clause-days : goal.put_row-requires-clause-days
-put_row-requires-clause-days c =
+put_row-requires-clause-days g c =
     let k = c.args.base.now.case.now in
     let n = c.args.turn.nurse in
     let row = c.visit-searched.new.workspace.row in
@@ -16,7 +16,7 @@ put_row-requires-clause-days c =
     same_length k c.args.space.now.faded n c.row-then-searched.result.now c.requires.fits.faded c.requires.nurse (subst (λ own. is_row_of k own ≡ true) (sym c.row-then-searched.ensures) fits)
 
 pub returns-clause-frozen : goal.returns-clause-frozen
-returns-clause-frozen c =
+returns-clause-frozen g c =
     let k = c.args.base.now.case.now in
     let from = c.args.base.now.from in
     let given = c.args.base.now.given.now in
@@ -31,7 +31,7 @@ returns-clause-frozen c =
     ]
 
 pub returns-clause-fits : goal.returns-clause-fits
-returns-clause-fits c =
+returns-clause-fits g c =
     let k = c.args.base.now.case.now in
     let from = c.args.base.now.from in
     let given = c.args.base.now.given.now in
@@ -54,4 +54,17 @@ returns-clause-fits c =
       ];
       count = before.count;
       order = before.order;
+    }
+
+-- the floor's memory fits as it did: a search stays in its workspace
+pub put_row-requires-2-clause-fits : goal.put_row-requires-2-clause-fits
+put_row-requires-2-clause-fits g c =
+    let before = c.take_row.ensures.fits in
+    record {
+      rows = record { search = c.visit-searched.ensures.fits; cover = before.rows.cover };
+      worths = before.worths;
+      tried = before.tried;
+      wanted = before.wanted;
+      had = before.had;
+      seen = before.seen;
     }

@@ -11,8 +11,8 @@ use Rattle.roster_polish.proofs.Steps.{room_left, has_room, spent, spent_both, s
 use Rattle.roster_polish.proofs.fade.make_fade_pass.Goals as goal
 use Rattle.roster_polish.proofs.fade.make_fade_pass.Goals.{After-index-nurse}
 
-inside : (c : After-index-nurse) → c.index-nurse.result.now < nurse_count c.args.base.now.case.now
-inside c =
+inside : (g : _) (c : After-index-nurse g) → c.index-nurse.result.now < nurse_count c.args.base.now.case.now
+inside g c =
     let k = c.args.base.now.case.now in
     let l = c.loop-place in
     let order = l.space.order.items in
@@ -35,14 +35,14 @@ module _ (c : Meaning) (n meter left new new_left : ℕ) (inside : n < nurse_cou
       (omega (arith, none refl, ap (λ m. m * day_count c) same), subst (λ m. Spends c meter left m new_left) (sym (none refl)) (subst (Spends c meter left meter) (sym same) (spent_none c meter left)))
 
 pub fade_nurse-searched-requires-clause-room : goal.fade_nurse-searched-requires-clause-room
-fade_nurse-searched-requires-clause-room c =
+fade_nurse-searched-requires-clause-room g c =
     let k = c.args.base.now.case.now in
     let l = c.loop-place in
-    has_room k c.index-nurse.result.now l.meter l.kicking.searches.left (inside (goal.at.fade_nurse-searched-requires-clause-room c).After-index-nurse) (some_left l.kicking.searches.left c.if-kicking-eq0.false) 18446744073709551615
+    has_room k c.index-nurse.result.now l.meter l.kicking.searches.left (inside g (goal.at.fade_nurse-searched-requires-clause-room g c).After-index-nurse) (some_left l.kicking.searches.left c.if-kicking-eq0.false) 18446744073709551615
     (room_left k c.args.meter.now c.args.kicking.now.searches.left l.meter l.kicking.searches.left 18446744073709551615 l.invariant.faded.spends c.requires.room)
 
 pub loop-place-preserved : goal.loop-place-preserved
-loop-place-preserved c =
+loop-place-preserved g c =
     let k = c.args.base.now.case.now in
     let n = c.index-nurse.result.now in
     let l = c.loop-place in
@@ -51,7 +51,7 @@ loop-place-preserved c =
     let left = l.kicking.searches.left in
     let new_left = c.take_if.new.self.left in
     let some : 0 < left = some_left left c.if-kicking-eq0.false in
-    let both = one_or_none k n l.meter left c.fade_nurse-searched.new.meter new_left (inside (goal.at.loop-place-preserved c).After-index-nurse) some c.fade_nurse-searched.result c.take_if.ensures.left told.each_day told.spared told.counted in
+    let both = one_or_none k n l.meter left c.fade_nurse-searched.new.meter new_left (inside g (goal.at.loop-place-preserved g c).After-index-nurse) some c.fade_nurse-searched.result c.take_if.ensures.left told.each_day told.spared told.counted in
     let spends = spent_both k c.args.meter.now c.args.kicking.now.searches.left l.meter left c.fade_nurse-searched.new.meter new_left before.spends both.1 in
     let all = c.args.kicking.now.searches.left in
     -- the first one is searched

@@ -11,7 +11,7 @@ use Rattle.roster_polish.proofs.kick.kick_nurse.Goals as goal
 use Rattle.roster_polish.proofs.kick.kick_nurse.Goals.{After-row}
 
 pub search_offers-requires-clause-offers : goal.search_offers-requires-clause-offers
-search_offers-requires-clause-offers c =
+search_offers-requires-clause-offers g c =
     let k = c.args.held.now.case in
     let offers = c.offer_days.new.workspace.offers in
     let told = c.keeps_rules.ensures in
@@ -19,7 +19,7 @@ search_offers-requires-clause-offers c =
     (can_search k c.args.held.now.roster c.args.nurse c.args.kick.now told.fits told.keeps c.requires.nurse offers c.offer_days.ensures.offers)
 
 pub search_offers-requires-clause-some : goal.search_offers-requires-clause-some
-search_offers-requires-clause-some c =
+search_offers-requires-clause-some g c =
     let k = c.args.held.now.case in
     let offers = c.offer_days.new.workspace.offers in
     let told = c.keeps_rules.ensures in
@@ -27,25 +27,25 @@ search_offers-requires-clause-some c =
     (some_found k c.args.held.now.roster c.args.nurse c.args.kick.now told.fits told.keeps c.requires.nurse offers c.offer_days.ensures.offers)
 
 -- what the search finds over the offers
-found : (c : After-row) → IsFound (best_over c.args.held.now.case c.args.nurse (offers_on c.offer_days.new.workspace.offers)) c.search_offers.result c.search_offers.new.self.row
-found c =
+found : (g : _) (c : After-row g) → IsFound (best_over c.args.held.now.case c.args.nurse (offers_on c.offer_days.new.workspace.offers)) c.search_offers.result c.search_offers.new.self.row
+found g c =
     subst (λ (m : Meaning). IsFound (best_over m c.args.nurse (offers_on c.offer_days.new.workspace.offers)) c.search_offers.result c.search_offers.new.self.row) c.case.ensures c.search_offers.ensures.best
 
 pub replace_row-requires-clause-keeps : goal.replace_row-requires-clause-keeps
-replace_row-requires-clause-keeps c =
+replace_row-requires-clause-keeps g c =
     let k = c.args.held.now.case in
     let r = c.args.held.now.roster in
     let n = c.args.nurse in
     let told = c.keeps_rules.ensures in
     subst (λ row. row_keeps k r n row ≡ true) (sym c.row.ensures)
-    (found_keeps k r n c.args.kick.now told.fits told.keeps c.requires.nurse c.offer_days.new.workspace.offers c.offer_days.ensures.offers c.search_offers.result c.search_offers.new.self.row (found (goal.at.replace_row-requires-clause-keeps c).After-row))
+    (found_keeps k r n c.args.kick.now told.fits told.keeps c.requires.nurse c.offer_days.new.workspace.offers c.offer_days.ensures.offers c.search_offers.result c.search_offers.new.self.row (found g (goal.at.replace_row-requires-clause-keeps g c).After-row))
 
 pub returns-clause-frozen : goal.returns-clause-frozen
-returns-clause-frozen c =
+returns-clause-frozen g c =
     let k = c.args.held.now.case in
     let r = c.args.held.now.roster in
     let n = c.args.nurse in
     let told = c.keeps_rules.ensures in
-    let stays = found_stays k r n c.args.kick.now told.fits told.keeps c.requires.nurse c.offer_days.new.workspace.offers c.offer_days.ensures.offers c.search_offers.result c.search_offers.new.self.row (found (goal.at.returns-clause-frozen c).After-row) in
+    let stays = found_stays k r n c.args.kick.now told.fits told.keeps c.requires.nurse c.offer_days.new.workspace.offers c.offer_days.ensures.offers c.search_offers.result c.search_offers.new.self.row (found g (goal.at.returns-clause-frozen g c).After-row) in
     subst (FrozenDaysStay k c.args.kick.now.from r) (sym (ap (λ (h : HeldRoster). h.roster) c.replace_row.ensures ∙ ap (with_row r n) c.row.ensures))
     (row_stays k c.args.kick.now.from r n c.search_offers.new.self.row stays)

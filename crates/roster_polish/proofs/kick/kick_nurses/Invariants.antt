@@ -5,7 +5,7 @@ use Rattle.roster_polish.specs.Settled.{Spends}
 use Rattle.roster_polish.proofs.kick.kick_nurses.Given as goal
 
 abbrev pub invariant-loop : goal.invariant-loop
-invariant-loop l = record {
+invariant-loop g l = record {
   case : l.held.case ≡ l.fn.held.case;
   kept : l.space.kept ≡ l.fn.space.kept;
   frozen : FrozenDaysStay l.fn.held.case l.fn.kicking.searches.from l.fn.held.roster l.held.roster;

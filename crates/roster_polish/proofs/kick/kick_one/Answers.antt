@@ -4,13 +4,13 @@ use Rattle.roster_polish.proofs.Steps.{has_room, spent}
 use Rattle.roster_polish.proofs.kick.kick_one.Goals as goal
 use Rattle.roster_polish.proofs.kick.kick_one.Goals.{After-as_slice}
 
-inside : (c : After-as_slice) → c.below-nurse.result < nurse_count c.args.held.now.case
-inside c = omega (arith, c.below-nurse.ensures, c.nurses.ensures.count, ap nurse_count c.case-2.ensures)
+inside : (g : _) (c : After-as_slice g) → c.below-nurse.result < nurse_count c.args.held.now.case
+inside g c = omega (arith, c.below-nurse.ensures, c.nurses.ensures.count, ap nurse_count c.case-2.ensures)
 
 pub kick_nurse-requires-clause-room : goal.kick_nurse-requires-clause-room
-kick_nurse-requires-clause-room c =
-    has_room c.args.held.now.case c.below-nurse.result c.args.meter.now c.args.kicking.now.searches.left (inside (goal.at.kick_nurse-requires-clause-room c).After-as_slice) c.requires.left 18446744073709551615 c.requires.room
+kick_nurse-requires-clause-room g c =
+    has_room c.args.held.now.case c.below-nurse.result c.args.meter.now c.args.kicking.now.searches.left (inside g (goal.at.kick_nurse-requires-clause-room g c).After-as_slice) c.requires.left 18446744073709551615 c.requires.room
 
 pub returns-clause-spends : goal.returns-clause-spends
-returns-clause-spends c =
-    spent c.args.held.now.case c.below-nurse.result c.args.meter.now c.args.kicking.now.searches.left (inside (goal.at.returns-clause-spends c).After-as_slice) c.requires.left c.kick_nurse.new.meter _ refl c.kick_nurse.ensures.counted
+returns-clause-spends g c =
+    spent c.args.held.now.case c.below-nurse.result c.args.meter.now c.args.kicking.now.searches.left (inside g (goal.at.returns-clause-spends g c).After-as_slice) c.requires.left c.kick_nurse.new.meter _ refl c.kick_nurse.ensures.counted

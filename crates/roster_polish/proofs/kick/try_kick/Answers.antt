@@ -9,21 +9,21 @@ use Rattle.roster_polish.proofs.kick.try_kick.Goals as goal
 use Rattle.roster_polish.proofs.kick.try_kick.Goals.{After-kick_nurses-first}
 
 pub kick_nurses-first-requires-clause-fits : goal.kick_nurses-first-requires-clause-fits
-kick_nurses-first-requires-clause-fits c = c.requires.fits
+kick_nurses-first-requires-clause-fits g c = c.requires.fits
 
 pub kick_nurses-first-requires-clause-room : goal.kick_nurses-first-requires-clause-room
-kick_nurses-first-requires-clause-room c = c.requires.room
+kick_nurses-first-requires-clause-room g c = c.requires.room
 
 -- the roster that was kept is the one before the kick
-kept : (c : After-kick_nurses-first) → c.kick_nurses-first.new.space.kept ≡ c.args.held.now.roster
-kept c = c.kick_nurses-first.ensures.kept ∙ c.requires.kept
+kept : (g : _) (c : After-kick_nurses-first g) → c.kick_nurses-first.new.space.kept ≡ c.args.held.now.roster
+kept g c = c.kick_nurses-first.ensures.kept ∙ c.requires.kept
 
 pub stay_if_no_dearer-requires : goal.stay_if_no_dearer-requires
-stay_if_no_dearer-requires c =
+stay_if_no_dearer-requires g c =
     let k = c.args.held.now.case in
     let first = c.kick_nurses-first in
     let told = first.ensures in
-    let kept = kept (goal.at.stay_if_no_dearer-requires c).After-kick_nurses-first in
+    let kept = kept g (goal.at.stay_if_no_dearer-requires g c).After-kick_nurses-first in
     record {
       fits = subst (λ (m : Meaning). FitsPolish m first.new.space) (sym told.case) told.fits;
       keeps = rw (told.case, kept) c.keeps_rules.ensures.keeps;
@@ -33,14 +33,14 @@ stay_if_no_dearer-requires c =
     }
 
 pub returns : goal.returns
-returns c =
+returns g c =
     let k = c.args.held.now.case in
     let week = c.args.kicking.now.searches.from in
     let given = c.args.held.now.roster in
     let first = c.kick_nurses-first in
     let last = c.stay_if_no_dearer in
     let next = last.new.held.roster in
-    let kept = kept (goal.at.returns c).After-kick_nurses-first in
+    let kept = kept g (goal.at.returns g c).After-kick_nurses-first in
     record {
       case = last.ensures.case ∙ first.ensures.case;
       kept = last.ensures.kept;

@@ -32,10 +32,10 @@ module _ (misses : Rows → ℕ) (kept faded new : Rows) (least new_least : ℕ)
           (omega (arith, is, least_is, above, at), omega (arith, at))
 
 pub put_rows-requires : goal.put_rows-requires
-put_rows-requires c = same_days c.args.base.now.case.now c.fade_and_mend.new.space.faded c.fade_and_mend.new.space.kept c.fade_and_mend.ensures.faded.fits.faded c.fade_and_mend.ensures.faded.fits.kept
+put_rows-requires g c = same_days c.args.base.now.case.now c.fade_and_mend.new.space.faded c.fade_and_mend.new.space.kept c.fade_and_mend.ensures.faded.fits.faded c.fade_and_mend.ensures.faded.fits.kept
 
 pub fades-preserved : goal.fades-preserved
-fades-preserved c =
+fades-preserved g c =
     let k = c.args.base.now.case.now in
     let given = c.args.base.now.given.now in
     let l = c.fades in

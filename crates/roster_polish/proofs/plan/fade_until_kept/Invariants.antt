@@ -7,7 +7,7 @@ use Rattle.roster_polish.specs.Settled.{Spends}
 use Rattle.roster_polish.proofs.plan.fade_until_kept.Given as goal
 
 abbrev pub invariant-fades : goal.invariant-fades
-invariant-fades l = record {
+invariant-fades g l = record {
   least : keeps_rows l.base.case.now l.base.given.now ≡ true → l.least ≡ missing l.base.case.now l.space.kept;
   nearer : keeps_rows l.base.case.now l.base.given.now ≡ true → missing l.base.case.now l.space.kept ≤ missing l.base.case.now l.base.given.now;
   passes : 0 < l.kicking.passes;
@@ -18,4 +18,4 @@ invariant-fades l = record {
 }
 
 abbrev pub decreases-fades : goal.decreases-fades
-decreases-fades l = l.kicking.searches.left
+decreases-fades g l = l.kicking.searches.left

@@ -11,14 +11,14 @@ use Rattle.roster_polish.proofs.Keeping.{same_days}
 use Rattle.roster_polish.proofs.plan.find_roster.Goals as goal
 
 pub put_rows-requires : goal.put_rows-requires
-put_rows-requires c = same_days c.args.case.now c.fade_until_kept.new.space.kept c.args.roster.now c.fade_until_kept.ensures.fits.kept c.requires.roster
+put_rows-requires g c = same_days c.args.case.now c.fade_until_kept.new.space.kept c.args.roster.now c.fade_until_kept.ensures.fits.kept c.requires.roster
 
 -- the searches that are left are as many as were given, at most
 pub overflow_cast-result : goal.overflow_cast-result
-overflow_cast-result c = omega (arith, c.fade_until_kept.ensures.spends.fewer, c.begin_plan-kicking.ensures.spends.fewer)
+overflow_cast-result g c = omega (arith, c.fade_until_kept.ensures.spends.fewer, c.begin_plan-kicking.ensures.spends.fewer)
 
 pub returns-clause-planned : goal.returns-clause-planned
-returns-clause-planned c =
+returns-clause-planned g c =
     let k = c.args.case.now in
     let given = c.args.roster.now in
     let is : c.put_rows.new.self ≡ c.fade_until_kept.new.space.kept = c.put_rows.ensures in
@@ -29,9 +29,9 @@ returns-clause-planned c =
     }
 
 pub returns-clause-given_up : goal.returns-clause-given_up
-returns-clause-given_up c breaks =
+returns-clause-given_up g c breaks =
     c.fade_until_kept.ensures.given_up (subst (λ (r : Rows). keeps_hard c.args.case.now r ≡ false) c.put_rows.ensures breaks)
 
 pub returns-clause-made : goal.returns-clause-made
-returns-clause-made c =
+returns-clause-made g c =
     made_both c.args.case.now c.args.meter.now c.args.course.now.searches c.begin_plan-kicking.new.meter c.begin_plan-kicking.result.searches.left c.fade_until_kept.new.meter c.fade_until_kept.new.kicking.searches.left c.begin_plan-kicking.ensures.made c.fade_until_kept.ensures.made

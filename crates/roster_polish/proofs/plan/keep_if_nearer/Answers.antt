@@ -4,10 +4,10 @@ use Rattle.roster_polish.proofs.Keeping.{same_days}
 use Rattle.roster_polish.proofs.plan.keep_if_nearer.Goals as goal
 
 pub put_rows-requires : goal.put_rows-requires
-put_rows-requires c = same_days c.args.case.now c.args.space.now.faded c.args.space.now.kept c.requires.fits.faded c.requires.fits.kept
+put_rows-requires g c = same_days c.args.case.now c.args.space.now.faded c.args.space.now.kept c.requires.fits.faded c.requires.fits.kept
 
 pub returns-clause-fits : goal.returns-clause-fits
-returns-clause-fits c =
+returns-clause-fits g c =
     let before = c.requires.fits in
     record {
       floor = before.floor;

@@ -1,7 +1,7 @@
 use Rattle.std.proofs.Common.{◌≡◌, ◌∙◌, ◌≤◌, ℕ, arith, ap, refl, subst, true}
 use Rattle.roster_instance.specs.Meaning.{Meaning, nurse_count}
-use Rattle.roster_partial.specs.Workspaces.{fits_space}
-use Rattle.roster_best.specs.Known.{IsKnown}
+use Rattle.roster_offers.specs.Workspaces.{fits_space}
+use Rattle.roster_row.specs.Known.{IsKnown}
 use Rattle.roster_laws.specs.FrozenDays.{FrozenDaysStay}
 use Rattle.roster_laws.proofs.Frozen.{stays_on, stays_self}
 use Rattle.roster_rules.specs.AllowedRows.{best_row}
@@ -13,7 +13,7 @@ use Rattle.roster_polish.proofs.settle.make_pass.Goals as goal
 use Rattle.roster_polish.proofs.settle.make_pass.Goals.{then-step_within, else-step_within}
 
 pub loop-nurse-init : goal.loop-nurse-init
-loop-nurse-init c = record {
+loop-nurse-init g c = record {
   case = refl;
   pass = pass_begins c.args.held.now.case c.args.searches.now.from c.args.held.now.roster c.args.first;
   frozen = stays_self c.args.held.now.case c.args.searches.now.from c.args.held.now.roster;
@@ -25,7 +25,7 @@ loop-nurse-init c = record {
 }
 
 pub loop-nurse-preserved : goal.loop-nurse-preserved
-loop-nurse-preserved c =
+loop-nurse-preserved g c =
     let k = c.args.held.now.case in
     let from = c.args.searches.now.from in
     let given = c.args.held.now.roster in
@@ -56,29 +56,29 @@ all_made first n end count none within over is =
     omega (arith, below, over, is)
 
 pub returns-then-changed-clause-round : goal.returns-then-changed-clause-round
-returns-then-changed-clause-round c = λ none enough.
+returns-then-changed-clause-round g c = λ none enough.
     let i = c.loop-nurse.invariant in
     pass_is_round c.args.held.now.case c.args.searches.now.from c.args.held.now.roster c.args.first c.loop-nurse.held.roster c.loop-nurse.changed c.loop-nurse.nurse i.pass none
     (all_made c.args.first c.loop-nurse.nurse c.nurses-nurse-end.result (nurse_count c.args.held.now.case) none c.loop-nurse.auto.nurse-end c.loop-nurse-test.false (c.nurses-nurse-end.ensures.count ∙ ap nurse_count c.case.ensures))
 
 pub returns-then-changed-clause-end : goal.returns-then-changed-clause-end
-returns-then-changed-clause-end c = λ none enough.
+returns-then-changed-clause-end g c = λ none enough.
     rw (pass_differs c.args.held.now.case c.args.searches.now.from c.args.held.now.roster c.args.first c.loop-nurse.held.roster c.loop-nurse.changed c.loop-nurse.nurse c.loop-nurse.invariant.pass c.if-changed.true) refl
 
 pub returns-then-changed-clause-few : goal.returns-then-changed-clause-few
-returns-then-changed-clause-few c = λ none.
+returns-then-changed-clause-few g c = λ none.
     omega (arith, none, c.loop-nurse.invariant.few, all_made c.args.first c.loop-nurse.nurse c.nurses-nurse-end.result (nurse_count c.args.held.now.case) none c.loop-nurse.auto.nurse-end c.loop-nurse-test.false (c.nurses-nurse-end.ensures.count ∙ ap nurse_count c.case.ensures))
 
 pub returns-else-changed-clause-round : goal.returns-else-changed-clause-round
-returns-else-changed-clause-round c = λ none enough.
+returns-else-changed-clause-round g c = λ none enough.
     let i = c.loop-nurse.invariant in
     pass_is_round c.args.held.now.case c.args.searches.now.from c.args.held.now.roster c.args.first c.loop-nurse.held.roster c.loop-nurse.changed c.loop-nurse.nurse i.pass none
     (all_made c.args.first c.loop-nurse.nurse c.nurses-nurse-end.result (nurse_count c.args.held.now.case) none c.loop-nurse.auto.nurse-end c.loop-nurse-test.false (c.nurses-nurse-end.ensures.count ∙ ap nurse_count c.case.ensures))
 
 pub returns-else-changed-clause-end : goal.returns-else-changed-clause-end
-returns-else-changed-clause-end c = λ none enough.
+returns-else-changed-clause-end g c = λ none enough.
     rw (pass_same c.args.held.now.case c.args.searches.now.from c.args.held.now.roster c.args.first c.loop-nurse.held.roster c.loop-nurse.changed c.loop-nurse.nurse c.loop-nurse.invariant.pass c.if-changed.false) refl
 
 pub returns-else-changed-clause-few : goal.returns-else-changed-clause-few
-returns-else-changed-clause-few c = λ none.
+returns-else-changed-clause-few g c = λ none.
     omega (arith, none, c.loop-nurse.invariant.few, all_made c.args.first c.loop-nurse.nurse c.nurses-nurse-end.result (nurse_count c.args.held.now.case) none c.loop-nurse.auto.nurse-end c.loop-nurse-test.false (c.nurses-nurse-end.ensures.count ∙ ap nurse_count c.case.ensures))

@@ -1,13 +1,13 @@
 use Rattle.std.proofs.Common.{◌≡◌, ◌+◌, ◌≤◌, true}
 use Rattle.roster_laws.specs.FrozenDays.{FrozenDaysStay}
-use Rattle.roster_partial.specs.Workspaces.{fits_space}
-use Rattle.roster_best.specs.Known.{IsKnown}
+use Rattle.roster_offers.specs.Workspaces.{fits_space}
+use Rattle.roster_row.specs.Known.{IsKnown}
 use Rattle.roster_polish.specs.Settled.{Spends}
 use Rattle.roster_polish.proofs.Passes.{PassTo}
 use Rattle.roster_polish.proofs.settle.make_pass.Given as goal
 
 abbrev pub invariant-loop-nurse : goal.invariant-loop-nurse
-invariant-loop-nurse l = record {
+invariant-loop-nurse g l = record {
   case : l.held.case ≡ l.fn.held.case;
   pass : PassTo l.fn.held.case l.fn.searches.from l.fn.held.roster l.held.roster l.changed l.fn.first l.nurse;
   frozen : FrozenDaysStay l.fn.held.case l.fn.searches.from l.fn.held.roster l.held.roster;

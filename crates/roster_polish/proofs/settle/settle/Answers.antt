@@ -1,8 +1,8 @@
 use Rattle.std.proofs.Common.{◌≡◌, ◌∙◌, ◌<◌, ◌≤◌, arith, inl, inr, refl, rules, subst, sym, true}
 use Rattle.std.proofs.lemmas.Bool.{true≢false}
 use Rattle.roster_instance.specs.Meaning.{Meaning}
-use Rattle.roster_partial.specs.Workspaces.{fits_space}
-use Rattle.roster_best.specs.Known.{IsKnown}
+use Rattle.roster_offers.specs.Workspaces.{fits_space}
+use Rattle.roster_row.specs.Known.{IsKnown}
 use Rattle.roster_rules.specs.Penalties.{penalty}
 use Rattle.roster_laws.specs.FrozenDays.{FrozenDaysStay}
 use Rattle.roster_laws.proofs.Frozen.{stays_on, stays_self}
@@ -15,7 +15,7 @@ use Rattle.roster_polish.proofs.settle.settle.Goals as goal
 use Rattle.roster_polish.proofs.settle.settle.Goals.{After-make_pass-end, else-first-eq0-via-then-first-eq0+else-eq, else-first-eq0-via-else-first-eq0, then-eq-2-via-then-eq-2, then-eq-2-via-else-eq-2+then-total-saturating_add}
 
 pub loop-pass-init : goal.loop-pass-init
-loop-pass-init c = record {
+loop-pass-init g c = record {
   case = refl;
   frozen = stays_self c.args.held.now.case c.args.searches.now.from c.args.held.now.roster;
   first = inl refl;
@@ -28,7 +28,7 @@ loop-pass-init c = record {
 }
 
 pub make_pass-end-requires : goal.make_pass-end-requires
-make_pass-end-requires c =
+make_pass-end-requires g c =
     let k = c.args.held.now.case in
     let l = c.loop-pass in
     let i = l.invariant in
@@ -40,43 +40,43 @@ make_pass-end-requires c =
 
 -- ---- after a pass
 
-frozen : (c : After-make_pass-end) → FrozenDaysStay c.args.held.now.case c.args.searches.now.from c.args.held.now.roster c.make_pass-end.new.held.roster
-frozen c =
+frozen : (g : _) (c : After-make_pass-end g) → FrozenDaysStay c.args.held.now.case c.args.searches.now.from c.args.held.now.roster c.make_pass-end.new.held.roster
+frozen g c =
     let k = c.args.held.now.case in
     let l = c.loop-pass in
     let next = c.make_pass-end.new.held.roster in
     stays_on k c.args.searches.now.from c.args.held.now.roster l.held.roster next l.invariant.frozen
     (at_same (λ m from. FrozenDaysStay m from l.held.roster next) l.held.case k l.searches.from c.args.searches.now.from l.invariant.case l.invariant.from c.make_pass-end.ensures.frozen)
 
-no_dearer : (c : After-make_pass-end) → penalty c.args.held.now.case c.make_pass-end.new.held.roster ≤ penalty c.args.held.now.case c.args.held.now.roster
-no_dearer c =
+no_dearer : (g : _) (c : After-make_pass-end g) → penalty c.args.held.now.case c.make_pass-end.new.held.roster ≤ penalty c.args.held.now.case c.args.held.now.roster
+no_dearer g c =
     let k = c.args.held.now.case in
     let l = c.loop-pass in
     let next = c.make_pass-end.new.held.roster in
     let pass : penalty k next ≤ penalty k l.held.roster = subst (λ (m : Meaning). penalty m next ≤ penalty m l.held.roster) l.invariant.case c.make_pass-end.ensures.no_dearer in
     omega (arith, l.invariant.no_dearer)
 
-spends : (c : After-make_pass-end) → Spends c.args.held.now.case c.args.meter.now c.args.searches.now.left c.make_pass-end.new.meter c.make_pass-end.new.searches.left
-spends c =
+spends : (g : _) (c : After-make_pass-end g) → Spends c.args.held.now.case c.args.meter.now c.args.searches.now.left c.make_pass-end.new.meter c.make_pass-end.new.searches.left
+spends g c =
     let l = c.loop-pass in
     let end = c.make_pass-end.new in
     spent_both c.args.held.now.case c.args.meter.now c.args.searches.now.left l.meter l.searches.left end.meter end.searches.left l.invariant.spends
     (subst (λ (m : Meaning). Spends m l.meter l.searches.left end.meter end.searches.left) l.invariant.case c.make_pass-end.ensures.spends)
 
-fits : (c : After-make_pass-end) → fits_space c.args.held.now.case c.make_pass-end.new.workspace ≡ true
-fits c = subst (λ (m : Meaning). fits_space m c.make_pass-end.new.workspace ≡ true) c.loop-pass.invariant.case c.make_pass-end.ensures.fits
+fits : (g : _) (c : After-make_pass-end g) → fits_space c.args.held.now.case c.make_pass-end.new.workspace ≡ true
+fits g c = subst (λ (m : Meaning). fits_space m c.make_pass-end.new.workspace ≡ true) c.loop-pass.invariant.case c.make_pass-end.ensures.fits
 
-known : (c : After-make_pass-end) → IsKnown c.args.held.now.case c.make_pass-end.new.last
-known c = subst (λ (m : Meaning). IsKnown m c.make_pass-end.new.last) c.loop-pass.invariant.case c.make_pass-end.ensures.known
+known : (g : _) (c : After-make_pass-end g) → IsKnown c.args.held.now.case c.make_pass-end.new.last
+known g c = subst (λ (m : Meaning). IsKnown m c.make_pass-end.new.last) c.loop-pass.invariant.case c.make_pass-end.ensures.known
 
 -- a pass that changed the roster made it cheaper
-fell : (c : After-make_pass-end) → c.make_pass-end.result ≡ Changed → penalty c.args.held.now.case c.make_pass-end.new.held.roster < penalty c.args.held.now.case c.loop-pass.held.roster
-fell c changed =
+fell : (g : _) (c : After-make_pass-end g) → c.make_pass-end.result ≡ Changed → penalty c.args.held.now.case c.make_pass-end.new.held.roster < penalty c.args.held.now.case c.loop-pass.held.roster
+fell g c changed =
     let next = c.make_pass-end.new.held.roster in
     subst (λ (m : Meaning). penalty m next < penalty m c.loop-pass.held.roster) c.loop-pass.invariant.case (c.make_pass-end.ensures.falls changed)
 
-same : (c : After-make_pass-end) → c.make_pass-end.new.held.case ≡ c.args.held.now.case
-same c = c.make_pass-end.ensures.case ∙ c.loop-pass.invariant.case
+same : (g : _) (c : After-make_pass-end g) → c.make_pass-end.new.held.case ≡ c.args.held.now.case
+same g c = c.make_pass-end.ensures.case ∙ c.loop-pass.invariant.case
 
 changed_of : (end : Pass) → (end ≡ Unchanged → ⊥) → (end ≡ Stopped → ⊥) → end ≡ Changed
 changed_of Unchanged moved going = absurd (moved refl)
@@ -84,12 +84,12 @@ changed_of Changed moved going = refl
 changed_of Stopped moved going = absurd (going refl)
 
 pub returns-then-eq : goal.returns-then-eq
-returns-then-eq c =
+returns-then-eq g c =
     let k = c.args.held.now.case in
     let l = c.loop-pass in
     let i = l.invariant in
     let told = c.make_pass-end.ensures in
-    let here = (goal.at.returns-then-eq c).After-make_pass-end in
+    let here = (goal.at.returns-then-eq g c).After-make_pass-end in
     let next = c.make_pass-end.new.held.roster in
     let unchanged : c.make_pass-end.result ≡ Unchanged = search rules in
     record {
@@ -98,56 +98,56 @@ returns-then-eq c =
           at_same (λ m from. HasBestRow m from next n) l.held.case k l.searches.from c.args.searches.now.from i.case i.from
           (told.unchanged unchanged n (omega (arith, c.if-first-eq0.true)) (rw i.case inside));
       given_up = λ e. absurd (true≢false e);
-      frozen = frozen here;
-      no_dearer = no_dearer here;
+      frozen = frozen g here;
+      no_dearer = no_dearer g here;
       from = told.from ∙ i.from;
-      spends = spends here;
-      fits = fits here;
-      known = known here;
+      spends = spends g here;
+      fits = fits g here;
+      known = known g here;
     }
 
 pub returns-then-eq-2 : goal.returns-then-eq-2
-returns-then-eq-2 c =
-    let here = (goal.at.returns-then-eq-2 c).After-make_pass-end in
+returns-then-eq-2 g c =
+    let here = (goal.at.returns-then-eq-2 g c).After-make_pass-end in
     record {
       case = c.make_pass-end.ensures.case ∙ c.loop-pass.invariant.case;
       settled = λ e. absurd (true≢false (sym e));
       given_up = λ e. elim c.then-eq-2.branch [
         | then-eq-2-via-then-eq-2 w ↦ (let ended : c.make_pass-end.result ≡ Stopped = search rules in inl (c.make_pass-end.ensures.stopped ended))
-        | then-eq-2-via-else-eq-2+then-total-saturating_add w ↦ inr (inl (rw (← same here) (omega (arith, w.total.ensures.total, w.if-total-saturating_add.true, w.saturating_add.ensures, w.total.type_inv))))
+        | then-eq-2-via-else-eq-2+then-total-saturating_add w ↦ inr (inl (rw (← same g here) (omega (arith, w.total.ensures.total, w.if-total-saturating_add.true, w.saturating_add.ensures, w.total.type_inv))))
       ];
-      frozen = frozen here;
-      no_dearer = no_dearer here;
+      frozen = frozen g here;
+      no_dearer = no_dearer g here;
       from = c.make_pass-end.ensures.from ∙ c.loop-pass.invariant.from;
-      spends = spends here;
-      fits = fits here;
-      known = known here;
+      spends = spends g here;
+      fits = fits g here;
+      known = known g here;
     }
 
 pub loop-pass-preserved : goal.loop-pass-preserved
-loop-pass-preserved c =
+loop-pass-preserved g c =
     let k = c.args.held.now.case in
     let l = c.loop-pass in
-    let here = (goal.at.loop-pass-preserved c).After-make_pass-end in
+    let here = (goal.at.loop-pass-preserved g c).After-make_pass-end in
     record {
       case = c.make_pass-end.ensures.case ∙ c.loop-pass.invariant.case;
-      frozen = frozen here;
+      frozen = frozen g here;
       first = inr refl;
       fallen = elim l.invariant.first [
-        | inl begun ↦ omega (arith, begun, no_dearer here)
+        | inl begun ↦ omega (arith, begun, no_dearer g here)
         | inr all ↦ elim c.else-first-eq0.branch [
-          | else-first-eq0-via-then-first-eq0+else-eq w ↦ (let moved : c.make_pass-end.result ≡ Changed = changed_of c.make_pass-end.result (search rules) (search rules) in omega (arith, l.invariant.fallen, fell here moved))
+          | else-first-eq0-via-then-first-eq0+else-eq w ↦ (let moved : c.make_pass-end.result ≡ Changed = changed_of c.make_pass-end.result (search rules) (search rules) in omega (arith, l.invariant.fallen, fell g here moved))
           | else-first-eq0-via-else-first-eq0 w ↦ absurd (w.if-first-eq0.false all)
         ]
       ];
-      no_dearer = no_dearer here;
+      no_dearer = no_dearer g here;
       from = c.make_pass-end.ensures.from ∙ c.loop-pass.invariant.from;
-      spends = spends here;
-      fits = fits here;
-      known = known here;
+      spends = spends g here;
+      fits = fits g here;
+      known = known g here;
     }
 
 pub returns : goal.returns
-returns c =
+returns g c =
     let i = c.loop-pass.invariant in
     record { case = i.case; settled = λ e. absurd (true≢false (sym e)); given_up = λ e. inr (inr (omega (arith, i.fallen, c.loop-pass-test.false))); frozen = i.frozen; no_dearer = i.no_dearer; from = i.from; spends = i.spends; fits = i.fits; known = i.known }

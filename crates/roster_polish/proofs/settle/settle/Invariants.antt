@@ -1,13 +1,13 @@
 use Rattle.std.proofs.Common.{◌≡◌, ◌+◌, ◌≤◌, ◌⊎◌, true}
 use Rattle.roster_rules.specs.Penalties.{penalty}
 use Rattle.roster_laws.specs.FrozenDays.{FrozenDaysStay}
-use Rattle.roster_partial.specs.Workspaces.{fits_space}
-use Rattle.roster_best.specs.Known.{IsKnown}
+use Rattle.roster_offers.specs.Workspaces.{fits_space}
+use Rattle.roster_row.specs.Known.{IsKnown}
 use Rattle.roster_polish.specs.Settled.{Spends}
 use Rattle.roster_polish.proofs.settle.settle.Given as goal
 
 abbrev pub invariant-loop-pass : goal.invariant-loop-pass
-invariant-loop-pass l = record {
+invariant-loop-pass g l = record {
   case : l.held.case ≡ l.fn.held.case;
   frozen : FrozenDaysStay l.fn.held.case l.fn.searches.from l.fn.held.roster l.held.roster;
   first : (l.pass ≡ 0) ⊎ (l.first ≡ 0);

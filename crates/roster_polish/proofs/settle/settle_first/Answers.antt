@@ -1,7 +1,7 @@
 use Rattle.std.proofs.Common.{◌≡◌, ◌∙◌, ◌+◌, ◌*◌, ◌≤◌, ap, arith, refl, subst, sym, true}
 use Rattle.roster_instance.specs.Meaning.{Meaning, nurse_count}
-use Rattle.roster_partial.specs.Workspaces.{fits_space}
-use Rattle.roster_best.specs.Known.{IsKnown}
+use Rattle.roster_offers.specs.Workspaces.{fits_space}
+use Rattle.roster_row.specs.Known.{IsKnown}
 use Rattle.roster_rules.specs.AllowedRows.{best_row}
 use Rattle.roster_rules.specs.Improver.{Run, round, same_rows}
 use Rattle.roster_polish.specs.Polished.{first_run, first_searches, settling_rounds, rounds_made}
@@ -11,7 +11,7 @@ use Rattle.roster_polish.proofs.Steps.{one_and_rest, spent_both}
 use Rattle.roster_polish.proofs.settle.settle_first.Goals as goal
 
 pub loop-rounds_before-preserved : goal.loop-rounds_before-preserved
-loop-rounds_before-preserved c =
+loop-rounds_before-preserved g c =
     let k = c.args.held.now.case in
     let from = c.args.from in
     let l = c.loop-rounds_before in
@@ -34,19 +34,19 @@ loop-rounds_before-preserved c =
     }
 
 pub returns-clause-roster : goal.returns-clause-roster
-returns-clause-roster c =
+returns-clause-roster g c =
     let k = c.args.held.now.case in
     let l = c.loop-rounds_before in
     sym (ap (λ (r : Run). r.roster) (l.invariant.run_is ∙ run_stops k c.args.from l.held.roster settling_rounds l.rounds_before (omega (arith, l.auto.rounds_before-end, c.loop-rounds_before-test.false))))
 
 pub returns-clause-settled : goal.returns-clause-settled
-returns-clause-settled c =
+returns-clause-settled g c =
     let k = c.args.held.now.case in
     let l = c.loop-rounds_before in
     sym (ap (λ (r : Run). r.is_settled) (l.invariant.run_is ∙ run_stops k c.args.from l.held.roster settling_rounds l.rounds_before (omega (arith, l.auto.rounds_before-end, c.loop-rounds_before-test.false))))
 
 pub returns-clause-counted : goal.returns-clause-counted
-returns-clause-counted c =
+returns-clause-counted g c =
     let k = c.args.held.now.case in
     let from = c.args.from in
     let given = c.args.held.now.roster in
@@ -57,8 +57,8 @@ returns-clause-counted c =
     counted_in k (rounds_made k from settling_rounds given) c.args.meter.now (first_searches k) l.meter l.searches.left i.spends (subst (λ rounds. first_searches k ≤ l.searches.left + rounds * nurse_count k) all i.few)
 
 -- the round that was made is the last one
-ended : (c : goal.In-Unchanged) → first_run c.args.held.now.case c.args.from c.args.held.now.roster ≡ record { roster = c.make_pass.new.held.roster; is_settled = true }
-ended c =
+ended : (g : _) (c : goal.In-Unchanged g) → first_run c.args.held.now.case c.args.from c.args.held.now.roster ≡ record { roster = c.make_pass.new.held.roster; is_settled = true }
+ended g c =
     let k = c.args.held.now.case in
     let from = c.args.from in
     let l = c.loop-rounds_before in
@@ -71,7 +71,7 @@ ended c =
     i.run_is ∙ run_ends k from l.held.roster next settling_rounds l.rounds_before c.loop-rounds_before-test.true is_round same
 
 pub returns-in-Unchanged-clause-counted : goal.returns-in-Unchanged-clause-counted
-returns-in-Unchanged-clause-counted c =
+returns-in-Unchanged-clause-counted g c =
     let k = c.args.held.now.case in
     let from = c.args.from in
     let given = c.args.held.now.roster in
@@ -88,7 +88,7 @@ returns-in-Unchanged-clause-counted c =
     counted_in k (rounds_made k from settling_rounds given) c.args.meter.now (first_searches k) c.make_pass.new.meter c.make_pass.new.searches.left spends (subst (λ rounds. first_searches k ≤ c.make_pass.new.searches.left + rounds * nurse_count k) all few)
 
 pub returns-in-Unchanged-clause-roster : goal.returns-in-Unchanged-clause-roster
-returns-in-Unchanged-clause-roster c = sym (ap (λ (r : Run). r.roster) (ended c))
+returns-in-Unchanged-clause-roster g c = sym (ap (λ (r : Run). r.roster) (ended g c))
 
 pub returns-in-Unchanged-clause-settled : goal.returns-in-Unchanged-clause-settled
-returns-in-Unchanged-clause-settled c = sym (ap (λ (r : Run). r.is_settled) (ended c))
+returns-in-Unchanged-clause-settled g c = sym (ap (λ (r : Run). r.is_settled) (ended g c))

@@ -2,14 +2,14 @@ use Rattle.std.proofs.Common.{◌≡◌, ◌+◌, ◌-◌, ◌*◌, ◌≤◌, t
 use Rattle.roster_instance.specs.Meaning.{nurse_count}
 use Rattle.roster_rules.specs.AllowedRows.{best_row}
 use Rattle.roster_rules.specs.Improver.{run}
-use Rattle.roster_partial.specs.Workspaces.{fits_space}
-use Rattle.roster_best.specs.Known.{IsKnown}
+use Rattle.roster_offers.specs.Workspaces.{fits_space}
+use Rattle.roster_row.specs.Known.{IsKnown}
 use Rattle.roster_polish.specs.Polished.{first_run, first_searches, settling_rounds, rounds_made}
 use Rattle.roster_polish.specs.Settled.{Spends}
 use Rattle.roster_polish.proofs.settle.settle_first.Given as goal
 
 abbrev pub invariant-loop-rounds_before : goal.invariant-loop-rounds_before
-invariant-loop-rounds_before l = record {
+invariant-loop-rounds_before g l = record {
   case : l.held.case ≡ l.fn.held.case;
   run_is : first_run l.fn.held.case l.fn.from l.fn.held.roster ≡ run l.fn.held.case (best_row l.fn.held.case l.fn.from) (settling_rounds - l.rounds_before) l.held.roster;
   rounds : rounds_made l.fn.held.case l.fn.from settling_rounds l.fn.held.roster ≡ l.rounds_before + rounds_made l.fn.held.case l.fn.from (settling_rounds - l.rounds_before) l.held.roster;

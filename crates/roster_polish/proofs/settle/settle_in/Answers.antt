@@ -2,10 +2,10 @@ use Rattle.std.proofs.Common.{refl}
 use Rattle.roster_polish.proofs.settle.settle_in.Goals as goal
 
 pub settle-requires : goal.settle-requires
-settle-requires c = record { fits = c.requires.fits.floor.rows.search; known = c.requires.fits.known; room = c.requires.room }
+settle-requires g c = record { fits = c.requires.fits.floor.rows.search; known = c.requires.fits.known; room = c.requires.room }
 
 pub returns : goal.returns
-returns c =
+returns g c =
     let told = c.settle.ensures in
     let fits = c.requires.fits in
     record {

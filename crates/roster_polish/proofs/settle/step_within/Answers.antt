@@ -4,10 +4,10 @@ use Rattle.roster_polish.proofs.Steps.{has_room, spent_if}
 use Rattle.roster_polish.proofs.settle.step_within.Goals as goal
 
 pub step_unless_known-step-requires-clause-room : goal.step_unless_known-step-requires-clause-room
-step_unless_known-step-requires-clause-room c = has_room c.args.held.now.case c.args.nurse c.args.meter.now c.args.searches.now.left c.requires.nurse c.requires.left 18446744073709551615 c.requires.room
+step_unless_known-step-requires-clause-room g c = has_room c.args.held.now.case c.args.nurse c.args.meter.now c.args.searches.now.left c.requires.nurse c.requires.left 18446744073709551615 c.requires.room
 
 pub returns-clause-spends : goal.returns-clause-spends
-returns-clause-spends c =
+returns-clause-spends g c =
     let k = c.args.held.now.case in
     let after = c.step_unless_known-step.new.meter in
     let before = c.count-before.result in

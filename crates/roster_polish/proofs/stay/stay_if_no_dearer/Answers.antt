@@ -8,18 +8,18 @@ use Rattle.roster_polish.specs.Polished.{FitsPolish}
 use Rattle.roster_polish.proofs.stay.stay_if_no_dearer.Goals as goal
 
 pub settle_in-settled-requires-clause-fits : goal.settle_in-settled-requires-clause-fits
-settle_in-settled-requires-clause-fits c = c.requires.fits
+settle_in-settled-requires-clause-fits g c = c.requires.fits
 
 pub settle_in-settled-requires-clause-room : goal.settle_in-settled-requires-clause-room
-settle_in-settled-requires-clause-room c = c.requires.room
+settle_in-settled-requires-clause-room g c = c.requires.room
 
 -- ---- it stays
 
 pub keep-requires : goal.keep-requires
-keep-requires c = subst (λ (m : Meaning). FitsPolish m c.settle_in-settled.new.space) (sym c.settle_in-settled.ensures.case) c.settle_in-settled.ensures.fits
+keep-requires g c = subst (λ (m : Meaning). FitsPolish m c.settle_in-settled.new.space) (sym c.settle_in-settled.ensures.case) c.settle_in-settled.ensures.fits
 
 pub returns-then-total-aim : goal.returns-then-total-aim
-returns-then-total-aim c =
+returns-then-total-aim g c =
     let k = c.args.held.now.case in
     let week = c.args.searches.now.from in
     let last = c.settle_in-settled in
@@ -39,17 +39,17 @@ returns-then-total-aim c =
 -- ---- it doesn't
 
 pub replace_rows-requires : goal.replace_rows-requires
-replace_rows-requires c =
+replace_rows-requires g c =
     let told = c.settle_in-settled.ensures in
     rw (told.case, told.kept) (record { fits = c.requires.fits.kept; keeps = c.requires.keeps })
 
 pub put-requires : goal.put-requires
-put-requires c =
+put-requires g c =
     let fits = c.settle_in-settled.ensures.fits in
     (c.args.held.now.case, fits.known, fits.kept_known)
 
 pub returns-else-settled : goal.returns-else-settled
-returns-else-settled c =
+returns-else-settled g c =
     let k = c.args.held.now.case in
     let told = c.settle_in-settled.ensures in
     let fits = told.fits in

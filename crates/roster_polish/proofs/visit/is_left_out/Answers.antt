@@ -12,8 +12,8 @@ use Rattle.roster_instance.specs.Meaning.{Meaning, day_count, shift_count, skill
 use Rattle.roster_instance.specs.Rosters.{Row, choice_on, is_choice_of, is_row_of}
 use Rattle.roster_offers.specs.Lists.{offers_on}
 use Rattle.roster_offers.proofs.ListLaws.{offers_read}
-use Rattle.roster_best.specs.Known.{price_place}
-use Rattle.roster_best.proofs.KnownLaws.{places_fit}
+use Rattle.roster_row.specs.Known.{price_place}
+use Rattle.roster_row.proofs.KnownLaws.{places_fit}
 use Rattle.roster_bound.specs.Tables.{worths_of}
 use Rattle.roster_bound.proofs.RowFloors.{can_search}
 use Rattle.roster_polish.proofs.visit.is_left_out.Goals as goal

@@ -2,7 +2,7 @@ use Rattle.std.proofs.Common.{◌≡◌, ◌*◌, ◌^◌, ◌≤◌}
 use Rattle.roster_instance.specs.Counting.{sum_below}
 use Rattle.roster_instance.specs.Rosters.{choice_on}
 use Rattle.roster_offers.specs.Offers.{offer_at}
-use Rattle.roster_best.specs.Known.{most_gain, prices_on}
+use Rattle.roster_row.specs.Known.{most_gain, prices_on}
 use Rattle.roster_bound.specs.Days.{shift_offers_by_worth}
 use Rattle.roster_bound.specs.Tables.{worths_of}
 use Rattle.roster_bound.specs.Worths.{price_by}

@@ -9,7 +9,7 @@ use Rattle.roster_rounds.proofs.nurse.put_in_cheaper.Goals as goal
 use Rattle.roster_rounds.proofs.nurse.put_in_cheaper.Goals.{else-changed, then-changed}
 
 pub returns-clause-roster : goal.returns-clause-roster
-returns-clause-roster c from best =
+returns-clause-roster g c from best =
     let k = c.args.held.now.case in
     let rows = c.args.held.now.roster in
     let n = c.args.nurse in
@@ -24,7 +24,7 @@ returns-clause-roster c from best =
     ]
 
 pub returns-clause-changed : goal.returns-clause-changed
-returns-clause-changed c =
+returns-clause-changed g c =
     let k = c.args.held.now.case in
     let rows = c.args.held.now.roster in
     let n = c.args.nurse in
@@ -42,4 +42,4 @@ returns-clause-changed c =
           let is = left_out k from rows n row best (omega (arith, c.requires.total, before, w.if-changed.false)) in
           le-ltb c.args.best.total c.total-before.result w.if-changed.false ∙ sym (le-ltb (penalty k next) (penalty k rows) (omega (arith, ap (penalty k) is)))
     ] in
-    cheaper ∙ sym (changed_is_cheaper k (best_row k from) rows n) ∙ ap (λ r. not (same_rows r rows)) (sym (returns-clause-roster c from best))
+    cheaper ∙ sym (changed_is_cheaper k (best_row k from) rows n) ∙ ap (λ r. not (same_rows r rows)) (sym (returns-clause-roster g c from best))

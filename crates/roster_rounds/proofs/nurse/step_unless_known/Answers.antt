@@ -8,7 +8,7 @@ use Rattle.roster_laws.proofs.Steps.{changed_is_cheaper}
 use Rattle.roster_rounds.proofs.nurse.step_unless_known.Goals as goal
 
 pub returns-in_default-clause-changed : goal.returns-in_default-clause-changed
-returns-in_default-clause-changed c =
+returns-in_default-clause-changed g c =
     let k = c.args.held.now.case in
     let rows = c.args.held.now.roster in
     let stays = c.in_default.ensures.none in
@@ -17,6 +17,6 @@ returns-in_default-clause-changed c =
     ∙ ap (λ next. not (same_rows next rows)) stays
 
 pub returns-clause-frozen : goal.returns-clause-frozen
-returns-clause-frozen c =
+returns-clause-frozen g c =
     let roster = c.put_in_cheaper.ensures.roster c.args.from c.in-Some.ensures.best in
     subst (FrozenDaysStay c.args.held.now.case c.args.from c.args.held.now.roster) (sym roster) (step_stays c.args.held.now.case c.args.from c.args.held.now.roster c.args.nurse)

@@ -1,6 +1,6 @@
 use Rattle.std.proofs.Common.{arith}
 use Rattle.roster_laws.specs.Greatest.{extension_count}
-use Rattle.roster_partial.proofs.WorkspaceLaws.{greatest_more}
+use Rattle.roster_offers.proofs.WorkspaceLaws.{greatest_more}
 use Rattle.roster_rounds.proofs.Counts.{all_extensions}
 use Rattle.roster_rounds.proofs.room.greatest_extensions.Goals as goal
 

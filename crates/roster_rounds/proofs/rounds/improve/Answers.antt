@@ -1,4 +1,4 @@
-use Rattle.roster_partial.proofs.WorkspaceLaws.{same_after}
+use Rattle.roster_offers.proofs.WorkspaceLaws.{same_after}
 use Rattle.roster_rounds.proofs.rounds.improve.Goals as goal
 
 pub returns-clause-same_room : goal.returns-clause-same_room

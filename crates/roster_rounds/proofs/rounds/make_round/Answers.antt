@@ -8,7 +8,7 @@ use Rattle.roster_rules.specs.Penalties.{penalty}
 use Rattle.roster_laws.specs.Greatest.{greatest_extension_count}
 use Rattle.roster_laws.specs.FrozenDays.{FrozenDaysStay}
 use Rattle.roster_laws.proofs.Frozen.{stays_on}
-use Rattle.roster_partial.proofs.WorkspaceLaws.{same_after}
+use Rattle.roster_offers.proofs.WorkspaceLaws.{same_after}
 use Rattle.roster_rounds.proofs.Counts.{step_counted, step_room, step_within}
 use Rattle.roster_rounds.proofs.OneRound.{SoFar-breaks, SoFar-changed, SoFar-done, SoFar-done_breaks, SoFar-same, change_line, is_changed, round_line, unchanged}
 use Rattle.roster_rounds.proofs.rounds.make_round.Goals as goal

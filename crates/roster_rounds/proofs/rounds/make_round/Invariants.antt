@@ -3,7 +3,7 @@ use Rattle.std.proofs.Common.{◌≡◌, ◌+◌, ◌*◌, ◌≤◌}
 use Rattle.roster_rules.specs.AllowedRows.{best_row}
 use Rattle.roster_laws.specs.Greatest.{greatest_extension_count}
 use Rattle.roster_laws.specs.FrozenDays.{FrozenDaysStay}
-use Rattle.roster_partial.specs.Workspaces.{SameRoom}
+use Rattle.roster_offers.specs.Workspaces.{SameRoom}
 use Rattle.roster_rounds.proofs.OneRound.{SoFar}
 use Rattle.roster_rounds.proofs.rounds.make_round.Given as goal
 

@@ -8,7 +8,7 @@ use Rattle.roster_rules.specs.Penalties.{penalty}
 use Rattle.roster_laws.specs.FrozenDays.{FrozenDaysStay}
 use Rattle.roster_laws.proofs.Frozen.{stays_on, stays_self}
 use Rattle.roster_rounds.specs.RunLogs.{BreaksAmong, RoundMade}
-use Rattle.roster_partial.proofs.WorkspaceLaws.{same_after, same_self}
+use Rattle.roster_offers.proofs.WorkspaceLaws.{same_after, same_self}
 use Rattle.roster_rounds.proofs.Counts.{counted_within, round_counted, round_room, round_within}
 use Rattle.roster_rounds.proofs.OneRound.{settled_line, start_line, stopped_line}
 use Rattle.roster_rounds.proofs.RunSteps.{Going-round, Going-settled, Going-start, Going-stopped, round_breaks, settled_breaks, start_breaks, stopped_breaks}

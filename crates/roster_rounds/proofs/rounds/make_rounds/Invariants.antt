@@ -2,7 +2,7 @@
 use Rattle.std.proofs.Common.{◌≡◌, ◌+◌, ◌≤◌}
 use Rattle.roster_rules.specs.AllowedRows.{best_row}
 use Rattle.roster_laws.specs.FrozenDays.{FrozenDaysStay}
-use Rattle.roster_partial.specs.Workspaces.{SameRoom}
+use Rattle.roster_offers.specs.Workspaces.{SameRoom}
 use Rattle.roster_laws.specs.Greatest.{extensions_in}
 use Rattle.roster_rounds.proofs.RunSteps.{Going}
 use Rattle.roster_rounds.proofs.rounds.make_rounds.Given as goal

@@ -8,14 +8,14 @@ use Rattle.roster_bound.proofs.Counted.{counted_more, has_room}
 use Rattle.roster_who.proofs.taker.all_takers.Goals as goal
 
 pub taker_of-taker-requires-clause-room : goal.taker_of-taker-requires-clause-room
-taker_of-taker-requires-clause-room c =
+taker_of-taker-requires-clause-room g c =
     let k = c.args.asking.now.case.now in
     let n = c.loop-nurse.nurse in
     let inside : n < nurse_count k = omega (arith, c.loop-nurse-test.true, c.nurses-nurse-end.ensures.count) in
     has_room k n c.args.meter.now c.loop-nurse.meter c.loop-nurse.invariant.counted inside 18446744073709551615 c.requires.room
 
 pub loop-nurse-preserved : goal.loop-nurse-preserved
-loop-nurse-preserved c =
+loop-nurse-preserved g c =
     let k = c.args.asking.now.case.now in
     let n = c.loop-nurse.nurse in
     let i = c.loop-nurse.invariant in
@@ -28,7 +28,7 @@ loop-nurse-preserved c =
     }
 
 pub returns-in_err-push_some-clause-counted : goal.returns-in_err-push_some-clause-counted
-returns-in_err-push_some-clause-counted c =
+returns-in_err-push_some-clause-counted g c =
     let k = c.args.asking.now.case.now in
     let n = c.loop-nurse.nurse in
     let g = greatest_extension_count k in

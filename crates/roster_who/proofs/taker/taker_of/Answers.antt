@@ -14,53 +14,53 @@ use Rattle.roster_who.proofs.taker.taker_of.Goals as goal
 use Rattle.roster_who.proofs.taker.taker_of.Goals.{After-leads_through}
 
 -- whether a row leads through the offers that were put in
-leads : (c : After-leads_through) → c.leads_through.result ≡ leads_on c.args.asking.now.case.now (offers_on c.offers_of_days.new.workspace.offers) (day_count c.args.asking.now.case.now) 0 (last_shift (past_of c.args.asking.now.case.now c.args.nurse).border)
-leads c =
+leads : (g : _) (c : After-leads_through g) → c.leads_through.result ≡ leads_on c.args.asking.now.case.now (offers_on c.offers_of_days.new.workspace.offers) (day_count c.args.asking.now.case.now) 0 (last_shift (past_of c.args.asking.now.case.now c.args.nurse).border)
+leads g c =
     let k = c.args.asking.now.case.now in
     c.leads_through.ensures ∙ ap (λ (os : List (ArrayVec Offer)). leads_on k (offers_on os) (day_count k) 0 (last_shift (past_of k c.args.nurse).border)) c.offers.ensures
 
 pub leads_through-requires-clause-places : goal.leads_through-requires-clause-places
-leads_through-requires-clause-places c =
+leads_through-requires-clause-places g c =
     let k = c.args.asking.now.case.now in
     let r = c.args.asking.now.roster.now in
     λ d inside. subst (λ (os : List (ArrayVec Offer)). All (λ offer. last_place (shift_of offer.choice) < 1 + most_shifts) (offers_on os d)) (sym c.offers.ensures)
     (places_fit k c.args.asking.now.from r c.args.asking.now.asked c.args.nurse (search rules) c.requires.nurse (search rules) c.offers_of_days.new.workspace.offers c.offers_of_days.ensures.offers c.keeps_limits.ensures.small.keep c.keeps_limits.ensures.shifts d inside)
 
 pub returns-then-not-leads_through-clause-taker : goal.returns-then-not-leads_through-clause-taker
-returns-then-not-leads_through-clause-taker c =
+returns-then-not-leads_through-clause-taker g c =
     let k = c.args.asking.now.case.now in
     let r = c.args.asking.now.roster.now in
-    let at = (goal.at.returns-then-not-leads_through-clause-taker c).After-leads_through in
-    sym (ap (option_map (taker_by k r c.args.nurse)) (none_told k c.args.asking.now.from r c.args.asking.now.asked c.args.nurse (search rules) c.requires.nurse (search rules) c.offers_of_days.new.workspace.offers c.offers_of_days.ensures.offers (sym (leads at) ∙ c.if-not-leads_through.true)))
+    let at = (goal.at.returns-then-not-leads_through-clause-taker g c).After-leads_through in
+    sym (ap (option_map (taker_by k r c.args.nurse)) (none_told k c.args.asking.now.from r c.args.asking.now.asked c.args.nurse (search rules) c.requires.nurse (search rules) c.offers_of_days.new.workspace.offers c.offers_of_days.ensures.offers (sym (leads g at) ∙ c.if-not-leads_through.true)))
 
 pub search_offers-requires-clause-offers : goal.search_offers-requires-clause-offers
-search_offers-requires-clause-offers c =
+search_offers-requires-clause-offers g c =
     let k = c.args.asking.now.case.now in
     let r = c.args.asking.now.roster.now in
-    let at = (goal.at.search_offers-requires-clause-offers c).After-leads_through in
-    can_search k c.args.asking.now.from r c.args.asking.now.asked c.args.nurse (search rules) c.requires.nurse (search rules) c.offers_of_days.new.workspace.offers c.offers_of_days.ensures.offers (sym (leads at) ∙ c.if-not-leads_through.false) c.keeps_limits.ensures.small.keep
+    let at = (goal.at.search_offers-requires-clause-offers g c).After-leads_through in
+    can_search k c.args.asking.now.from r c.args.asking.now.asked c.args.nurse (search rules) c.requires.nurse (search rules) c.offers_of_days.new.workspace.offers c.offers_of_days.ensures.offers (sym (leads g at) ∙ c.if-not-leads_through.false) c.keeps_limits.ensures.small.keep
 
 pub search_offers-requires-clause-some : goal.search_offers-requires-clause-some
-search_offers-requires-clause-some c =
+search_offers-requires-clause-some g c =
     let k = c.args.asking.now.case.now in
     let r = c.args.asking.now.roster.now in
-    let at = (goal.at.search_offers-requires-clause-some c).After-leads_through in
-    some_found k c.args.asking.now.from r c.args.asking.now.asked c.args.nurse (search rules) c.requires.nurse (search rules) c.offers_of_days.new.workspace.offers c.offers_of_days.ensures.offers (sym (leads at) ∙ c.if-not-leads_through.false)
+    let at = (goal.at.search_offers-requires-clause-some g c).After-leads_through in
+    some_found k c.args.asking.now.from r c.args.asking.now.asked c.args.nurse (search rules) c.requires.nurse (search rules) c.offers_of_days.new.workspace.offers c.offers_of_days.ensures.offers (sym (leads g at) ∙ c.if-not-leads_through.false)
 
 pub taker_by-requires-clause-row : goal.taker_by-requires-clause-row
-taker_by-requires-clause-row c =
+taker_by-requires-clause-row g c =
     let k = c.args.asking.now.case.now in
     let r = c.args.asking.now.roster.now in
-    let at = (goal.at.taker_by-requires-clause-row c).After-leads_through in
+    let at = (goal.at.taker_by-requires-clause-row g c).After-leads_through in
     subst (λ (row : Row). is_row_of k row ≡ true) (sym c.row.ensures)
-    (row_fits_case k c.args.asking.now.from r c.args.asking.now.asked c.args.nurse (search rules) c.requires.nurse (search rules) c.offers_of_days.new.workspace.offers c.offers_of_days.ensures.offers (sym (leads at) ∙ c.if-not-leads_through.false)
+    (row_fits_case k c.args.asking.now.from r c.args.asking.now.asked c.args.nurse (search rules) c.requires.nurse (search rules) c.offers_of_days.new.workspace.offers c.offers_of_days.ensures.offers (sym (leads g at) ∙ c.if-not-leads_through.false)
     c.search_offers.result c.search_offers.new.self.row c.search_offers.ensures.best)
 
 pub returns-clause-taker : goal.returns-clause-taker
-returns-clause-taker c =
+returns-clause-taker g c =
     let k = c.args.asking.now.case.now in
     let r = c.args.asking.now.roster.now in
-    let at = (goal.at.returns-clause-taker c).After-leads_through in
-    let told = row_told k c.args.asking.now.from r c.args.asking.now.asked c.args.nurse (search rules) c.requires.nurse (search rules) c.offers_of_days.new.workspace.offers c.offers_of_days.ensures.offers (sym (leads at) ∙ c.if-not-leads_through.false) c.search_offers.result
+    let at = (goal.at.returns-clause-taker g c).After-leads_through in
+    let told = row_told k c.args.asking.now.from r c.args.asking.now.asked c.args.nurse (search rules) c.requires.nurse (search rules) c.offers_of_days.new.workspace.offers c.offers_of_days.ensures.offers (sym (leads g at) ∙ c.if-not-leads_through.false) c.search_offers.result
     c.search_offers.new.self.row c.search_offers.ensures.best in
     ap Some (c.taker_by.ensures.taker ∙ ap (taker_by k r c.args.nurse) c.row.ensures) ∙ sym (ap (option_map (taker_by k r c.args.nurse)) told)

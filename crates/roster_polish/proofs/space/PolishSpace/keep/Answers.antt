@@ -4,15 +4,15 @@ use Rattle.roster_polish.proofs.Keeping.{same_days}
 use Rattle.roster_polish.proofs.space.PolishSpace.keep.Goals as goal
 
 pub put_rows-requires : goal.put_rows-requires
-put_rows-requires c =
+put_rows-requires g c =
     ap (λ (rows : Rows). map (λ (row : Row). length row) rows) c.roster.ensures.roster
     ∙ same_days c.args.held.now.case c.args.held.now.roster c.args.self.now.kept c.roster.ensures.fits c.requires.kept
 
 pub put-requires : goal.put-requires
-put-requires c = (c.args.held.now.case, c.requires.kept_known, c.requires.known)
+put-requires g c = (c.args.held.now.case, c.requires.kept_known, c.requires.known)
 
 pub returns : goal.returns
-returns c =
+returns g c =
     let kept : c.put_rows.new.self ≡ c.args.held.now.roster = c.put_rows.ensures ∙ c.roster.ensures.roster in
     record {
       kept = kept;

@@ -1,9 +1,0 @@
-use Rattle.std.proofs.Common.{◌≡◌, ◌^◌, ◌≤◌, fold, max, take}
-use Rattle.roster_best.specs.Known.{gain_over}
-use Rattle.roster_best.proofs.last.LastSearches.most_gain.Given as goal
-
-abbrev pub invariant-loop-offer : goal.invariant-loop-offer
-invariant-loop-offer l = record {
-  most : l.most ≡ fold (λ most offer. max most (gain_over l.prices l.present offer)) 0 (take l.offer-index l.offers);
-  within : l.most ≤ 2 ^ 33;
-}

@@ -1,8 +1,0 @@
-use Rattle.std.proofs.Common.{◌∙◌}
-use Rattle.roster_best.proofs.OfferLemmas.{offer_is}
-use Rattle.roster_best.proofs.offer.offered.Goals as goal
-
-pub returns : goal.returns
-returns c =
-    c.offer_if.ensures
-    ∙ offer_is c.args.held.now.case c.args.held.now.roster c.args.nurse c.args.day c.args.choice c.lacking_by-lack.result.minimum c.lacking_by-lack.result.optimum c.args.asked c.lacking_by-lack.ensures.minimum c.lacking_by-lack.ensures.optimum c.requires.asked

@@ -1,5 +1,0 @@
-use Rattle.roster_partial.proofs.WorkspaceLaws.{fits_after}
-use Rattle.roster_best.proofs.search.offers_of_days.Goals as goal
-
-pub returns-clause-fits : goal.returns-clause-fits
-returns-clause-fits c = fits_after c.args.held.now.case c.args.workspace.now c.loop-day.workspace c.loop-day.invariant.same_room c.requires.fits

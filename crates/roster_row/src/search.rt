@@ -1,0 +1,158 @@
+//! The best row of a nurse.
+
+ghost use Rattle.std.specs.Prelude.{◌≡◌, ◌+◌, ◌<◌, ◌≤◌, [], true, IfNone, IfSome, OnSome};
+ghost use Rattle.roster_bundle.specs.Limits.{greatest_u64};
+ghost use Rattle.roster_instance.specs.Meaning.{day_count, nurse_count};
+ghost use Rattle.roster_rules.specs.AllowedRows.{IsBestRow, best_row, penalty_with, row_keeps};
+ghost use Rattle.roster_rules.specs.Improver.{step};
+ghost use Rattle.roster_rules.specs.Prefix.{due};
+ghost use Rattle.roster_laws.specs.Greatest.{extension_count};
+ghost use Rattle.roster_laws.specs.OneRow.{rest_of};
+ghost use Rattle.roster_offers.specs.Lists.{IsFound, best_over, offers_on};
+ghost use Rattle.roster_offers.specs.Offers.{shift_offers};
+ghost use Rattle.roster_offers.specs.Workspaces.{SameRoom, fits_space};
+ghost use Rattle.roster_row.specs.Known.{IsKnown};
+ghost use Rattle.roster_row.specs.Searches.{AreOffersOf, AreShiftOffers};
+
+use crate::last::LastSearches;
+use crate::offer::choices_by_shift;
+use roster_case::Held;
+use roster_offers::{RowTables, Workspace};
+use roster_state::{Meter, start};
+
+/// What the search for a nurse's best row gives beside the row.
+#[derive(Clone, Copy, Debug, PartialEq, Eq)]
+pub struct Best {
+    /// The roster's penalty with that row in the place of the nurse's.
+    pub total: u64,
+}
+
+/// Searches a nurse's best row from a week on: among all rows with which the roster keeps the hard rules, the other rows and the
+/// nurse's days before that week as they are, the first of those with the least penalty. Every `from` is allowed. `Workspace::row`
+/// shows the row afterwards. It takes no memory. The meter counts each floor, partial row and state that is taken over a choice: one
+/// for each day at least, and at most one for each state, day and choice of the nurse.
+///
+/// A caller who doesn't know that it may be called looks at `nurse < case.nurses()`, at `workspace.fits(case)`, and whether
+/// `meter.room()` is at least `most_steps(case, nurse)`.
+pub fn best_row<T: RowTables>(
+    held: &Held,
+    nurse: usize,
+    from: u16,
+    workspace: &mut Workspace<T>,
+    meter: &mut Meter,
+) -> Best
+    requires nurse { nurse < nurse_count held.now.case }
+    requires fits { fits_space held.now.case workspace.old ≡ true }
+    requires room { meter.old + extension_count held.now.case nurse ≤ greatest_u64 }
+
+    // The row, and the roster's penalty with it.
+    ensures best { IsBestRow held.now.case from held.now.roster nurse workspace.new.row }
+    ensures keeps { row_keeps held.now.case held.now.roster nurse workspace.new.row ≡ true }
+    ensures total { result.total ≡ penalty_with held.now.case held.now.roster nurse
+        workspace.new.row }
+
+    // What it takes.
+    ensures each_day { meter.old + day_count held.now.case ≤ meter.new }
+    ensures counted { meter.new ≤ meter.old + extension_count held.now.case nurse }
+    ensures standing { T.IsCounted held.now.case nurse (shift_offers held.now.case from
+        held.now.roster nurse) meter.old meter.new }
+    ensures same_room { SameRoom workspace.old workspace.new }
+    ensures fits { fits_space held.now.case workspace.new ≡ true }
+{
+    held.keeps_rules();
+    offers_of_days(held, nurse, from, workspace);
+    let (_, best) = best_of_offers(held, nurse, workspace, meter);
+    best
+}
+
+/// Searches a nurse's best row as `best_row` does, but where the nurse's last search tells that no row is cheaper than the present one.
+/// There it changes nothing and returns `None`. It remembers each search that it makes.
+pub fn cheaper_row<T: RowTables>(
+    held: &Held,
+    nurse: usize,
+    from: u16,
+    workspace: &mut Workspace<T>,
+    last: &mut LastSearches,
+    meter: &mut Meter,
+) -> Option<Best>
+    requires nurse { nurse < nurse_count held.now.case }
+    requires fits { fits_space held.now.case workspace.old ≡ true }
+    requires known { IsKnown held.now.case last.old }
+    requires room { meter.old + extension_count held.now.case nurse ≤ greatest_u64 }
+
+    // The row, and the roster's penalty with it; where there is none, a step wouldn't change the roster.
+    ensures best { OnSome result (IsBestRow held.now.case from held.now.roster nurse
+        workspace.new.row) }
+    ensures keeps { OnSome result (row_keeps held.now.case held.now.roster nurse
+        workspace.new.row ≡ true) }
+    ensures total { IfSome result (λ best. best.total ≡ penalty_with held.now.case held.now.roster
+        nurse workspace.new.row) }
+    ensures none { IfNone result (step held.now.case (best_row held.now.case from) held.now.roster
+        nurse ≡ held.now.roster) }
+
+    // What it takes.
+    ensures spared { IfNone result (meter.new ≡ meter.old) }
+    ensures counted { meter.new ≤ meter.old + extension_count held.now.case nurse }
+    ensures same_room { SameRoom workspace.old workspace.new }
+    ensures fits { fits_space held.now.case workspace.new ≡ true }
+    ensures known { IsKnown held.now.case last.new }
+{
+    held.case().keeps_limits();
+    held.keeps_rules();
+    offers_of_days(held, nurse, from, workspace);
+    if last.has_none_cheaper(held, nurse, workspace.offers()) {
+        return None;
+    }
+    let (cost, best) = best_of_offers(held, nurse, workspace, meter);
+    last.remember(held.case(), nurse, workspace.offers(), cost);
+    Some(best)
+}
+
+/// Searches over a nurse's offers of all days, which were put into the workspace. Beside the best row's penalty it returns what that row
+/// costs beside what the start owes.
+fn best_of_offers<T: RowTables>(
+    held: &Held,
+    nurse: usize,
+    workspace: &mut Workspace<T>,
+    meter: &mut Meter,
+) -> (u32, Best)
+    requires nurse { nurse < nurse_count held.now.case }
+    requires offers { AreOffersOf held.now.case held.now.roster nurse workspace.old.offers }
+    requires fits { fits_space held.now.case workspace.old ≡ true }
+    requires room { meter.old + extension_count held.now.case nurse ≤ greatest_u64 }
+    ensures found { IsFound (best_over held.now.case nurse (offers_on workspace.old.offers))
+        result.0 workspace.new.row }
+    ensures total { result.1.total ≡ rest_of held.now.case held.now.roster nurse
+        + due held.now.case nurse [] + result.0 }
+    ensures each_day { meter.old + day_count held.now.case ≤ meter.new }
+    ensures counted { meter.new ≤ meter.old + extension_count held.now.case nurse }
+    ensures standing { T.IsCounted held.now.case nurse (offers_on workspace.old.offers) meter.old
+        meter.new }
+    ensures same_room { SameRoom workspace.old workspace.new }
+    ensures fits { fits_space held.now.case workspace.new ≡ true }
+    ensures offers { workspace.new.offers ≡ workspace.old.offers }
+{
+    // The case has small numbers, and the roster keeps the hard rules: so each day has an offer, and there is a best row.
+    held.case().keeps_limits();
+    held.keeps_rules();
+    let cost = workspace.search_offers(held.case(), nurse, meter);
+    let (_, owed) = start(held.case(), nurse);
+    let total = held.rest(nurse) + owed as u64 + cost as u64;
+    (cost, Best { total })
+}
+
+/// Puts the offers of each day, one for each shift, into a workspace in the place of others.
+fn offers_of_days<T: RowTables>(held: &Held, nurse: usize, from: u16, workspace: &mut Workspace<T>)
+    requires nurse { nurse < nurse_count held.now.case }
+    requires fits { fits_space held.now.case workspace.old ≡ true }
+    ensures offers { AreShiftOffers held.now.case from held.now.roster nurse workspace.new.offers }
+    ensures same_room { SameRoom workspace.old workspace.new }
+    ensures fits { fits_space held.now.case workspace.new ≡ true }
+{
+    let case = held.case();
+    case.keeps_limits();
+    workspace.clear_offers();
+    for day in 0..case.days() {
+        workspace.push_offers(choices_by_shift(held, nurse, day, from));
+    }
+}
