@@ -7,9 +7,10 @@ use Rattle.roster_text.specs.Io.{Watched}
 use Rattle.roster_text.specs.declared.fault.TextFault.{TextFault}
 use Rattle.roster_text.specs.declared.fault.TextFault.TheVariants as text
 use Rattle.roster_request.specs.declared.request.Command.{Command}
-use Rattle.roster_commands.specs.Answer.{IsSilent, Logged, ReadsAndAnswers}
+use Rattle.roster_answers.specs.Answer.{Logged}
+use Rattle.roster_commands.specs.Answer.{IsSilent, ReadsAndAnswers}
 use Rattle.roster_reports.specs.Lines.{Text}
-use Rattle.roster_commands.specs.Lines.{text_status}
+use Rattle.roster_answers.specs.Lines.{text_status}
 use Rattle.roster_cli.specs.Start.{ReadsAndSends, given_for}
 
 pub no_text_fault_is_done : (f : TextFault) → text_status f ≡ 0 → ⊥

@@ -3,7 +3,8 @@ use Rattle.std.specs.Prelude.{◌≡◌, ℕ, ◌⊎◌, List, [], IfSome, None,
 use Rattle.std.specs.Io.KnownBytes.{Appends}
 use Rattle.roster_bundle.specs.declared.bundle.Bundle.{Bundle}
 use Rattle.roster_text.specs.Io.{Watched}
-use Rattle.roster_commands.specs.Answer.{IsAnswer, IsSilent, IsTaken, Logged, Logs, Report, SpellsBundle}
+use Rattle.roster_answers.specs.Answer.{IsTaken, Logged, Logs, Report, SpellsBundle}
+use Rattle.roster_commands.specs.Answer.{IsAnswer, IsSilent}
 use Rattle.roster_reports.specs.Lines.{Text}
 use Rattle.roster_request.specs.CommandLine.{IsAsked, Refuses}
 use Rattle.roster_request.specs.declared.request.CliFault.{CliFault}

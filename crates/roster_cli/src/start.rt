@@ -3,7 +3,7 @@
 ghost use Rattle.std.specs.Prelude.{◌≡◌, [], codes, map, string_bytes};
 ghost use Rattle.std.specs.Io.KnownBytes.{Keeps};
 ghost use Rattle.std.specs.Io.Buffered.{writer_buffer, writer_contents};
-ghost use Rattle.roster_commands.specs.Answer.{Logs};
+ghost use Rattle.roster_answers.specs.Answer.{Logs};
 ghost use Rattle.roster_cli.specs.Start.{AnswersWords, ReadsAndSends, SendsText, TellsWords, given_to};
 
 use roster_commands::{refuse, refuse_output, run};

@@ -1,9 +1,5 @@
-pub mod FloorReports
 pub mod AnswerLemmas
 pub mod RunLemmas
-pub mod BestLemmas
-pub mod BoundLemmas
 pub mod PolishLemmas
 pub mod PlanLemmas
 pub mod WhoLemmas
-pub mod AskedLemmas

@@ -11,12 +11,14 @@ use Rattle.roster_log.specs.declared.fault.LogFault.{LogFault}
 use Rattle.roster_polish.specs.Plans.{IsPlanned, missing, unmendable}
 use Rattle.roster_polish.specs.Polished.{IsPolishing, PolishLogStops, Polishes}
 use Rattle.roster_polish.specs.declared.run.Polished.{Polished}
-use Rattle.roster_commands.specs.Answer.{IsPlanReport, IsUnfound, Output, Reports, StopsOutput, Untouched, outcome_of, plan_report}
+use Rattle.roster_answers.specs.Answer.{Output, Reports, StopsOutput, Untouched, outcome_of}
+use Rattle.roster_commands.specs.Answer.{IsPlanReport, IsUnfound, plan_report}
 use Rattle.roster_reports.specs.Lines.{Text}
-use Rattle.roster_commands.specs.Lines.{IsFirstBreach}
-use Rattle.roster_commands.specs.declared.fault.Fault.{Fault}
-use Rattle.roster_commands.specs.declared.fault.Fault.TheVariants as fault
-use Rattle.roster_commands.proofs.AnswerLemmas.{no_plan, planned_self, unplanned, written_ends, written_log}
+use Rattle.roster_answers.specs.Lines.{IsFirstBreach}
+use Rattle.roster_answers.specs.declared.fault.Fault.{Fault}
+use Rattle.roster_answers.specs.declared.fault.Fault.TheVariants as fault
+use Rattle.roster_answers.proofs.AnswerLemmas.{written_ends, written_log}
+use Rattle.roster_commands.proofs.AnswerLemmas.{no_plan, planned_self, unplanned}
 use Rattle.roster_commands.proofs.PolishLemmas.{more_kicks}
 
 module _ (searches from : ℕ) (alone : Bool) (c : Meaning) (r : Rows) {W L : Type 0} (output : Output W) (log : Output L) (source : Text) (b : Bundle) where

@@ -12,11 +12,13 @@ use Rattle.roster_log.specs.declared.fault.LogFault.{LogFault}
 use Rattle.roster_polish.specs.Polished.{IsPolishing, PolishLogStops, Polishes}
 use Rattle.roster_polish.specs.declared.run.Polished.{Polished}
 use Rattle.roster_polish.proofs.KickLogs.{unkicked_text}
-use Rattle.roster_commands.specs.Answer.{IsPolishReport, IsUnheld, Output, Reports, StopsOutput, Untouched, outcome_of, polish_report}
+use Rattle.roster_answers.specs.Answer.{IsUnheld, Output, Reports, StopsOutput, Untouched, outcome_of}
+use Rattle.roster_commands.specs.Answer.{IsPolishReport, polish_report}
 use Rattle.roster_reports.specs.Lines.{Text}
-use Rattle.roster_commands.specs.declared.fault.Fault.{Fault}
-use Rattle.roster_commands.specs.declared.fault.Fault.TheVariants as fault
-use Rattle.roster_commands.proofs.AnswerLemmas.{kickless, no_kick, unheld_ends, unheld_log}
+use Rattle.roster_answers.specs.declared.fault.Fault.{Fault}
+use Rattle.roster_answers.specs.declared.fault.Fault.TheVariants as fault
+use Rattle.roster_answers.proofs.AnswerLemmas.{unheld_ends, unheld_log}
+use Rattle.roster_commands.proofs.AnswerLemmas.{kickless, no_kick}
 
 -- a run within fewer kicks is one within more
 pub more_kicks : {c : Meaning} {from start few many : ℕ} {alone : Bool} {given last : Rows} {settled : Bool} {told : Text} → few ≤ many → IsPolishing c from given start few alone settled last told

@@ -6,11 +6,12 @@ use Rattle.roster_text.specs.declared.fault.TextFault.TheVariants as text
 use Rattle.roster_instance.specs.Bundles.{meaning_of}
 use Rattle.roster_instance.specs.declared.fault.CaseFault.{CaseFault}
 use Rattle.roster_instance.specs.declared.fault.CaseFault.TheVariants as case
-use Rattle.roster_commands.specs.Answer.{Input, IsLogFailed, IsSilent, Logged, Logs, Output, ReadsAndAnswers, StopsCommand, StopsLog, StopsRun, Tells, TellsOutput, Untouched, roster_of}
+use Rattle.roster_answers.specs.Answer.{Input, Logged, Logs, Output, StopsLog, Tells, Untouched, roster_of}
+use Rattle.roster_commands.specs.Answer.{IsLogFailed, IsSilent, ReadsAndAnswers, StopsCommand, StopsRun, TellsOutput}
 use Rattle.roster_reports.specs.Lines.{Text}
-use Rattle.roster_commands.specs.Lines.{case_status, status_of}
-use Rattle.roster_commands.specs.declared.fault.Fault.{Fault}
-use Rattle.roster_commands.specs.declared.fault.Fault.TheVariants as fault
+use Rattle.roster_answers.specs.Lines.{case_status, status_of}
+use Rattle.roster_answers.specs.declared.fault.Fault.{Fault}
+use Rattle.roster_answers.specs.declared.fault.Fault.TheVariants as fault
 use Rattle.roster_request.specs.declared.request.Command.{Command}
 
 no_device : (f : CaseFault) → case_status f ≡ 3 → ⊥

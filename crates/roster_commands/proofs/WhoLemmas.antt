@@ -17,12 +17,13 @@ use Rattle.roster_who.specs.Who.{AreInOrder, missed, taker, taker_by, takers, ta
 use Rattle.roster_who.specs.declared.asked.Asked.{Asked}
 use Rattle.roster_who.specs.declared.taker.Taker.{Taker}
 use Rattle.roster_who.proofs.OrderLemmas.{some_order}
-use Rattle.roster_commands.specs.Answer.{AskedNames, EndsBy, IsWhoReport, Output, Report, StopsOutput, Untouched, asked_by, outcome_of, unknown_asked, who_report, who_text}
-use Rattle.roster_commands.specs.Lines.{IsFirstBreach}
-use Rattle.roster_commands.specs.declared.fault.Fault.{Fault}
-use Rattle.roster_commands.specs.declared.fault.Fault.TheVariants as fault
-use Rattle.roster_commands.specs.declared.fault.Thing.{Thing}
-use Rattle.roster_commands.proofs.AnswerLemmas.{written_ends}
+use Rattle.roster_answers.specs.Answer.{AskedNames, EndsBy, Output, Report, StopsOutput, Untouched, asked_by, outcome_of, unknown_asked}
+use Rattle.roster_commands.specs.Answer.{IsWhoReport, who_report, who_text}
+use Rattle.roster_answers.specs.Lines.{IsFirstBreach}
+use Rattle.roster_answers.specs.declared.fault.Fault.{Fault}
+use Rattle.roster_answers.specs.declared.fault.Fault.TheVariants as fault
+use Rattle.roster_answers.specs.declared.fault.Thing.{Thing}
+use Rattle.roster_answers.proofs.AnswerLemmas.{written_ends}
 
 module _ {W : Type 0} (names : AskedNames) (from : ℕ) (c : Meaning) (r : Rows) (output : Output W) (source : Text) (b : Bundle) where
   abbrev all : List Taker

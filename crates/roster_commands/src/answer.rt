@@ -1,12 +1,11 @@
 //! A command, from the bytes of its input to its output, its log and its status.
 
 ghost use Rattle.std.specs.Prelude.{◌≡◌, ◌≢◌, ◌⊎◌, Contains, [], ◌∷◌, codes};
-ghost use Rattle.roster_commands.specs.Answer.{Answers, FailsOnce, IsAnswered, IsLogFailed, IsSilent, Logs, StopsRun, TellsOutput, input_of, outcome_of, output_of};
+ghost use Rattle.roster_answers.specs.Answer.{FailsOnce, Logs, input_of, outcome_of, output_of};
+ghost use Rattle.roster_commands.specs.Answer.{Answers, IsAnswered, IsLogFailed, IsSilent, StopsRun, TellsOutput};
 
 use crate::commands::{keep_of, report};
-use crate::fault::Fault;
-use crate::lines::tell;
-use crate::reading::{keep_roster, read_instance};
+use roster_answers::{Fault, keep_roster, read_instance, tell};
 use roster_request::{Command, Request};
 use roster_text::{Watch, read_all};
 use std::alloc::Global;

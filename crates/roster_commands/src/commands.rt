@@ -4,24 +4,20 @@ ghost use Rattle.std.specs.Prelude.{◌≡◌, ◌≤◌, true, OnOk, IfErr, opt
 ghost use Rattle.roster_text.specs.Io.{Writes};
 ghost use Rattle.roster_instance.specs.Limits.{most_keep};
 ghost use Rattle.roster_instance.specs.Rosters.{fits_case};
-ghost use Rattle.roster_commands.specs.Answer.{Ends, IsReportFor, Reports, keep_of, StopsOutput, cost_report, names_in, outcome_of, output_of, searches_for};
+ghost use Rattle.roster_answers.specs.Answer.{Ends, Reports, StopsOutput, cost_report, names_in, outcome_of, output_of};
+ghost use Rattle.roster_commands.specs.Answer.{IsReportFor, keep_of, searches_for};
 ghost use Rattle.roster_reports.specs.Lines.{sizes_text};
 
-use crate::asked::Asking;
-use crate::best::report_best;
-use crate::bound::report_bound;
-use crate::fault::Fault;
-use crate::held::hold;
-use crate::improve::report_improve;
 use crate::plan::report_plan;
 use crate::polish::report_polish;
-use crate::reading::Instance;
-use crate::weeks::show_weeks;
 use crate::who::report_who;
+use roster_answers::{
+    Asking, Fault, Instance, report_best, report_bound, report_cost, report_improve, report_sizes,
+    show_weeks,
+};
 use roster_bound::Effort;
 use roster_instance::Case;
 use roster_polish::Course;
-use roster_reports::{write_costs, write_sizes};
 use roster_request::Command;
 use roster_text::Watch;
 use std::alloc::Global;
@@ -178,25 +174,3 @@ fn searches_for(case: &Case, asked: Option<u32>) -> u32
 const SEARCHES_OF_A_NURSE: u32 = 400;
 
 const LEAST_SEARCHES: u32 = 20_000;
-
-fn report_cost<'a, Out: Write>(
-    alloc: Global,
-    source: &'a [u8],
-    instance: Instance,
-    output: &mut Watch<Out>,
-) -> Result<(), Fault<'a>>
-    requires { fits_case instance.case instance.roster ≡ true }
-    ensures ends { Ends (output_of Out.contents output.old output.new)
-        (cost_report instance.case instance.roster) source.now instance.bundle (outcome_of result) }
-{
-    let held = hold(alloc, source, instance)?;
-    Ok(write_costs(output, held.costs())?)
-}
-
-fn report_sizes<'a, Out: Write>(case: &Case, output: &mut Watch<Out>) -> Result<(), Fault<'a>>
-    ensures ok { OnOk result (Writes Out.contents output.old output.new (sizes_text case.now)) }
-    ensures err { IfErr result (StopsOutput Out.contents output.old output.new
-        (sizes_text case.now)) }
-{
-    Ok(write_sizes(output, case)?)
-}

@@ -7,19 +7,10 @@
 #![tactic(auto)]
 
 mod answer;
-mod asked;
-mod best;
-mod bound;
 mod commands;
-mod fault;
-mod held;
-mod improve;
-mod lines;
 mod plan;
 mod polish;
-mod reading;
-mod weeks;
 mod who;
 
 pub use answer::run;
-pub use lines::{refuse, refuse_output};
+pub use roster_answers::{refuse, refuse_output};

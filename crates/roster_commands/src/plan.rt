@@ -3,13 +3,11 @@
 ghost use Rattle.std.specs.Prelude.{◌≡◌, true, [], IfOk, IfErr, OnOk};
 ghost use Rattle.roster_instance.specs.Rosters.{fits_case};
 ghost use Rattle.roster_rules.specs.HardRules.{hard_faults};
-ghost use Rattle.roster_commands.specs.Answer.{IsPlanFor, IsUnfound, Reports, outcome_of, output_of};
+ghost use Rattle.roster_answers.specs.Answer.{Reports, outcome_of, output_of};
+ghost use Rattle.roster_commands.specs.Answer.{IsPlanFor, IsUnfound};
 
-use crate::fault::Fault;
-use crate::held::hold;
 use crate::polish::within_room;
-use crate::reading::Instance;
-use crate::weeks::show_weeks;
+use roster_answers::{Fault, Instance, hold, show_weeks};
 use roster_case::Held;
 use roster_log::LogFault;
 use roster_partial::PartialTables;

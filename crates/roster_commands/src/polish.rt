@@ -3,12 +3,10 @@
 ghost use Rattle.std.specs.Prelude.{◌≡◌, min, true};
 ghost use Rattle.roster_instance.specs.Rosters.{fits_case};
 ghost use Rattle.roster_polish.specs.Polished.{most_searches};
-ghost use Rattle.roster_commands.specs.Answer.{IsPolishFor, Reports, outcome_of, output_of};
+ghost use Rattle.roster_answers.specs.Answer.{Reports, outcome_of, output_of};
+ghost use Rattle.roster_commands.specs.Answer.{IsPolishFor};
 
-use crate::fault::Fault;
-use crate::held::hold;
-use crate::reading::Instance;
-use crate::weeks::show_weeks;
+use roster_answers::{Fault, Instance, hold, show_weeks};
 use roster_log::LogFault;
 use roster_partial::PartialTables;
 use roster_polish::{Course, MOST_SEARCHES, PolishSpace, polish, searches_have_room};

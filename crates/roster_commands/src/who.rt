@@ -4,11 +4,10 @@ ghost use Rattle.std.specs.Prelude.{◌≡◌, ◌<◌, All, IfErr, OnErr, OnOk,
 ghost use Rattle.roster_text.specs.Io.{Stops, StopsIn, Writes};
 ghost use Rattle.roster_instance.specs.Meaning.{nurse_count};
 ghost use Rattle.roster_instance.specs.Rosters.{fits_case};
-ghost use Rattle.roster_commands.specs.Answer.{EndsBy, IsWhoFor, StopsOutput, names_in, outcome_of, output_of, who_line, who_text};
+ghost use Rattle.roster_answers.specs.Answer.{EndsBy, StopsOutput, names_in, outcome_of, output_of};
+ghost use Rattle.roster_commands.specs.Answer.{IsWhoFor, who_line, who_text};
 
-use crate::asked::{Asking, asked_by};
-use crate::fault::Fault;
-use crate::reading::Instance;
+use roster_answers::{Asking, Fault, Instance, asked_by};
 use roster_instance::Case;
 use roster_partial::PartialTables;
 use roster_polish::first_unmendable;

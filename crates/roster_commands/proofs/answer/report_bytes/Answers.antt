@@ -1,6 +1,6 @@
 use Rattle.std.proofs.Common.{refl, subst}
 use Rattle.std.proofs.lemmas.Result.{err_from_is_err_and}
-use Rattle.roster_commands.specs.Answer.{IsKeptAt, Output, outcome_of}
+use Rattle.roster_answers.specs.Answer.{IsKeptAt, Output, outcome_of}
 use Rattle.roster_commands.proofs.AnswerLemmas.{answers, refused_reading}
 use Rattle.roster_commands.proofs.answer.report_bytes.Goals as goal
 

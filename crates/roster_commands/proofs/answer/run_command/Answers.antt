@@ -1,5 +1,5 @@
 use Rattle.std.proofs.Common.{inl, inr, refl, rules}
-use Rattle.roster_commands.specs.declared.fault.Fault.TheVariants as fault
+use Rattle.roster_answers.specs.declared.fault.Fault.TheVariants as fault
 use Rattle.roster_commands.proofs.AnswerLemmas.{unread}
 use Rattle.roster_commands.proofs.answer.run_command.Goals as goal
 

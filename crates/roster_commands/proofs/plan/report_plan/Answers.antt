@@ -11,8 +11,9 @@ use Rattle.roster_instance.specs.Rosters.{Rows, fits_case}
 use Rattle.roster_polish.specs.Plans.{IsPlanned, missing, unmendable}
 use Rattle.roster_polish.specs.Polished.{PolishLogStops, Polishes}
 use Rattle.roster_polish.specs.declared.run.Course.{Course}
-use Rattle.roster_commands.specs.Answer.{IsUnfound, Output, StopsOutput}
-use Rattle.roster_commands.specs.declared.fault.Fault.TheVariants as fault
+use Rattle.roster_answers.specs.Answer.{Output, StopsOutput}
+use Rattle.roster_commands.specs.Answer.{IsUnfound}
+use Rattle.roster_answers.specs.declared.fault.Fault.TheVariants as fault
 use Rattle.roster_commands.proofs.PlanLemmas.{plan_ends, plan_refused, plan_roomless, plan_stops, plan_unfound}
 use Rattle.roster_commands.proofs.plan.report_plan.Given as given
 use Rattle.roster_commands.proofs.plan.report_plan.Goals as goal

@@ -9,7 +9,7 @@ use Rattle.roster_rules.specs.Penalties.{penalty}
 use Rattle.roster_instance.specs.Meaning.{Meaning}
 use Rattle.roster_polish.specs.Polished.{PolishLogStops, Polishes, most_searches}
 use Rattle.roster_polish.specs.declared.run.Course.{Course}
-use Rattle.roster_commands.specs.Answer.{IsUnheld, Output, StopsOutput}
+use Rattle.roster_answers.specs.Answer.{IsUnheld, Output, StopsOutput}
 use Rattle.roster_commands.proofs.PolishLemmas.{polish_ends, polish_roomless, polish_stops, polish_unheld}
 use Rattle.roster_commands.proofs.polish.report_polish.Goals as goal
 

@@ -4,8 +4,8 @@ use Rattle.roster_polish.specs.Plans.{unmendable}
 use Rattle.roster_who.specs.Who.{AreInOrder, takers, without_absent_work}
 use Rattle.roster_who.specs.declared.asked.Asked.{Asked}
 use Rattle.roster_who.specs.declared.taker.Taker.{Taker}
-use Rattle.roster_commands.specs.Answer.{Output, asked_by, names_in}
-use Rattle.roster_commands.specs.declared.fault.Fault.TheVariants as fault
+use Rattle.roster_answers.specs.Answer.{Output, asked_by, names_in}
+use Rattle.roster_answers.specs.declared.fault.Fault.TheVariants as fault
 use Rattle.roster_commands.proofs.WhoLemmas.{listed_are, who_refused, who_roomless, who_unknown, who_written}
 use Rattle.roster_commands.proofs.who.report_takers.Given as given
 use Rattle.roster_commands.proofs.who.report_takers.Goals as goal

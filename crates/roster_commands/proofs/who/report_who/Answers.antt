@@ -1,6 +1,7 @@
 use Rattle.std.proofs.Common.{subst}
 use Rattle.roster_instance.specs.Meaning.{Meaning}
-use Rattle.roster_commands.specs.Answer.{EndsBy, IsWhoReport, Output, names_in, outcome_of}
+use Rattle.roster_answers.specs.Answer.{EndsBy, Output, names_in, outcome_of}
+use Rattle.roster_commands.specs.Answer.{IsWhoReport}
 use Rattle.roster_commands.proofs.who.report_who.Goals as goal
 
 pub returns : goal.returns

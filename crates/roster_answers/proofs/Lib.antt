@@ -1,0 +1,5 @@
+pub mod FloorReports
+pub mod AnswerLemmas
+pub mod BestLemmas
+pub mod BoundLemmas
+pub mod AskedLemmas

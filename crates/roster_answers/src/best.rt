@@ -1,0 +1,148 @@
+//! The command `best`: the best row of a nurse, put in.
+
+ghost use Rattle.std.specs.Prelude.{◌≡◌, ◌++◌, codes, ◌<◌, ◌≤◌, true, OnErr, OnOk};
+ghost use Rattle.roster_bundle.specs.Limits.{greatest_u64};
+ghost use Rattle.roster_text.specs.Io.{Stops, Writes};
+ghost use Rattle.roster_instance.specs.Meaning.{nurse_count};
+ghost use Rattle.roster_rules.specs.Improver.{line, start_word};
+ghost use Rattle.roster_instance.specs.Rosters.{fits_case};
+ghost use Rattle.roster_answers.specs.Answer.{Ends, LeavesLog, best_report, log_with_best, outcome_of, output_of, with_best};
+ghost use Rattle.roster_laws.specs.Greatest.{extension_count};
+ghost use Rattle.roster_offers.specs.Workspaces.{fits_space};
+
+use crate::fault::{Fault, Thing};
+use crate::held::hold;
+use crate::reading::Instance;
+use crate::weeks::show_weeks;
+use roster_case::{Held, first_hard};
+use roster_instance::Case;
+use roster_partial::Workspace;
+use roster_reports::names_of;
+use roster_rounds::search_has_room;
+use roster_row::best_row;
+use roster_state::Meter;
+use roster_text::{Piece, Watch, WriteFault, write_pieces};
+use std::alloc::Global;
+use std::io::Write;
+
+/// Writes the weeks of an instance with the best row of the nurse of this name from a week on put in, also where it isn't cheaper.
+/// What the roster costs before and with it goes to the log first. No memory is asked for before it is known whose row it is.
+pub fn report_best<'a, Out: Write, Log: Write>(
+    alloc: Global,
+    name: &'a [u8],
+    from: u16,
+    source: &'a [u8],
+    mut instance: Instance,
+    output: &mut Watch<Out>,
+    log: &mut Watch<Log>,
+) -> Result<(), Fault<'a>>
+    requires { fits_case instance.case instance.roster ≡ true }
+    ensures ends { Ends (output_of Out.contents output.old output.new)
+        (best_report name.now from instance.case instance.roster) source.now instance.bundle
+        (outcome_of result) }
+    ensures logged { LeavesLog (output_of Log.contents log.old log.new)
+        (best_report name.now from instance.case instance.roster).log (outcome_of result) }
+{
+    let Some(nurse) = instance.case.find_nurse(name) else {
+        if let Some(fault) = first_hard(&instance.case, &instance.roster) {
+            return Err(Fault::Hard(fault, names_of(source, &instance.bundle, fault)));
+        }
+        return Err(Fault::Unknown(Thing::Nurse, name));
+    };
+    let mut meter = Meter::new(&mut instance.case);
+    let mut held = hold(alloc, source, instance)?;
+    let Ok(mut workspace) = Workspace::for_case(alloc, held.case()) else {
+        return Err(Fault::Workspace);
+    };
+    search_has_room(held.case(), nurse);
+    match put_best_row(
+        &mut held,
+        name,
+        nurse,
+        from,
+        &mut workspace,
+        &mut meter,
+        log,
+    ) {
+        Ok(()) => show_weeks(held.case(), held.roster(), output),
+        Err(_) => Err(Fault::Log),
+    }
+}
+
+/// Puts the best row of a nurse from a week on in. What the roster costs is logged before the search begins, and what it costs with
+/// the row after it. The fault is the log's.
+fn put_best_row<Log: Write>(
+    held: &mut Held,
+    name: &[u8],
+    nurse: usize,
+    from: u16,
+    workspace: &mut Workspace,
+    meter: &mut Meter,
+    log: &mut Watch<Log>,
+) -> Result<(), WriteFault>
+    requires nurse { nurse < nurse_count held.old.case }
+    requires fits { fits_space held.old.case workspace.old ≡ true }
+    requires none { meter.old ≡ 0 }
+    requires room { extension_count held.old.case nurse ≤ greatest_u64 }
+    ensures put { OnOk result (held.new ≡ record
+        { case = held.old.case; roster = with_best held.old.case from held.old.roster nurse }) }
+    ensures ok { OnOk result (Writes Log.contents log.old log.new
+        (log_with_best held.old.case from held.old.roster nurse name.now)) }
+    ensures err { OnErr result (Stops Log.contents log.old log.new
+        (log_with_best held.old.case from held.old.roster nurse name.now)) }
+{
+    write_start(held.case(), held.total(), log)?;
+    let best = best_row(held, nurse, from, workspace, meter);
+    write_best(name, best.total, log)?;
+    held.replace_row(nurse, workspace.row());
+    Ok(())
+}
+
+/// Writes what the roster costs before the search, and before that at how many points the case keeps it, where it does.
+fn write_start<Log: Write>(case: &Case, total: u64, log: &mut Watch<Log>) -> Result<(), WriteFault>
+    ensures ok { OnOk result (Writes Log.contents log.old log.new
+        (line (start_word case.now) total)) }
+    ensures err { OnErr result (Stops Log.contents log.old log.new
+        (line (start_word case.now) total)) }
+{
+    let keep = case.keep();
+    if keep == 0 {
+        return write_pieces(
+            log,
+            &[
+                Piece::Bytes(b"start "),
+                Piece::Number(total),
+                Piece::Bytes(b"\n"),
+            ],
+        );
+    }
+    write_pieces(
+        log,
+        &[
+            Piece::Bytes(b"keep "),
+            Piece::Number(keep as u64),
+            Piece::Bytes(b"\nstart "),
+            Piece::Number(total),
+            Piece::Bytes(b"\n"),
+        ],
+    )
+}
+
+/// Writes what it costs with the best row of the nurse of this name.
+fn write_best<Log: Write>(name: &[u8], total: u64, log: &mut Watch<Log>) -> Result<(), WriteFault>
+    ensures ok { OnOk result (Writes Log.contents log.old log.new
+        (line (codes "best " ++ name.now) total)) }
+    ensures err { OnErr result (Stops Log.contents log.old log.new
+        (line (codes "best " ++ name.now) total)) }
+{
+    write_pieces(
+        log,
+        &[
+            Piece::Bytes(b"best "),
+            Piece::Bytes(name),
+            Piece::Bytes(b" "),
+            Piece::Number(total),
+            Piece::Bytes(b"\n"),
+        ],
+    )
+}

@@ -1,0 +1,59 @@
+//! The command `bound`: a number that no roster costs less than.
+
+ghost use Rattle.std.specs.Prelude.{◌≡◌, ◌≤◌, true};
+ghost use Rattle.roster_bundle.specs.Limits.{greatest_u64};
+ghost use Rattle.roster_instance.specs.Rosters.{fits_case};
+ghost use Rattle.roster_laws.specs.Greatest.{extensions_in};
+ghost use Rattle.roster_bound.specs.Floors.{rounds_of};
+ghost use Rattle.roster_answers.specs.Answer.{IsBoundFor, Reports, outcome_of, output_of};
+
+use crate::fault::Fault;
+use crate::held::hold;
+use crate::reading::Instance;
+use roster_bound::{BoundSpace, Effort, raise_floor};
+use roster_instance::Case;
+use roster_log::LogFault;
+use roster_partial::PartialTables;
+use roster_reports::write_bound;
+use roster_rounds::extensions_are_few;
+use roster_state::Meter;
+use roster_text::Watch;
+use std::alloc::Global;
+use std::io::Write;
+
+/// Writes what the roster of an instance costs, and the last of the floors that rise with such an effort, under each roster that keeps
+/// the weeks before a week. The floors go to the log first, line by line as they are found.
+pub fn report_bound<'a, Out: Write, Log: Write>(
+    alloc: Global,
+    effort: Effort,
+    from: u16,
+    source: &'a [u8],
+    mut instance: Instance,
+    output: &mut Watch<Out>,
+    log: &mut Watch<Log>,
+) -> Result<(), Fault<'a>>
+    requires { fits_case instance.case instance.roster ≡ true }
+    ensures { Reports (output_of Out.contents output.old output.new)
+        (output_of Log.contents log.old log.new)
+        (IsBoundFor effort from instance) source.now instance.bundle (outcome_of result) }
+{
+    let mut meter = Meter::new(&mut instance.case);
+    let held = hold(alloc, source, instance)?;
+    let Ok(mut space) = BoundSpace::<PartialTables>::for_case(alloc, held.case(), effort.nodes)
+    else {
+        return Err(Fault::Workspace);
+    };
+    effort_has_room(held.case(), effort);
+    match raise_floor(&held, effort, from, &mut space, &mut meter, log) {
+        Ok(bound) => Ok(write_bound(output, held.total(), bound)?),
+        Err(LogFault::LogFailed { .. }) => Err(Fault::Log),
+    }
+}
+
+/// A law: a new meter has room for a run with such an effort.
+fn effort_has_room(case: &Case, effort: Effort)
+    ensures { extensions_in case.now (rounds_of effort) ≤ greatest_u64 }
+{
+    case.keeps_limits();
+    extensions_are_few(case);
+}

@@ -1,0 +1,40 @@
+//! The commands `cost` and `sizes`.
+
+ghost use Rattle.std.specs.Prelude.{◌≡◌, true, OnOk, IfErr};
+ghost use Rattle.roster_text.specs.Io.{Writes};
+ghost use Rattle.roster_instance.specs.Rosters.{fits_case};
+ghost use Rattle.roster_answers.specs.Answer.{Ends, StopsOutput, cost_report, outcome_of, output_of};
+ghost use Rattle.roster_reports.specs.Lines.{sizes_text};
+
+use crate::fault::Fault;
+use crate::held::hold;
+use crate::reading::Instance;
+use roster_instance::Case;
+use roster_reports::{write_costs, write_sizes};
+use roster_text::Watch;
+use std::alloc::Global;
+use std::io::Write;
+
+/// Writes what each soft rule costs in the roster of an instance.
+pub fn report_cost<'a, Out: Write>(
+    alloc: Global,
+    source: &'a [u8],
+    instance: Instance,
+    output: &mut Watch<Out>,
+) -> Result<(), Fault<'a>>
+    requires { fits_case instance.case instance.roster ≡ true }
+    ensures ends { Ends (output_of Out.contents output.old output.new)
+        (cost_report instance.case instance.roster) source.now instance.bundle (outcome_of result) }
+{
+    let held = hold(alloc, source, instance)?;
+    Ok(write_costs(output, held.costs())?)
+}
+
+/// Writes how much memory and time each nurse's search takes at most.
+pub fn report_sizes<'a, Out: Write>(case: &Case, output: &mut Watch<Out>) -> Result<(), Fault<'a>>
+    ensures ok { OnOk result (Writes Out.contents output.old output.new (sizes_text case.now)) }
+    ensures err { IfErr result (StopsOutput Out.contents output.old output.new
+        (sizes_text case.now)) }
+{
+    Ok(write_sizes(output, case)?)
+}

@@ -1,0 +1,47 @@
+//! The command `improve`: rounds of best rows, put in where they are cheaper.
+
+ghost use Rattle.std.specs.Prelude.{◌≡◌, true};
+ghost use Rattle.roster_instance.specs.Rosters.{fits_case};
+ghost use Rattle.roster_answers.specs.Answer.{Ends, LeavesLog, improve_report, outcome_of, output_of};
+
+use crate::fault::Fault;
+use crate::held::hold;
+use crate::reading::Instance;
+use crate::weeks::show_weeks;
+use roster_log::LogFault;
+use roster_partial::PartialTables;
+use roster_rounds::{RunSpace, improve, rounds_have_room};
+use roster_state::Meter;
+use roster_text::Watch;
+use std::alloc::Global;
+use std::io::Write;
+
+/// Writes the weeks of an instance after a run of at most so many rounds from a week on. The run's log goes to the log first, line by
+/// line as it is made.
+pub fn report_improve<'a, Out: Write, Log: Write>(
+    alloc: Global,
+    rounds: u16,
+    from: u16,
+    source: &'a [u8],
+    mut instance: Instance,
+    output: &mut Watch<Out>,
+    log: &mut Watch<Log>,
+) -> Result<(), Fault<'a>>
+    requires { fits_case instance.case instance.roster ≡ true }
+    ensures ends { Ends (output_of Out.contents output.old output.new)
+        (improve_report rounds from instance.case instance.roster) source.now instance.bundle
+        (outcome_of result) }
+    ensures logged { LeavesLog (output_of Log.contents log.old log.new)
+        (improve_report rounds from instance.case instance.roster).log (outcome_of result) }
+{
+    let mut meter = Meter::new(&mut instance.case);
+    let mut held = hold(alloc, source, instance)?;
+    let Ok(mut workspace) = RunSpace::<PartialTables>::for_case(alloc, held.case()) else {
+        return Err(Fault::Workspace);
+    };
+    rounds_have_room(held.case(), rounds);
+    match improve(&mut held, rounds, from, &mut workspace, &mut meter, log) {
+        Ok(_) => show_weeks(held.case(), held.roster(), output),
+        Err(LogFault::LogFailed { .. }) => Err(Fault::Log),
+    }
+}

@@ -1,0 +1,29 @@
+//! What a command answers, but for those that polish, plan or look for a nurse: how the bytes of an input are read, what each of these
+//! commands writes, and how a fault is told.
+//!
+//! The reports, the outcomes, and what a run leaves for each of these are defined in `specs/Answer.antt`; the lines of faults, of the log
+//! of `best`, and the statuses in `specs/Lines.antt`. `refuse` and `refuse_output` promise the line and the status of a fault outside of
+//! a run.
+#![tactic(auto)]
+
+mod asked;
+mod best;
+mod bound;
+mod fault;
+mod figures;
+mod held;
+mod improve;
+mod lines;
+mod reading;
+mod weeks;
+
+pub use asked::{Asking, Unknown, asked_by};
+pub use best::report_best;
+pub use bound::report_bound;
+pub use fault::{Fault, Thing};
+pub use figures::{report_cost, report_sizes};
+pub use held::hold;
+pub use improve::report_improve;
+pub use lines::{refuse, refuse_output, tell};
+pub use reading::{Instance, keep_roster, read_instance};
+pub use weeks::show_weeks;

@@ -1,0 +1,120 @@
+//! What the bytes of an input say: the bundle, and the case and the roster that it means.
+
+ghost use Rattle.std.specs.Prelude.{◌≡◌, ◌≢◌, ◌≤◌, true, [], Some, OnOk, IfOk, IfErr};
+ghost use Rattle.roster_instance.specs.Bundles.{meaning_of, rows_of};
+ghost use Rattle.roster_instance.specs.Faults.{first_fault};
+ghost use Rattle.roster_instance.specs.Limits.{most_keep};
+ghost use Rattle.roster_instance.specs.Refusals.{all_faults};
+ghost use Rattle.roster_instance.specs.Rosters.{fits_case};
+ghost use Rattle.roster_answers.specs.Answer.{HasFault, IsKeptAt, SpellsBundle, SpellsInstance, StopsReading};
+
+use crate::fault::Fault;
+use roster_bundle::Bundle;
+use roster_instance::{Case, CaseFault, Roster};
+use roster_reports::nurse_of;
+use roster_text::{TextFault, parse_bundle, tokens};
+use std::alloc::Global;
+
+/// What the texts of an instance say.
+pub struct Instance {
+    pub bundle: Bundle,
+    pub case: Case,
+    pub roster: Roster,
+}
+
+// By hand, so that who drops an instance has one call to prove and not the drops of all its parts.
+impl Drop for Instance {
+    fn drop(self) {
+        let Instance {
+            bundle: _,
+            case: _,
+            roster: _,
+        } = self;
+    }
+}
+
+impl Instance {
+    /// The bundle, the case and the roster.
+    pub fn into_parts(self) -> (Bundle, Case, Roster)
+        ensures bundle { result.0 ≡ self.bundle }
+        ensures case { result.1 ≡ self.case }
+        ensures roster { result.2 ≡ self.roster }
+    {
+        let Instance {
+            bundle,
+            case,
+            roster,
+        } = self;
+        (bundle, case, roster)
+    }
+}
+
+/// What the bytes of an input say, or why they are refused.
+pub fn read_instance<'a>(alloc: Global, source: &'a [u8]) -> Result<Instance, Fault<'a>>
+    ensures says { IfOk result (SpellsInstance source.now) }
+    ensures refused { IfErr result (StopsReading source.now) }
+{
+    let bundle = match bundle_of(alloc, source) {
+        Ok(bundle) => bundle,
+        Err(fault) => return Err(Fault::Text(fault)),
+    };
+    match roster_of(alloc, source, &bundle) {
+        Ok((case, roster)) => Ok(Instance {
+            bundle,
+            case,
+            roster,
+        }),
+        Err(fault) => Err(Fault::Case(fault, nurse_of(source, &bundle, fault))),
+    }
+}
+
+/// The instance with its roster kept at so many points. The fault is want of memory for that.
+pub fn keep_roster<'a>(
+    alloc: Global,
+    source: &'a [u8],
+    instance: Instance,
+    keep: u16,
+) -> Result<Instance, Fault<'a>>
+    requires says { SpellsInstance source.now instance }
+    requires few { keep ≤ most_keep }
+    ensures kept { IfOk result (IsKeptAt instance keep) }
+    ensures fitting { IfOk result (λ kept. fits_case kept.case kept.roster ≡ true) }
+    ensures refused { IfErr result (StopsReading source.now) }
+{
+    let (bundle, case, roster) = instance.into_parts();
+    match case.keeping(alloc, &roster, keep) {
+        Ok(case) => Ok(Instance {
+            bundle,
+            case,
+            roster,
+        }),
+        Err(_) => {
+            let fault = CaseFault::Memory;
+            Err(Fault::Case(fault, nurse_of(source, &bundle, fault)))
+        }
+    }
+}
+
+/// The bundle that the bytes spell.
+fn bundle_of(alloc: Global, source: &[u8]) -> Result<Bundle, TextFault>
+    ensures spelled { IfOk result (SpellsBundle source.now) }
+    ensures refused { IfErr result (HasFault source.now) }
+{
+    let tokens = tokens(alloc, source)?;
+    parse_bundle(alloc, source, &tokens)
+}
+
+/// The case and the roster of a bundle.
+fn roster_of(alloc: Global, source: &[u8], bundle: &Bundle) -> Result<(Case, Roster), CaseFault>
+    requires { SpellsBundle source.now bundle.now }
+    ensures case { IfOk result (λ r. r.0 ≡ meaning_of source.now bundle.now) }
+    ensures roster { IfOk result (λ r. r.1 ≡ rows_of source.now r.0 bundle.now) }
+    ensures fitting { IfOk result (λ r. fits_case r.0 r.1 ≡ true) }
+    ensures taken { OnOk result (all_faults source.now bundle.now ≡ []) }
+    ensures refused { IfErr result (λ f. f ≢ CaseFault.Memory →
+        first_fault (all_faults source.now bundle.now) ≡ Some f) }
+{
+    let case = Case::from_bundle(alloc, bundle, source)?;
+    let roster = Roster::from_bundle(alloc, &case, bundle, source)?;
+    Ok((case, roster))
+}
