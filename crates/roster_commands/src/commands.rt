@@ -1,12 +1,10 @@
 //! What each command writes for an instance.
 
-ghost use Rattle.std.specs.Prelude.{◌≡◌, ◌≤◌, true, OnOk, IfErr, option_map, string_bytes};
-ghost use Rattle.roster_text.specs.Io.{Writes};
+ghost use Rattle.std.specs.Prelude.{◌≡◌, ◌≤◌, true, option_map, string_bytes};
 ghost use Rattle.roster_instance.specs.Limits.{most_keep};
 ghost use Rattle.roster_instance.specs.Rosters.{fits_case};
-ghost use Rattle.roster_answers.specs.Answer.{Ends, Reports, StopsOutput, cost_report, names_in, outcome_of, output_of};
+ghost use Rattle.roster_answers.specs.Answer.{Reports, names_in, outcome_of, output_of};
 ghost use Rattle.roster_commands.specs.Answer.{IsReportFor, keep_of, searches_for};
-ghost use Rattle.roster_reports.specs.Lines.{sizes_text};
 
 use crate::plan::report_plan;
 use crate::polish::report_polish;
