@@ -48,8 +48,6 @@ pub trait RowTables: Drop {
     /// Searches the best row over a table of offers, wherever these come from. `row` then begins with its choices, one for each day, and
     /// the answer is its cost: its prices, and what the nurse's own rules cost along it beside what the start owes. It takes no memory.
     fn search(&mut self, search: &RowSearch<'_>, row: &mut [Choice], meter: &mut Meter) -> u32
-        requires nurse { search.now.nurse < nurse_count search.now.case.now }
-        requires offers { AreOffers search.now.case.now search.now.nurse search.now.offers.now }
         requires some { IsSome (best_over search.now.case.now search.now.nurse
             (offers_on search.now.offers.now)) }
         requires tables { HasTables search.now.case.now search.now.nurse (room self.old) }
