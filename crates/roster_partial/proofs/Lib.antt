@@ -2,7 +2,7 @@ mod AddLaws
 mod DaysLaws
 mod RowCells
 mod RowLaws
-mod SearchLaws
+mod SomeStates
 mod StepLaws
 pub mod AllowedLaw
 pub mod CountLaws

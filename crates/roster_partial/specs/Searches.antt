@@ -38,8 +38,8 @@ best_onward limited day s = best_of_offers limited.floors.search.case.now limite
 
 -- no more than may be held at once, for which there are cells
 pub record HasCells (limited : LimitedSearch) (cells : List ℕ) : Type 0 where
-  pub long : 1 + 4 * limited.most ≤ length cells
-  pub within : count_in cells ≤ limited.most
+  pub long : 1 + 4 * limited.row_limit ≤ length cells
+  pub within : count_in cells ≤ limited.row_limit
 
 -- as many entries are held as may be; or fewer steps are left than it takes to go on with each of them by each offer of a day
 abbrev pub IsFull : (rows steps : ℕ) → (cells : List ℕ) → (counted : ℕ) → Type 0

@@ -29,36 +29,36 @@ pub enum Within {
 }
 
 /// Searches the best row by the partial rows within a limit. If one is found, `row` begins with its choices, one for each day. The meter
-/// counts each partial row that is taken over an offer, each that is held over each offer once at most: to no more than `most`.
+/// counts each partial row that is taken over an offer, each that is held over each offer once at most: to no more than `last_count`.
 pub fn row_within(
     limited: &LimitedSearch<'_>,
-    most: u64,
+    last_count: u64,
     rows: &mut [u32],
     seen: &mut Seen,
     row: &mut [Choice],
     meter: &mut Meter,
 ) -> Within
     requires row_room { days_in limited.now.floors.search ≤ length row.old }
-    requires room { meter.old ≤ most }
-    requires cells { 1 + 4 * limited.now.most ≤ length rows.old }
+    requires room { meter.old ≤ last_count }
+    requires cells { 1 + 4 * limited.now.row_limit ≤ length rows.old }
     ensures best { (cost : ℕ) → result ≡ Found cost → IsFound (best_in limited.now.floors.search)
         cost (take (days_in limited.now.floors.search) row.new) }
     ensures below { (cost : ℕ) → result ≡ Found cost → cost < no_row }
-    ensures full { result ≡ Full → IsFull limited.now.most most rows.new meter.new }
+    ensures full { result ≡ Full → IsFull limited.now.row_limit last_count rows.new meter.new }
     ensures dearer { result ≡ Dearer →
         within limited.now.limit (best_in limited.now.floors.search) ≡ None }
     ensures each_day { (cost : ℕ) → result ≡ Found cost →
         meter.old + days_in limited.now.floors.search ≤ meter.new }
-    ensures counted { (meter.old ≤ meter.new) × (meter.new ≤ most) }
-    ensures brief { meter.new ≤ meter.old + most_offers * limited.now.most }
+    ensures counted { (meter.old ≤ meter.new) × (meter.new ≤ last_count) }
+    ensures brief { meter.new ≤ meter.old + most_offers * limited.now.row_limit }
     ensures length { length row.new ≡ length row.old }
 {
     clear_rows(rows);
-    if limited.most == 0 {
+    if limited.row_limit == 0 {
         return Within::Full;
     }
     push_row(rows, &start_entry(limited));
-    let Some(first) = add_days(limited, most, rows, seen, meter) else {
+    let Some(first) = add_days(limited, last_count, rows, seen, meter) else {
         return Within::Full;
     };
     let Some((cost, place)) = least_at_end(limited, rows, first) else {
@@ -91,12 +91,12 @@ fn start_entry(limited: &LimitedSearch<'_>) -> Entry
 /// where there wasn't room for all partial rows, or for the steps.
 fn add_days(
     limited: &LimitedSearch<'_>,
-    most: u64,
+    last_count: u64,
     rows: &mut [u32],
     seen: &mut Seen,
     meter: &mut Meter,
 ) -> Option<usize>
-    requires room { meter.old ≤ most }
+    requires room { meter.old ≤ last_count }
     requires rows { AreOfDay limited.now 0 0 rows.old }
     ensures rows { IfSome result
         (λ first. AreOfDay limited.now (days_in limited.now.floors.search) first rows.new) }
@@ -105,9 +105,9 @@ fn add_days(
         ≡ best_of_day limited.now 0 0 rows.old) }
     ensures each_day { IfSome result (λ first. first < length (rows_in rows.new) →
         meter.old + days_in limited.now.floors.search ≤ meter.new) }
-    ensures counted { (meter.old ≤ meter.new) × (meter.new ≤ most) }
-    ensures brief { meter.new ≤ meter.old + most_offers * limited.now.most }
-    ensures full { IsNone result → IsFull limited.now.most most rows.new meter.new }
+    ensures counted { (meter.old ≤ meter.new) × (meter.new ≤ last_count) }
+    ensures brief { meter.new ≤ meter.old + most_offers * limited.now.row_limit }
+    ensures full { IsNone result → IsFull limited.now.row_limit last_count rows.new meter.new }
 {
     let search = &limited.floors.search;
     let mut first = 0;
@@ -115,7 +115,7 @@ fn add_days(
         let end = row_count(rows);
         let offers = search.offers[day as usize].len() as u64;
         let steps = (end - first) as u64 * offers;
-        if steps > most - meter.count() {
+        if steps > last_count - meter.count() {
             return None;
         }
         let at = RowsDay { day, end };

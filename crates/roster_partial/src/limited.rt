@@ -9,11 +9,11 @@ use roster_floors::Floors;
 use roster_instance::ContractRules;
 use roster_offers::RowSearch;
 
-/// A search by partial rows, with what the meter may count to.
+/// A search by partial rows, with the count up to which the meter may come.
 #[derive(Clone, Copy)]
 pub struct Bounded<'a> {
     pub search: RowSearch<'a>,
-    pub most: u64,
+    pub last_count: u64,
 }
 
 /// What partial rows are searched for: a nurse's rows of at most so many penalty points, with floors under what the rest of a row costs.
@@ -23,10 +23,10 @@ pub struct LimitedSearch<'a> {
     /// Penalty points: fewer than no row costs.
     pub limit: u32,
     /// How many partial rows may be held at once.
-    pub most: usize,
+    pub row_limit: usize,
     /// The nurse's rules.
     pub rules: ContractRules,
     ghost low: { limit < no_row },
-    ghost few: { most ≤ most_rows },
+    ghost few: { row_limit ≤ most_rows },
     ghost own: { rules ≡ contract_of floors.search.case.now floors.search.nurse },
 }

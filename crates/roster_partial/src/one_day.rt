@@ -36,7 +36,7 @@ pub fn add_day(
     ensures counted { meter.new ≤ meter.old + (at.end - first)
         * length (offered limited.now.floors.search at.day) }
     ensures each { length (rows_in rows.new) + meter.old ≤ at.end + meter.new }
-    ensures full { result ≡ false → count_in rows.new ≡ limited.now.most }
+    ensures full { result ≡ false → count_in rows.new ≡ limited.now.row_limit }
 {
     let RowSearch { case, offers, .. } = limited.floors.search;
     case.keeps_limits();
@@ -95,7 +95,7 @@ fn go_on_by_all(
         (best_before limited.now at rows.old onward.now.before) }
     ensures counted { meter.new ≤ meter.old + length onward.now.allowed.now }
     ensures each { length (rows_in rows.new) + meter.old ≤ length (rows_in rows.old) + meter.new }
-    ensures full { result ≡ false → count_in rows.new ≡ limited.now.most }
+    ensures full { result ≡ false → count_in rows.new ≡ limited.now.row_limit }
 {
     let work = after_work(limited, at.day, onward.state);
     'offers: for next in 0..onward.allowed.len() {

@@ -118,7 +118,7 @@ fn put(
     ensures best { result ≡ true → best_put limited.now at rows.new
         ≡ cheaper (best_put limited.now at rows.old)
         (best_of (days_after limited.now at rows.old) more.now) }
-    ensures full { result ≡ false → count_in rows.new ≡ limited.now.most }
+    ensures full { result ≡ false → count_in rows.new ≡ limited.now.row_limit }
 {
     let slot = more.state.code(&limited.floors.ranges) as usize % SEEN;
     let place = seen[slot] as usize;
@@ -126,7 +126,7 @@ fn put(
         return true;
     }
     let end = row_count(rows);
-    if end >= limited.most {
+    if end >= limited.row_limit {
         return false;
     }
     push_row(rows, more);
@@ -155,7 +155,7 @@ pub fn go_on(
     ensures best { result ≡ true → best_put limited.now at rows.new
         ≡ cheaper (best_put limited.now at rows.old) (best_going limited.now at rows.old going) }
     ensures counted { meter.new ≡ meter.old + 1 }
-    ensures full { result ≡ false → count_in rows.new ≡ limited.now.most }
+    ensures full { result ≡ false → count_in rows.new ≡ limited.now.row_limit }
 {
     let RowSearch {
         case,

@@ -68,17 +68,17 @@ pub fn set_best_floors(
     floors: &mut [u32],
     meter: &mut Meter,
 ) -> Option<BestFloors>
-    requires room { meter.old ≤ bounded.now.most }
+    requires room { meter.old ≤ bounded.now.last_count }
     ensures set { IfSome result (λ best. AreSetAt bounded.now.search best.rates floors.new) }
     ensures counted { CountsSets bounded.now.search.case.now bounded.now.search.nurse
         (offers_on bounded.now.search.offers.now) most_sets most_sets meter.old meter.new }
-    ensures most { meter.new ≤ bounded.now.most }
+    ensures most { meter.new ≤ bounded.now.last_count }
     ensures none { IsNone result →
-        NoRoom bounded.now.search floors.old (bounded.now.most - meter.old) }
+        NoRoom bounded.now.search floors.old (bounded.now.last_count - meter.old) }
 {
-    let (search, most) = (&bounded.search, bounded.most);
+    let (search, last_count) = (&bounded.search, bounded.last_count);
     let each = steps_of_trial(bounded);
-    if floors.len() < floor_cells(search) || most - meter.count() < 2 * each {
+    if floors.len() < floor_cells(search) || last_count - meter.count() < 2 * each {
         return None;
     }
     let plan = plan_by(bounded, guess, meter);
@@ -229,11 +229,11 @@ fn try_rates(
     meter: &mut Meter,
 ) -> Tried
     requires tried { IsTried bounded.now.search floors.old first }
-    requires room { meter.old + search_steps bounded.now.search ≤ bounded.now.most }
+    requires room { meter.old + search_steps bounded.now.search ≤ bounded.now.last_count }
     ensures tried { IsTried bounded.now.search floors.new result }
     ensures counted { CountsSets bounded.now.search.case.now bounded.now.search.nurse
         (offers_on bounded.now.search.offers.now) plan.trials plan.trials meter.old meter.new }
-    ensures most { meter.new + search_steps bounded.now.search ≤ bounded.now.most }
+    ensures most { meter.new + search_steps bounded.now.search ≤ bounded.now.last_count }
 {
     let each = steps_of_trial(bounded);
     let mut tried = first;
@@ -243,7 +243,7 @@ fn try_rates(
         let is_done = tried.high.saturating_sub(tried.low) <= plan.close
             || are_same(rates, tried.rates)
             || are_same(rates, tried.set);
-        if is_done || bounded.most - meter.count() < 2 * each {
+        if is_done || bounded.last_count - meter.count() < 2 * each {
             return tried;
         }
         let low = tried.low;

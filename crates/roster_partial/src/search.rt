@@ -97,7 +97,7 @@ pub fn search_row(
     if hints.begins(search, steps) {
         let bounded = Bounded {
             search: *search,
-            most: meter.count() + (most_steps(search.case, search.nurse) - steps),
+            last_count: meter.count() + (most_steps(search.case, search.nurse) - steps),
         };
         if let Some(cost) = search_in_tables(&bounded, hints, tables, row, meter) {
             return cost;
@@ -117,7 +117,7 @@ fn search_in_tables(
 ) -> Option<u32>
     requires tables { HasTables bounded.now.search.case.now bounded.now.search.nurse tables.old }
     requires row_room { days_in bounded.now.search ≤ length row.old }
-    requires room { meter.old ≤ bounded.now.most }
+    requires room { meter.old ≤ bounded.now.last_count }
     ensures best { IfSome result (λ cost. IsFound (best_in bounded.now.search) cost
         (take (days_in bounded.now.search) row.new)) }
     ensures below { IfSome result (λ cost. cost < no_row) }
@@ -125,7 +125,7 @@ fn search_in_tables(
         ≤ meter.new) }
     ensures counted { CountsPartial bounded.now.search.case.now bounded.now.search.nurse
         (offered bounded.now.search) meter.old meter.new }
-    ensures most { meter.new ≤ bounded.now.most }
+    ensures most { meter.new ≤ bounded.now.last_count }
     ensures length { length row.new ≡ length row.old }
     ensures tables { tables.new ≡ tables.old }
 {
@@ -145,7 +145,7 @@ fn search_partial(
 ) -> Option<u32>
     requires cells { 0 < length rows.old }
     requires row_room { days_in bounded.now.search ≤ length row.old }
-    requires room { meter.old ≤ bounded.now.most }
+    requires room { meter.old ≤ bounded.now.last_count }
     ensures best { IfSome result (λ cost. IsFound (best_in bounded.now.search) cost
         (take (days_in bounded.now.search) row.new)) }
     ensures below { IfSome result (λ cost. cost < no_row) }
@@ -153,7 +153,7 @@ fn search_partial(
         ≤ meter.new) }
     ensures counted { CountsPartial bounded.now.search.case.now bounded.now.search.nurse
         (offered bounded.now.search) meter.old meter.new }
-    ensures most { meter.new ≤ bounded.now.most }
+    ensures most { meter.new ≤ bounded.now.last_count }
     ensures length { length row.new ≡ length row.old }
 {
     let guess = hints.guesses.of(&bounded.search);
@@ -213,17 +213,17 @@ fn search_within(
     requires set { AreSetAt bounded.now.search attempt.now.rates attempt.now.floors.now }
     requires cells { 0 < length rows.old }
     requires row_room { days_in bounded.now.search ≤ length row.old }
-    requires room { meter.old ≤ bounded.now.most }
+    requires room { meter.old ≤ bounded.now.last_count }
     ensures best { (cost : ℕ) → result ≡ Found cost → IsFound (best_in bounded.now.search) cost
         (take (days_in bounded.now.search) row.new) }
     ensures below { (cost : ℕ) → result ≡ Found cost → cost < no_row }
     ensures full { result ≡ Full
-        → IsFull (min ((length rows.old - 1) / 4) most_rows) bounded.now.most rows.new meter.new }
+        → IsFull (min ((length rows.old - 1) / 4) most_rows) bounded.now.last_count rows.new meter.new }
     ensures dearer { result ≡ Dearer
         → within attempt.now.limit (best_in bounded.now.search) ≡ None }
     ensures each_day { (cost : ℕ) → result ≡ Found cost →
         meter.old + days_in bounded.now.search ≤ meter.new }
-    ensures counted { (meter.old ≤ meter.new) × (meter.new ≤ bounded.now.most) }
+    ensures counted { (meter.old ≤ meter.new) × (meter.new ≤ bounded.now.last_count) }
     ensures brief { meter.new ≤ meter.old + most_offers * most_rows }
     ensures length { length row.new ≡ length row.old }
 {
@@ -241,8 +241,8 @@ fn search_within(
     let limited = LimitedSearch {
         floors: Floors::of(&here, attempt.rates, attempt.floors),
         limit: attempt.limit,
-        most: ((rows.len() - 1) / ROW_CELLS).min(MOST_ROWS),
+        row_limit: ((rows.len() - 1) / ROW_CELLS).min(MOST_ROWS),
         rules: case.contract_rules(nurse),
     };
-    row_within(&limited, bounded.most, rows, seen, row, meter)
+    row_within(&limited, bounded.last_count, rows, seen, row, meter)
 }

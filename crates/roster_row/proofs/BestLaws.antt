@@ -22,7 +22,7 @@ use Rattle.roster_offers.specs.Offers.{best_by_states, choices_of}
 use Rattle.roster_offers.specs.Lists.{IsFound, best_over, offers_on}
 use Rattle.roster_offers.proofs.Best.{best_some, is_best, penalty_is}
 use Rattle.roster_row.specs.Searches.{AreShiftOffers}
-use Rattle.roster_row.proofs.SearchLaws.{best_is}
+use Rattle.roster_row.proofs.OffersLaws.{best_is}
 
 -- ---- the best row
 

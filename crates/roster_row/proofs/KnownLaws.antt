@@ -34,7 +34,7 @@ use Rattle.roster_offers.proofs.RiseLaws.{cost_has_risen}
 use Rattle.roster_row.specs.declared.last.LastSearches.{LastSearches}
 use Rattle.roster_row.specs.Known.{ArePrices, IsDearer, IsKnown, IsPriceOf, WasSearched, fits_last, not_offered, price_place, prices_on}
 use Rattle.roster_row.specs.Searches.{AreShiftOffers}
-use Rattle.roster_row.proofs.SearchLaws.{best_is}
+use Rattle.roster_row.proofs.OffersLaws.{best_is}
 
 -- ---- the prices of a day
 

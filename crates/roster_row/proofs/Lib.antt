@@ -1,5 +1,5 @@
 pub mod OfferLemmas
 pub mod RowLemmas
-pub mod SearchLaws
+pub mod OffersLaws
 pub mod BestLaws
 pub mod KnownLaws

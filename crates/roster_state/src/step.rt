@@ -15,7 +15,7 @@ ghost use Rattle.roster_state.specs.Step.{cost_apart, end_cost_of, ended, free_r
 ghost use Rattle.roster_instance.specs.RunLaw.{day_violations};
 
 use crate::state::State;
-use crate::totals::{assignment_more, missing_cost, start_cost, totals_after, weekend_more};
+use crate::totals::{missing_cost, start_cost, total_more, totals_after, weekend_more};
 use roster_instance::{Border, Case, ContractRules, Limits, Past, Shift};
 use roster_rules::weights::{FREE_RUN, SHIFT_RUN, SPLIT, WORKING_RUN};
 use std::cmp::min;
@@ -59,7 +59,7 @@ pub(crate) fn step(
     }
     Some((
         next_of(case, nurse, rules, day, state, shift),
-        cost_apart(case, nurse, rules, day, state, shift) + assignment_more(rules, state, shift),
+        cost_apart(case, nurse, rules, day, state, shift) + total_more(rules, state, shift),
     ))
 }
 

@@ -66,7 +66,7 @@ pub(crate) fn weekends_more(day: u16, before: Option<Shift>, now: Option<Shift>)
 
 /// S6. The points for an assignment above the greatest total.
 #[inline(always)]
-pub(crate) fn total_more(total: Limits, assignments: u32) -> u32
+pub(crate) fn assignment_more(total: Limits, assignments: u32) -> u32
     ensures cost { result ≡ (if nat_le total.greatest assignments then assignment_weight else 0) }
     ensures within { result ≤ assignment_weight }
 {
@@ -78,13 +78,13 @@ pub(crate) fn total_more(total: Limits, assignments: u32) -> u32
 
 /// S6. The points for an assignment of the day, where it is above the greatest total.
 #[inline(always)]
-pub(crate) fn assignment_more(rules: ContractRules, state: State, shift: Option<Shift>) -> u32
+pub(crate) fn total_more(rules: ContractRules, state: State, shift: Option<Shift>) -> u32
     ensures cost { result ≡ (if is_some shift then (if nat_le rules.total.greatest state.assignments
         then assignment_weight else 0) else 0) }
     ensures within { result ≤ assignment_weight }
 {
     match shift {
-        Some(_) => total_more(rules.total, state.assignments as u32),
+        Some(_) => assignment_more(rules.total, state.assignments as u32),
         None => 0,
     }
 }

@@ -15,7 +15,7 @@ use crate::meter::Meter;
 use crate::state::State;
 use crate::step::{ended, longer, open_shift_run, runs_more, split_more, step, working_run};
 use crate::stretch::Stretch;
-use crate::totals::{total_more, totals_after, weekend_more};
+use crate::totals::{assignment_more, totals_after, weekend_more};
 use roster_instance::{Case, Shift};
 use roster_rules::weights::SHIFT_RUN;
 
@@ -54,7 +54,7 @@ impl NurseDays<'_> {
             cost: runs_more(rules, state, ANY)
                 + split_more(rules, day, state, ANY)
                 + weekend_more(rules, day, state, ANY)
-                + total_more(rules.total, state.assignments as u32),
+                + assignment_more(rules.total, state.assignments as u32),
             left: SHIFT_RUN * ended(case, state, None),
         }
     }

@@ -35,7 +35,7 @@ pub add_day-requires-clause-end : goal.add_day-requires-clause-end
 add_day-requires-clause-end c = rows_counted c.loop-day.rows c.row_count-end.result c.row_count-end.ensures
 
 pub add_day-requires-clause-room : goal.add_day-requires-clause-room
-add_day-requires-clause-room c = omega (arith, steps (goal.at.add_day-requires-clause-room c).After-len-offers, c.if-steps-most.false, c.count.ensures, c.loop-day.invariant.counted.1, c.ranges.most.fits)
+add_day-requires-clause-room c = omega (arith, steps (goal.at.add_day-requires-clause-room c).After-len-offers, c.if-steps-last_count.false, c.count.ensures, c.loop-day.invariant.counted.1, c.ranges.last_count.fits)
 
 pub loop-day-preserved : goal.loop-day-preserved
 loop-day-preserved c =
@@ -55,7 +55,7 @@ loop-day-preserved c =
         | inr none ↦ let empty : end - c.loop-day.first ≡ 0 = omega (arith, none) in omega (arith, more, c.add_day.ensures.each, c.add_day.ensures.counted, ap (λ n. n * length (offered limited.floors.search day)) empty)
       ];
       brief = omega (arith, brief_steps of, c.add_day.ensures.counted, i.brief, i.rows.inside, long);
-      counted = (omega (arith, c.add_day.ensures.each, c.add_day.ensures.rows.inside, i.counted.0), omega (arith, steps of, c.add_day.ensures.counted, c.if-steps-most.false, c.count.ensures, i.counted.1));
+      counted = (omega (arith, c.add_day.ensures.each, c.add_day.ensures.rows.inside, i.counted.0), omega (arith, steps of, c.add_day.ensures.counted, c.if-steps-last_count.false, c.count.ensures, i.counted.1));
     }
 
 pub returns-clause-rows : goal.returns-clause-rows
@@ -69,14 +69,14 @@ returns-clause-best c =
     subst (λ (d : ℕ). best_of_day c.args.limited.now d c.loop-day.first c.loop-day.rows ≡ best_of_day c.args.limited.now 0 0 c.args.rows.now) last c.loop-day.invariant.best
 
 -- where the steps of the day aren't left, fewer are than those of all rows by as many offers as a day may have
-pub returns-then-steps-most-clause-full : goal.returns-then-steps-most-clause-full
-returns-then-steps-most-clause-full c = λ _.
+pub returns-then-steps-last_count-clause-full : goal.returns-then-steps-last_count-clause-full
+returns-then-steps-last_count-clause-full c = λ _.
     let all = mul-le (c.row_count-end.result - c.loop-day.first) c.len-offers.result c.row_count-end.result 9 (omega arith) c.len-offers.ensures.fits in
-    inr (omega (arith, all, c.row_count-end.ensures, c.if-steps-most.true, c.count.ensures))
+    inr (omega (arith, all, c.row_count-end.ensures, c.if-steps-last_count.true, c.count.ensures))
 
 pub returns-then-not-add_day-clause-counted : goal.returns-then-not-add_day-clause-counted
 returns-then-not-add_day-clause-counted c =
-    (omega (arith, c.add_day.ensures.each, c.add_day.ensures.rows.inside, c.loop-day.invariant.counted.0), omega (arith, steps (goal.at.returns-then-not-add_day-clause-counted c).After-len-offers, c.add_day.ensures.counted, c.if-steps-most.false, c.count.ensures, c.loop-day.invariant.counted.1))
+    (omega (arith, c.add_day.ensures.each, c.add_day.ensures.rows.inside, c.loop-day.invariant.counted.0), omega (arith, steps (goal.at.returns-then-not-add_day-clause-counted c).After-len-offers, c.add_day.ensures.counted, c.if-steps-last_count.false, c.count.ensures, c.loop-day.invariant.counted.1))
 
 pub returns-then-not-add_day-clause-brief : goal.returns-then-not-add_day-clause-brief
 returns-then-not-add_day-clause-brief c =
@@ -84,8 +84,8 @@ returns-then-not-add_day-clause-brief c =
     let long = rows_counted c.loop-day.rows c.row_count-end.result c.row_count-end.ensures in
     omega (arith, brief_steps (goal.at.returns-then-not-add_day-clause-brief c).After-len-offers, c.add_day.ensures.counted, i.brief, i.rows.inside, long, c.row_count-end.ensures, i.rows.held.within)
 
-pub returns-then-steps-most-clause-brief : goal.returns-then-steps-most-clause-brief
-returns-then-steps-most-clause-brief c =
+pub returns-then-steps-last_count-clause-brief : goal.returns-then-steps-last_count-clause-brief
+returns-then-steps-last_count-clause-brief c =
     let i = c.loop-day.invariant in
     omega (arith, i.brief, i.rows.inside, rows_counted c.loop-day.rows c.row_count-end.result c.row_count-end.ensures, c.row_count-end.ensures, i.rows.held.within)
 

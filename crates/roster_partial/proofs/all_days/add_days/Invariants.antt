@@ -10,5 +10,5 @@ invariant-loop-day l = record {
   best : best_of_day l.limited l.day l.first l.rows ≡ best_of_day l.limited 0 0 l.fn.rows;
   each_day : l.first < length (rows_in l.rows) → l.fn.meter + l.day ≤ l.meter;
   brief : l.meter ≤ l.fn.meter + most_offers * l.first;
-  counted : (l.fn.meter ≤ l.meter) × (l.meter ≤ l.most);
+  counted : (l.fn.meter ≤ l.meter) × (l.meter ≤ l.last_count);
 }

@@ -9,5 +9,5 @@ abbrev pub invariant-trials : goal.invariant-trials
 invariant-trials l = record {
   tried : IsTried l.bounded.search l.floors l.tried;
   counted : CountsSets l.bounded.search.case.now l.bounded.search.nurse (offers_on l.bounded.search.offers.now) l._trial l._trial l.fn.meter l.meter;
-  most : l.meter + search_steps l.bounded.search ≤ l.bounded.most;
+  most : l.meter + search_steps l.bounded.search ≤ l.bounded.last_count;
 }

@@ -1,6 +1,6 @@
 use Rattle.std.proofs.Common.{ap, arith, length}
 use Rattle.roster_search.specs.Search.{TableRoom}
-use Rattle.roster_partial.proofs.SearchLaws.{some_states}
+use Rattle.roster_partial.proofs.SomeStates.{some_states}
 use Rattle.roster_partial.proofs.search.search_in_tables.Goals as goal
 
 pub search_partial-requires-clause-cells : goal.search_partial-requires-clause-cells

@@ -7,6 +7,6 @@ abbrev pub invariant-limits : goal.invariant-limits
 invariant-limits l = record {
   from : l.initial.meter ≤ l.meter;
   rows : l.meter ≤ l.initial.meter + l._tried * (most_offers * most_rows);
-  most : l.meter ≤ l.bounded.most;
+  most : l.meter ≤ l.bounded.last_count;
   length : length l.row ≡ length l.fn.row;
 }

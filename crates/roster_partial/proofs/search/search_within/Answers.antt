@@ -12,7 +12,7 @@ returns c =
     record {
       best = subst (λ (s : RowSearch). (cost : ℕ) → c.row_within.result ≡ Found cost → IsFound (best_in s) cost (take (days_in s) row)) c.of.ensures.search c.row_within.ensures.best;
       below = c.row_within.ensures.below;
-      full = subst (λ (n : ℕ). c.row_within.result ≡ Full → IsFull n c.args.bounded.now.most c.row_within.new.rows c.row_within.new.meter) c.min.ensures c.row_within.ensures.full;
+      full = subst (λ (n : ℕ). c.row_within.result ≡ Full → IsFull n c.args.bounded.now.last_count c.row_within.new.rows c.row_within.new.meter) c.min.ensures c.row_within.ensures.full;
       dearer = subst (λ (s : RowSearch). c.row_within.result ≡ Dearer → within c.args.attempt.now.limit (best_in s) ≡ None) c.of.ensures.search c.row_within.ensures.dearer;
       each_day = subst (λ (s : RowSearch). (cost : ℕ) → c.row_within.result ≡ Found cost → c.args.meter.now + days_in s ≤ c.row_within.new.meter) c.of.ensures.search c.row_within.ensures.each_day;
       counted = c.row_within.ensures.counted;

@@ -5,7 +5,7 @@ use Rattle.roster_rules.specs.Room.{penalty_room}
 use Rattle.roster_offers.specs.Lists.{AreOffers, IsFound, best_over, offers_on}
 use Rattle.std.proofs.Common.{IsSome}
 use Rattle.roster_row.proofs.BestLaws.{KeepsLimits, found_is, sum_within}
-use Rattle.roster_row.proofs.SearchLaws.{can_search, some_found}
+use Rattle.roster_row.proofs.OffersLaws.{can_search, some_found}
 use Rattle.roster_row.proofs.search.best_of_offers.Goals as goal
 use Rattle.roster_row.proofs.search.best_of_offers.Goals.{After-rest}
 

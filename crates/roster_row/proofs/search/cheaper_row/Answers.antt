@@ -5,7 +5,7 @@ use Rattle.roster_offers.specs.Lists.{AreOffers, IsFound, best_over, offers_on}
 use Rattle.roster_row.specs.Known.{IsKnown}
 use Rattle.roster_row.specs.Searches.{AreShiftOffers}
 use Rattle.roster_row.proofs.BestLaws.{KeepsLimits, best_keeps, found_best, found_penalty}
-use Rattle.roster_row.proofs.SearchLaws.{can_search}
+use Rattle.roster_row.proofs.OffersLaws.{can_search}
 use Rattle.roster_offers.proofs.WorkspaceLaws.{same_after}
 use Rattle.roster_row.proofs.search.cheaper_row.Goals as goal
 use Rattle.roster_row.proofs.search.cheaper_row.Goals.{After-offers-2}

@@ -16,10 +16,10 @@ returns-clause-step c =
     let d = c.args.day in
     let s = c.args.state in
     let shift = c.args.shift in
-    let more = c.assignment_more.ensures.cost
+    let more = c.total_more.ensures.cost
     ∙ ap (λ (r : ContractRules). if is_some shift then (if nat_le r.total.greatest s.assignments then assignment_weight else 0) else 0) c.requires.rules
     ∙ more_above k n d s shift s.assignments in
-    let cost : c.cost_apart.result + c.assignment_more.result ≡ step_cost k n d s shift = ap₂ (λ a b. a + b) c.cost_apart.ensures.cost more ∙ cost_at k n d s shift s.assignments in
+    let cost : c.cost_apart.result + c.total_more.result ≡ step_cost k n d s shift = ap₂ (λ a b. a + b) c.cost_apart.ensures.cost more ∙ cost_at k n d s shift s.assignments in
     let allowed : forbids k.successions s.last shift ≡ false = sym (c.forbids_next.ensures ∙ ap (λ (s : Summary). forbids k.successions s.last shift) c.state.view_is) ∙ c.if-forbids_next.false in
     (λ i. Some (c.next_of.ensures i, cost i)) ∙ (λ i. if sym allowed i then None else Some (next_of k n d s shift, step_cost k n d s shift))
 

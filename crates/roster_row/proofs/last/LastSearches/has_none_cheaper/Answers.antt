@@ -14,7 +14,7 @@ use Rattle.roster_offers.proofs.ListLaws.{offers_read}
 use Rattle.roster_row.specs.Known.{IsDearer, WasSearched, price_place, prices_on}
 use Rattle.roster_instance.specs.Choices.{shift_of}
 use Rattle.roster_row.proofs.BestLaws.{KeepsLimits, base_within}
-use Rattle.roster_row.proofs.SearchLaws.{can_search}
+use Rattle.roster_row.proofs.OffersLaws.{can_search}
 use Rattle.roster_row.proofs.KnownLaws.{HaveChanged, day_within, none_cheaper, places_fit, so_far_more, so_far_none}
 use Rattle.roster_row.proofs.last.LastSearches.has_none_cheaper.Goals as goal
 use Rattle.roster_row.proofs.last.LastSearches.has_none_cheaper.Goals.{After-as_slice, After-keeps_rules, After-rest, In-loop-day}

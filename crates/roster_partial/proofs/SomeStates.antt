@@ -1,4 +1,4 @@
--- How much a search counts: floors and partial rows, and then states.
+-- Each nurse has a state.
 use Rattle.std.proofs.Common.{ℕ, ◌+◌, ◌*◌, ◌<◌, arith, map, max}
 use Rattle.std.proofs.lemmas.Nat.{mul-le}
 use Rattle.roster_instance.specs.Meaning.{Meaning, contract_of, shift_count}
