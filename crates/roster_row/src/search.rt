@@ -27,13 +27,8 @@ pub struct Best {
     pub total: u64,
 }
 
-/// Searches a nurse's best row from a week on: among all rows with which the roster keeps the hard rules, the other rows and the
-/// nurse's days before that week as they are, the first of those with the least penalty. Every `from` is allowed. `Workspace::row`
-/// shows the row afterwards. It takes no memory. The meter counts each floor, partial row and state that is taken over a choice: one
-/// for each day at least, and at most one for each state, day and choice of the nurse.
-///
-/// A caller who doesn't know that it may be called looks at `nurse < case.nurses()`, at `workspace.fits(case)`, and whether
-/// `meter.room()` is at least `most_steps(case, nurse)`.
+/// Searches a nurse's best row from a week on, over any tables: `best_row` of `roster_best`, which programs call, is this one over
+/// theirs, and says what it is.
 pub fn best_row<T: RowTables>(
     held: &Held,
     nurse: usize,

@@ -1,18 +1,9 @@
 //! The best rows of nurses, and what the search for them takes.
 
-ghost use Rattle.std.specs.Prelude.{◌≡◌, ◌+◌, ◌<◌, ◌≤◌, true};
-ghost use Rattle.roster_bundle.specs.Limits.{greatest_u64};
-ghost use Rattle.roster_instance.specs.Meaning.{day_count, nurse_count};
-ghost use Rattle.roster_rules.specs.AllowedRows.{IsBestRow, penalty_with, row_keeps};
-ghost use Rattle.roster_laws.specs.Greatest.{extension_count};
-ghost use Rattle.roster_offers.specs.Offers.{shift_offers};
-ghost use Rattle.roster_offers.specs.Workspaces.{SameRoom, fits_space};
-ghost use Rattle.roster_partial.specs.Counts.{CountsSearch};
-
 use crate::held_tests::put;
 use crate::instances::read;
 use crate::texts::changed;
-use roster_best::{Best, Workspace, best_row, most_steps};
+use roster_best::{Workspace, best_row, most_steps};
 use roster_case::{Choice, Held, Shift, Skill};
 use roster_state::Meter;
 use std::alloc::Global;
@@ -35,31 +26,6 @@ pub(crate) fn ready(
     }
 }
 
-/// The best row in a workspace. What `best_row` says for whatever tables is this for a workspace, word for word.
-fn best_row_in(
-    held: &Held,
-    nurse: usize,
-    from: u16,
-    workspace: &mut Workspace,
-    meter: &mut Meter,
-) -> Best
-    requires nurse { nurse < nurse_count held.now.case }
-    requires fits { fits_space held.now.case workspace.old ≡ true }
-    requires room { meter.old + extension_count held.now.case nurse ≤ greatest_u64 }
-    ensures best { IsBestRow held.now.case from held.now.roster nurse workspace.new.row }
-    ensures keeps { row_keeps held.now.case held.now.roster nurse workspace.new.row ≡ true }
-    ensures total { result.total ≡ penalty_with held.now.case held.now.roster nurse
-        workspace.new.row }
-    ensures each_day { meter.old + day_count held.now.case ≤ meter.new }
-    ensures counted { meter.new ≤ meter.old + extension_count held.now.case nurse }
-    ensures standing { CountsSearch held.now.case nurse (shift_offers held.now.case from
-        held.now.roster nurse) meter.old meter.new }
-    ensures same_room { SameRoom workspace.old workspace.new }
-    ensures fits { fits_space held.now.case workspace.new ≡ true }
-{
-    best_row(held, nurse, from, workspace, meter)
-}
-
 /// Searches a nurse's best row. It gives the roster's penalty with it, and how many steps were counted; or None where there is no
 /// such nurse, the workspace doesn't fit, or the meter has no room.
 fn search(
@@ -74,7 +40,7 @@ fn search(
         return None;
     }
     let before = meter.count();
-    let best = best_row_in(held, nurse, 0, workspace, meter);
+    let best = best_row(held, nurse, 0, workspace, meter);
     Some((best.total, meter.count() - before))
 }
 
