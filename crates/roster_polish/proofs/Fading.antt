@@ -29,7 +29,6 @@ faded_then {base} {kicking} {kicking2} {kicking3} {space} {space2} {space3} {met
   kept = later.kept ∙ first.kept;
   frozen = later.frozen;
   passes = later.passes ∙ first.passes;
-  from = later.from ∙ first.from;
   made = made_both base.case.now meter kicking.searches.left meter2 kicking2.searches.left meter3 kicking3.searches.left first.made later.made;
   spends = spent_both base.case.now meter kicking.searches.left meter2 kicking2.searches.left meter3 kicking3.searches.left first.spends later.spends;
   fits = later.fits;

@@ -35,10 +35,6 @@ module _ (c : Meaning) (from : ℕ) (r new : Rows) (n : ℕ) (is : new ≡ step 
   falls_if changed changed_is differs =
       ltb-true (penalty c new) (penalty c r) (ap (λ s. nat_lt (penalty c s) (penalty c r)) is ∙ sym (changed_is_cheaper c (best_row c from) r n) ∙ ap (λ s. not (same_rows s r)) (sym is) ∙ sym changed_is ∙ differs)
 
--- what holds of a case and a week holds of the same ones
-pub at_same : (P : Meaning → ℕ → Type 0) (m c : Meaning) (week from : ℕ) → m ≡ c → week ≡ from → P m week → P c from
-at_same P m c week from same weeks p = subst (P c) weeks (subst (λ (k : Meaning). P k week) same p)
-
 pub one_and_rest : (less size : ℕ) → (less + 1) * size ≡ size + less * size
 one_and_rest less size = omega arith
 

@@ -24,7 +24,6 @@ pub record AreFaded {T : Type 0} (base : Base) (kicking_old kicking : Kicking) (
   pub kept : space.kept ≡ space_old.kept
   pub frozen : FrozenDaysStay base.case.now base.from base.given.now space.faded
   pub passes : kicking.passes ≡ kicking_old.passes
-  pub from : kicking.searches.from ≡ kicking_old.searches.from
   pub made : AreMade base.case.now meter_old kicking_old.searches.left meter kicking.searches.left
   pub spends : Spends base.case.now meter_old kicking_old.searches.left meter kicking.searches.left
   pub fits : FitsPolish base.case.now space

@@ -3,3 +3,4 @@ pub mod Settled
 pub mod Polished
 pub mod Plans
 pub mod Fades
+pub mod Tries

@@ -5,14 +5,13 @@ ghost use Rattle.roster_bundle.specs.Limits.{greatest_u64};
 ghost use Rattle.roster_instance.specs.Limits.{most_nurses};
 ghost use Rattle.roster_instance.specs.Meaning.{day_count, nurse_count};
 ghost use Rattle.roster_rules.specs.HardRules.{keeps_hard};
-ghost use Rattle.roster_rules.specs.Penalties.{penalty};
 ghost use Rattle.roster_laws.specs.FrozenDays.{FrozenDaysStay};
 ghost use Rattle.roster_laws.specs.Greatest.{extension_count};
 ghost use Rattle.roster_instance.specs.Rosters.{fits_case};
 ghost use Rattle.roster_bound.specs.Worths.{HaveRows};
 ghost use Rattle.roster_polish.specs.Fades.{AreFaded};
 ghost use Rattle.roster_polish.specs.Polished.{FitsPolish};
-ghost use Rattle.roster_polish.specs.Settled.{IsSettled, Spends, extensions_of};
+ghost use Rattle.roster_polish.specs.Tries.{CanSearch, StaysNoDearer};
 
 use crate::kick::Kicking;
 use crate::random::Random;
@@ -46,34 +45,22 @@ struct Length {
 /// Says whether it stayed.
 pub(crate) fn try_fade<T: RowTables>(
     held: &mut Held,
+    from: u16,
     kicking: &mut Kicking,
     space: &mut PolishSpace<T>,
     meter: &mut Meter,
 ) -> bool
-    requires fits { FitsPolish held.old.case space.old }
+    requires able { CanSearch held.old.case kicking.old.searches space.old meter.old }
     requires kept { space.old.kept ≡ held.old.roster }
-    requires room { meter.old + extensions_of held.old.case
-        kicking.old.searches.left ≤ greatest_u64 }
-    ensures case { held.new.case ≡ held.old.case }
-    ensures kept { space.new.kept ≡ held.new.roster }
     ensures none { kicking.old.passes ≡ 0 → result ≡ false }
-    ensures stayed { result ≡ true → IsSettled held.old.case kicking.old.searches.from
-        held.new.roster }
-    ensures back { result ≡ false → held.new.roster ≡ held.old.roster }
-    ensures frozen { FrozenDaysStay held.old.case kicking.old.searches.from held.old.roster
-        held.new.roster }
-    ensures no_dearer { penalty held.old.case held.new.roster ≤ penalty held.old.case
-        held.old.roster }
-    ensures from { kicking.new.searches.from ≡ kicking.old.searches.from }
-    ensures spends { Spends held.old.case meter.old kicking.old.searches.left meter.new
-        kicking.new.searches.left }
-    ensures fits { FitsPolish held.old.case space.new }
+    ensures tried { StaysNoDearer held.old.case from held.old.roster held.new kicking.old.searches
+        kicking.new.searches space.new meter.old meter.new result }
 {
     held.keeps_rules();
     let base = Base {
         case: held.case(),
         given: held.roster(),
-        from: kicking.searches.from,
+        from,
     };
     rows_are_had(base.case, base.given, base.from);
     if kicking.passes == 0 {
@@ -86,6 +73,7 @@ pub(crate) fn try_fade<T: RowTables>(
     let aim = Aim {
         first: 0,
         most: held.total(),
+        from,
     };
     held.replace_rows(&space.faded);
     stay_if_no_dearer(held, aim, &mut kicking.searches, space, meter)
@@ -100,9 +88,7 @@ pub(crate) fn fade_rows<T: RowTables>(
 ) -> bool
     requires given { fits_case base.now.case.now base.now.given.now ≡ true }
     requires each { HaveRows base.now.case.now base.now.from base.now.given.now }
-    requires fits { FitsPolish base.now.case.now space.old }
-    requires room { meter.old + extensions_of base.now.case.now
-        kicking.old.searches.left ≤ greatest_u64 }
+    requires able { CanSearch base.now.case.now kicking.old.searches space.old meter.old }
     ensures keeps { result ≡ true → keeps_hard base.now.case.now space.new.faded ≡ true }
     ensures fewer { 0 < kicking.old.passes → 0 < kicking.old.searches.left →
         kicking.new.searches.left < kicking.old.searches.left }
@@ -194,11 +180,9 @@ pub(crate) fn make_fade_pass<T: RowTables>(
     meter: &mut Meter,
 )
     requires each { HaveRows base.now.case.now base.now.from base.now.given.now }
-    requires fits { FitsPolish base.now.case.now space.old }
+    requires able { CanSearch base.now.case.now kicking.old.searches space.old meter.old }
     requires frozen { FrozenDaysStay base.now.case.now base.now.from base.now.given.now
         space.old.faded }
-    requires room { meter.old + extensions_of base.now.case.now
-        kicking.old.searches.left ≤ greatest_u64 }
     ensures fewer { 0 < kicking.old.searches.left →
         kicking.new.searches.left < kicking.old.searches.left }
     ensures faded { AreFaded base.now kicking.old kicking.new space.old space.new meter.old

@@ -1,15 +1,13 @@
 //! A kick: a few nurses get the best rows by other prices, and the roster is settled again.
 
-ghost use Rattle.std.specs.Prelude.{◌≡◌, ◌+◌, ◌<◌, ◌≤◌, length, false, true, min};
+ghost use Rattle.std.specs.Prelude.{◌≡◌, ◌+◌, ◌<◌, ◌≤◌, length, true, min};
 ghost use Rattle.roster_bundle.specs.Limits.{greatest_u64};
 ghost use Rattle.roster_instance.specs.Meaning.{nurse_count};
-ghost use Rattle.roster_rules.specs.Penalties.{penalty};
 ghost use Rattle.roster_laws.specs.FrozenDays.{FrozenDaysStay};
 ghost use Rattle.roster_laws.specs.Greatest.{extension_count};
 ghost use Rattle.roster_offers.specs.Workspaces.{fits_space};
 ghost use Rattle.roster_polish.specs.Kicks.{FitsKick};
-ghost use Rattle.roster_polish.specs.Polished.{FitsPolish};
-ghost use Rattle.roster_polish.specs.Settled.{IsSettled, Spends, extensions_of};
+ghost use Rattle.roster_polish.specs.Tries.{AreKicked, CanSearch, StaysNoDearer};
 
 use crate::offers::{Kick, offer_days};
 use crate::random::Random;
@@ -46,61 +44,42 @@ struct Draw {
 /// that was kept comes back. Says whether it stayed.
 pub(crate) fn try_kick<T: RowTables>(
     held: &mut Held,
+    from: u16,
     kicking: &mut Kicking,
     space: &mut PolishSpace<T>,
     meter: &mut Meter,
 ) -> bool
-    requires fits { FitsPolish held.old.case space.old }
+    requires able { CanSearch held.old.case kicking.old.searches space.old meter.old }
     requires kept { space.old.kept ≡ held.old.roster }
-    requires room { meter.old + extensions_of held.old.case
-        kicking.old.searches.left ≤ greatest_u64 }
-    ensures case { held.new.case ≡ held.old.case }
-    ensures kept { space.new.kept ≡ held.new.roster }
-    ensures stayed { result ≡ true → IsSettled held.old.case kicking.old.searches.from
-        held.new.roster }
-    ensures back { result ≡ false → held.new.roster ≡ held.old.roster }
-    ensures frozen { FrozenDaysStay held.old.case kicking.old.searches.from held.old.roster
-        held.new.roster }
-    ensures no_dearer { penalty held.old.case held.new.roster ≤ penalty held.old.case
-        held.old.roster }
-    ensures from { kicking.new.searches.from ≡ kicking.old.searches.from }
-    ensures spends { Spends held.old.case meter.old kicking.old.searches.left meter.new
-        kicking.new.searches.left }
-    ensures fits { FitsPolish held.old.case space.new }
+    ensures tried { StaysNoDearer held.old.case from held.old.roster held.new kicking.old.searches
+        kicking.new.searches space.new meter.old meter.new result }
 {
     held.keeps_rules();
     let most = held.total();
-    let first = kick_nurses(held, kicking, space, meter);
-    let aim = Aim { first, most };
+    let first = kick_nurses(held, from, kicking, space, meter);
+    let aim = Aim { first, most, from };
     stay_if_no_dearer(held, aim, &mut kicking.searches, space, meter)
 }
 
 /// Gives one to three nurses the best rows by the prices of a kick, and answers the nurse after the last of them.
 fn kick_nurses<T: RowTables>(
     held: &mut Held,
+    from: u16,
     kicking: &mut Kicking,
     space: &mut PolishSpace<T>,
     meter: &mut Meter,
 ) -> usize
-    requires fits { FitsPolish held.old.case space.old }
-    requires room { meter.old + extensions_of held.old.case
-        kicking.old.searches.left ≤ greatest_u64 }
-    ensures case { held.new.case ≡ held.old.case }
-    ensures kept { space.new.kept ≡ space.old.kept }
-    ensures frozen { FrozenDaysStay held.old.case kicking.old.searches.from held.old.roster
-        held.new.roster }
-    ensures from { kicking.new.searches.from ≡ kicking.old.searches.from }
-    ensures spends { Spends held.old.case meter.old kicking.old.searches.left meter.new
-        kicking.new.searches.left }
-    ensures fits { FitsPolish held.old.case space.new }
+    requires able { CanSearch held.old.case kicking.old.searches space.old meter.old }
+    ensures kicked { AreKicked from held.old held.new kicking.old.searches kicking.new.searches
+        space.old space.new meter.old meter.new }
 {
-    let draw = draw_kick(held.case().weeks(), kicking);
+    let draw = draw_kick(held.case().weeks(), from, &mut kicking.random);
     let mut after = 0;
     for _ in 0..1 + kicking.random.below(3) {
         if kicking.searches.left == 0 {
             break;
         }
-        after = kick_one(held, draw, kicking, space, meter);
+        after = kick_one(held, draw, from, kicking, space, meter);
     }
     after
 }
@@ -109,15 +88,12 @@ fn kick_nurses<T: RowTables>(
 const BY_WORTH: u32 = 2;
 
 /// What the next kick is: its weeks are one to four, or as many as may change where these are fewer.
-fn draw_kick(weeks: u16, kicking: &mut Kicking) -> Draw
-    ensures from { kicking.new.searches.from ≡ kicking.old.searches.from }
-    ensures left { kicking.new.searches.left ≡ kicking.old.searches.left }
+fn draw_kick(weeks: u16, from: u16, random: &mut Random) -> Draw
     ensures few { result.last ≤ result.first + 4 }
-    ensures open { min kicking.old.searches.from weeks ≤ result.first }
+    ensures open { min from weeks ≤ result.first }
     ensures within { result.last ≤ weeks }
 {
-    let random = &mut kicking.random;
-    let frozen = kicking.searches.from.min(weeks);
+    let frozen = from.min(weeks);
     let length = (1 + random.below(4)).min((weeks - frozen) as u32);
     let first = frozen as u32 + random.below((weeks - frozen) as u32 - length + 1);
     Draw {
@@ -133,22 +109,15 @@ fn draw_kick(weeks: u16, kicking: &mut Kicking) -> Draw
 fn kick_one<T: RowTables>(
     held: &mut Held,
     draw: Draw,
+    from: u16,
     kicking: &mut Kicking,
     space: &mut PolishSpace<T>,
     meter: &mut Meter,
 ) -> usize
     requires left { 0 < kicking.old.searches.left }
-    requires fits { FitsPolish held.old.case space.old }
-    requires room { meter.old + extensions_of held.old.case
-        kicking.old.searches.left ≤ greatest_u64 }
-    ensures case { held.new.case ≡ held.old.case }
-    ensures kept { space.new.kept ≡ space.old.kept }
-    ensures frozen { FrozenDaysStay held.old.case kicking.old.searches.from held.old.roster
-        held.new.roster }
-    ensures from { kicking.new.searches.from ≡ kicking.old.searches.from }
-    ensures spends { Spends held.old.case meter.old kicking.old.searches.left meter.new
-        kicking.new.searches.left }
-    ensures fits { FitsPolish held.old.case space.new }
+    requires able { CanSearch held.old.case kicking.old.searches space.old meter.old }
+    ensures kicked { AreKicked from held.old held.new kicking.old.searches kicking.new.searches
+        space.old space.new meter.old meter.new }
 {
     held.case().keeps_limits();
     kicking.searches.left -= 1;
@@ -158,7 +127,7 @@ fn kick_one<T: RowTables>(
         worths: &space.floor.worths,
         by_worth: draw.by_worth,
         dearer: space.dearer.as_slice(),
-        from: kicking.searches.from,
+        from,
         first: draw.first,
         last: draw.last,
     };

@@ -1,9 +1,10 @@
 //! Rosters near the floor: all rows are faded, and then a few nurses at a time kicked out of theirs; after each the roster is settled again,
 //! and stays where it is no dearer.
 //!
-//! What a run keeps and tells is defined in `specs/Polished.antt`, what a settled roster is in `specs/Settled.antt`, and what a kicked
-//! nurse is offered in `specs/Kicks.antt`. `polish` promises a roster that keeps the hard rules and the frozen days, is settled where
-//! it says so, and costs no more than the given one, with a log that is true. How good that roster is, no contract says.
+//! What a run keeps and tells is defined in `specs/Polished.antt`, what a settled roster is in `specs/Settled.antt`, what each fade and
+//! kick leaves in `specs/Tries.antt`, and what a kicked nurse is offered in `specs/Kicks.antt`. `polish` promises a roster that keeps the
+//! hard rules and the frozen days, is settled where it says so, and costs no more than the given one, with a log that is true. How good
+//! that roster is, no contract says.
 #![tactic(auto)]
 
 mod fade;

@@ -12,6 +12,7 @@ ghost use Rattle.roster_polish.specs.Fades.{AreFaded, AreMade};
 ghost use Rattle.roster_polish.specs.Plans.{IsNoFarther, IsPlanned, keeps_rows, missing, missing_before, present, unmendable};
 ghost use Rattle.roster_polish.specs.Polished.{FitsPolish};
 ghost use Rattle.roster_polish.specs.Settled.{Spends, extensions_of};
+ghost use Rattle.roster_polish.specs.Tries.{CanSearch};
 
 use crate::fade::{fade_rows, make_fade_pass};
 use crate::kick::Kicking;
@@ -193,7 +194,6 @@ fn begin_plan<T: RowTables>(
     Kicking {
         searches: Searches {
             left: (course.searches - rounds * nurses) as u64,
-            from: course.from,
         },
         random: Random::of_seed(course.seed),
         passes: FIRST_PASSES,
@@ -210,11 +210,9 @@ fn fade_until_kept<T: RowTables>(
 )
     requires roster { fits_case base.now.case.now base.now.given.now ≡ true }
     requires each { HaveRows base.now.case.now base.now.from base.now.given.now }
-    requires fits { FitsPolish base.now.case.now space.old }
+    requires able { CanSearch base.now.case.now kicking.old.searches space.old meter.old }
     requires kept { space.old.kept ≡ base.now.given.now }
     requires passes { 0 < kicking.old.passes }
-    requires room { meter.old + extensions_of base.now.case.now
-        kicking.old.searches.left ≤ greatest_u64 }
     ensures nearer { IsNoFarther base.now.case.now base.now.given.now space.new.kept }
     ensures given_up { keeps_hard base.now.case.now space.new.kept ≡ false →
         kicking.new.searches.left ≡ 0 }
@@ -270,11 +268,9 @@ fn fade_and_mend<T: RowTables>(
 ) -> bool
     requires roster { fits_case base.now.case.now base.now.given.now ≡ true }
     requires each { HaveRows base.now.case.now base.now.from base.now.given.now }
-    requires fits { FitsPolish base.now.case.now space.old }
+    requires able { CanSearch base.now.case.now kicking.old.searches space.old meter.old }
     requires passes { 0 < kicking.old.passes }
     requires left { 0 < kicking.old.searches.left }
-    requires room { meter.old + extensions_of base.now.case.now
-        kicking.old.searches.left ≤ greatest_u64 }
     ensures keeps { result ≡ true → keeps_hard base.now.case.now space.new.faded ≡ true }
     ensures fewer { kicking.new.searches.left < kicking.old.searches.left }
     ensures faded { AreFaded base.now kicking.old kicking.new space.old space.new meter.old
@@ -296,11 +292,9 @@ fn mend_rows<T: RowTables>(
     meter: &mut Meter,
 ) -> bool
     requires each { HaveRows base.now.case.now base.now.from base.now.given.now }
-    requires fits { FitsPolish base.now.case.now space.old }
+    requires able { CanSearch base.now.case.now kicking.old.searches space.old meter.old }
     requires frozen { FrozenDaysStay base.now.case.now base.now.from base.now.given.now
         space.old.faded }
-    requires room { meter.old + extensions_of base.now.case.now
-        kicking.old.searches.left ≤ greatest_u64 }
     ensures keeps { result ≡ true → keeps_hard base.now.case.now space.new.faded ≡ true }
     ensures faded { AreFaded base.now kicking.old kicking.new space.old space.new meter.old
         meter.new }

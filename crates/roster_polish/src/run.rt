@@ -108,7 +108,7 @@ pub fn polish_found<W: Write, T: RowTables>(
     let mut sent = log_start(log, 0, held.case(), start)?;
     let mut settled = settle_first(held, course.from, space, meter);
     let mut kicking = begin(held, course, space, meter);
-    if try_fade(held, &mut kicking, space, meter) {
+    if try_fade(held, course.from, &mut kicking, space, meter) {
         settled = true;
         held.keeps_rules();
         sent = log_word(log, sent, b"fade", held.total())?;
@@ -118,7 +118,7 @@ pub fn polish_found<W: Write, T: RowTables>(
             break;
         }
         let before = held.total();
-        if !try_kick(held, &mut kicking, space, meter) {
+        if !try_kick(held, course.from, &mut kicking, space, meter) {
             continue;
         }
         settled = true;
@@ -151,7 +151,6 @@ fn begin<T: RowTables>(
     requires fits { FitsPolish held.now.case space.old }
     requires room { meter.old + extensions_of held.now.case course.now.searches ≤ greatest_u64 }
     ensures kept { space.new.kept ≡ held.now.roster }
-    ensures from { result.searches.from ≡ course.now.from }
     ensures fadeless { course.now.kicks ≡ true → result.passes ≡ 0 }
     ensures counted { meter.new + extensions_of held.now.case result.searches.left ≤ meter.old
         + extensions_of held.now.case course.now.searches }
@@ -176,10 +175,7 @@ fn begin<T: RowTables>(
     space.keep(held);
     let left = course.searches - rounds * nurses;
     Kicking {
-        searches: Searches {
-            left: left as u64,
-            from: course.from,
-        },
+        searches: Searches { left: left as u64 },
         random: Random::of_seed(course.seed),
         passes: passes_within(course, left, nurses),
         turns: TURNS,

@@ -3,11 +3,10 @@
 ghost use Rattle.std.specs.Prelude.{◌≡◌, ◌-◌, ◌<◌, true};
 ghost use Rattle.roster_instance.specs.Counting.{one_if};
 
-/// The searches that a run may still take: how many are left, and the week before which all is frozen.
+/// The searches that a run may still take.
 #[derive(Clone, Copy)]
 pub(crate) struct Searches {
     pub(crate) left: u64,
-    pub(crate) from: u16,
 }
 
 impl Searches {
@@ -15,7 +14,6 @@ impl Searches {
     pub(crate) fn take_if(&mut self, searched: bool)
         requires { searched ≡ true → 0 < self.old.left }
         ensures left { self.new.left ≡ self.old.left - one_if searched }
-        ensures from { self.new.from ≡ self.old.from }
     {
         if searched {
             self.left -= 1;

@@ -13,6 +13,7 @@ ghost use Rattle.roster_polish.specs.declared.settle.Pass.TheVariants.{Changed, 
 ghost use Rattle.roster_polish.specs.Polished.{FitsPolish, IsGivenUp, first_run, first_searches, settling_searches};
 ghost use Rattle.roster_laws.specs.Settled.{HasBestRow};
 ghost use Rattle.roster_polish.specs.Settled.{IsSettled, Spends, extensions_of};
+ghost use Rattle.roster_polish.specs.Tries.{CanSearch};
 
 use crate::searches::Searches;
 use crate::space::PolishSpace;
@@ -22,11 +23,19 @@ use roster_rounds::step_unless_known;
 use roster_row::LastSearches;
 use roster_state::Meter;
 
-/// Where settling begins, and the penalty that is to be reached.
+/// Where settling begins, the penalty that is to be reached, and the week before which all is frozen.
 #[derive(Clone, Copy)]
 pub(crate) struct Aim {
     pub(crate) first: usize,
     pub(crate) most: u64,
+    pub(crate) from: u16,
+}
+
+/// A nurse whose step is made, or with whom a pass begins, and the week before which all is frozen.
+#[derive(Clone, Copy)]
+struct Stepper {
+    nurse: usize,
+    from: u16,
 }
 
 /// How many rounds a settling makes at most.
@@ -64,10 +73,10 @@ pub(crate) fn settle_first<T: RowTables>(
     let workspace = &mut floor.rows.workspace;
     let mut searches = Searches {
         left: MOST_ROUNDS as u64 * held.case().nurses() as u64,
-        from,
     };
+    let first = Stepper { nurse: 0, from };
     for rounds_before in 0..MOST_ROUNDS {
-        if let Pass::Unchanged = make_pass(held, 0, &mut searches, workspace, last, meter) {
+        if let Pass::Unchanged = make_pass(held, first, &mut searches, workspace, last, meter) {
             return true;
         }
     }
@@ -82,18 +91,15 @@ pub(crate) fn settle_in<T: RowTables>(
     space: &mut PolishSpace<T>,
     meter: &mut Meter,
 ) -> bool
-    requires fits { FitsPolish held.old.case space.old }
-    requires room { meter.old + extensions_of held.old.case searches.old.left ≤ greatest_u64 }
+    requires able { CanSearch held.old.case searches.old space.old meter.old }
     ensures case { held.new.case ≡ held.old.case }
     ensures kept { space.new.kept ≡ space.old.kept }
-    ensures settled { result ≡ true → IsSettled held.old.case searches.old.from held.new.roster }
+    ensures settled { result ≡ true → IsSettled held.old.case aim.from held.new.roster }
     ensures given_up { result ≡ false → IsGivenUp held.old.case aim.most searches.new.left
         held.old.roster held.new.roster }
-    ensures frozen { FrozenDaysStay held.old.case searches.old.from held.old.roster
-        held.new.roster }
+    ensures frozen { FrozenDaysStay held.old.case aim.from held.old.roster held.new.roster }
     ensures no_dearer { penalty held.old.case held.new.roster ≤ penalty held.old.case
         held.old.roster }
-    ensures from { searches.new.from ≡ searches.old.from }
     ensures spends { Spends held.old.case meter.old searches.old.left meter.new searches.new.left }
     ensures fits { FitsPolish held.old.case space.new }
 {
@@ -116,21 +122,23 @@ fn settle<T: RowTables>(
     requires known { IsKnown held.old.case last.old }
     requires room { meter.old + extensions_of held.old.case searches.old.left ≤ greatest_u64 }
     ensures case { held.new.case ≡ held.old.case }
-    ensures settled { result ≡ true → IsSettled held.old.case searches.old.from held.new.roster }
+    ensures settled { result ≡ true → IsSettled held.old.case aim.from held.new.roster }
     ensures given_up { result ≡ false → IsGivenUp held.old.case aim.most searches.new.left
         held.old.roster held.new.roster }
-    ensures frozen { FrozenDaysStay held.old.case searches.old.from held.old.roster
-        held.new.roster }
+    ensures frozen { FrozenDaysStay held.old.case aim.from held.old.roster held.new.roster }
     ensures no_dearer { penalty held.old.case held.new.roster ≤ penalty held.old.case
         held.old.roster }
-    ensures from { searches.new.from ≡ searches.old.from }
     ensures spends { Spends held.old.case meter.old searches.old.left meter.new searches.new.left }
     ensures fits { fits_space held.old.case workspace.new ≡ true }
     ensures known { IsKnown held.old.case last.new }
 {
     let mut first = aim.first;
     for pass in 0..MOST_ROUNDS {
-        let end = make_pass(held, first, searches, workspace, last, meter);
+        let stepper = Stepper {
+            nurse: first,
+            from: aim.from,
+        };
+        let end = make_pass(held, stepper, searches, workspace, last, meter);
         if first == 0 && end == Pass::Unchanged {
             return true;
         }
@@ -155,7 +163,7 @@ fn slack(pass: u32) -> u64 {
 /// A step for each nurse from one on.
 fn make_pass<T: RowTables>(
     held: &mut Held,
-    first: usize,
+    first: Stepper,
     searches: &mut Searches,
     workspace: &mut Workspace<T>,
     last: &mut LastSearches,
@@ -165,32 +173,35 @@ fn make_pass<T: RowTables>(
     requires known { IsKnown held.old.case last.old }
     requires room { meter.old + extensions_of held.old.case searches.old.left ≤ greatest_u64 }
     ensures case { held.new.case ≡ held.old.case }
-    ensures round { first ≡ 0 → nurse_count held.old.case ≤ searches.old.left →
-        held.new.roster ≡ round held.old.case (best_row held.old.case searches.old.from)
+    ensures round { first.nurse ≡ 0 → nurse_count held.old.case ≤ searches.old.left →
+        held.new.roster ≡ round held.old.case (best_row held.old.case first.from)
         held.old.roster }
-    ensures end { first ≡ 0 → nurse_count held.old.case ≤ searches.old.left →
+    ensures end { first.nurse ≡ 0 → nurse_count held.old.case ≤ searches.old.left →
         result ≡ (if same_rows held.new.roster held.old.roster then Unchanged else Changed) }
     ensures stopped { result ≡ Stopped → searches.new.left ≡ 0 }
     ensures falls { result ≡ Changed → penalty held.old.case held.new.roster < penalty held.old.case
         held.old.roster }
-    ensures unchanged { result ≡ Unchanged → (n : ℕ) → first ≤ n → n < nurse_count held.old.case →
-        HasBestRow held.old.case searches.old.from held.new.roster n }
-    ensures frozen { FrozenDaysStay held.old.case searches.old.from held.old.roster
-        held.new.roster }
+    ensures unchanged { result ≡ Unchanged → (n : ℕ) → first.nurse ≤ n →
+        n < nurse_count held.old.case → HasBestRow held.old.case first.from held.new.roster n }
+    ensures frozen { FrozenDaysStay held.old.case first.from held.old.roster held.new.roster }
     ensures no_dearer { penalty held.old.case held.new.roster ≤ penalty held.old.case
         held.old.roster }
-    ensures from { searches.new.from ≡ searches.old.from }
-    ensures few { first ≡ 0 → searches.old.left ≤ searches.new.left + nurse_count held.old.case }
+    ensures few { first.nurse ≡ 0 →
+        searches.old.left ≤ searches.new.left + nurse_count held.old.case }
     ensures spends { Spends held.old.case meter.old searches.old.left meter.new searches.new.left }
     ensures fits { fits_space held.old.case workspace.new ≡ true }
     ensures known { IsKnown held.old.case last.new }
 {
     let mut changed = false;
-    for nurse in first..held.case().nurses() {
+    for nurse in first.nurse..held.case().nurses() {
         if searches.left == 0 {
             return Pass::Stopped;
         }
-        changed = step_within(held, nurse, searches, workspace, last, meter) || changed;
+        let stepper = Stepper {
+            nurse,
+            from: first.from,
+        };
+        changed = step_within(held, stepper, searches, workspace, last, meter) || changed;
     }
     if changed {
         Pass::Changed
@@ -202,31 +213,29 @@ fn make_pass<T: RowTables>(
 /// A nurse's step. Where it takes a search, that is one of those that are left. Says whether it changed the roster.
 fn step_within<T: RowTables>(
     held: &mut Held,
-    nurse: usize,
+    stepper: Stepper,
     searches: &mut Searches,
     workspace: &mut Workspace<T>,
     last: &mut LastSearches,
     meter: &mut Meter,
 ) -> bool
-    requires nurse { nurse < nurse_count held.old.case }
+    requires nurse { stepper.nurse < nurse_count held.old.case }
     requires left { 0 < searches.old.left }
     requires fits { fits_space held.old.case workspace.old ≡ true }
     requires known { IsKnown held.old.case last.old }
     requires room { meter.old + extensions_of held.old.case searches.old.left ≤ greatest_u64 }
     ensures case { held.new.case ≡ held.old.case }
-    ensures roster { held.new.roster ≡ step held.old.case (best_row held.old.case searches.old.from)
-        held.old.roster nurse }
+    ensures roster { held.new.roster ≡ step held.old.case (best_row held.old.case stepper.from)
+        held.old.roster stepper.nurse }
     ensures changed { result ≡ not (same_rows held.new.roster held.old.roster) }
-    ensures frozen { FrozenDaysStay held.old.case searches.old.from held.old.roster
-        held.new.roster }
-    ensures from { searches.new.from ≡ searches.old.from }
+    ensures frozen { FrozenDaysStay held.old.case stepper.from held.old.roster held.new.roster }
     ensures one { searches.old.left ≤ searches.new.left + 1 }
     ensures spends { Spends held.old.case meter.old searches.old.left meter.new searches.new.left }
     ensures fits { fits_space held.old.case workspace.new ≡ true }
     ensures known { IsKnown held.old.case last.new }
 {
     let before = meter.count();
-    let step = step_unless_known(held, nurse, searches.from, workspace, last, meter);
+    let step = step_unless_known(held, stepper.nurse, stepper.from, workspace, last, meter);
     searches.take_if(meter.count() > before);
     step.changed
 }

@@ -1,12 +1,10 @@
 //! Whether a roster that was changed stays.
 
-ghost use Rattle.std.specs.Prelude.{◌≡◌, ◌+◌, ◌≤◌, false, true};
-ghost use Rattle.roster_bundle.specs.Limits.{greatest_u64};
+ghost use Rattle.std.specs.Prelude.{◌≡◌, true};
 ghost use Rattle.roster_rules.specs.HardRules.{keeps_hard};
 ghost use Rattle.roster_rules.specs.Penalties.{penalty};
 ghost use Rattle.roster_laws.specs.FrozenDays.{FrozenDaysStay};
-ghost use Rattle.roster_polish.specs.Polished.{FitsPolish};
-ghost use Rattle.roster_polish.specs.Settled.{IsSettled, Spends, extensions_of};
+ghost use Rattle.roster_polish.specs.Tries.{CanSearch, StaysNoDearer};
 
 use crate::searches::Searches;
 use crate::settle::{Aim, settle_in};
@@ -24,22 +22,12 @@ pub(crate) fn stay_if_no_dearer<T: RowTables>(
     space: &mut PolishSpace<T>,
     meter: &mut Meter,
 ) -> bool
-    requires fits { FitsPolish held.old.case space.old }
+    requires able { CanSearch held.old.case searches.old space.old meter.old }
     requires keeps { keeps_hard held.old.case space.old.kept ≡ true }
     requires most { aim.most ≡ penalty held.old.case space.old.kept }
-    requires frozen { FrozenDaysStay held.old.case searches.old.from space.old.kept
-        held.old.roster }
-    requires room { meter.old + extensions_of held.old.case searches.old.left ≤ greatest_u64 }
-    ensures case { held.new.case ≡ held.old.case }
-    ensures kept { space.new.kept ≡ held.new.roster }
-    ensures stayed { result ≡ true → IsSettled held.old.case searches.old.from held.new.roster }
-    ensures back { result ≡ false → held.new.roster ≡ space.old.kept }
-    ensures frozen { FrozenDaysStay held.old.case searches.old.from space.old.kept held.new.roster }
-    ensures no_dearer { penalty held.old.case held.new.roster ≤ penalty held.old.case
-        space.old.kept }
-    ensures from { searches.new.from ≡ searches.old.from }
-    ensures spends { Spends held.old.case meter.old searches.old.left meter.new searches.new.left }
-    ensures fits { FitsPolish held.old.case space.new }
+    requires frozen { FrozenDaysStay held.old.case aim.from space.old.kept held.old.roster }
+    ensures tried { StaysNoDearer held.old.case aim.from space.old.kept held.new searches.old
+        searches.new space.new meter.old meter.new result }
 {
     let settled = settle_in(held, aim, searches, space, meter);
     if settled && held.total() <= aim.most {

@@ -39,7 +39,7 @@ fade_nurse-searched-requires-clause-room g c =
     let k = c.args.base.now.case.now in
     let l = c.loop-place in
     has_room k c.index-nurse.result.now l.meter l.kicking.searches.left (inside g (goal.at.fade_nurse-searched-requires-clause-room g c).After-index-nurse) (some_left l.kicking.searches.left c.if-kicking-eq0.false) 18446744073709551615
-    (room_left k c.args.meter.now c.args.kicking.now.searches.left l.meter l.kicking.searches.left 18446744073709551615 l.invariant.faded.spends c.requires.room)
+    (room_left k c.args.meter.now c.args.kicking.now.searches.left l.meter l.kicking.searches.left 18446744073709551615 l.invariant.faded.spends c.requires.able.room)
 
 pub loop-place-preserved : goal.loop-place-preserved
 loop-place-preserved g c =
@@ -67,7 +67,6 @@ loop-place-preserved g c =
         kept = told.kept ∙ before.kept;
         frozen = told.frozen;
         passes = before.passes;
-        from = c.take_if.ensures.from ∙ before.from;
         made = made_both k c.args.meter.now c.args.kicking.now.searches.left l.meter left c.fade_nurse-searched.new.meter new_left before.made both.0;
         spends = spends;
         fits = told.fits;

@@ -1,4 +1,4 @@
-use Rattle.std.proofs.Common.{◌≡◌, ◌∙◌, ◌+◌, ◌++◌, ◌≤◌, ℕ, None, Some, [], ap, arith, codes, decimal, refl, subst, sym, true}
+use Rattle.std.proofs.Common.{◌≡◌, ◌∙◌, ◌+◌, ◌++◌, ◌≤◌, None, Some, [], ap, arith, codes, decimal, refl, subst, sym, true}
 use Rattle.std.proofs.lemmas.Nat.{mul-le}
 use Rattle.std.proofs.lemmas.Bool.{true≢false}
 use Rattle.std.proofs.lemmas.Result.{err_from_is_err_and}
@@ -17,7 +17,7 @@ use Rattle.roster_polish.specs.Settled.{IsSettled, extensions_of}
 use Rattle.roster_polish.proofs.Keeping.{reached_by}
 use Rattle.roster_polish.proofs.KickLogs.{cheaper_breaks, fade_breaks, no_dearer_than, underway_faded, end_breaks, ends, first_kept, first_text, start_breaks, underway_cheaper, underway_first, underway_no_dearer, underway_same}
 use Rattle.roster_polish.proofs.Passes.{settling_few}
-use Rattle.roster_polish.proofs.Steps.{at_same, both_of}
+use Rattle.roster_polish.proofs.Steps.{both_of}
 use Rattle.roster_polish.proofs.run.polish_found.Given as given
 use Rattle.roster_polish.proofs.run.polish_found.Goals as goal
 use Rattle.roster_polish.proofs.run.polish_found.Goals.{After-total-total, After-try_fade, else-total-before, else-try_fade, then-total-before+in_ok-sent-3, then-try_fade+in_ok-sent-2}
@@ -49,29 +49,32 @@ begin-kicking-requires-clause-room g c =
 
 -- ---- the fade
 
-pub try_fade-requires-clause-room : goal.try_fade-requires-clause-room
-try_fade-requires-clause-room g c =
+pub try_fade-requires-clause-able : goal.try_fade-requires-clause-able
+try_fade-requires-clause-able g c =
     let k = c.args.held.now.case in
     let given = c.args.held.now.roster in
     let told = c.settle_first-settled.ensures in
     let settling = settling_searches k c.args.course.now.from given in
-    rw told.case (omega (
-      arith,
-      told.counted,
-      c.requires.room,
-      c.begin-kicking.ensures.counted,
-      ap (λ (m : Meaning). extensions_of m c.begin-kicking.result.searches.left) told.case,
-      ap (λ (m : Meaning). extensions_of m c.args.course.now.searches) told.case,
-      both_of c.args.course.now.searches (first_searches k) (greatest_extension_count k),
-      mul-le settling (greatest_extension_count k) (first_searches k) (greatest_extension_count k) (settling_few k c.args.course.now.from given) (omega arith),
-    ))
+    record {
+      fits = c.begin-kicking.ensures.fits;
+      room = rw told.case (omega (
+        arith,
+        told.counted,
+        c.requires.room,
+        c.begin-kicking.ensures.counted,
+        ap (λ (m : Meaning). extensions_of m c.begin-kicking.result.searches.left) told.case,
+        ap (λ (m : Meaning). extensions_of m c.args.course.now.searches) told.case,
+        both_of c.args.course.now.searches (first_searches k) (greatest_extension_count k),
+        mul-le settling (greatest_extension_count k) (first_searches k) (greatest_extension_count k) (settling_few k c.args.course.now.from given) (omega arith),
+      ));
+    }
 
--- the fade leaves the case, and what is so of its case and week is so of the given ones
+-- the fade leaves the case, and what is so of its case is so of the given one
 case_is : (g : given.Over) (c : After-try_fade g) → c.try_fade.new.held.case ≡ c.args.held.now.case
-case_is g c = c.try_fade.ensures.case ∙ c.settle_first-settled.ensures.case
+case_is g c = c.try_fade.ensures.tried.case ∙ c.settle_first-settled.ensures.case
 
-at_given : (g : given.Over) (c : After-try_fade g) (P : Meaning → ℕ → Type 0) → P c.settle_first-settled.new.held.case c.begin-kicking.result.searches.from → P c.args.held.now.case c.args.course.now.from
-at_given g c P told = at_same P c.settle_first-settled.new.held.case c.args.held.now.case c.begin-kicking.result.searches.from c.args.course.now.from c.settle_first-settled.ensures.case c.begin-kicking.ensures.from told
+at_given : (g : given.Over) (c : After-try_fade g) (P : Meaning → Type 0) → P c.settle_first-settled.new.held.case → P c.args.held.now.case
+at_given g c P told = subst P c.settle_first-settled.ensures.case told
 
 frozen : (g : given.Over) (c : After-try_fade g) → FrozenDaysStay c.args.held.now.case c.args.course.now.from c.args.held.now.roster c.try_fade.new.held.roster
 frozen g c =
@@ -81,13 +84,13 @@ frozen g c =
     let first = c.settle_first-settled.new.held.roster in
     let accepted : IsAccepted k start = (c.keeps_rules.ensures.fits, c.keeps_rules.ensures.keeps) in
     stays_on k from start first c.try_fade.new.held.roster (subst (FrozenDaysStay k from start) (sym c.settle_first-settled.ensures.roster) (first_kept k from start c.args.start c.args.course.now.kicks accepted).stays)
-    (at_given g c (λ m week. FrozenDaysStay m week first c.try_fade.new.held.roster) c.try_fade.ensures.frozen)
+    (at_given g c (λ (m : Meaning). FrozenDaysStay m from first c.try_fade.new.held.roster) c.try_fade.ensures.tried.frozen)
 
 no_dearer : (g : given.Over) (c : After-try_fade g) → penalty c.args.held.now.case c.try_fade.new.held.roster ≤ penalty c.args.held.now.case (first_run c.args.held.now.case c.args.course.now.from c.args.held.now.roster).roster
 no_dearer g c =
     let next = c.try_fade.new.held.roster in
     subst (λ r. penalty c.args.held.now.case next ≤ penalty c.args.held.now.case r) c.settle_first-settled.ensures.roster
-    (subst (λ (m : Meaning). penalty m next ≤ penalty m c.settle_first-settled.new.held.roster) c.settle_first-settled.ensures.case c.try_fade.ensures.no_dearer)
+    (at_given g c (λ (m : Meaning). penalty m next ≤ penalty m c.settle_first-settled.new.held.roster) c.try_fade.ensures.tried.no_dearer)
 
 -- the log's first line is sent
 begun_log : (g : given.Over) (c : After-try_fade g) → Sends g.W.Write.contents c.args.log.now c.log_start.new.log 0 c.in_ok-sent.sent (kicks_text c.args.held.now.case c.args.start None [])
@@ -101,7 +104,7 @@ faded : (g : given.Over) (c : After-try_fade g) → c.try_fade.result ≡ true �
     → IsFaded c.args.held.now.case c.args.course.now.from c.args.held.now.roster (first_run c.args.held.now.case c.args.course.now.from c.args.held.now.roster).roster c.try_fade.new.held.roster
 faded g c stayed fits keeps = record {
   reached = reached_by c.try_fade.new.held.case c.args.held.now.case c.args.course.now.from c.args.held.now.roster c.try_fade.new.held.roster (case_is g c) fits keeps (frozen g c);
-  is_settled = at_given g c (λ m week. IsSettled m week c.try_fade.new.held.roster) (c.try_fade.ensures.stayed stayed);
+  is_settled = at_given g c (λ (m : Meaning). IsSettled m c.args.course.now.from c.try_fade.new.held.roster) (c.try_fade.ensures.tried.stayed stayed);
   no_dearer = no_dearer g c;
 }
 
@@ -133,7 +136,7 @@ loop-kicks_before-init g c =
     let start = c.args.held.now.roster in
     let alone = c.args.course.now.kicks in
     let told = c.settle_first-settled.ensures in
-    let f = c.try_fade.ensures in
+    let f = c.try_fade.ensures.tried in
     let next = c.try_fade.new.held.roster in
     record {
       case = case_is g at;
@@ -148,7 +151,6 @@ loop-kicks_before-init g c =
         | else-try_fade w ↦
             rw (w.log-is, w.sent-is, w.settled-is, f.back w.if-try_fade.false, told.roster, told.settled) (underway_first k from start c.args.start alone g.W.Write.contents c.args.log.now c.log_start.new.log c.in_ok-sent.sent (begun_log g at))
       ];
-      from = f.from ∙ c.begin-kicking.ensures.from;
       counted = omega (
         arith,
         told.counted,
@@ -164,27 +166,30 @@ loop-kicks_before-init g c =
 
 -- ---- a kick
 
-pub try_kick-requires-clause-room : goal.try_kick-requires-clause-room
-try_kick-requires-clause-room g c =
+pub try_kick-requires-clause-able : goal.try_kick-requires-clause-able
+try_kick-requires-clause-able g c =
     let k = c.args.held.now.case in
     let given = c.args.held.now.roster in
     let l = c.loop-kicks_before in
     let settling = settling_searches k c.args.course.now.from given in
-    rw l.invariant.case (omega (
-      arith,
-      l.invariant.counted,
-      c.requires.room,
-      both_of c.args.course.now.searches settling (greatest_extension_count k),
-      both_of c.args.course.now.searches (first_searches k) (greatest_extension_count k),
-      mul-le settling (greatest_extension_count k) (first_searches k) (greatest_extension_count k) (settling_few k c.args.course.now.from given) (omega arith),
-    ))
+    rw l.invariant.case (record {
+      fits = l.invariant.fits;
+      room = omega (
+        arith,
+        l.invariant.counted,
+        c.requires.room,
+        both_of c.args.course.now.searches settling (greatest_extension_count k),
+        both_of c.args.course.now.searches (first_searches k) (greatest_extension_count k),
+        mul-le settling (greatest_extension_count k) (first_searches k) (greatest_extension_count k) (settling_few k c.args.course.now.from given) (omega arith),
+      );
+    })
 
 pub loop-kicks_before-preserved-then-not-try_kick : goal.loop-kicks_before-preserved-then-not-try_kick
 loop-kicks_before-preserved-then-not-try_kick g c =
     let k = c.args.held.now.case in
     let l = c.loop-kicks_before in
     let i = l.invariant in
-    let told = c.try_kick.ensures in
+    let told = c.try_kick.ensures.tried in
     let back = told.back c.if-not-try_kick.true in
     record {
       case = told.case ∙ i.case;
@@ -192,7 +197,6 @@ loop-kicks_before-preserved-then-not-try_kick g c =
       frozen = subst (FrozenDaysStay k c.args.course.now.from c.args.held.now.roster) (sym back) i.frozen;
       going = underway_same k c.args.course.now.from c.args.held.now.roster c.args.start c.args.course.now.kicks g.W.Write.contents c.args.log.now l.log l.kicks_before l.sent l.settled l.held.roster i.going l.settled c.try_kick.new.held.roster (ap (penalty k) back)
           (λ e. subst (IsSettled k c.args.course.now.from) (sym back) (i.going.is_settled e)) (λ e. e);
-      from = told.from ∙ i.from;
       counted = omega (
         arith,
         i.counted,
@@ -205,15 +209,14 @@ loop-kicks_before-preserved-then-not-try_kick g c =
 
 -- the roster after a kick that stayed is settled, and may be kept
 kicked : (g : given.Over) (c : After-total-total g) → c.total-total.result ≡ penalty c.args.held.now.case c.try_kick.new.held.roster
-kicked g c = c.total-total.ensures.total ∙ ap (λ (m : Meaning). penalty m c.try_kick.new.held.roster) (c.try_kick.ensures.case ∙ c.loop-kicks_before.invariant.case)
+kicked g c = c.total-total.ensures.total ∙ ap (λ (m : Meaning). penalty m c.try_kick.new.held.roster) (c.try_kick.ensures.tried.case ∙ c.loop-kicks_before.invariant.case)
 
 before_it : (g : given.Over) (c : After-total-total g) → c.total-before.result ≡ penalty c.args.held.now.case c.loop-kicks_before.held.roster
 before_it g c = c.total-before.ensures.total ∙ ap (λ (m : Meaning). penalty m c.loop-kicks_before.held.roster) c.loop-kicks_before.invariant.case
 
 stayed : (g : given.Over) (c : After-total-total g) → IsSettled c.args.held.now.case c.args.course.now.from c.try_kick.new.held.roster
 stayed g c =
-    let i = c.loop-kicks_before.invariant in
-    at_same (λ m week. IsSettled m week c.try_kick.new.held.roster) c.loop-kicks_before.held.case c.args.held.now.case c.loop-kicks_before.kicking.searches.from c.args.course.now.from i.case i.from (c.try_kick.ensures.stayed c.if-not-try_kick.false)
+    subst (λ (m : Meaning). IsSettled m c.args.course.now.from c.try_kick.new.held.roster) c.loop-kicks_before.invariant.case (c.try_kick.ensures.tried.stayed c.if-not-try_kick.false)
 
 reached : (g : given.Over) (c : After-total-total g) → IsReached c.args.held.now.case c.args.course.now.from c.args.held.now.roster c.try_kick.new.held.roster
 reached g c =
@@ -222,8 +225,8 @@ reached g c =
     let l = c.loop-kicks_before in
     let i = l.invariant in
     let next = c.try_kick.new.held.roster in
-    let stays = at_same (λ m week. FrozenDaysStay m week l.held.roster next) l.held.case k l.kicking.searches.from from i.case i.from c.try_kick.ensures.frozen in
-    reached_by c.try_kick.new.held.case k from c.args.held.now.roster next (c.try_kick.ensures.case ∙ i.case) c.keeps_rules-in-loop-kicks_before.ensures.fits c.keeps_rules-in-loop-kicks_before.ensures.keeps
+    let stays = subst (λ (m : Meaning). FrozenDaysStay m from l.held.roster next) i.case c.try_kick.ensures.tried.frozen in
+    reached_by c.try_kick.new.held.case k from c.args.held.now.roster next (c.try_kick.ensures.tried.case ∙ i.case) c.keeps_rules-in-loop-kicks_before.ensures.fits c.keeps_rules-in-loop-kicks_before.ensures.keeps
     (stays_on k from c.args.held.now.roster l.held.roster next i.frozen stays)
 
 pub returns-in_err-sent-3-clause-err : goal.returns-in_err-sent-3-clause-err
@@ -243,7 +246,7 @@ loop-kicks_before-preserved g c =
     let start = c.args.held.now.roster in
     let l = c.loop-kicks_before in
     let i = l.invariant in
-    let told = c.try_kick.ensures in
+    let told = c.try_kick.ensures.tried in
     let next = c.try_kick.new.held.roster in
     let less : penalty k next ≤ penalty k l.held.roster = subst (λ (m : Meaning). penalty m next ≤ penalty m l.held.roster) i.case told.no_dearer in
     record {
@@ -259,7 +262,6 @@ loop-kicks_before-preserved g c =
             rw (w.log-is, w.sent-is) (underway_same k from start c.args.start c.args.course.now.kicks g.W.Write.contents c.args.log.now l.log l.kicks_before l.sent l.settled l.held.roster i.going true next
             (omega (arith, kicked g at, before_it g at, less, w.if-total-before.false)) (λ e. stayed g at) (λ e. refl))
       ];
-      from = told.from ∙ i.from;
       counted = omega (
         arith,
         i.counted,
@@ -275,7 +277,7 @@ returns-in_err-sent-3-clause-no_dearer g c =
     let k = c.args.held.now.case in
     let l = c.loop-kicks_before in
     let next = c.try_kick.new.held.roster in
-    let less : penalty k next ≤ penalty k l.held.roster = subst (λ (m : Meaning). penalty m next ≤ penalty m l.held.roster) l.invariant.case c.try_kick.ensures.no_dearer in
+    let less : penalty k next ≤ penalty k l.held.roster = subst (λ (m : Meaning). penalty m next ≤ penalty m l.held.roster) l.invariant.case c.try_kick.ensures.tried.no_dearer in
     omega (arith, less, underway_no_dearer k c.args.course.now.from c.args.held.now.roster c.args.start c.args.course.now.kicks g.W.Write.contents c.args.log.now l.log l.kicks_before l.sent l.settled l.held.roster l.invariant.going)
 
 -- ---- the end

@@ -12,7 +12,6 @@ invariant-loop-kicks_before g l = record {
   kept : l.space.kept ≡ l.held.roster;
   frozen : FrozenDaysStay l.fn.held.case l.course.from l.fn.held.roster l.held.roster;
   going : Underway g.W.Write.contents l.fn.held.case l.course.from l.fn.held.roster l.start l.course.kicks l.fn.log l.log l.kicks_before l.sent l.settled l.held.roster;
-  from : l.kicking.searches.from ≡ l.course.from;
   counted : l.meter + extensions_of l.fn.held.case l.kicking.searches.left ≤ l.fn.meter + extensions_of l.fn.held.case (l.course.searches + settling_searches l.fn.held.case l.course.from l.fn.held.roster);
   fits : FitsPolish l.fn.held.case l.space;
 }

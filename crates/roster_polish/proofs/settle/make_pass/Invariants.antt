@@ -9,10 +9,9 @@ use Rattle.roster_polish.proofs.settle.make_pass.Given as goal
 abbrev pub invariant-loop-nurse : goal.invariant-loop-nurse
 invariant-loop-nurse g l = record {
   case : l.held.case ≡ l.fn.held.case;
-  pass : PassTo l.fn.held.case l.fn.searches.from l.fn.held.roster l.held.roster l.changed l.fn.first l.nurse;
-  frozen : FrozenDaysStay l.fn.held.case l.fn.searches.from l.fn.held.roster l.held.roster;
-  from : l.searches.from ≡ l.fn.searches.from;
-  few : l.fn.searches.left + l.fn.first ≤ l.searches.left + l.nurse;
+  pass : PassTo l.fn.held.case l.first.from l.fn.held.roster l.held.roster l.changed l.first.nurse l.nurse;
+  frozen : FrozenDaysStay l.fn.held.case l.first.from l.fn.held.roster l.held.roster;
+  few : l.fn.searches.left + l.first.nurse ≤ l.searches.left + l.nurse;
   spends : Spends l.fn.held.case l.fn.meter l.fn.searches.left l.meter l.searches.left;
   fits : fits_space l.fn.held.case l.workspace ≡ true;
   known : IsKnown l.fn.held.case l.last;

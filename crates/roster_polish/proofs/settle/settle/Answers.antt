@@ -10,18 +10,17 @@ use Rattle.roster_polish.specs.declared.settle.Pass.{Pass}
 use Rattle.roster_polish.specs.declared.settle.Pass.TheVariants.{Changed, Stopped, Unchanged}
 use Rattle.roster_laws.specs.Settled.{HasBestRow}
 use Rattle.roster_polish.specs.Settled.{Spends}
-use Rattle.roster_polish.proofs.Steps.{at_same, room_left, spent_both, spent_none}
+use Rattle.roster_polish.proofs.Steps.{room_left, spent_both, spent_none}
 use Rattle.roster_polish.proofs.settle.settle.Goals as goal
 use Rattle.roster_polish.proofs.settle.settle.Goals.{After-make_pass-end, else-first-eq0-via-then-first-eq0+else-eq, else-first-eq0-via-else-first-eq0, then-eq-2-via-then-eq-2, then-eq-2-via-else-eq-2+then-total-saturating_add}
 
 pub loop-pass-init : goal.loop-pass-init
 loop-pass-init g c = record {
   case = refl;
-  frozen = stays_self c.args.held.now.case c.args.searches.now.from c.args.held.now.roster;
+  frozen = stays_self c.args.held.now.case c.args.aim.from c.args.held.now.roster;
   first = inl refl;
   fallen = omega arith;
   no_dearer = omega arith;
-  from = refl;
   spends = spent_none c.args.held.now.case c.args.meter.now c.args.searches.now.left;
   fits = c.requires.fits;
   known = c.requires.known;
@@ -40,13 +39,13 @@ make_pass-end-requires g c =
 
 -- ---- after a pass
 
-frozen : (g : _) (c : After-make_pass-end g) → FrozenDaysStay c.args.held.now.case c.args.searches.now.from c.args.held.now.roster c.make_pass-end.new.held.roster
+frozen : (g : _) (c : After-make_pass-end g) → FrozenDaysStay c.args.held.now.case c.args.aim.from c.args.held.now.roster c.make_pass-end.new.held.roster
 frozen g c =
     let k = c.args.held.now.case in
     let l = c.loop-pass in
     let next = c.make_pass-end.new.held.roster in
-    stays_on k c.args.searches.now.from c.args.held.now.roster l.held.roster next l.invariant.frozen
-    (at_same (λ m from. FrozenDaysStay m from l.held.roster next) l.held.case k l.searches.from c.args.searches.now.from l.invariant.case l.invariant.from c.make_pass-end.ensures.frozen)
+    stays_on k c.args.aim.from c.args.held.now.roster l.held.roster next l.invariant.frozen
+    (subst (λ (m : Meaning). FrozenDaysStay m c.args.aim.from l.held.roster next) l.invariant.case c.make_pass-end.ensures.frozen)
 
 no_dearer : (g : _) (c : After-make_pass-end g) → penalty c.args.held.now.case c.make_pass-end.new.held.roster ≤ penalty c.args.held.now.case c.args.held.now.roster
 no_dearer g c =
@@ -95,12 +94,10 @@ returns-then-eq g c =
     record {
       case = told.case ∙ i.case;
       settled = λ e n inside.
-          at_same (λ m from. HasBestRow m from next n) l.held.case k l.searches.from c.args.searches.now.from i.case i.from
-          (told.unchanged unchanged n (omega (arith, c.if-first-eq0.true)) (rw i.case inside));
+          subst (λ (m : Meaning). HasBestRow m c.args.aim.from next n) i.case (told.unchanged unchanged n (omega (arith, c.if-first-eq0.true)) (rw i.case inside));
       given_up = λ e. absurd (true≢false e);
       frozen = frozen g here;
       no_dearer = no_dearer g here;
-      from = told.from ∙ i.from;
       spends = spends g here;
       fits = fits g here;
       known = known g here;
@@ -118,7 +115,6 @@ returns-then-eq-2 g c =
       ];
       frozen = frozen g here;
       no_dearer = no_dearer g here;
-      from = c.make_pass-end.ensures.from ∙ c.loop-pass.invariant.from;
       spends = spends g here;
       fits = fits g here;
       known = known g here;
@@ -141,7 +137,6 @@ loop-pass-preserved g c =
         ]
       ];
       no_dearer = no_dearer g here;
-      from = c.make_pass-end.ensures.from ∙ c.loop-pass.invariant.from;
       spends = spends g here;
       fits = fits g here;
       known = known g here;
@@ -150,4 +145,4 @@ loop-pass-preserved g c =
 pub returns : goal.returns
 returns g c =
     let i = c.loop-pass.invariant in
-    record { case = i.case; settled = λ e. absurd (true≢false (sym e)); given_up = λ e. inr (inr (omega (arith, i.fallen, c.loop-pass-test.false))); frozen = i.frozen; no_dearer = i.no_dearer; from = i.from; spends = i.spends; fits = i.fits; known = i.known }
+    record { case = i.case; settled = λ e. absurd (true≢false (sym e)); given_up = λ e. inr (inr (omega (arith, i.fallen, c.loop-pass-test.false))); frozen = i.frozen; no_dearer = i.no_dearer; spends = i.spends; fits = i.fits; known = i.known }

@@ -9,11 +9,10 @@ use Rattle.roster_polish.proofs.settle.settle.Given as goal
 abbrev pub invariant-loop-pass : goal.invariant-loop-pass
 invariant-loop-pass g l = record {
   case : l.held.case ≡ l.fn.held.case;
-  frozen : FrozenDaysStay l.fn.held.case l.fn.searches.from l.fn.held.roster l.held.roster;
+  frozen : FrozenDaysStay l.fn.held.case l.aim.from l.fn.held.roster l.held.roster;
   first : (l.pass ≡ 0) ⊎ (l.first ≡ 0);
   fallen : penalty l.fn.held.case l.held.roster + l.pass ≤ penalty l.fn.held.case l.fn.held.roster + 1;
   no_dearer : penalty l.fn.held.case l.held.roster ≤ penalty l.fn.held.case l.fn.held.roster;
-  from : l.searches.from ≡ l.fn.searches.from;
   spends : Spends l.fn.held.case l.fn.meter l.fn.searches.left l.meter l.searches.left;
   fits : fits_space l.fn.held.case l.workspace ≡ true;
   known : IsKnown l.fn.held.case l.last;

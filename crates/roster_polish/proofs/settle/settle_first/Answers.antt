@@ -19,7 +19,7 @@ loop-rounds_before-preserved g c =
     let told = c.make_pass.ensures in
     let next = c.make_pass.new.held.roster in
     let one : nurse_count l.held.case ≤ l.searches.left = subst (λ (m : Meaning). nurse_count m ≤ l.searches.left) (sym i.case) (enough_for_one (nurse_count k) settling_rounds l.rounds_before l.searches.left c.loop-rounds_before-test.true i.left) in
-    let is_round : next ≡ round k (best_row k from) l.held.roster = subst (λ (m : Meaning). next ≡ round m (best_row m from) l.held.roster) i.case (subst (λ week. next ≡ round l.held.case (best_row l.held.case week) l.held.roster) i.from (told.round refl one)) in
+    let is_round : next ≡ round k (best_row k from) l.held.roster = subst (λ (m : Meaning). next ≡ round m (best_row m from) l.held.roster) i.case (told.round refl one) in
     let differs = was_other (same_rows next l.held.roster) c.make_pass.result (told.end refl one) c.in_default.not-Unchanged in
     record {
       case = told.case ∙ i.case;
@@ -27,7 +27,6 @@ loop-rounds_before-preserved g c =
       rounds = omega (arith, i.rounds, rounds_go_on k from l.held.roster next settling_rounds l.rounds_before c.loop-rounds_before-test.true is_round differs);
       few = omega (arith, i.few, one_and_rest l.rounds_before (nurse_count k), subst (λ (m : Meaning). l.searches.left ≤ c.make_pass.new.searches.left + nurse_count m) i.case (told.few refl));
       left = enough_after (nurse_count k) settling_rounds l.rounds_before l.searches.left c.loop-rounds_before-test.true i.left c.make_pass.new.searches.left (subst (λ (m : Meaning). l.searches.left ≤ c.make_pass.new.searches.left + nurse_count m) i.case (told.few refl));
-      from = told.from ∙ i.from;
       spends = spent_both k c.args.meter.now (first_searches k) l.meter l.searches.left c.make_pass.new.meter c.make_pass.new.searches.left i.spends (subst (λ (m : Meaning). Spends m l.meter l.searches.left c.make_pass.new.meter c.make_pass.new.searches.left) i.case told.spends);
       fits = subst (λ (m : Meaning). fits_space m c.make_pass.new.workspace ≡ true) i.case told.fits;
       known = subst (λ (m : Meaning). IsKnown m c.make_pass.new.last) i.case told.known;
@@ -66,7 +65,7 @@ ended g c =
     let told = c.make_pass.ensures in
     let next = c.make_pass.new.held.roster in
     let one : nurse_count l.held.case ≤ l.searches.left = subst (λ (m : Meaning). nurse_count m ≤ l.searches.left) (sym i.case) (enough_for_one (nurse_count k) settling_rounds l.rounds_before l.searches.left c.loop-rounds_before-test.true i.left) in
-    let is_round : next ≡ round k (best_row k from) l.held.roster = subst (λ (m : Meaning). next ≡ round m (best_row m from) l.held.roster) i.case (subst (λ week. next ≡ round l.held.case (best_row l.held.case week) l.held.roster) i.from (told.round refl one)) in
+    let is_round : next ≡ round k (best_row k from) l.held.roster = subst (λ (m : Meaning). next ≡ round m (best_row m from) l.held.roster) i.case (told.round refl one) in
     let same = was_same (same_rows next l.held.roster) c.make_pass.result (told.end refl one) c.in-Unchanged.is in
     i.run_is ∙ run_ends k from l.held.roster next settling_rounds l.rounds_before c.loop-rounds_before-test.true is_round same
 
@@ -80,7 +79,7 @@ returns-in-Unchanged-clause-counted g c =
     let told = c.make_pass.ensures in
     let next = c.make_pass.new.held.roster in
     let one : nurse_count l.held.case ≤ l.searches.left = subst (λ (m : Meaning). nurse_count m ≤ l.searches.left) (sym i.case) (enough_for_one (nurse_count k) settling_rounds l.rounds_before l.searches.left c.loop-rounds_before-test.true i.left) in
-    let is_round : next ≡ round k (best_row k from) l.held.roster = subst (λ (m : Meaning). next ≡ round m (best_row m from) l.held.roster) i.case (subst (λ week. next ≡ round l.held.case (best_row l.held.case week) l.held.roster) i.from (told.round refl one)) in
+    let is_round : next ≡ round k (best_row k from) l.held.roster = subst (λ (m : Meaning). next ≡ round m (best_row m from) l.held.roster) i.case (told.round refl one) in
     let same = was_same (same_rows next l.held.roster) c.make_pass.result (told.end refl one) c.in-Unchanged.is in
     let all : l.rounds_before + 1 ≡ rounds_made k from settling_rounds given = omega (arith, i.rounds, rounds_end k from l.held.roster next settling_rounds l.rounds_before c.loop-rounds_before-test.true is_round same) in
     let spends = spent_both k c.args.meter.now (first_searches k) l.meter l.searches.left c.make_pass.new.meter c.make_pass.new.searches.left i.spends (subst (λ (m : Meaning). Spends m l.meter l.searches.left c.make_pass.new.meter c.make_pass.new.searches.left) i.case told.spends) in

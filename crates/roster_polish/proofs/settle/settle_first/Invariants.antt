@@ -15,7 +15,6 @@ invariant-loop-rounds_before g l = record {
   rounds : rounds_made l.fn.held.case l.fn.from settling_rounds l.fn.held.roster ≡ l.rounds_before + rounds_made l.fn.held.case l.fn.from (settling_rounds - l.rounds_before) l.held.roster;
   few : first_searches l.fn.held.case ≤ l.searches.left + l.rounds_before * nurse_count l.fn.held.case;
   left : (settling_rounds - l.rounds_before) * nurse_count l.fn.held.case ≤ l.searches.left;
-  from : l.searches.from ≡ l.fn.from;
   spends : Spends l.fn.held.case l.fn.meter (first_searches l.fn.held.case) l.meter l.searches.left;
   fits : fits_space l.fn.held.case l.workspace ≡ true;
   known : IsKnown l.fn.held.case l.last;

@@ -2,12 +2,12 @@ use Rattle.std.proofs.Common.{refl}
 use Rattle.roster_polish.proofs.settle.settle_in.Goals as goal
 
 pub settle-requires : goal.settle-requires
-settle-requires g c = record { fits = c.requires.fits.floor.rows.search; known = c.requires.fits.known; room = c.requires.room }
+settle-requires g c = record { fits = c.requires.able.fits.floor.rows.search; known = c.requires.able.fits.known; room = c.requires.able.room }
 
 pub returns : goal.returns
 returns g c =
     let told = c.settle.ensures in
-    let fits = c.requires.fits in
+    let fits = c.requires.able.fits in
     record {
       case = told.case;
       kept = refl;
@@ -15,7 +15,6 @@ returns g c =
       given_up = told.given_up;
       frozen = told.frozen;
       no_dearer = told.no_dearer;
-      from = told.from;
       spends = told.spends;
       fits = record {
         floor = record {

@@ -4,7 +4,7 @@ use Rattle.roster_polish.proofs.Steps.{has_room, spent_if}
 use Rattle.roster_polish.proofs.settle.step_within.Goals as goal
 
 pub step_unless_known-step-requires-clause-room : goal.step_unless_known-step-requires-clause-room
-step_unless_known-step-requires-clause-room g c = has_room c.args.held.now.case c.args.nurse c.args.meter.now c.args.searches.now.left c.requires.nurse c.requires.left 18446744073709551615 c.requires.room
+step_unless_known-step-requires-clause-room g c = has_room c.args.held.now.case c.args.stepper.nurse c.args.meter.now c.args.searches.now.left c.requires.nurse c.requires.left 18446744073709551615 c.requires.room
 
 pub returns-clause-spends : goal.returns-clause-spends
 returns-clause-spends g c =
@@ -12,5 +12,5 @@ returns-clause-spends g c =
     let after = c.step_unless_known-step.new.meter in
     let before = c.count-before.result in
     let left = c.args.searches.now.left in
-    spent_if k c.args.nurse c.args.meter.now left c.requires.nurse c.requires.left before after c.take_if.new.self.left c.count-before.ensures
+    spent_if k c.args.stepper.nurse c.args.meter.now left c.requires.nurse c.requires.left before after c.take_if.new.self.left c.count-before.ensures
     (c.take_if.ensures.left ∙ ap (λ m. left - one_if (nat_lt before m)) c.count.ensures) c.step_unless_known-step.ensures.counted

@@ -7,11 +7,8 @@ use Rattle.roster_laws.proofs.Frozen.{stays_on, stays_self}
 use Rattle.roster_polish.specs.Polished.{FitsPolish}
 use Rattle.roster_polish.proofs.stay.stay_if_no_dearer.Goals as goal
 
-pub settle_in-settled-requires-clause-fits : goal.settle_in-settled-requires-clause-fits
-settle_in-settled-requires-clause-fits g c = c.requires.fits
-
-pub settle_in-settled-requires-clause-room : goal.settle_in-settled-requires-clause-room
-settle_in-settled-requires-clause-room g c = c.requires.room
+pub settle_in-settled-requires : goal.settle_in-settled-requires
+settle_in-settled-requires g c = record { able = c.requires.able }
 
 -- ---- it stays
 
@@ -21,19 +18,20 @@ keep-requires g c = subst (λ (m : Meaning). FitsPolish m c.settle_in-settled.ne
 pub returns-then-total-aim : goal.returns-then-total-aim
 returns-then-total-aim g c =
     let k = c.args.held.now.case in
-    let week = c.args.searches.now.from in
+    let week = c.args.aim.from in
     let last = c.settle_in-settled in
     let next = last.new.held.roster in
     record {
-      case = last.ensures.case;
-      kept = search rules;
-      stayed = λ e. last.ensures.settled c.if-settled.true;
-      back = λ e. absurd (true≢false e);
-      frozen = stays_on k week c.args.space.now.kept c.args.held.now.roster next c.requires.frozen last.ensures.frozen;
-      no_dearer = omega (arith, c.total.ensures.total, c.requires.most, c.if-total-aim.true, ap (λ (m : Meaning). penalty m next) last.ensures.case);
-      from = last.ensures.from;
-      spends = last.ensures.spends;
-      fits = rw (← last.ensures.case) (search rules);
+      tried = record {
+        case = last.ensures.case;
+        kept = search rules;
+        stayed = λ e. last.ensures.settled c.if-settled.true;
+        back = λ e. absurd (true≢false e);
+        frozen = stays_on k week c.args.space.now.kept c.args.held.now.roster next c.requires.frozen last.ensures.frozen;
+        no_dearer = omega (arith, c.total.ensures.total, c.requires.most, c.if-total-aim.true, ap (λ (m : Meaning). penalty m next) last.ensures.case);
+        spends = last.ensures.spends;
+        fits = rw (← last.ensures.case) (search rules);
+      };
     }
 
 -- ---- it doesn't
@@ -41,7 +39,7 @@ returns-then-total-aim g c =
 pub replace_rows-requires : goal.replace_rows-requires
 replace_rows-requires g c =
     let told = c.settle_in-settled.ensures in
-    rw (told.case, told.kept) (record { fits = c.requires.fits.kept; keeps = c.requires.keeps })
+    rw (told.case, told.kept) (record { fits = c.requires.able.fits.kept; keeps = c.requires.keeps })
 
 pub put-requires : goal.put-requires
 put-requires g c =
@@ -55,23 +53,24 @@ returns-else-settled g c =
     let fits = told.fits in
     let back : c.replace_rows.new.self.roster ≡ c.args.space.now.kept = ap (λ (h : HeldRoster). h.roster) c.replace_rows.ensures ∙ told.kept in
     record {
-      case = ap (λ (h : HeldRoster). h.case) c.replace_rows.ensures ∙ told.case;
-      kept = sym (ap (λ (h : HeldRoster). h.roster) c.replace_rows.ensures);
-      stayed = λ e. absurd (true≢false (sym e));
-      back = λ e. back;
-      frozen = rw back (stays_self k c.args.searches.now.from c.args.space.now.kept);
-      no_dearer = omega (arith, ap (penalty k) back);
-      from = told.from;
-      spends = told.spends;
-      fits = record {
-        floor = fits.floor;
-        known = c.put.ensures.known k fits.kept_known;
-        kept_known = fits.kept_known;
-        dearer = fits.dearer;
-        kept = fits.kept;
-        pays = fits.pays;
-        faded = fits.faded;
-        count = fits.count;
-        order = fits.order;
+      tried = record {
+        case = ap (λ (h : HeldRoster). h.case) c.replace_rows.ensures ∙ told.case;
+        kept = sym (ap (λ (h : HeldRoster). h.roster) c.replace_rows.ensures);
+        stayed = λ e. absurd (true≢false (sym e));
+        back = λ e. back;
+        frozen = rw back (stays_self k c.args.aim.from c.args.space.now.kept);
+        no_dearer = omega (arith, ap (penalty k) back);
+        spends = told.spends;
+        fits = record {
+          floor = fits.floor;
+          known = c.put.ensures.known k fits.kept_known;
+          kept_known = fits.kept_known;
+          dearer = fits.dearer;
+          kept = fits.kept;
+          pays = fits.pays;
+          faded = fits.faded;
+          count = fits.count;
+          order = fits.order;
+        };
       };
     }
