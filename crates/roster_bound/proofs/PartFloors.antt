@@ -1,11 +1,11 @@
 -- A floor under the rosters of a part: a row of one of them costs what it costs, since it goes against no decision.
-use Rattle.std.proofs.Common.{◌≡◌, ◌∙◌, ◌+◌, ◌≤◌, ◌==◌, ◌&&◌, ◌||◌, ℕ, Bool, true, false, not, ap, arith, refl, subst, sym, List, [], ◌∷◌, IsSome, Some, length, if◌then◌else◌}
+use Rattle.std.proofs.Common.{◌≡◌, ◌∙◌, ◌+◌, ◌<◌, ◌≤◌, ◌==◌, ◌&&◌, ◌||◌, ℕ, Bool, true, false, not, ap, arith, refl, subst, sym, List, [], ◌∷◌, IsSome, Some, length, if◌then◌else◌}
 use Rattle.std.proofs.lemmas.Bool.{and_parts, eqb-true}
 use Rattle.arrayvec.specs.ArrayVec.{ArrayVec}
 use Rattle.roster_instance.specs.declared.choice.Choice.{Choice}
 use Rattle.roster_instance.specs.Choices.{days_of, shift_of}
 use Rattle.roster_instance.specs.Limits.{most_keep}
-use Rattle.roster_instance.specs.Meaning.{Meaning}
+use Rattle.roster_instance.specs.Meaning.{Meaning, nurse_count}
 use Rattle.roster_instance.specs.Rosters.{Row, Rows, choice_on, row_of}
 use Rattle.roster_rules.specs.Penalties.{own_cost}
 use Rattle.roster_rules.specs.Prefix.{due}
@@ -17,10 +17,11 @@ use Rattle.roster_offers.specs.Offers.{row_cost_at}
 use Rattle.roster_bound.specs.declared.decisions.Decision.{Decision}
 use Rattle.roster_bound.specs.Days.{ArePricedOffers}
 use Rattle.roster_bound.specs.Parts.{IsLowerBoundIn, against_price, bound_in, is_against, is_as_decided, is_in_part, price_in, row_floor_in}
-use Rattle.roster_bound.specs.Worths.{AreWorths, HasRow, PlaceWorths, bound_by, cheapest_row, own_rows, price_by, row_cost_by}
+use Rattle.roster_bound.specs.Worths.{AreWorths, HasRow, HaveRows, PlaceWorths, bound_by, cheapest_row, own_rows, price_by, row_cost_by}
 use Rattle.roster_bound.proofs.Duality.{among, below}
 use Rattle.roster_bound.proofs.LeastCosts.{least_below}
 use Rattle.roster_bound.proofs.PricedRows.{can_search_priced, cost_is, row_is, some_priced}
+use Rattle.roster_bound.proofs.RowFloors.{named_row}
 
 -- ---- what a roster of the part does goes against no decision
 
@@ -75,7 +76,10 @@ module _ (c : Meaning) (w : PlaceWorths) (part : List Decision) where
       go true = omega (arith, request_on-within c n d (shift_of x) few)
       go false = omega (arith, request_on-within c n d (shift_of x) few)
 
-  module _ (from : ℕ) (given : Rows) (n : ℕ) (own : HasRow c from given n) (table : List (ArrayVec Offer)) (are : ArePricedOffers c from given (price_in c w part n) n table) where
+  module _ (from : ℕ) (given : Rows) (n : ℕ) (rows : ∥ HaveRows c from given ∥₁) (inside : n < nurse_count c) (table : List (ArrayVec Offer)) (are : ArePricedOffers c from given (price_in c w part n) n table) where
+    own : HasRow c from given n
+    own = named_row c from given rows n inside
+
     pub can_search_in : c.keep ≤ most_keep → AreOffers c n table
     can_search_in = can_search_priced c from given (price_in c w part n) n (low_in n) own table are
 

@@ -11,7 +11,7 @@ ghost use Rattle.roster_bound.specs.Parts.{IsLowerBoundIn, bound_in, price_in, r
 ghost use Rattle.roster_bound.specs.Seen.{FitsSeen};
 ghost use Rattle.roster_bound.specs.Tables.{worths_of};
 ghost use Rattle.roster_bound.specs.Workspaces.{FitsRows};
-ghost use Rattle.roster_bound.specs.Worths.{HasRow, HaveRows, IsLowerBound, bound_by, cheapest_row, most_worth, rounded_up};
+ghost use Rattle.roster_bound.specs.Worths.{IsLowerBound, bound_by, cheapest_row, most_worth, rounded_up};
 
 use crate::decisions::Decision;
 use crate::moves::count_row;
@@ -34,7 +34,6 @@ pub fn lower_bound<T: RowTables>(
     seen: &mut Seen,
     meter: &mut Meter,
 ) -> u64
-    requires each { HaveRows terms.now.case.now terms.now.from terms.now.given.now }
     requires rows { FitsRows terms.now.case.now rows.old }
     requires seen { FitsSeen terms.now.case.now seen.old }
     requires room { meter.old + nurse_count terms.now.case.now * greatest_extension_count
@@ -60,7 +59,6 @@ pub(crate) fn lower_bound_in<T: RowTables>(
     seen: &mut Seen,
     meter: &mut Meter,
 ) -> u64
-    requires each { HaveRows terms.now.case.now terms.now.from terms.now.given.now }
     requires rows { FitsRows terms.now.case.now rows.old }
     requires seen { FitsSeen terms.now.case.now seen.old }
     requires room { meter.old + nurse_count terms.now.case.now * greatest_extension_count
@@ -119,7 +117,6 @@ fn row_floor_in<T: RowTables>(
     rows: &mut RowSpace<T>,
     meter: &mut Meter,
 ) -> u64
-    requires row { HasRow terms.now.case.now terms.now.from terms.now.given.now nurse }
     requires nurse { nurse < nurse_count terms.now.case.now }
     requires rows { FitsRows terms.now.case.now rows.old }
     requires room { meter.old + extension_count terms.now.case.now nurse ≤ greatest_u64 }

@@ -2,17 +2,19 @@
 
 ghost use Rattle.std.specs.Prelude.{◌≡◌, ◌<◌, ◌≤◌, true};
 ghost use Rattle.roster_instance.specs.Meaning.{day_count};
-ghost use Rattle.roster_instance.specs.Rosters.{is_choice_of};
+ghost use Rattle.roster_instance.specs.Rosters.{fits_case, is_choice_of};
 ghost use Rattle.roster_bound.specs.Tables.{worths_of};
-ghost use Rattle.roster_bound.specs.Worths.{earned, most_worth};
+ghost use Rattle.roster_bound.specs.Worths.{HaveRows, earned, most_worth};
 
 use crate::decisions::{AGAINST, Decision, is_against};
+use crate::laws::rows_are_had;
 use crate::worths::{MOST_WORTH, Worths};
+use roster_case::Held;
 use roster_instance::{Case, Choice, Roster, Shift, Skill, choice_on};
 use roster_offers::{NurseDay, Offer, Offering};
 
 /// What a nurse's floor is reckoned by: a case, what its places pay, and a roster of which the days before week `from` and the fixed
-/// days stay.
+/// days stay. Each nurse has a row that agrees with these days.
 #[derive(Clone, Copy)]
 pub struct Terms<'a> {
     pub case: &'a Case,
@@ -20,14 +22,32 @@ pub struct Terms<'a> {
     pub given: &'a Roster,
     pub from: u16,
     pub ghost days: { worths.now.days ≡ day_count case.now },
+    pub ghost rows: { ∥ HaveRows case.now from given.now ∥₁ },
 }
 
-/// A case, and a roster of which the days before week `from` and the fixed days stay.
+/// A case, and a roster that fits it, of which the days before week `from` and the fixed days stay. Each nurse has a row that agrees
+/// with these days.
 #[derive(Clone, Copy)]
 pub struct Base<'a> {
     pub case: &'a Case,
     pub given: &'a Roster,
     pub from: u16,
+    pub ghost fits: { fits_case case.now given.now ≡ true },
+    pub ghost rows: { ∥ HaveRows case.now from given.now ∥₁ },
+}
+
+impl<'a> Base<'a> {
+    /// The base of a held roster, in which each nurse has such a row: the own.
+    pub fn of(held: &'a Held, from: u16) -> Base<'a>
+        ensures case { result.case.now ≡ held.now.case }
+        ensures given { result.given.now ≡ held.now.roster }
+        ensures from { result.from ≡ from }
+    {
+        held.keeps_rules();
+        let (case, given) = (held.case(), held.roster());
+        rows_are_had(case, given, from);
+        Base { case, given, from }
+    }
 }
 
 /// What offers a nurse the choices of a day by terms: those that a frozen day doesn't forbid, at what she earns less than the most, and

@@ -3,20 +3,18 @@
 ghost use Rattle.std.specs.Prelude.{◌≡◌, ◌+◌, ◌*◌, ◌<◌, ◌≤◌, IfErr, IfOk, true};
 ghost use Rattle.roster_bundle.specs.Limits.{greatest_u64};
 ghost use Rattle.roster_instance.specs.Meaning.{day_count, nurse_count};
-ghost use Rattle.roster_instance.specs.Rosters.{fits_case};
 ghost use Rattle.roster_rules.specs.HardRules.{keeps_hard};
 ghost use Rattle.roster_rules.specs.Penalties.{penalty};
 ghost use Rattle.roster_laws.specs.Greatest.{extensions_in, greatest_extension_count};
 ghost use Rattle.roster_bound.specs.Floors.{FloorLogStops, HasReached, RaisesFloor, rounds_alone, rounds_of};
 ghost use Rattle.roster_bound.specs.Workspaces.{FitsFloor};
 ghost use Rattle.roster_bound.specs.Tables.{worths_of};
-ghost use Rattle.roster_bound.specs.Worths.{AreWorths, HaveRows, IsLowerBound, bound_by};
+ghost use Rattle.roster_bound.specs.Worths.{AreWorths, IsLowerBound, bound_by};
 
 use crate::climb::climb;
 use crate::effort::{Effort, Reached};
 use crate::floors::lower_bound;
 use crate::known::count_known_rows;
-use crate::laws::rows_are_had;
 use crate::moves::{Step, farthest, learn};
 use crate::offers::{Base, Terms};
 use crate::tree::{BoundSpace, Under, part_least};
@@ -74,11 +72,7 @@ pub fn raise_floor<W: Write, T: RowTables>(
     ensures fits { FitsFloor held.now.case space.new.floor }
 {
     held.keeps_rules();
-    let base = Base {
-        case: held.case(),
-        given: held.roster(),
-        from,
-    };
+    let base = Base::of(held, from);
     let under = Under {
         base: &base,
         total: held.total(),
@@ -94,7 +88,6 @@ fn raise_under<W: Write, T: RowTables>(
     meter: &mut Meter,
     log: &mut Watch<W>,
 ) -> Result<u64, LogFault>
-    requires given { fits_case under.now.base.now.case.now under.now.base.now.given.now ≡ true }
     requires keeps { keeps_hard under.now.base.now.case.now under.now.base.now.given.now ≡ true }
     requires total { under.now.total ≡ penalty under.now.base.now.case.now
         under.now.base.now.given.now }
@@ -116,7 +109,6 @@ fn raise_under<W: Write, T: RowTables>(
     ensures fits { FitsFloor under.now.base.now.case.now space.new.floor }
 {
     let base = under.base;
-    rows_are_had(base.case, base.given, base.from);
     let mut reached = make_rounds(
         base,
         under.total,
@@ -156,7 +148,6 @@ fn make_rounds<W: Write, T: RowTables>(
     meter: &mut Meter,
     log: &mut Watch<W>,
 ) -> Result<Reached, LogFault>
-    requires given { fits_case base.now.case.now base.now.given.now ≡ true }
     requires keeps { keeps_hard base.now.case.now base.now.given.now ≡ true }
     requires total { total ≡ penalty base.now.case.now
         base.now.given.now }
@@ -174,7 +165,6 @@ fn make_rounds<W: Write, T: RowTables>(
     ensures counted { meter.new ≤ meter.old + extensions_in base.now.case.now rounds }
     ensures fits { FitsFloor base.now.case.now workspace.new }
 {
-    rows_are_had(base.case, base.given, base.from);
     let pace = Pace {
         rounds,
         moves: MOVES,
@@ -211,7 +201,6 @@ pub fn improve_worths<T: RowTables>(
     workspace: &mut FloorWorkspace<T>,
     meter: &mut Meter,
 )
-    requires each { HaveRows base.now.case.now base.now.from base.now.given.now }
     requires fits { FitsFloor base.now.case.now workspace.old }
     requires room { meter.old + extensions_in base.now.case.now pace.rounds ≤ greatest_u64 }
     ensures made { meter.old + pace.rounds * (nurse_count base.now.case.now
@@ -240,7 +229,6 @@ fn make_round<T: RowTables>(
     workspace: &mut FloorWorkspace<T>,
     meter: &mut Meter,
 ) -> u64
-    requires each { HaveRows base.now.case.now base.now.from base.now.given.now }
     requires fits { FitsFloor base.now.case.now workspace.old }
     requires room { meter.old + nurse_count base.now.case.now * greatest_extension_count
         base.now.case.now ≤ greatest_u64 }

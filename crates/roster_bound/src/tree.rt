@@ -1,15 +1,13 @@
 //! A floor over all rosters as the least over parts of them.
 
-ghost use Rattle.std.specs.Prelude.{◌≡◌, ◌+◌, ◌*◌, ◌<◌, ◌≤◌, IfErr, IfOk};
+ghost use Rattle.std.specs.Prelude.{◌≡◌, ◌+◌, ◌*◌, ◌<◌, ◌≤◌, IfOk};
 ghost use Rattle.roster_bundle.specs.Limits.{greatest_u64};
 ghost use Rattle.roster_instance.specs.Meaning.{nurse_count};
 ghost use Rattle.roster_laws.specs.Greatest.{extensions_in, greatest_extension_count};
-ghost use Rattle.roster_text.specs.Io.{BreaksIn, Sends};
-ghost use Rattle.roster_bound.specs.Floors.{floor_line, part_rounds};
+ghost use Rattle.roster_bound.specs.Floors.{part_rounds};
 ghost use Rattle.roster_bound.specs.Parting.{ArePartsOf};
 ghost use Rattle.roster_bound.specs.Parts.{IsLowerBoundIn};
 ghost use Rattle.roster_bound.specs.Workspaces.{FitsFloor};
-ghost use Rattle.roster_bound.specs.Worths.{HaveRows};
 
 use crate::choosing::choose;
 use crate::decisions::Decision;
@@ -21,9 +19,7 @@ use crate::workspace::FloorWorkspace;
 use roster_instance::Case;
 use roster_offers::{BestFault, RowTables};
 use roster_state::Meter;
-use roster_text::{Piece, Watch, WriteFault, send_pieces};
 use std::alloc::Global;
-use std::io::Write;
 
 /// What a floor is raised under: a roster of a case, and what it costs.
 #[derive(Clone, Copy)]
@@ -73,8 +69,6 @@ pub(crate) fn part_least<T: RowTables>(
     space: &mut BoundSpace<T>,
     meter: &mut Meter,
 ) -> bool
-    requires each { HaveRows under.now.base.now.case.now under.now.base.now.from
-        under.now.base.now.given.now }
     requires fits { FitsFloor under.now.base.now.case.now space.old.floor }
     requires parts { ArePartsOf under.now.base.now.case.now under.now.base.now.from
         under.now.base.now.given.now space.old.parts.items.items }
@@ -108,8 +102,6 @@ fn raise_part<T: RowTables>(
     floor: &mut FloorWorkspace<T>,
     meter: &mut Meter,
 )
-    requires each { HaveRows under.now.base.now.case.now under.now.base.now.from
-        under.now.base.now.given.now }
     requires fits { FitsFloor under.now.base.now.case.now floor.old }
     requires below { IsLowerBoundIn under.now.base.now.case.now under.now.base.now.from
         under.now.base.now.given.now part.old.decisions.items part.old.floor }
@@ -148,7 +140,6 @@ fn round_in_part<T: RowTables>(
     workspace: &mut FloorWorkspace<T>,
     meter: &mut Meter,
 ) -> u64
-    requires each { HaveRows base.now.case.now base.now.from base.now.given.now }
     requires fits { FitsFloor base.now.case.now workspace.old }
     requires room { meter.old + nurse_count base.now.case.now * greatest_extension_count
         base.now.case.now ≤ greatest_u64 }

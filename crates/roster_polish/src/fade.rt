@@ -7,8 +7,6 @@ ghost use Rattle.roster_instance.specs.Meaning.{day_count, nurse_count};
 ghost use Rattle.roster_rules.specs.HardRules.{keeps_hard};
 ghost use Rattle.roster_laws.specs.FrozenDays.{FrozenDaysStay};
 ghost use Rattle.roster_laws.specs.Greatest.{extension_count};
-ghost use Rattle.roster_instance.specs.Rosters.{fits_case};
-ghost use Rattle.roster_bound.specs.Worths.{HaveRows};
 ghost use Rattle.roster_polish.specs.Fades.{AreFaded};
 ghost use Rattle.roster_polish.specs.Polished.{FitsPolish};
 ghost use Rattle.roster_polish.specs.Tries.{CanSearch, StaysNoDearer};
@@ -20,8 +18,7 @@ use crate::space::PolishSpace;
 use crate::stay::stay_if_no_dearer;
 use crate::visit::{Turn, visit};
 use roster_bound::{
-    Base, Fading, PARTS, Terms, WHOLE, follow_cover, lacks_nurses, pay_places, put_row,
-    rows_are_had, take_row,
+    Base, Fading, PARTS, Terms, WHOLE, follow_cover, lacks_nurses, pay_places, put_row, take_row,
 };
 use roster_case::Held;
 use roster_costs::first_hard;
@@ -57,12 +54,7 @@ pub(crate) fn try_fade<T: RowTables>(
         kicking.new.searches space.new meter.old meter.new result }
 {
     held.keeps_rules();
-    let base = Base {
-        case: held.case(),
-        given: held.roster(),
-        from,
-    };
-    rows_are_had(base.case, base.given, base.from);
+    let base = Base::of(held, from);
     if kicking.passes == 0 {
         return false;
     }
@@ -86,8 +78,6 @@ pub(crate) fn fade_rows<T: RowTables>(
     space: &mut PolishSpace<T>,
     meter: &mut Meter,
 ) -> bool
-    requires given { fits_case base.now.case.now base.now.given.now ≡ true }
-    requires each { HaveRows base.now.case.now base.now.from base.now.given.now }
     requires able { CanSearch base.now.case.now kicking.old.searches space.old meter.old }
     ensures keeps { result ≡ true → keeps_hard base.now.case.now space.new.faded ≡ true }
     ensures fewer { 0 < kicking.old.passes → 0 < kicking.old.searches.left →
@@ -179,7 +169,6 @@ pub(crate) fn make_fade_pass<T: RowTables>(
     space: &mut PolishSpace<T>,
     meter: &mut Meter,
 )
-    requires each { HaveRows base.now.case.now base.now.from base.now.given.now }
     requires able { CanSearch base.now.case.now kicking.old.searches space.old meter.old }
     requires frozen { FrozenDaysStay base.now.case.now base.now.from base.now.given.now
         space.old.faded }
@@ -214,7 +203,6 @@ fn fade_nurse<T: RowTables>(
     space: &mut PolishSpace<T>,
     meter: &mut Meter,
 ) -> bool
-    requires each { HaveRows base.now.case.now base.now.from base.now.given.now }
     requires nurse { turn.nurse < nurse_count base.now.case.now }
     requires fits { FitsPolish base.now.case.now space.old }
     requires frozen { FrozenDaysStay base.now.case.now base.now.from base.now.given.now

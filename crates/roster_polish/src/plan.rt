@@ -170,8 +170,6 @@ fn begin_plan<T: RowTables>(
     space: &mut PolishSpace<T>,
     meter: &mut Meter,
 ) -> Kicking
-    requires roster { fits_case base.now.case.now base.now.given.now ≡ true }
-    requires each { HaveRows base.now.case.now base.now.from base.now.given.now }
     requires fits { FitsPolish base.now.case.now space.old }
     requires room { meter.old + extensions_of base.now.case.now course.now.searches ≤ greatest_u64 }
     ensures kept { space.new.kept ≡ base.now.given.now }
@@ -208,8 +206,6 @@ fn fade_until_kept<T: RowTables>(
     space: &mut PolishSpace<T>,
     meter: &mut Meter,
 )
-    requires roster { fits_case base.now.case.now base.now.given.now ≡ true }
-    requires each { HaveRows base.now.case.now base.now.from base.now.given.now }
     requires able { CanSearch base.now.case.now kicking.old.searches space.old meter.old }
     requires kept { space.old.kept ≡ base.now.given.now }
     requires passes { 0 < kicking.old.passes }
@@ -244,7 +240,6 @@ fn passes_after(passes: u64) -> u64
 
 /// How many nurses a nearer roster than the given one misses fewer than: as many as that misses, where it breaks minimums alone.
 fn least_before(base: &Base<'_>) -> u64
-    requires { fits_case base.now.case.now base.now.given.now ≡ true }
     ensures { keeps_rows base.now.case.now base.now.given.now ≡ true →
         result ≡ missing base.now.case.now base.now.given.now }
 {
@@ -266,8 +261,6 @@ fn fade_and_mend<T: RowTables>(
     space: &mut PolishSpace<T>,
     meter: &mut Meter,
 ) -> bool
-    requires roster { fits_case base.now.case.now base.now.given.now ≡ true }
-    requires each { HaveRows base.now.case.now base.now.from base.now.given.now }
     requires able { CanSearch base.now.case.now kicking.old.searches space.old meter.old }
     requires passes { 0 < kicking.old.passes }
     requires left { 0 < kicking.old.searches.left }
@@ -291,7 +284,6 @@ fn mend_rows<T: RowTables>(
     space: &mut PolishSpace<T>,
     meter: &mut Meter,
 ) -> bool
-    requires each { HaveRows base.now.case.now base.now.from base.now.given.now }
     requires able { CanSearch base.now.case.now kicking.old.searches space.old meter.old }
     requires frozen { FrozenDaysStay base.now.case.now base.now.from base.now.given.now
         space.old.faded }

@@ -16,7 +16,7 @@ use crate::random::Random;
 use crate::searches::Searches;
 use crate::settle::settle_first;
 use crate::space::PolishSpace;
-use roster_bound::{Base, MOVES, Pace, improve_worths, rows_are_had};
+use roster_bound::{Base, MOVES, Pace, improve_worths};
 use roster_case::Held;
 use roster_log::{LogFault, log_start, log_word};
 use roster_offers::RowTables;
@@ -160,13 +160,7 @@ fn begin<T: RowTables>(
     let nurses = held.case().nurses() as u32;
     let parts = if course.kicks { 2 } else { 3 };
     let rounds = rounds_within(course.searches, parts, nurses);
-    let base = Base {
-        case: held.case(),
-        given: held.roster(),
-        from: course.from,
-    };
-    held.keeps_rules();
-    rows_are_had(base.case, base.given, base.from);
+    let base = Base::of(held, course.from);
     let pace = Pace {
         rounds: rounds as u16,
         moves: if course.kicks { 1 } else { MOVES },

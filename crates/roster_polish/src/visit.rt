@@ -8,7 +8,7 @@ ghost use Rattle.roster_laws.specs.Greatest.{extension_count};
 ghost use Rattle.roster_row.specs.Known.{IsKnown};
 ghost use Rattle.roster_bound.specs.Days.{AreWorthOffers};
 ghost use Rattle.roster_bound.specs.Tables.{worths_of};
-ghost use Rattle.roster_bound.specs.Worths.{HasRow, floor_row};
+ghost use Rattle.roster_bound.specs.Worths.{floor_row};
 ghost use Rattle.roster_offers.specs.Workspaces.{fits_space};
 ghost use Rattle.roster_polish.specs.Fades.{is_left_out};
 
@@ -38,7 +38,6 @@ pub(crate) fn visit<T: RowTables>(
     last: &mut LastSearches,
     meter: &mut Meter,
 ) -> bool
-    requires own { HasRow terms.now.case.now terms.now.from terms.now.given.now turn.nurse }
     requires nurse { turn.nurse < nurse_count terms.now.case.now }
     requires row { is_row_of terms.now.case.now row.now ≡ true }
     requires fits { fits_space terms.now.case.now workspace.old ≡ true }
@@ -70,7 +69,6 @@ fn search_offered<T: RowTables>(
     last: &mut LastSearches,
     meter: &mut Meter,
 )
-    requires own { HasRow terms.now.case.now terms.now.from terms.now.given.now nurse }
     requires nurse { nurse < nurse_count terms.now.case.now }
     requires offers { AreWorthOffers terms.now.case.now terms.now.from terms.now.given.now
         (worths_of terms.now.worths.now) nurse workspace.old.offers }
@@ -98,7 +96,6 @@ fn is_left_out(
     offers: &[ArrayVec<Offer, MOST_OFFERS>],
     last: &LastSearches,
 ) -> bool
-    requires own { HasRow terms.now.case.now terms.now.from terms.now.given.now nurse }
     requires nurse { nurse < nurse_count terms.now.case.now }
     requires row { is_row_of terms.now.case.now row.now ≡ true }
     requires offers { AreWorthOffers terms.now.case.now terms.now.from terms.now.given.now

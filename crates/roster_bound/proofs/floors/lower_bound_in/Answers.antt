@@ -16,9 +16,6 @@ row_floor_in-floor-requires-clause-room g c =
     let inside : n < nurse_count k = omega (arith, c.loop-nurse-test.true, c.nurses-nurse-end.ensures.count) in
     has_room k n c.args.meter.now c.loop-nurse.meter c.loop-nurse.invariant.counted inside 18446744073709551615 c.requires.room
 
-pub row_floor_in-floor-requires-clause-row : goal.row_floor_in-floor-requires-clause-row
-row_floor_in-floor-requires-clause-row g c = c.requires.each c.loop-nurse.nurse (omega (arith, c.loop-nurse-test.true, c.nurses-nurse-end.ensures.count))
-
 pub loop-nurse-preserved : goal.loop-nurse-preserved
 loop-nurse-preserved g c =
     let k = c.args.terms.now.case.now in

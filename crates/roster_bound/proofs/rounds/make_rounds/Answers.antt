@@ -59,7 +59,7 @@ loop-rounds_before-preserved g c =
           (tells b.case.now b.from b.given.now l.rounds_before c.make_round-bound.result l.workspace.tried c.make_round-bound.ensures.worths c.make_round-bound.ensures.bound l.invariant.first) c.in_ok-sent-2.ensures.ok;
       first = λ none. omega (arith, none);
       below = c.make_round-bound.ensures.below;
-      within = c.make_round-bound.ensures.below b.given.now c.requires.given c.requires.keeps (stays_self b.case.now b.from b.given.now);
+      within = c.make_round-bound.ensures.below b.given.now b.fits c.requires.keeps (stays_self b.case.now b.from b.given.now);
       made = omega (arith, l.invariant.made, c.make_round-bound.ensures.made);
       counted = round_counted b.case.now l.rounds_before c.args.meter.now l.meter l.invariant.counted c.make_round-bound.new.meter c.make_round-bound.ensures.counted;
       fits = c.prepare_next.ensures;
@@ -99,7 +99,7 @@ pub returns-then-best-total-clause-ok : goal.returns-then-best-total-clause-ok
 returns-then-best-total-clause-ok g c =
     let l = c.loop-rounds_before in
     let b = c.args.base.now in
-    Going-met g.W.Write.contents b.case.now b.from b.given.now c.args.log.now c.args.rounds l.log l.rounds_before l.sent l.best l.invariant.going (omega (arith, c.loop-rounds_before-test.true)) (omega (arith, c.if-best-total.true, c.requires.total)) c.requires.given c.requires.keeps
+    Going-met g.W.Write.contents b.case.now b.from b.given.now c.args.log.now c.args.rounds l.log l.rounds_before l.sent l.best l.invariant.going (omega (arith, c.loop-rounds_before-test.true)) (omega (arith, c.if-best-total.true, c.requires.total)) b.fits c.requires.keeps
 
 pub returns-then-best-total-clause-counted : goal.returns-then-best-total-clause-counted
 returns-then-best-total-clause-counted g c =

@@ -17,7 +17,7 @@ improve_worths-requires-clause-room g c =
     rounds_room c.args.base.now.case.now c.min-rounds.result c.args.course.now.searches c.nurses-nurses.result c.nurses-nurses.ensures.count (few g (goal.at.improve_worths-requires-clause-room g c).After-min-rounds) c.args.meter.now 18446744073709551615 c.requires.room
 
 pub put_rows-requires : goal.put_rows-requires
-put_rows-requires g c = same_days c.args.base.now.case.now c.args.base.now.given.now c.args.space.now.kept c.requires.roster c.requires.fits.kept
+put_rows-requires g c = same_days c.args.base.now.case.now c.args.base.now.given.now c.args.space.now.kept c.args.base.now.fits c.requires.fits.kept
 
 pub returns-clause-spends : goal.returns-clause-spends
 returns-clause-spends g c =

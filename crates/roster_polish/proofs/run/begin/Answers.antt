@@ -7,10 +7,10 @@ use Rattle.roster_polish.proofs.run.begin.Goals as goal
 pub improve_worths-requires-clause-room : goal.improve_worths-requires-clause-room
 improve_worths-requires-clause-room g c =
     let all : c.nurses-nurses.result ≡ nurse_count c.args.held.now.case = c.nurses-nurses.ensures.count ∙ ap nurse_count c.case-2.ensures in
-    rw c.case-3.ensures (rounds_room c.args.held.now.case c.rounds_within-rounds.result c.args.course.now.searches c.nurses-nurses.result all c.rounds_within-rounds.ensures.within c.args.meter.now 18446744073709551615 c.requires.room)
+    rw c.of-base.ensures.case (rounds_room c.args.held.now.case c.rounds_within-rounds.result c.args.course.now.searches c.nurses-nurses.result all c.rounds_within-rounds.ensures.within c.args.meter.now 18446744073709551615 c.requires.room)
 
 pub returns-clause-counted : goal.returns-clause-counted
 returns-clause-counted g c =
     let all : c.nurses-nurses.result ≡ nurse_count c.args.held.now.case = c.nurses-nurses.ensures.count ∙ ap nurse_count c.case-2.ensures in
     rounds_spent c.args.held.now.case c.rounds_within-rounds.result c.args.course.now.searches c.nurses-nurses.result all c.rounds_within-rounds.ensures.within c.args.meter.now c.improve_worths.new.meter
-    (subst (λ (m : Meaning). c.improve_worths.new.meter ≤ c.args.meter.now + extensions_in m c.rounds_within-rounds.result) c.case-3.ensures c.improve_worths.ensures.counted)
+    (subst (λ (m : Meaning). c.improve_worths.new.meter ≤ c.args.meter.now + extensions_in m c.rounds_within-rounds.result) c.of-base.ensures.case c.improve_worths.ensures.counted)
