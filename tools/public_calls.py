@@ -6,7 +6,7 @@ import re
 
 TOP = os.path.dirname(os.path.dirname(os.path.realpath(__file__)))
 # The crates that a program of one's own calls, and what in these serves the crates of a search alone.
-CALLED = "text instance case state best rounds reports bound polish who request joined commands"
+CALLED = "text instance case state best rounds reports bound polish who request joined cli"
 BETWEEN = """
     Area Span areas_of widen NurseDays Stretch is_forbidden LineCosts set_line fill_line Block::numbered Block::of_runs
     Block::last_number Block::with_weekends
@@ -14,7 +14,7 @@ BETWEEN = """
     State::last_number State::run State::shift_run State::assignments State::weekends Workspace::offers
     Workspace::clear_offers Workspace::push_offers Workspace::search_offers LastSearches::knows LastSearches::most_gain
     LastSearches::remember RowSpace Worths Seen count_rows follow_cover raise_missed pay_places take_row put_row price_of
-    lacks_nurses offer_days rows_are_had improve_worths refuse refuse_output
+    lacks_nurses offer_days rows_are_had improve_worths refuse
 """
 # Comments, strings and characters, whose braces count for nothing.
 SILENT = r"""//[^\n]*|"(?:[^"\\]|\\[\s\S])*"|'(?:\\[^'\n]+|[^'\\\n])'"""

@@ -4,7 +4,7 @@ ghost use Rattle.std.specs.Prelude.{ℕ, ◌≡◌, true};
 ghost use Rattle.roster_request.specs.declared.request.Command.TheVariants as command;
 ghost use Rattle.roster_wards.specs.declared.plan.Work.TheVariants as work;
 
-use roster_commands::run;
+use roster_cli::run;
 use roster_request::{Command, Request};
 use roster_text::Watch;
 use roster_wards::{Digest, Plan, Work};

@@ -8,7 +8,7 @@ use Rattle.roster_text.specs.declared.fault.TextFault.{TextFault}
 use Rattle.roster_text.specs.declared.fault.TextFault.TheVariants as text
 use Rattle.roster_request.specs.declared.request.Command.{Command}
 use Rattle.roster_answers.specs.Answer.{Logged}
-use Rattle.roster_commands.specs.Answer.{IsSilent, ReadsAndAnswers}
+use Rattle.roster_cli.specs.Answer.{IsSilent, ReadsAndAnswers}
 use Rattle.roster_reports.specs.Lines.{Text}
 use Rattle.roster_answers.specs.Lines.{text_status}
 use Rattle.roster_cli.specs.Start.{ReadsAndSends, given_for}

@@ -4,7 +4,7 @@ use Rattle.std.specs.Io.KnownBytes.{Appends}
 use Rattle.roster_bundle.specs.declared.bundle.Bundle.{Bundle}
 use Rattle.roster_text.specs.Io.{Watched}
 use Rattle.roster_answers.specs.Answer.{IsTaken, Logged, Logs, Report, SpellsBundle}
-use Rattle.roster_commands.specs.Answer.{IsAnswer, IsSilent}
+use Rattle.roster_cli.specs.Answer.{IsAnswer, IsSilent}
 use Rattle.roster_reports.specs.Lines.{Text}
 use Rattle.roster_request.specs.CommandLine.{IsAsked, Refuses}
 use Rattle.roster_request.specs.declared.request.CliFault.{CliFault}

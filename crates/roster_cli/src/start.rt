@@ -6,7 +6,8 @@ ghost use Rattle.std.specs.Io.Buffered.{writer_buffer, writer_contents};
 ghost use Rattle.roster_answers.specs.Answer.{Logs};
 ghost use Rattle.roster_cli.specs.Start.{AnswersWords, ReadsAndSends, SendsText, TellsWords, given_to};
 
-use roster_commands::{refuse, refuse_output, run};
+use crate::answer::run;
+use roster_answers::{refuse, refuse_output};
 use roster_joined::Joined;
 use roster_request::{CliFault, Request, request_of};
 use roster_text::{TextFault, Watch, write_bytes};

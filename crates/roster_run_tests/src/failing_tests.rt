@@ -1,8 +1,7 @@
 //! Runs of which a read fails, or an output or a log after each byte in turn.
 
-use roster_commands::run;
+use roster_cli::{Command, Request, run};
 use roster_devices::{AtEnd, FailingReader, OneByteReader, ShortWriter};
-use roster_request::{Command, Request};
 use roster_tests::texts::{MINI, RUN_LOG, SHOWN, changed, fill};
 use roster_text::Watch;
 use std::alloc::{AllocError, Global};

@@ -1,7 +1,6 @@
 //! Runs over texts that are cut off or spoilt at each byte.
 
-use roster_commands::run;
-use roster_request::{Command, Request};
+use roster_cli::{Command, Request, run};
 use roster_tests::texts::{MINI, SHOWN};
 use roster_text::Watch;
 use std::alloc::Global;

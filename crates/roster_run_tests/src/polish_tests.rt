@@ -1,8 +1,7 @@
 //! Runs of kicks and of a fade: what the seed decides, which no contract says, and a log that fails after each byte.
 
-use roster_commands::run;
+use roster_cli::{Command, Request, run};
 use roster_devices::{AtEnd, ShortWriter};
-use roster_request::{Command, Request};
 use roster_tests::texts::{changed, fill};
 use roster_text::Watch;
 use std::alloc::{AllocError, Global};

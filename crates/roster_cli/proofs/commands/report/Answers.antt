@@ -1,0 +1,79 @@
+use Rattle.std.proofs.Common.{ap, false, refl, subst, sym}
+use Rattle.roster_case.specs.Shown.{weeks_text}
+use Rattle.roster_answers.specs.Answer.{Output, best_report, cost_report, improve_report, names_in, outcome_of, plain}
+use Rattle.roster_cli.specs.Answer.{IsPlanReport, IsPolishReport, IsReportIn, IsWhoReport}
+use Rattle.roster_reports.specs.Lines.{sizes_text}
+use Rattle.roster_answers.proofs.AnswerLemmas.{plain_ends, silent_log}
+use Rattle.roster_cli.proofs.commands.report.Goals as goal
+
+pub returns-in-Show : goal.returns-in-Show
+returns-in-Show g c =
+    let output : Output g.row.Out.Denot = record { contents = g.Out.Write.contents; before = c.args.output.now; after = c.show_weeks.new.output } in
+    let log : Output g.row.Log.Denot = record { contents = g.Log.Write.contents; before = c.args.log.now; after = c.args.log.now } in
+    let p = plain (weeks_text c.args.instance.case c.args.instance.roster) in
+    let e = plain_ends output (weeks_text c.args.instance.case c.args.instance.roster) c.args.source.now c.args.instance.bundle c.show_weeks.result c.show_weeks.ensures.ok c.show_weeks.ensures.err in
+    record { report = p; is = subst (λ x. IsReportIn x c.args.instance.case c.args.instance.roster p) (sym c.in-Show.is) refl; ends = e; logged = silent_log output log p c.args.source.now c.args.instance.bundle (outcome_of c.show_weeks.result) refl e refl }
+
+pub returns-in-Cost : goal.returns-in-Cost
+returns-in-Cost g c =
+    let output : Output g.row.Out.Denot = record { contents = g.Out.Write.contents; before = c.args.output.now; after = c.report_cost.new.output } in
+    let log : Output g.row.Log.Denot = record { contents = g.Log.Write.contents; before = c.args.log.now; after = c.args.log.now } in
+    let p = cost_report c.args.instance.case c.args.instance.roster in
+    record { report = p; is = subst (λ x. IsReportIn x c.args.instance.case c.args.instance.roster p) (sym c.in-Cost.is) refl; ends = c.report_cost.ensures.ends; logged = silent_log output log p c.args.source.now c.args.instance.bundle (outcome_of c.report_cost.result) refl c.report_cost.ensures.ends refl }
+
+pub returns-in-Sizes : goal.returns-in-Sizes
+returns-in-Sizes g c =
+    let output : Output g.row.Out.Denot = record { contents = g.Out.Write.contents; before = c.args.output.now; after = c.report_sizes.new.output } in
+    let log : Output g.row.Log.Denot = record { contents = g.Log.Write.contents; before = c.args.log.now; after = c.args.log.now } in
+    let p = plain (sizes_text c.args.instance.case) in
+    let e = plain_ends output (sizes_text c.args.instance.case) c.args.source.now c.args.instance.bundle c.report_sizes.result c.report_sizes.ensures.ok c.report_sizes.ensures.err in
+    record { report = p; is = subst (λ x. IsReportIn x c.args.instance.case c.args.instance.roster p) (sym c.in-Sizes.is) refl; ends = e; logged = silent_log output log p c.args.source.now c.args.instance.bundle (outcome_of c.report_sizes.result) refl e refl }
+
+pub returns-in-Best : goal.returns-in-Best
+returns-in-Best g c =
+    let p = best_report c.as_bytes.result.now c.in-Best.from c.args.instance.case c.args.instance.roster in
+    record {
+      report = p;
+      is = subst (λ x. IsReportIn x c.args.instance.case c.args.instance.roster p) (sym c.in-Best.is) (ap (λ name. best_report name c.in-Best.from c.args.instance.case c.args.instance.roster) c.as_bytes.ensures.value);
+      ends = c.report_best.ensures.ends;
+      logged = c.report_best.ensures.logged;
+    }
+
+pub returns-in-Improve : goal.returns-in-Improve
+returns-in-Improve g c =
+    let p = improve_report c.in-Improve.rounds c.in-Improve.from c.args.instance.case c.args.instance.roster in
+    record {
+      report = p;
+      is = subst (λ x. IsReportIn x c.args.instance.case c.args.instance.roster p) (sym c.in-Improve.is) refl;
+      ends = c.report_improve.ensures.ends;
+      logged = c.report_improve.ensures.logged;
+    }
+
+pub returns-in-Bound : goal.returns-in-Bound
+returns-in-Bound g c =
+    let made = c.report_bound.ensures in
+    record { report = made.report; is = subst (λ x. IsReportIn x c.args.instance.case c.args.instance.roster made.report) (sym c.in-Bound.is) made.is; ends = made.ends; logged = made.logged }
+
+pub returns-in-Polish : goal.returns-in-Polish
+returns-in-Polish g c =
+    let made = c.report_polish.ensures in
+    record { report = made.report; is = subst (λ x. IsReportIn x c.args.instance.case c.args.instance.roster made.report) (sym c.in-Polish.is) (subst (λ n. IsPolishReport n c.in-Polish.from c.in-Polish.kicks c.args.instance.case c.args.instance.roster made.report) c.searches_for.ensures made.is); ends = made.ends; logged = made.logged }
+
+pub returns-in-Plan : goal.returns-in-Plan
+returns-in-Plan g c =
+    let made = c.report_plan.ensures in
+    record { report = made.report; is = subst (λ x. IsReportIn x c.args.instance.case c.args.instance.roster made.report) (sym c.in-Plan.is) (subst (λ n. IsPlanReport n c.in-Plan.from false c.args.instance.case c.args.instance.roster made.report) c.searches_for-in-Plan.ensures made.is); ends = made.ends; logged = made.logged }
+
+pub returns : goal.returns
+returns g c =
+    let output : Output g.row.Out.Denot = record { contents = g.Out.Write.contents; before = c.args.output.now; after = c.report_who.new.output } in
+    let log : Output g.row.Log.Denot = record { contents = g.Log.Write.contents; before = c.args.log.now; after = c.args.log.now } in
+    let made = c.report_who.ensures in
+    let from_week = subst (λ w. IsWhoReport (names_in c.asking_of-asking.result) w c.args.instance.case c.args.instance.roster made.report) c.asking_of-asking.ensures.from made.is in
+    let named = subst (λ names. IsWhoReport names c.in-Who.from c.args.instance.case c.args.instance.roster made.report) c.asking_of-asking.ensures.names from_week in
+    record {
+      report = made.report;
+      is = subst (λ x. IsReportIn x c.args.instance.case c.args.instance.roster made.report) (sym c.in-Who.is) named;
+      ends = made.ends;
+      logged = silent_log output log made.report c.args.source.now c.args.instance.bundle (outcome_of c.report_who.result) (ap (λ p. p.log) made.is.is) made.ends refl;
+    }

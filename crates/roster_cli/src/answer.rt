@@ -1,0 +1,85 @@
+//! A command, from the bytes of its input to its output, its log and its status.
+
+ghost use Rattle.std.specs.Prelude.{◌≡◌, ◌≢◌, ◌⊎◌, Contains, [], ◌∷◌, codes};
+ghost use Rattle.roster_answers.specs.Answer.{FailsOnce, Logs, input_of, outcome_of, output_of};
+ghost use Rattle.roster_cli.specs.Answer.{Answers, IsAnswered, IsLogFailed, IsSilent, StopsRun, TellsOutput};
+
+use crate::commands::{keep_of, report};
+use roster_answers::{Fault, keep_roster, read_instance, tell};
+use roster_request::{Command, Request};
+use roster_text::{Watch, read_all};
+use std::alloc::Global;
+use std::io::{Read, Write};
+
+/// Answers a request: reads the input to its end, writes the output, and answers the status. What the command tells of its work
+/// goes to the log, all of it before the output begins, and after that the line of a fault.
+pub fn run<R: Read, Out: Write, Log: Write>(
+    alloc: Global,
+    request: &Request,
+    input: &mut Watch<R>,
+    output: &mut Watch<Out>,
+    log: &mut Watch<Log>,
+) -> u8
+    ensures status { Contains (0 ∷ 1 ∷ 3 ∷ 4 ∷ []) result }
+
+    // What is answered, where nothing is refused.
+    ensures done { result ≡ 0 → IsAnswered (input_of R.remaining input.old input.new)
+        (output_of Out.contents output.old output.new)
+        (output_of Log.contents log.old log.new) request.now.command }
+    ensures silent { result ≡ 0 → IsSilent request.now.command → log.new ≡ log.old }
+
+    // Else there is a fault, with its status and its line.
+    ensures refused { result ≢ 0 → StopsRun (input_of R.remaining input.old input.new)
+        (output_of Out.contents output.old output.new)
+        (output_of Log.contents log.old log.new) request.now.command result }
+
+    // A read or an output write that fails is told so, and status 3 comes from nothing else but a log that fails.
+    ensures read_failed { input.new.failures ≢ input.old.failures → (result ≡ 3)
+        × (output.new ≡ output.old) × Logs Log.contents log.old log.new (codes "read failed\n") }
+    ensures write_failed { output.new.failures ≢ output.old.failures → (result ≡ 3)
+        × TellsOutput (output_of Log.contents log.old log.new) request.now.command }
+    ensures device { result ≡ 3 → FailsOnce input.old input.new ⊎ FailsOnce output.old output.new
+        ⊎ IsLogFailed (output_of Log.contents log.old log.new) request.now.command }
+{
+    run_command(alloc, &request.command, input, output, log)
+}
+
+fn run_command<R: Read, Out: Write, Log: Write>(
+    alloc: Global,
+    command: &Command,
+    input: &mut Watch<R>,
+    output: &mut Watch<Out>,
+    log: &mut Watch<Log>,
+) -> u8
+    ensures done { result ≡ 0 → IsAnswered (input_of R.remaining input.old input.new)
+        (output_of Out.contents output.old output.new)
+        (output_of Log.contents log.old log.new) command.now }
+    ensures refused { result ≢ 0 → StopsRun (input_of R.remaining input.old input.new)
+        (output_of Out.contents output.old output.new)
+        (output_of Log.contents log.old log.new) command.now result }
+{
+    let source = match read_all(alloc, input) {
+        Ok(source) => source,
+        Err(fault) => return tell(Fault::Text(fault), log),
+    };
+    match report_bytes(alloc, command, &source, output, log) {
+        Ok(()) => 0,
+        Err(fault) => tell(fault, log),
+    }
+}
+
+/// Reports on the instance that the bytes spell.
+fn report_bytes<'a, Out: Write, Log: Write>(
+    alloc: Global,
+    command: &'a Command,
+    source: &'a [u8],
+    output: &mut Watch<Out>,
+    log: &mut Watch<Log>,
+) -> Result<(), Fault<'a>>
+    ensures { Answers (output_of Out.contents output.old output.new)
+        (output_of Log.contents log.old log.new) command.now source.now (outcome_of result) }
+{
+    let given = read_instance(alloc, source)?;
+    let instance = keep_roster(alloc, source, given, keep_of(command))?;
+    report(alloc, command, source, instance, output, log)
+}

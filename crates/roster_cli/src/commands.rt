@@ -1,0 +1,174 @@
+//! What each command writes for an instance.
+
+ghost use Rattle.std.specs.Prelude.{◌≡◌, ◌≤◌, true, option_map, string_bytes};
+ghost use Rattle.roster_instance.specs.Limits.{most_keep};
+ghost use Rattle.roster_instance.specs.Rosters.{fits_case};
+ghost use Rattle.roster_answers.specs.Answer.{Reports, names_in, outcome_of, output_of};
+ghost use Rattle.roster_cli.specs.Answer.{IsReportFor, keep_of, searches_for};
+
+use crate::plan::report_plan;
+use crate::polish::report_polish;
+use crate::who::report_who;
+use roster_answers::{
+    Asking, Fault, Instance, report_best, report_bound, report_cost, report_improve, report_sizes,
+    show_weeks,
+};
+use roster_bound::Effort;
+use roster_instance::Case;
+use roster_polish::Course;
+use roster_request::Command;
+use roster_text::Watch;
+use std::alloc::Global;
+use std::io::Write;
+
+/// Writes what a command reports of an instance, or says why it is refused, with the names that the source has. What the
+/// command tells of its work goes to the log.
+pub(crate) fn report<'a, Out: Write, Log: Write>(
+    alloc: Global,
+    command: &'a Command,
+    source: &'a [u8],
+    instance: Instance,
+    output: &mut Watch<Out>,
+    log: &mut Watch<Log>,
+) -> Result<(), Fault<'a>>
+    requires { fits_case instance.case instance.roster ≡ true }
+    ensures { Reports (output_of Out.contents output.old output.new)
+        (output_of Log.contents log.old log.new)
+        (IsReportFor command.now instance) source.now instance.bundle (outcome_of result) }
+{
+    match command {
+        Command::Show => show_weeks(&instance.case, &instance.roster, output),
+        Command::Cost => report_cost(alloc, source, instance, output),
+        Command::Sizes => report_sizes(&instance.case, output),
+        Command::Best { nurse, from, .. } => {
+            report_best(
+                alloc,
+                nurse.as_bytes(),
+                *from,
+                source,
+                instance,
+                output,
+                log,
+            )
+        }
+        Command::Improve { rounds, from, .. } => {
+            report_improve(alloc, *rounds, *from, source, instance, output, log)
+        }
+        Command::Bound {
+            rounds,
+            nodes,
+            from,
+            ..
+        } => {
+            let effort = Effort {
+                rounds: *rounds,
+                nodes: *nodes,
+            };
+            report_bound(alloc, effort, *from, source, instance, output, log)
+        }
+        Command::Polish {
+            searches,
+            seed,
+            from,
+            kicks,
+            ..
+        } => {
+            let course = Course {
+                searches: searches_for(&instance.case, *searches),
+                seed: *seed as u64,
+                from: *from,
+                kicks: *kicks,
+            };
+            report_polish(alloc, &course, source, instance, output, log)
+        }
+        Command::Plan {
+            searches,
+            seed,
+            from,
+            ..
+        } => {
+            let course = Course {
+                searches: searches_for(&instance.case, *searches),
+                seed: *seed as u64,
+                from: *from,
+                kicks: false,
+            };
+            report_plan(alloc, &course, source, instance, output, log)
+        }
+        Command::Who {
+            day,
+            shift,
+            skill,
+            from,
+        } => {
+            let asking = asking_of(day, shift, skill, *from);
+            report_who(alloc, asking, source, instance, output)
+        }
+    }
+}
+
+/// What is asked for by these names, from a week on.
+fn asking_of<'a>(
+    day: &'a String,
+    shift: &'a String,
+    skill: &'a Option<String>,
+    from: u16,
+) -> Asking<'a>
+    ensures names { names_in result ≡ record {
+      day = string_bytes day.now;
+      shift = string_bytes shift.now;
+      skill = option_map string_bytes skill.now;
+    } }
+    ensures from { result.from ≡ from }
+{
+    Asking {
+        day: day.as_bytes(),
+        shift: shift.as_bytes(),
+        skill: bytes_if_given(skill),
+        from,
+    }
+}
+
+/// The bytes of a text, where one is given.
+fn bytes_if_given(text: &Option<String>) -> Option<&[u8]>
+    ensures { option_map (λ bytes. bytes.now) result ≡ option_map string_bytes text.now }
+{
+    match text {
+        None => None,
+        Some(text) => Some(text.as_bytes()),
+    }
+}
+
+/// At how many points a command keeps the given roster.
+pub(crate) fn keep_of(command: &Command) -> u16
+    ensures keep { result ≡ keep_of command.now }
+    ensures within { result ≤ most_keep }
+{
+    match command {
+        Command::Show | Command::Cost | Command::Sizes => 0,
+        Command::Best { keep, .. } => (*keep).min(MOST_KEEP),
+        Command::Improve { keep, .. } => (*keep).min(MOST_KEEP),
+        Command::Bound { keep, .. } => (*keep).min(MOST_KEEP),
+        Command::Polish { keep, .. } => (*keep).min(MOST_KEEP),
+        Command::Plan { keep, .. } => (*keep).min(MOST_KEEP),
+        Command::Who { .. } => 0,
+    }
+}
+
+/// The most points.
+const MOST_KEEP: u16 = 100;
+
+/// How many searches a run may make: as many as are asked for, or else so many for each nurse, and a number at least.
+fn searches_for(case: &Case, asked: Option<u32>) -> u32
+    ensures { result ≡ searches_for case.now asked }
+{
+    case.keeps_limits();
+    match asked {
+        Some(searches) => searches,
+        None => (SEARCHES_OF_A_NURSE * case.nurses() as u32).max(LEAST_SEARCHES),
+    }
+}
+
+const SEARCHES_OF_A_NURSE: u32 = 400;
+
+const LEAST_SEARCHES: u32 = 20_000;

@@ -1,0 +1,53 @@
+//! The command `polish`: a roster that is settled again and again, after kicks.
+
+ghost use Rattle.std.specs.Prelude.{◌≡◌, min, true};
+ghost use Rattle.roster_instance.specs.Rosters.{fits_case};
+ghost use Rattle.roster_polish.specs.Polished.{most_searches};
+ghost use Rattle.roster_answers.specs.Answer.{Reports, outcome_of, output_of};
+ghost use Rattle.roster_cli.specs.Answer.{IsPolishFor};
+
+use roster_answers::{Fault, Instance, hold, show_weeks};
+use roster_log::LogFault;
+use roster_partial::PartialTables;
+use roster_polish::{Course, MOST_SEARCHES, PolishSpace, polish, searches_have_room};
+use roster_state::Meter;
+use roster_text::Watch;
+use std::alloc::Global;
+use std::io::Write;
+
+/// Writes the weeks of an instance after a run of kicks. The run's log goes to the log first, line by line as it is made.
+pub(crate) fn report_polish<'a, Out: Write, Log: Write>(
+    alloc: Global,
+    course: &Course,
+    source: &'a [u8],
+    mut instance: Instance,
+    output: &mut Watch<Out>,
+    log: &mut Watch<Log>,
+) -> Result<(), Fault<'a>>
+    requires { fits_case instance.case instance.roster ≡ true }
+    ensures { Reports (output_of Out.contents output.old output.new)
+        (output_of Log.contents log.old log.new)
+        (IsPolishFor course.now instance) source.now instance.bundle (outcome_of result) }
+{
+    let mut meter = Meter::new(&mut instance.case);
+    let mut held = hold(alloc, source, instance)?;
+    let Ok(mut space) = PolishSpace::<PartialTables>::for_held(alloc, &held) else {
+        return Err(Fault::Workspace);
+    };
+    let course = within_room(course);
+    searches_have_room(held.case(), course.searches);
+    match polish(&mut held, &course, &mut space, &mut meter, log) {
+        Ok(_) => show_weeks(held.case(), held.roster(), output),
+        Err(LogFault::LogFailed { .. }) => Err(Fault::Log),
+    }
+}
+
+/// A course with as many searches as a new meter surely has room for, where more are asked. The command line allows no more.
+pub(crate) fn within_room(course: &Course) -> Course
+    ensures { result ≡ record course.now { searches = min course.now.searches most_searches } }
+{
+    Course {
+        searches: course.searches.min(MOST_SEARCHES),
+        ..*course
+    }
+}

@@ -1,5 +1,0 @@
-pub mod AnswerLemmas
-pub mod RunLemmas
-pub mod PolishLemmas
-pub mod PlanLemmas
-pub mod WhoLemmas
