@@ -14,8 +14,8 @@ use roster_partial::Workspace;
 use roster_row::Best;
 use roster_state::Meter;
 
-/// Searches a nurse's best row from a week on: among all rows with which the roster keeps the hard rules, the other rows and the
-/// nurse's days before that week as they are, the first of those with the least penalty. Every `from` is allowed. `Workspace::row`
+/// Searches a nurse's best row from a week on: among all rows with which the roster keeps the hard rules, the other rows, her days
+/// before that week and her fixed days as they are, the first of those with the least penalty. Every `from` is allowed. `Workspace::row`
 /// shows the row afterwards. It takes no memory. The meter counts each floor, partial row and state that is taken over a choice: one
 /// for each day at least, and at most one for each state, day and choice of the nurse.
 ///

@@ -17,7 +17,7 @@ use Rattle.roster_rules.specs.Weights.{staffing_weight}
 use Rattle.roster_laws.specs.FrozenDays.{FrozenDaysStay}
 use Rattle.roster_offers.specs.Offers.{row_cost_at}
 
--- no roster of the case that keeps the hard rules, and agrees with the given one on each day before week `from`, costs less
+-- no roster of the case that keeps the hard rules, and has the given one's frozen days, costs less
 abbrev pub IsLowerBound : Meaning → ℕ → Rows → ℕ → Type 0
 IsLowerBound c from given bound = (r : Rows) → fits_case c r ≡ true → keeps_hard c r ≡ true → FrozenDaysStay c from given r → bound ≤ penalty c r
 

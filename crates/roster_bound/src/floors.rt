@@ -26,8 +26,8 @@ use roster_offers::{MOST_OFFERS, NurseDay, Offer, RowTables, Workspace, offers_b
 use roster_rules::is_frozen;
 use roster_state::{Meter, start};
 
-/// A floor by worths: no roster costs less that fits the case, keeps the hard rules and agrees with the given one on the days before week
-/// `from`. The cover counts the first of each nurse's cheapest rows, and these are kept among those that were seen.
+/// A floor by worths: no roster costs less that fits the case, keeps the hard rules and has the given one's frozen days. The cover
+/// counts the first of each nurse's cheapest rows, and these are kept among those that were seen.
 pub fn lower_bound<T: RowTables>(
     terms: &Terms<'_>,
     rows: &mut RowSpace<T>,

@@ -4,7 +4,8 @@ use Rattle.std.specs.List.{range_with_len}
 use Rattle.roster_instance.specs.Meaning.{Meaning, day_count, nurse_count}
 use Rattle.roster_instance.specs.Sizes.{choice_count, greatest_of, state_count}
 
--- how often the search for a nurse's best row extends a label, at most: each state on each day by each choice
+-- how often the search for a nurse's best row takes a floor, a partial row or a state over a choice, at most: each state on each day
+-- by each choice
 unfoldable pub extension_count : Meaning → ℕ → ℕ
 extension_count c n = state_count c n * day_count c * choice_count c n
 
@@ -20,7 +21,7 @@ greatest_state_count c = greatest_over_nurses c state_count
 unfoldable pub greatest_extension_count : Meaning → ℕ
 greatest_extension_count c = greatest_over_nurses c extension_count
 
--- how often a run of rounds extends a label, at most
+-- how many of these a run of rounds takes, at most
 abbrev pub extensions_in : Meaning → ℕ → ℕ
 extensions_in c rounds = rounds * (nurse_count c * greatest_extension_count c)
 

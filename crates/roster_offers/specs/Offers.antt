@@ -65,7 +65,7 @@ offer_of c r n d choice = record { choice = choice; price = price c r n d choice
 abbrev pub open_offers : Meaning → Rows → ℕ → ℕ → List Offer
 open_offers c r n d = map (offer_of c r n d) (filter (is_open c r n d) (all_choices c))
 
--- the offers of a nurse on a day, where the days before week `from` are frozen
+-- the offers of a nurse on a day, where those before week `from` and her fixed ones are frozen
 abbrev pub offers_of : Meaning → ℕ → Rows → ℕ → ℕ → List Offer
 offers_of c from r n d = map (offer_of c r n d) (filter (is_offered c from r n d) (all_choices c))
 

@@ -254,7 +254,7 @@ fn least_before(base: &Base<'_>) -> u64
 }
 
 /// Fades the given rows, and mends them where they then break a minimum. Says whether they keep the hard rules. At least one search is
-/// made, and the days before week `from` are as they are given.
+/// made, and the frozen days are as they are given.
 fn fade_and_mend<T: RowTables>(
     base: &Base<'_>,
     kicking: &mut Kicking,
@@ -276,8 +276,8 @@ fn fade_and_mend<T: RowTables>(
 }
 
 /// Gives the nurses new rows, pass by pass, while a place that misses nurses pays more each time, in the last passes more than for all
-/// else, until none does or the passes or the searches end. Says whether the rows keep the hard rules then. The days before week `from`
-/// are as they are given.
+/// else, until none does or the passes or the searches end. Says whether the rows keep the hard rules then. The frozen days are as they
+/// are given.
 fn mend_rows<T: RowTables>(
     base: &Base<'_>,
     kicking: &mut Kicking,

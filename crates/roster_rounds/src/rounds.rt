@@ -19,7 +19,7 @@ use roster_text::{Watch, WriteFault};
 use std::io::Write;
 
 /// Makes rounds until one changes nothing, or as many as are given. A round is a step for each nurse, in the order of the case. The
-/// days of the weeks before week `from` stay as they are. Each line of the log goes out as it is made.
+/// frozen days stay as they are, those of the weeks before week `from` and fixed ones. Each line of the log goes out as it is made.
 ///
 /// With a `Workspace` each step is a search. A `RunSpace` takes less time: a nurse whose last search in the run tells that no row is
 /// cheaper isn't searched again.

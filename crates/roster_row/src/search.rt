@@ -27,8 +27,8 @@ pub struct Best {
     pub total: u64,
 }
 
-/// Searches a nurse's best row from a week on, over any tables: `best_row` of `roster_best`, which programs call, is this one over
-/// theirs, and says what it is.
+/// Searches a nurse's best row from a week on, over any tables: what `best_row` of `roster_best` says of the programs' own holds of
+/// each, but that here the tables say what a search counts.
 pub fn best_row<T: RowTables>(
     held: &Held,
     nurse: usize,

@@ -19,7 +19,7 @@ pub struct Asked {
 }
 
 /// What is asked for, and of which roster: one in which absent nurses are off, with how many nurses work at each place of each day. The
-/// days before week `from` stay.
+/// frozen days stay.
 #[derive(Clone, Copy)]
 pub(crate) struct Asking<'a> {
     pub(crate) case: &'a Case,
