@@ -1,6 +1,6 @@
 //! No roster costs less than the floors. The functions here do nothing: each is a law, and its clauses say it.
 
-ghost use Rattle.std.specs.Prelude.{◌≡◌, ◌%◌, ◌≤◌, ◌⊎◌, ◌++◌, [], ◌∷◌, List, ℕ, true};
+ghost use Rattle.std.specs.Prelude.{◌≡◌, ◌%◌, ◌⊎◌, ◌++◌, [], ◌∷◌, List, ℕ, true};
 ghost use Rattle.roster_instance.specs.Meaning.{Meaning};
 ghost use Rattle.roster_instance.specs.Rosters.{Rows, fits_case};
 ghost use Rattle.roster_rules.specs.HardRules.{keeps_hard};

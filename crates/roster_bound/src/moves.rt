@@ -1,6 +1,6 @@
 //! How the worths move from one round to the next: a place that lacks nurses pays more, one that has too many pays less.
 
-ghost use Rattle.std.specs.Prelude.{◌≡◌, ◌*◌, ◌<◌, ◌≤◌, length};
+ghost use Rattle.std.specs.Prelude.{◌≡◌, ◌*◌, ◌<◌, length};
 ghost use Rattle.roster_instance.specs.Meaning.{day_count};
 
 use crate::rounds::Pace;

@@ -1,9 +1,8 @@
 //! The rows that searches found, by which the worths move between two rounds of searches.
 
-ghost use Rattle.std.specs.Prelude.{◌≡◌, ◌+◌, ◌*◌, ◌<◌, ◌≤◌, IfOk, IfSome, length};
+ghost use Rattle.std.specs.Prelude.{◌≡◌, ◌+◌, ◌*◌, ◌<◌, IfOk, length};
 ghost use Rattle.roster_instance.specs.Meaning.{day_count, nurse_count};
-ghost use Rattle.roster_bound.specs.Seen.{FitsSeen, kept_rows};
-ghost use Rattle.roster_bound.specs.Tables.{most_fine};
+ghost use Rattle.roster_bound.specs.Seen.{FitsSeen};
 
 use crate::worths::{MOST_FINE, MOST_WORTH, PARTS, Worths};
 use roster_instance::{Case, Choice};

@@ -1,7 +1,6 @@
 //! The memory of a run that raises a floor.
 
 ghost use Rattle.std.specs.Prelude.{◌≡◌, ◌*◌, IfOk, length};
-ghost use Rattle.roster_instance.specs.Meaning.{day_count};
 ghost use Rattle.roster_bound.specs.Tables.{worths_of};
 ghost use Rattle.roster_bound.specs.Workspaces.{FitsFloor, FitsRows};
 ghost use Rattle.roster_bound.specs.Worths.{SameWorths, first_worths};

@@ -1,7 +1,6 @@
 //! What each place pays to a nurse that works there.
 
 ghost use Rattle.std.specs.Prelude.{◌≡◌, ◌+◌, ◌-◌, ◌*◌, ◌/◌, ◌%◌, ◌<◌, ◌≤◌, IfOk, length, min, replicate};
-ghost use Rattle.roster_instance.specs.Limits.{most_days};
 ghost use Rattle.roster_instance.specs.Meaning.{day_count};
 ghost use Rattle.roster_bound.specs.Tables.{most_fine, parts, worths_of};
 ghost use Rattle.roster_bound.specs.Worths.{AreWorths, SameWorths, asks_for_nurses, even_worths, most_worth};

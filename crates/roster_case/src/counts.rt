@@ -1,6 +1,6 @@
 //! What is kept of a roster that keeps the hard rules.
 
-ghost use Rattle.std.specs.Prelude.{◌≡◌, ◌+◌, ◌*◌, ◌<◌, ◌≤◌, ◌==◌, ℕ, [], true, IfOk, if◌then◌else◌, length, slice_index_or};
+ghost use Rattle.std.specs.Prelude.{◌≡◌, ◌+◌, ◌*◌, ◌<◌, ◌≤◌, ◌==◌, ℕ, true, IfOk, if◌then◌else◌, length, slice_index_or};
 ghost use Rattle.roster_instance.specs.Counting.{sum_below};
 ghost use Rattle.roster_instance.specs.Limits.{most_nurses};
 ghost use Rattle.roster_instance.specs.Meaning.{day_count, nurse_count};

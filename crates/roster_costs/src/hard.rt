@@ -2,10 +2,10 @@
 
 ghost use Rattle.std.specs.Prelude.{◌≡◌, ◌<◌, ◌≤◌, true, nat_lt, Option};
 ghost use Rattle.roster_instance.specs.Faults.{below, fault_if, first_fault};
-ghost use Rattle.roster_rules.specs.HardRules.{absence_fault, absence_faults, absences_before, hard_faults, shift_before, skill_fault, skill_faults, staffing_fault, staffing_faults, succession_fault, succession_faults, successions_before};
+ghost use Rattle.roster_rules.specs.HardRules.{absence_fault, absence_faults, absences_before, hard_faults, skill_fault, skill_faults, staffing_fault, staffing_faults, succession_fault, succession_faults, successions_before};
 ghost use Rattle.roster_rules.specs.declared.fault.HardFault.TheVariants.{H2};
-ghost use Rattle.roster_instance.specs.Meaning.{day_count, nurse_at, nurse_count, past_of, shift_at, shift_count, skill_at, skill_count, forbids, minimum};
-ghost use Rattle.roster_instance.specs.Rosters.{choice_on, cover, days_of_nurse, fits_case, row_of};
+ghost use Rattle.roster_instance.specs.Meaning.{day_count, nurse_count, shift_count, skill_count, minimum};
+ghost use Rattle.roster_instance.specs.Rosters.{fits_case};
 
 use crate::staffing::{covers, place};
 use roster_instance::{Case, Roster, Shift, Skill};

@@ -1,7 +1,7 @@
 //! The runs of a row: how far they miss what a contract or a shift asks for.
 
 ghost use Rattle.std.specs.Prelude.{◌≡◌, ◌+◌, ◌*◌, ◌<◌, ◌≤◌, if◌then◌else◌, length};
-ghost use Rattle.roster_instance.specs.Choices.{days_of, shift_of};
+ghost use Rattle.roster_instance.specs.Choices.{days_of};
 ghost use Rattle.roster_instance.specs.Days.{shift_on};
 ghost use Rattle.roster_instance.specs.Limits.{most_days};
 ghost use Rattle.roster_costs.specs.Kinds.{is_of};

@@ -1,6 +1,6 @@
 //! The staffing of a roster against the optimum.
 
-ghost use Rattle.std.specs.Prelude.{◌≡◌, ℕ, ◌+◌, ◌*◌, ◌<◌, ◌≤◌, true, length, slice_index_or, slice_set};
+ghost use Rattle.std.specs.Prelude.{◌≡◌, ℕ, ◌+◌, ◌*◌, ◌<◌, ◌≤◌, true};
 ghost use Rattle.roster_rules.specs.Covers.{AreCovers, IsTable};
 ghost use Rattle.roster_instance.specs.Limits.{most_days, most_shifts, most_skills};
 ghost use Rattle.roster_instance.specs.Meaning.{shift_count, skill_count};

@@ -5,7 +5,7 @@ ghost use Rattle.roster_instance.specs.Choices.{days_of};
 ghost use Rattle.roster_instance.specs.Days.{days_worked};
 ghost use Rattle.roster_instance.specs.Limits.{most_days};
 ghost use Rattle.roster_costs.specs.Sums.{most_of_part};
-ghost use Rattle.roster_rules.specs.Penalties.{extra_cost, missing_cost, totals_cost};
+ghost use Rattle.roster_rules.specs.Penalties.{totals_cost};
 
 use roster_instance::{Case, Choice};
 use roster_rules::weights::ASSIGNMENT;

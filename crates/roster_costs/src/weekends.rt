@@ -2,7 +2,7 @@
 
 ghost use Rattle.std.specs.Prelude.{◌≡◌, ◌*◌, ◌≤◌, length};
 ghost use Rattle.roster_instance.specs.Choices.{days_of};
-ghost use Rattle.roster_instance.specs.Days.{one_alone, split_weekends, worked_weekends, works};
+ghost use Rattle.roster_instance.specs.Days.{split_weekends, worked_weekends, works};
 ghost use Rattle.roster_instance.specs.Limits.{most_weeks};
 ghost use Rattle.roster_costs.specs.Sums.{most_of_part};
 ghost use Rattle.roster_rules.specs.Penalties.{split_cost, weekends_cost};

@@ -1,6 +1,6 @@
 //! The case: what an instance says, apart from the roster.
 
-ghost use Rattle.std.specs.Prelude.{◌≡◌, ◌≢◌, ◌+◌, ◌*◌, ◌<◌, ◌≤◌, ℕ, List, [], Some, IfOk, IfErr, IfSome, OnOk, flat_map, length, map, slice_index_or};
+ghost use Rattle.std.specs.Prelude.{◌≡◌, ◌≢◌, ◌+◌, ◌*◌, ◌<◌, ◌≤◌, ℕ, [], Some, IfOk, IfErr, IfSome, OnOk, flat_map, length, map, slice_index_or};
 ghost use Rattle.std.specs.List.{enumerate_from};
 ghost use Rattle.roster_bundle.specs.SmallNumbers.{SaysSmallNumbers};
 ghost use Rattle.roster_bundle.specs.declared.bundle.Nurse.{Nurse};

@@ -1,6 +1,6 @@
 //! The history: what each nurse did before the first Monday.
 
-ghost use Rattle.std.specs.Prelude.{◌≡◌, ◌≤◌, ℕ, List, [], IfOk, IfErr, OnOk, codes, length};
+ghost use Rattle.std.specs.Prelude.{◌≡◌, ◌≤◌, [], IfOk, IfErr, OnOk, codes, length};
 ghost use Rattle.roster_instance.specs.Bundles.{border_meant, past_meant};
 ghost use Rattle.roster_instance.specs.Checking.{IsFirst};
 ghost use Rattle.roster_instance.specs.Limits.{most_shifts};

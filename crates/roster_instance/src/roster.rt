@@ -1,14 +1,14 @@
 //! Rosters: a row of choices for each nurse.
 
-ghost use Rattle.std.specs.Prelude.{◌≡◌, true, ◌≢◌, ◌*◌, ◌/◌, ◌<◌, ◌≤◌, ℕ, List, [], Some, IfOk, IfErr, OnOk, flat_map, length, map};
+ghost use Rattle.std.specs.Prelude.{◌≡◌, true, ◌≢◌, ◌*◌, ◌/◌, ◌<◌, ◌≤◌, [], Some, IfOk, IfErr, OnOk, flat_map, length, map};
 ghost use Rattle.std.specs.List.{enumerate_from, list_all, range_with_len};
 ghost use Rattle.roster_bundle.specs.declared.bundle.Assignment.{Assignment};
 ghost use Rattle.roster_bundle.specs.declared.bundle.Solution.{Solution};
 ghost use Rattle.roster_instance.specs.Bundles.{place_of_line, row_meant, rows_of, solution_meant, work_meant};
 ghost use Rattle.roster_instance.specs.Checking.{IsFirst};
-ghost use Rattle.roster_instance.specs.Faults.{each, first_fault};
+ghost use Rattle.roster_instance.specs.Faults.{first_fault};
 ghost use Rattle.roster_instance.specs.Limits.{most_nurses, most_weeks};
-ghost use Rattle.roster_instance.specs.Meaning.{nurse_count, week_count};
+ghost use Rattle.roster_instance.specs.Meaning.{week_count};
 ghost use Rattle.roster_instance.specs.CaseParts.{known_of};
 ghost use Rattle.roster_instance.specs.Refusals.{KnownInWeek, assignment_faults, roster_faults, solution_faults};
 ghost use Rattle.roster_instance.specs.Rosters.{choice_on, cover, fits_case, is_choice_of, is_row_of, row_of, with_row};

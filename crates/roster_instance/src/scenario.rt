@@ -1,7 +1,6 @@
 //! The scenario: its names, shifts, contracts and nurses.
 
 ghost use Rattle.std.specs.Prelude.{◌≡◌, ◌<◌, ◌≤◌, ℕ, List, [], IfOk, IfErr, OnOk, count_by, flat_map, length, map};
-ghost use Rattle.roster_bundle.specs.Token.{text_of};
 ghost use Rattle.roster_bundle.specs.declared.bundle.Contract.{Contract};
 ghost use Rattle.roster_bundle.specs.declared.bundle.Nurse.{Nurse};
 ghost use Rattle.roster_bundle.specs.declared.bundle.Pair.{Pair};

@@ -1,6 +1,6 @@
 //! The data of the weeks: requirements, off requests, wishes to work, absences, and fixed days.
 
-ghost use Rattle.std.specs.Prelude.{◌≡◌, ◌*◌, ◌<◌, ℕ, List, [], IfOk, IfErr, OnOk, codes, false, flat_map, length, map, replicate, slice_index_or, slice_set, true};
+ghost use Rattle.std.specs.Prelude.{◌≡◌, ◌*◌, ◌<◌, [], IfOk, IfErr, OnOk, false, flat_map, map, replicate, slice_index_or, slice_set, true};
 ghost use Rattle.std.specs.Option.{option_map_or};
 ghost use Rattle.roster_bundle.specs.Weekdays.{weekday};
 ghost use Rattle.roster_bundle.specs.declared.bundle.WeekData.{WeekData};

@@ -1,7 +1,7 @@
 //! Readers of which the first that is left is read. What reads stands in a module of its own (`joined`), from which the readers and the
 //! count of failures can't be reached but by a call of these.
 
-ghost use Rattle.std.specs.Prelude.{◌≡◌, ◌<◌, ◌↔◌, [], IsTrue, drop, is_err, length};
+ghost use Rattle.std.specs.Prelude.{◌≡◌, ◌<◌, ◌↔◌, IsTrue, drop, is_err, length};
 ghost use Rattle.roster_text.specs.Io.{counted};
 ghost use Rattle.roster_joined.specs.JoinedBytes.{ReadsFirst};
 

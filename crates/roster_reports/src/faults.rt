@@ -1,6 +1,6 @@
 //! The line of each kind of fault.
 
-ghost use Rattle.std.specs.Prelude.{◌≡◌, OnOk, IfErr, ◌++◌, codes, decimal};
+ghost use Rattle.std.specs.Prelude.{OnOk, IfErr, ◌++◌, codes, decimal};
 ghost use Rattle.roster_text.specs.Io.{StopsIn, Writes};
 ghost use Rattle.roster_reports.specs.Lines.{case_line, hard_line, memory_line, missing_line, nurse_day_line, text_line};
 

@@ -1,6 +1,6 @@
 //! The command `sizes`: how much the search for each nurse takes.
 
-ghost use Rattle.std.specs.Prelude.{◌≡◌, ◌<◌, OnOk, OnErr, IfErr};
+ghost use Rattle.std.specs.Prelude.{◌<◌, OnOk, OnErr, IfErr};
 ghost use Rattle.roster_text.specs.Io.{Stops, StopsIn, Writes};
 ghost use Rattle.roster_instance.specs.Meaning.{nurse_count};
 ghost use Rattle.roster_reports.specs.Lines.{sizes_line, sizes_text};

@@ -1,17 +1,14 @@
 //! What a nurse may do on a day, with its price.
 
-ghost use Rattle.std.specs.Prelude.{◌≡◌, ◌+◌, ◌-◌, ◌*◌, ◌<◌, ◌≤◌, ◌++◌, ◌&&◌, ◌==◌, not, if◌then◌else◌, ℕ, [], ◌∷◌, length, nat_lt, slice_index_or, false, true, Option, Some, None};
-ghost use Rattle.std.specs.List.{list_any};
-ghost use Rattle.std.specs.Option.{option_to_list};
+ghost use Rattle.std.specs.Prelude.{◌≡◌, ◌+◌, ◌-◌, ◌*◌, ◌<◌, ◌≤◌, ◌==◌, if◌then◌else◌, [], ◌∷◌, length, nat_lt, true, Option, Some, None};
 ghost use Rattle.roster_instance.specs.declared.choice.Choice.TheVariants.{Off, Work};
 ghost use Rattle.roster_instance.specs.declared.choice.Shift.{Shift};
 ghost use Rattle.roster_instance.specs.Choices.{shift_of};
 ghost use Rattle.roster_instance.specs.Counting.{one_if};
 ghost use Rattle.roster_instance.specs.Limits.{most_shifts, most_skills, most_small};
-ghost use Rattle.roster_instance.specs.Meaning.{day_count, is_absent, minimum, nurse_at, nurse_count, optimum, shift_count, skill_count};
+ghost use Rattle.roster_instance.specs.Meaning.{day_count, minimum, nurse_count, optimum, shift_count, skill_count};
 ghost use Rattle.roster_instance.specs.Rosters.{choice_on, is_choice_of, row_of};
 ghost use Rattle.roster_rules.specs.AllowedRows.{is_frozen};
-ghost use Rattle.roster_rules.specs.HardRules.{may_take};
 ghost use Rattle.roster_rules.specs.Penalties.{request_cost_on};
 ghost use Rattle.roster_rules.specs.Weights.{most_request};
 ghost use Rattle.roster_laws.specs.OneRow.{is_open, others};

@@ -1,13 +1,12 @@
 //! Reading tokens from left to right: one token, so many of a kind, or lines up to the next section.
 
-ghost use Rattle.std.specs.Prelude.{◌≡◌, ◌≤◌, ◌<◌, ℕ, List, [], length, codes, Result, IfOk, Option, Some, None, IsTrue, option_map, drop, min};
+ghost use Rattle.std.specs.Prelude.{◌≡◌, ◌≤◌, ◌<◌, List, [], length, codes, Result, IfOk, Option, Some, None, option_map, drop, min};
 ghost use Rattle.std.specs.Char.{digit_value, is_ascii_digit};
 ghost use Rattle.std.specs.List.{list_all};
 ghost use Rattle.std.specs.Str.Parse.{digits_value};
 ghost use Rattle.roster_text.specs.Grammar.{is_number, is_name};
 ghost use Rattle.roster_text.specs.Reading.{Read, Reads, begins_section, begins_with, first_of, day_at, day_of, key_at, listed_at, name_at, names_at, number_at, optional_at, section_at, small_at, times_at, until_at, value_at, word_at};
 ghost use Rattle.roster_bundle.specs.Token.{Seen};
-ghost use Rattle.roster_text.specs.Words.{keyword_text};
 
 use crate::fault::{Keyword, What};
 use crate::token::is_mark;

@@ -1,6 +1,5 @@
 //! The parts of the four texts, each read as the grammar says.
 
-ghost use Rattle.std.specs.Prelude.{◌≡◌};
 ghost use Rattle.roster_text.specs.Reading.{Reads, assignment_at, bundle_at, contract_at, history_at, nurse_at, nurse_day_at, nurse_history_at, pair_at, request_at, requirement_at, scenario_at, shift_type_at, solution_at, succession_at, title_at, week_data_at, week_pairs_at};
 
 use crate::fault::{Keyword, What};

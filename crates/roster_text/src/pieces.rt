@@ -1,6 +1,6 @@
 //! Writing bytes, numbers, and texts that are made of both.
 
-ghost use Rattle.std.specs.Prelude.{◌≡◌, OnOk, IfOk, IfErr, decimal};
+ghost use Rattle.std.specs.Prelude.{OnOk, IfOk, IfErr, decimal};
 ghost use Rattle.roster_text.specs.Io.{Writes, StopsAt, StopsIn, Sends, BreaksIn, sent_of};
 ghost use Rattle.roster_text.specs.Pieces.{piece_text, pieces_text};
 

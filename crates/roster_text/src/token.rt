@@ -1,6 +1,6 @@
 //! The tokens of a text.
 
-ghost use Rattle.std.specs.Prelude.{◌≡◌, ℕ, ◌+◌, ◌-◌, ◌<◌, ◌≤◌, All, length, IfOk, IfErr, drop};
+ghost use Rattle.std.specs.Prelude.{◌≡◌, ◌+◌, ◌-◌, ◌<◌, ◌≤◌, All, length, IfOk, IfErr, drop};
 ghost use Rattle.std.specs.List.{prefix_len};
 ghost use Rattle.roster_bundle.specs.Token.{is_separator, is_mark, is_word_byte, end_from, line_at, line_at_end, tokens_from, tokens_of, IsBetweenTokens, IsWithin, AreTokensOf};
 

@@ -6,7 +6,7 @@ ghost use Rattle.roster_bundle.specs.Limits.{greatest_u64};
 ghost use Rattle.roster_instance.specs.Meaning.{day_count, nurse_count};
 ghost use Rattle.roster_instance.specs.Rosters.{fits_case};
 ghost use Rattle.roster_laws.specs.Greatest.{extension_count, greatest_extension_count};
-ghost use Rattle.roster_offers.specs.Workspaces.{SameRoom, fits_space};
+ghost use Rattle.roster_offers.specs.Workspaces.{fits_space};
 ghost use Rattle.roster_who.specs.Who.{AreInOrder, missed, taker, takers, without_absent_work};
 
 use crate::asked::{Asked, Asking};
@@ -36,8 +36,8 @@ pub struct Takers {
     pub listed: Vec<Taker>,
 }
 
-/// Finds who may take an assignment: each nurse who has a row with it, with the first least of these rows. The days before week `from`
-/// stay. The roster may miss minimums, and what absent nurses work in it isn't counted. The meter counts as for `best_row`, for each
+/// Finds who may take an assignment: each nurse who has a row with it, with the first least of these rows. The frozen
+/// days stay. The roster may miss minimums, and what absent nurses work in it isn't counted. The meter counts as for `best_row`, for each
 /// nurse.
 ///
 /// # Errors

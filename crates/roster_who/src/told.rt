@@ -1,9 +1,8 @@
 //! What is told of a nurse with a row.
 
-ghost use Rattle.std.specs.Prelude.{◌≡◌, ◌+◌, ◌*◌, ◌<◌, ◌≤◌, ℕ, not, true, length};
+ghost use Rattle.std.specs.Prelude.{◌≡◌, ◌+◌, ◌<◌, ◌≤◌, ℕ, not, true};
 ghost use Rattle.roster_instance.specs.Choices.{same_choice};
 ghost use Rattle.roster_instance.specs.Counting.{count_below};
-ghost use Rattle.roster_instance.specs.Limits.{most_shifts, most_skills, most_small};
 ghost use Rattle.roster_instance.specs.Meaning.{day_count, minimum, nurse_count};
 ghost use Rattle.roster_instance.specs.Rosters.{choice_on, fits_case, is_row_of};
 ghost use Rattle.roster_laws.specs.Staffing.{lacking};

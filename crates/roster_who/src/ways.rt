@@ -1,9 +1,9 @@
 //! Whether a row leads through the offers of all days.
 
-ghost use Rattle.std.specs.Prelude.{◌≡◌, ◌+◌, ◌<◌, ◌≤◌, ◌&&◌, ℕ, All, List, false, not, length, slice_index_or};
+ghost use Rattle.std.specs.Prelude.{◌≡◌, ◌+◌, ◌<◌, ◌&&◌, ℕ, All, false, length, slice_index_or};
 ghost use Rattle.roster_instance.specs.Choices.{shift_of};
 ghost use Rattle.roster_instance.specs.Limits.{most_shifts};
-ghost use Rattle.roster_instance.specs.Meaning.{day_count, forbids, last_shift, nurse_count, past_of, shift_count};
+ghost use Rattle.roster_instance.specs.Meaning.{day_count, last_shift, past_of};
 ghost use Rattle.roster_offers.specs.Lists.{offers_on};
 ghost use Rattle.roster_offers.specs.declared.offer.Offer.{Offer};
 ghost use Rattle.roster_who.specs.Ways.{goes_on, last_at, last_place, leads_on};
