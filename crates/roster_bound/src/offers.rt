@@ -3,6 +3,8 @@
 ghost use Rattle.std.specs.Prelude.{◌≡◌, ◌<◌, ◌≤◌, true};
 ghost use Rattle.roster_instance.specs.Meaning.{day_count};
 ghost use Rattle.roster_instance.specs.Rosters.{fits_case, is_choice_of};
+ghost use Rattle.roster_rules.specs.HardRules.{keeps_hard};
+ghost use Rattle.roster_rules.specs.Penalties.{penalty};
 ghost use Rattle.roster_bound.specs.Tables.{worths_of};
 ghost use Rattle.roster_bound.specs.Worths.{HaveRows, earned, most_worth};
 
@@ -34,6 +36,15 @@ pub struct Base<'a> {
     pub from: u16,
     pub ghost fits: { fits_case case.now given.now ≡ true },
     pub ghost rows: { ∥ HaveRows case.now from given.now ∥₁ },
+}
+
+/// What a floor is raised under: the roster of a base, which keeps the hard rules, and what it costs.
+#[derive(Clone, Copy)]
+pub(crate) struct Under<'a> {
+    pub(crate) base: &'a Base<'a>,
+    pub(crate) total: u64,
+    ghost keeps: { keeps_hard base.now.case.now base.now.given.now ≡ true },
+    ghost total_is: { total ≡ penalty base.now.case.now base.now.given.now },
 }
 
 impl<'a> Base<'a> {

@@ -1,9 +1,8 @@
 //! Rounds of floors.
 
-ghost use Rattle.std.specs.Prelude.{◌≡◌, ◌+◌, ◌*◌, ◌<◌, ◌≤◌, IfErr, IfOk, true};
+ghost use Rattle.std.specs.Prelude.{◌≡◌, ◌+◌, ◌*◌, ◌<◌, ◌≤◌, IfErr, IfOk};
 ghost use Rattle.roster_bundle.specs.Limits.{greatest_u64};
 ghost use Rattle.roster_instance.specs.Meaning.{day_count, nurse_count};
-ghost use Rattle.roster_rules.specs.HardRules.{keeps_hard};
 ghost use Rattle.roster_rules.specs.Penalties.{penalty};
 ghost use Rattle.roster_laws.specs.Greatest.{extensions_in, greatest_extension_count};
 ghost use Rattle.roster_bound.specs.Floors.{FloorLogStops, HasReached, RaisesFloor, rounds_alone, rounds_of};
@@ -16,8 +15,8 @@ use crate::effort::{Effort, Reached};
 use crate::floors::lower_bound;
 use crate::known::count_known_rows;
 use crate::moves::{Step, farthest, learn};
-use crate::offers::{Base, Terms};
-use crate::tree::{BoundSpace, Under, part_least};
+use crate::offers::{Base, Terms, Under};
+use crate::tree::{BoundSpace, part_least};
 use crate::workspace::FloorWorkspace;
 use roster_case::Held;
 use roster_instance::Case;
@@ -38,8 +37,8 @@ pub struct Pace {
 /// How often worths move between two rounds of searches, where a floor is raised.
 pub const MOVES: u16 = 20;
 
-/// Raises a floor under every roster of a case that keeps the hard rules and agrees with the held one on the days before week `from`:
-/// so many rounds, each by other worths, and then so many partings of the rosters, or fewer where the floor comes to be what the held
+/// Raises a floor under every roster of a case that keeps the hard rules and has the held one's frozen days, with weeks frozen before
+/// `from`: so many rounds, each by other worths, and then so many partings of the rosters, or fewer where the floor comes to be what the held
 /// roster costs, since none is greater. The log gets the penalty of the held roster, and then each round in which the floor rose, as it
 /// comes; a parting has the number of a round after them. The answer is the last of these floors, 0 where there was none: it is no less
 /// than the first round's. It takes no memory.
@@ -80,7 +79,7 @@ pub fn raise_floor<W: Write, T: RowTables>(
     raise_under(&under, effort, space, meter, log)
 }
 
-/// The same under a roster that keeps the hard rules and costs so much.
+/// The same under a roster that keeps the hard rules.
 fn raise_under<W: Write, T: RowTables>(
     under: &Under<'_>,
     effort: Effort,
@@ -88,9 +87,6 @@ fn raise_under<W: Write, T: RowTables>(
     meter: &mut Meter,
     log: &mut Watch<W>,
 ) -> Result<u64, LogFault>
-    requires keeps { keeps_hard under.now.base.now.case.now under.now.base.now.given.now ≡ true }
-    requires total { under.now.total ≡ penalty under.now.base.now.case.now
-        under.now.base.now.given.now }
     requires fits { FitsFloor under.now.base.now.case.now space.old.floor }
     requires room { meter.old + extensions_in under.now.base.now.case.now (rounds_of effort)
         ≤ greatest_u64 }
@@ -108,15 +104,7 @@ fn raise_under<W: Write, T: RowTables>(
         (rounds_of effort) }
     ensures fits { FitsFloor under.now.base.now.case.now space.new.floor }
 {
-    let base = under.base;
-    let mut reached = make_rounds(
-        base,
-        under.total,
-        effort.rounds,
-        &mut space.floor,
-        meter,
-        log,
-    )?;
+    let mut reached = make_rounds(under, effort.rounds, &mut space.floor, meter, log)?;
     if !space.parts.begin(reached.bound) {
         return Ok(reached.bound);
     }
@@ -139,41 +127,40 @@ fn raise_under<W: Write, T: RowTables>(
     Ok(reached.bound)
 }
 
-/// The rounds alone, under a roster that keeps the hard rules and costs so much.
+/// The rounds alone.
 fn make_rounds<W: Write, T: RowTables>(
-    base: &Base<'_>,
-    total: u64,
+    under: &Under<'_>,
     rounds: u16,
     workspace: &mut FloorWorkspace<T>,
     meter: &mut Meter,
     log: &mut Watch<W>,
 ) -> Result<Reached, LogFault>
-    requires keeps { keeps_hard base.now.case.now base.now.given.now ≡ true }
-    requires total { total ≡ penalty base.now.case.now
-        base.now.given.now }
-    requires fits { FitsFloor base.now.case.now workspace.old }
-    requires room { meter.old + extensions_in base.now.case.now rounds ≤ greatest_u64 }
-    ensures ok { IfOk result (HasReached W.contents base.now.case.now
-        base.now.from base.now.given.now (rounds_alone rounds) log.old log.new) }
-    ensures err { IfErr result (FloorLogStops W.contents base.now.case.now
-        base.now.from base.now.given.now (rounds_alone rounds) log.old log.new) }
-    ensures below { IfOk result (λ reached. IsLowerBound base.now.case.now
-        base.now.from base.now.given.now reached.bound) }
-    ensures made { IfOk result (λ reached. reached.bound < total →
-        meter.old + rounds * (nurse_count base.now.case.now
-        * day_count base.now.case.now) ≤ meter.new) }
-    ensures counted { meter.new ≤ meter.old + extensions_in base.now.case.now rounds }
-    ensures fits { FitsFloor base.now.case.now workspace.new }
+    requires fits { FitsFloor under.now.base.now.case.now workspace.old }
+    requires room { meter.old + extensions_in under.now.base.now.case.now rounds ≤ greatest_u64 }
+    ensures ok { IfOk result (HasReached W.contents under.now.base.now.case.now
+        under.now.base.now.from under.now.base.now.given.now (rounds_alone rounds) log.old
+        log.new) }
+    ensures err { IfErr result (FloorLogStops W.contents under.now.base.now.case.now
+        under.now.base.now.from under.now.base.now.given.now (rounds_alone rounds) log.old
+        log.new) }
+    ensures below { IfOk result (λ reached. IsLowerBound under.now.base.now.case.now
+        under.now.base.now.from under.now.base.now.given.now reached.bound) }
+    ensures made { IfOk result (λ reached. reached.bound < under.now.total →
+        meter.old + rounds * (nurse_count under.now.base.now.case.now
+        * day_count under.now.base.now.case.now) ≤ meter.new) }
+    ensures counted { meter.new ≤ meter.old + extensions_in under.now.base.now.case.now rounds }
+    ensures fits { FitsFloor under.now.base.now.case.now workspace.new }
 {
+    let base = under.base;
     let pace = Pace {
         rounds,
         moves: MOVES,
     };
     workspace.begin(base.case);
     let mut best = 0;
-    let mut sent = log_start(log, 0, base.case, total)?;
+    let mut sent = log_start(log, 0, base.case, under.total)?;
     for rounds_before in 0..rounds {
-        if best >= total {
+        if best >= under.total {
             return Ok(Reached { bound: best, sent });
         }
         let bound = make_round(base, workspace, meter);

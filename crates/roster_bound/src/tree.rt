@@ -13,20 +13,13 @@ use crate::choosing::choose;
 use crate::decisions::Decision;
 use crate::floors::lower_bound_in;
 use crate::known::{move_by_known_rows, move_in_part};
-use crate::offers::{Base, Terms};
+use crate::offers::{Base, Terms, Under};
 use crate::parts::{Part, Parts};
 use crate::workspace::FloorWorkspace;
 use roster_instance::Case;
 use roster_offers::{BestFault, RowTables};
 use roster_state::Meter;
 use std::alloc::Global;
-
-/// What a floor is raised under: a roster of a case, and what it costs.
-#[derive(Clone, Copy)]
-pub(crate) struct Under<'a> {
-    pub(crate) base: &'a Base<'a>,
-    pub(crate) total: u64,
-}
 
 /// The memory of a run that raises a floor.
 pub struct BoundSpace<T: RowTables> {

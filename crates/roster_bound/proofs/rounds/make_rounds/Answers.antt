@@ -23,16 +23,16 @@ tells c from given made bound w are is first = record {
 pub returns-in_err-sent-clause-err : goal.returns-in_err-sent-clause-err
 returns-in_err-sent-clause-err g c =
     let p = err_from_is_err_and c.from_residual.result c.from_residual.ensures.1 in
-    let b = c.args.base.now in
+    let b = c.args.under.now.base.now in
     rw (p.1, p.2) (start_breaks g.W.Write.contents b.case.now b.from b.given.now c.args.log.now c.args.rounds c.log_start.new.log c.in_err-sent.field-0.0
-    (subst (λ text. BreaksIn g.W.Write.contents c.args.log.now c.log_start.new.log 0 text c.in_err-sent.field-0.0) (first_text b.case.now b.given.now c.args.total c.requires.total) c.in_err-sent.ensures.err))
+    (subst (λ text. BreaksIn g.W.Write.contents c.args.log.now c.log_start.new.log 0 text c.in_err-sent.field-0.0) (first_text b.case.now b.given.now c.args.under.now.total c.args.under.now.total_is) c.in_err-sent.ensures.err))
 
 pub loop-rounds_before-init : goal.loop-rounds_before-init
 loop-rounds_before-init g c =
-    let b = c.args.base.now in
+    let b = c.args.under.now.base.now in
     record {
       going = Going-start g.W.Write.contents b.case.now b.from b.given.now c.args.log.now c.log_start.new.log c.in_ok-sent.sent
-          (subst (Sends g.W.Write.contents c.args.log.now c.log_start.new.log 0 c.in_ok-sent.sent) (first_text b.case.now b.given.now c.args.total c.requires.total) c.in_ok-sent.ensures.ok);
+          (subst (Sends g.W.Write.contents c.args.log.now c.log_start.new.log 0 c.in_ok-sent.sent) (first_text b.case.now b.given.now c.args.under.now.total c.args.under.now.total_is) c.in_ok-sent.ensures.ok);
       first = λ none. c.begin.ensures.worths;
       below = λ r fits keeps stays. omega arith;
       within = omega arith;
@@ -45,7 +45,7 @@ pub returns-in_err-sent-2-clause-err : goal.returns-in_err-sent-2-clause-err
 returns-in_err-sent-2-clause-err g c =
     let p = err_from_is_err_and c.from_residual-in_err-sent-2.result c.from_residual-in_err-sent-2.ensures.1 in
     let l = c.loop-rounds_before in
-    let b = c.args.base.now in
+    let b = c.args.under.now.base.now in
     rw (p.1, p.2) (raised_breaks g.W.Write.contents b.case.now b.from b.given.now c.args.log.now c.args.rounds l.log c.log_round.new.log l.rounds_before l.sent l.best c.make_round-bound.result c.in_err-sent-2.field-0.0
     l.invariant.going c.loop-rounds_before-test.true c.if-bound-best.false
     (tells b.case.now b.from b.given.now l.rounds_before c.make_round-bound.result l.workspace.tried c.make_round-bound.ensures.worths c.make_round-bound.ensures.bound l.invariant.first) c.in_err-sent-2.ensures.err)
@@ -53,13 +53,13 @@ returns-in_err-sent-2-clause-err g c =
 pub loop-rounds_before-preserved : goal.loop-rounds_before-preserved
 loop-rounds_before-preserved g c =
     let l = c.loop-rounds_before in
-    let b = c.args.base.now in
+    let b = c.args.under.now.base.now in
     record {
       going = Going-raised g.W.Write.contents b.case.now b.from b.given.now c.args.log.now l.log c.log_round.new.log l.rounds_before l.sent c.in_ok-sent-2.sent l.best c.make_round-bound.result l.invariant.going c.if-bound-best.false
           (tells b.case.now b.from b.given.now l.rounds_before c.make_round-bound.result l.workspace.tried c.make_round-bound.ensures.worths c.make_round-bound.ensures.bound l.invariant.first) c.in_ok-sent-2.ensures.ok;
       first = λ none. omega (arith, none);
       below = c.make_round-bound.ensures.below;
-      within = c.make_round-bound.ensures.below b.given.now b.fits c.requires.keeps (stays_self b.case.now b.from b.given.now);
+      within = c.make_round-bound.ensures.below b.given.now b.fits c.args.under.now.keeps (stays_self b.case.now b.from b.given.now);
       made = omega (arith, l.invariant.made, c.make_round-bound.ensures.made);
       counted = round_counted b.case.now l.rounds_before c.args.meter.now l.meter l.invariant.counted c.make_round-bound.new.meter c.make_round-bound.ensures.counted;
       fits = c.prepare_next.ensures;
@@ -68,7 +68,7 @@ loop-rounds_before-preserved g c =
 pub loop-rounds_before-preserved-then-bound-best : goal.loop-rounds_before-preserved-then-bound-best
 loop-rounds_before-preserved-then-bound-best g c =
     let l = c.loop-rounds_before in
-    let b = c.args.base.now in
+    let b = c.args.under.now.base.now in
     record {
       going = Going-same g.W.Write.contents b.case.now b.from b.given.now c.args.log.now l.log l.rounds_before l.sent l.best c.make_round-bound.result l.invariant.going c.if-bound-best.true
           (tells b.case.now b.from b.given.now l.rounds_before c.make_round-bound.result l.workspace.tried c.make_round-bound.ensures.worths c.make_round-bound.ensures.bound l.invariant.first);
@@ -83,31 +83,31 @@ loop-rounds_before-preserved-then-bound-best g c =
 pub make_round-bound-requires-clause-room : goal.make_round-bound-requires-clause-room
 make_round-bound-requires-clause-room g c =
     let l = c.loop-rounds_before in
-    round_room c.args.base.now.case.now l.rounds_before c.args.meter.now l.meter l.invariant.counted c.args.rounds 18446744073709551615 c.loop-rounds_before-test.true c.requires.room
+    round_room c.args.under.now.base.now.case.now l.rounds_before c.args.meter.now l.meter l.invariant.counted c.args.rounds 18446744073709551615 c.loop-rounds_before-test.true c.requires.room
 
 pub returns-in_err-sent-2-clause-counted : goal.returns-in_err-sent-2-clause-counted
 returns-in_err-sent-2-clause-counted g c =
     let l = c.loop-rounds_before in
-    round_within c.args.base.now.case.now l.rounds_before c.args.meter.now l.meter l.invariant.counted c.args.rounds c.make_round-bound.new.meter c.loop-rounds_before-test.true c.make_round-bound.ensures.counted
+    round_within c.args.under.now.base.now.case.now l.rounds_before c.args.meter.now l.meter l.invariant.counted c.args.rounds c.make_round-bound.new.meter c.loop-rounds_before-test.true c.make_round-bound.ensures.counted
 
 pub returns-clause-counted : goal.returns-clause-counted
 returns-clause-counted g c =
     let l = c.loop-rounds_before in
-    rounds_within c.args.base.now.case.now l.rounds_before c.args.meter.now l.meter l.invariant.counted c.args.rounds (omega (arith, l.auto.rounds_before-end))
+    rounds_within c.args.under.now.base.now.case.now l.rounds_before c.args.meter.now l.meter l.invariant.counted c.args.rounds (omega (arith, l.auto.rounds_before-end))
 
-pub returns-then-best-total-clause-ok : goal.returns-then-best-total-clause-ok
-returns-then-best-total-clause-ok g c =
+pub returns-then-best-under-clause-ok : goal.returns-then-best-under-clause-ok
+returns-then-best-under-clause-ok g c =
     let l = c.loop-rounds_before in
-    let b = c.args.base.now in
-    Going-met g.W.Write.contents b.case.now b.from b.given.now c.args.log.now c.args.rounds l.log l.rounds_before l.sent l.best l.invariant.going (omega (arith, c.loop-rounds_before-test.true)) (omega (arith, c.if-best-total.true, c.requires.total)) b.fits c.requires.keeps
+    let b = c.args.under.now.base.now in
+    Going-met g.W.Write.contents b.case.now b.from b.given.now c.args.log.now c.args.rounds l.log l.rounds_before l.sent l.best l.invariant.going (omega (arith, c.loop-rounds_before-test.true)) (omega (arith, c.if-best-under.true, c.args.under.now.total_is)) b.fits c.args.under.now.keeps
 
-pub returns-then-best-total-clause-counted : goal.returns-then-best-total-clause-counted
-returns-then-best-total-clause-counted g c =
+pub returns-then-best-under-clause-counted : goal.returns-then-best-under-clause-counted
+returns-then-best-under-clause-counted g c =
     let l = c.loop-rounds_before in
-    rounds_within c.args.base.now.case.now l.rounds_before c.args.meter.now l.meter l.invariant.counted c.args.rounds (omega (arith, c.loop-rounds_before-test.true))
+    rounds_within c.args.under.now.base.now.case.now l.rounds_before c.args.meter.now l.meter l.invariant.counted c.args.rounds (omega (arith, c.loop-rounds_before-test.true))
 
 pub returns-clause-ok : goal.returns-clause-ok
 returns-clause-ok g c =
     let l = c.loop-rounds_before in
-    let b = c.args.base.now in
+    let b = c.args.under.now.base.now in
     Going-end g.W.Write.contents b.case.now b.from b.given.now c.args.log.now c.args.rounds l.log l.rounds_before l.sent l.best l.invariant.going (omega (arith, l.auto.rounds_before-end)) (omega (arith, c.loop-rounds_before-test.false))

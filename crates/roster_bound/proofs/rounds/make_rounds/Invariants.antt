@@ -11,11 +11,11 @@ use Rattle.roster_bound.proofs.rounds.make_rounds.Given as goal
 
 abbrev pub invariant-loop-rounds_before : goal.invariant-loop-rounds_before
 invariant-loop-rounds_before g l = record {
-  going : Going g.W.Write.contents l.base.case.now l.base.from l.base.given.now l.fn.log l.log l.rounds_before l.sent l.best;
-  first : l.rounds_before ≡ 0 → SameWorths l.base.case.now (worths_of l.workspace.tried) (first_worths l.base.case.now);
-  below : IsLowerBound l.base.case.now l.base.from l.base.given.now l.best;
-  within : l.best ≤ penalty l.base.case.now l.base.given.now;
-  made : l.fn.meter + l.rounds_before * (nurse_count l.base.case.now * day_count l.base.case.now) ≤ l.meter;
-  counted : l.meter ≤ l.fn.meter + extensions_in l.base.case.now l.rounds_before;
-  fits : FitsFloor l.base.case.now l.workspace;
+  going : Going g.W.Write.contents l.under.base.now.case.now l.under.base.now.from l.under.base.now.given.now l.fn.log l.log l.rounds_before l.sent l.best;
+  first : l.rounds_before ≡ 0 → SameWorths l.under.base.now.case.now (worths_of l.workspace.tried) (first_worths l.under.base.now.case.now);
+  below : IsLowerBound l.under.base.now.case.now l.under.base.now.from l.under.base.now.given.now l.best;
+  within : l.best ≤ penalty l.under.base.now.case.now l.under.base.now.given.now;
+  made : l.fn.meter + l.rounds_before * (nurse_count l.under.base.now.case.now * day_count l.under.base.now.case.now) ≤ l.meter;
+  counted : l.meter ≤ l.fn.meter + extensions_in l.under.base.now.case.now l.rounds_before;
+  fits : FitsFloor l.under.base.now.case.now l.workspace;
 }

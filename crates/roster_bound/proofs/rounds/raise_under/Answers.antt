@@ -44,7 +44,7 @@ loop-parted-preserved g c =
 pub returns-clause-within : goal.returns-clause-within
 returns-clause-within g c =
     let b = c.args.under.now.base.now in
-    omega (arith, c.loop-parted.invariant.below b.given.now b.fits c.requires.keeps (stays_self b.case.now b.from b.given.now), c.requires.total)
+    omega (arith, c.loop-parted.invariant.below b.given.now b.fits c.args.under.now.keeps (stays_self b.case.now b.from b.given.now), c.args.under.now.total_is)
 
 pub returns-then-reached-under-clause-counted : goal.returns-then-reached-under-clause-counted
 returns-then-reached-under-clause-counted g c =
