@@ -20,7 +20,7 @@ use Rattle.roster_answers.specs.Answer.{Ends, IsAllowed, IsUnheld, LeavesLog, Lo
 use Rattle.roster_reports.specs.Lines.{Text, nurse_of}
 use Rattle.roster_answers.specs.declared.fault.Fault.{Fault}
 use Rattle.roster_answers.specs.declared.fault.Fault.TheVariants as fault
-use Rattle.roster_answers.specs.declared.reading.Instance.{Instance}
+use Rattle.roster_answers.specs.declared.instance.Instance.{Instance}
 use Rattle.roster_instance.specs.Rosters.{Rows, fits_case}
 
 -- ---- a bundle

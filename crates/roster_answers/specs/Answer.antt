@@ -39,7 +39,7 @@ use Rattle.roster_answers.specs.declared.fault.Fault.TheVariants as fault
 use Rattle.roster_answers.specs.declared.asked.Asking.{Asking}
 use Rattle.roster_answers.specs.declared.fault.Thing.{Thing}
 use Rattle.roster_answers.specs.declared.fault.Thing.TheVariants as thing
-use Rattle.roster_answers.specs.declared.reading.Instance.{Instance}
+use Rattle.roster_answers.specs.declared.instance.Instance.{Instance}
 
 -- ---- the devices of a run
 
@@ -226,7 +226,7 @@ abbrev pub bound_report : List FloorLine → Meaning → Rows → Report
 bound_report lines c r =
     record (plain (bound_text (penalty c r) (last_line no_line lines).bound)) { is_held = true; broken = hard_faults c r; log = Some (floor_text c r lines) }
 
--- it is of floors under each roster that keeps the hard rules and the days before a week, no less than the bound of the first round,
+-- it is of floors under each roster that keeps the hard rules and the frozen days, no less than the bound of the first round,
 -- which is said; how high later ones get isn't
 pub record IsBoundReport (effort : Effort) (from : ℕ) (c : Meaning) (r : Rows) (p : Report) : Type 0 where
   pub lines : List FloorLine
@@ -349,7 +349,6 @@ pub record SpellsInstance (bytes : Text) (instance : Instance) : Type 0 where
   pub taken : all_faults bytes instance.bundle ≡ []
   pub case : instance.case ≡ meaning_of bytes instance.bundle
   pub roster : instance.roster ≡ rows_of bytes instance.case instance.bundle
-  pub fitting : fits_case instance.case instance.roster ≡ true
 
 -- an instance with its roster kept at some points; what else it has stays
 pub record IsKeptAt (given : Instance) (keep : ℕ) (kept : Instance) : Type 0 where

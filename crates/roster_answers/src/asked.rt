@@ -1,6 +1,6 @@
 //! What is asked for by names: a day, a shift and a skill of the case.
 
-ghost use Rattle.std.specs.Prelude.{◌≡◌, ◌<◌, ◌≤◌, IfErr, IfOk, IfSome, None, OnOk, Some, bytes_eq, option_map};
+ghost use Rattle.std.specs.Prelude.{◌≡◌, ◌<◌, IfErr, IfOk, IfSome, None, OnOk, Some, bytes_eq, option_map};
 ghost use Rattle.roster_instance.specs.Meaning.{day_count, shift_at, skill_at};
 ghost use Rattle.roster_instance.specs.Names.{find_name};
 ghost use Rattle.roster_answers.specs.Answer.{asked_by, day_name, day_names, names_in, unknown_asked};

@@ -5,14 +5,13 @@ ghost use Rattle.roster_bundle.specs.Limits.{greatest_u64};
 ghost use Rattle.roster_text.specs.Io.{Stops, Writes};
 ghost use Rattle.roster_instance.specs.Meaning.{nurse_count};
 ghost use Rattle.roster_rules.specs.Improver.{line, start_word};
-ghost use Rattle.roster_instance.specs.Rosters.{fits_case};
 ghost use Rattle.roster_answers.specs.Answer.{Ends, LeavesLog, best_report, log_with_best, outcome_of, output_of, with_best};
 ghost use Rattle.roster_laws.specs.Greatest.{extension_count};
 ghost use Rattle.roster_offers.specs.Workspaces.{fits_space};
 
 use crate::fault::{Fault, Thing};
 use crate::held::hold;
-use crate::reading::Instance;
+use crate::instance::Instance;
 use crate::weeks::show_weeks;
 use roster_case::{Held, first_hard};
 use roster_instance::Case;
@@ -36,7 +35,6 @@ pub fn report_best<'a, Out: Write, Log: Write>(
     output: &mut Watch<Out>,
     log: &mut Watch<Log>,
 ) -> Result<(), Fault<'a>>
-    requires { fits_case instance.case instance.roster ≡ true }
     ensures ends { Ends (output_of Out.contents output.old output.new)
         (best_report name.now from instance.case instance.roster) source.now instance.bundle
         (outcome_of result) }

@@ -1,15 +1,14 @@
 //! The command `bound`: a number that no roster costs less than.
 
-ghost use Rattle.std.specs.Prelude.{◌≡◌, ◌≤◌, true};
+ghost use Rattle.std.specs.Prelude.{◌≤◌};
 ghost use Rattle.roster_bundle.specs.Limits.{greatest_u64};
-ghost use Rattle.roster_instance.specs.Rosters.{fits_case};
 ghost use Rattle.roster_laws.specs.Greatest.{extensions_in};
 ghost use Rattle.roster_bound.specs.Floors.{rounds_of};
 ghost use Rattle.roster_answers.specs.Answer.{IsBoundFor, Reports, outcome_of, output_of};
 
 use crate::fault::Fault;
 use crate::held::hold;
-use crate::reading::Instance;
+use crate::instance::Instance;
 use roster_bound::{BoundSpace, Effort, raise_floor};
 use roster_instance::Case;
 use roster_log::LogFault;
@@ -22,7 +21,7 @@ use std::alloc::Global;
 use std::io::Write;
 
 /// Writes what the roster of an instance costs, and the last of the floors that rise with such an effort, under each roster that keeps
-/// the weeks before a week. The floors go to the log first, line by line as they are found.
+/// the hard rules and the frozen days. The floors go to the log first, line by line as they are found.
 pub fn report_bound<'a, Out: Write, Log: Write>(
     alloc: Global,
     effort: Effort,
@@ -32,7 +31,6 @@ pub fn report_bound<'a, Out: Write, Log: Write>(
     output: &mut Watch<Out>,
     log: &mut Watch<Log>,
 ) -> Result<(), Fault<'a>>
-    requires { fits_case instance.case instance.roster ≡ true }
     ensures { Reports (output_of Out.contents output.old output.new)
         (output_of Log.contents log.old log.new)
         (IsBoundFor effort from instance) source.now instance.bundle (outcome_of result) }

@@ -1,14 +1,13 @@
 //! The commands `cost` and `sizes`.
 
-ghost use Rattle.std.specs.Prelude.{◌≡◌, true, OnOk, IfErr};
+ghost use Rattle.std.specs.Prelude.{OnOk, IfErr};
 ghost use Rattle.roster_text.specs.Io.{Writes};
-ghost use Rattle.roster_instance.specs.Rosters.{fits_case};
 ghost use Rattle.roster_answers.specs.Answer.{Ends, StopsOutput, cost_report, outcome_of, output_of};
 ghost use Rattle.roster_reports.specs.Lines.{sizes_text};
 
 use crate::fault::Fault;
 use crate::held::hold;
-use crate::reading::Instance;
+use crate::instance::Instance;
 use roster_instance::Case;
 use roster_reports::{write_costs, write_sizes};
 use roster_text::Watch;
@@ -22,7 +21,6 @@ pub fn report_cost<'a, Out: Write>(
     instance: Instance,
     output: &mut Watch<Out>,
 ) -> Result<(), Fault<'a>>
-    requires { fits_case instance.case instance.roster ≡ true }
     ensures ends { Ends (output_of Out.contents output.old output.new)
         (cost_report instance.case instance.roster) source.now instance.bundle (outcome_of result) }
 {

@@ -1,19 +1,17 @@
 //! The roster of an instance, held by a command that asks for the hard rules.
 
-ghost use Rattle.std.specs.Prelude.{◌≡◌, true, [], IfOk, IfErr, OnOk};
+ghost use Rattle.std.specs.Prelude.{◌≡◌, [], IfOk, IfErr, OnOk};
 ghost use Rattle.roster_rules.specs.HardRules.{hard_faults};
-ghost use Rattle.roster_instance.specs.Rosters.{fits_case};
 ghost use Rattle.roster_answers.specs.Answer.{IsUnheld};
 
 use crate::fault::Fault;
-use crate::reading::Instance;
+use crate::instance::Instance;
 use roster_case::{Held, HeldFault};
 use roster_reports::names_of;
 use std::alloc::Global;
 
 /// Holds the roster of an instance. The fault is the first breach of the hard rules, or else want of memory.
 pub fn hold<'a>(alloc: Global, source: &'a [u8], instance: Instance) -> Result<Held, Fault<'a>>
-    requires { fits_case instance.case instance.roster ≡ true }
     ensures held { IfOk result (λ held. held ≡ record
         { case = instance.case; roster = instance.roster }) }
     ensures kept { OnOk result (hard_faults instance.case instance.roster ≡ []) }

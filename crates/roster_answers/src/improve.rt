@@ -1,12 +1,10 @@
 //! The command `improve`: rounds of best rows, put in where they are cheaper.
 
-ghost use Rattle.std.specs.Prelude.{◌≡◌, true};
-ghost use Rattle.roster_instance.specs.Rosters.{fits_case};
 ghost use Rattle.roster_answers.specs.Answer.{Ends, LeavesLog, improve_report, outcome_of, output_of};
 
 use crate::fault::Fault;
 use crate::held::hold;
-use crate::reading::Instance;
+use crate::instance::Instance;
 use crate::weeks::show_weeks;
 use roster_log::LogFault;
 use roster_partial::PartialTables;
@@ -27,7 +25,6 @@ pub fn report_improve<'a, Out: Write, Log: Write>(
     output: &mut Watch<Out>,
     log: &mut Watch<Log>,
 ) -> Result<(), Fault<'a>>
-    requires { fits_case instance.case instance.roster ≡ true }
     ensures ends { Ends (output_of Out.contents output.old output.new)
         (improve_report rounds from instance.case instance.roster) source.now instance.bundle
         (outcome_of result) }

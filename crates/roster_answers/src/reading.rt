@@ -9,45 +9,12 @@ ghost use Rattle.roster_instance.specs.Rosters.{fits_case};
 ghost use Rattle.roster_answers.specs.Answer.{HasFault, IsKeptAt, SpellsBundle, SpellsInstance, StopsReading};
 
 use crate::fault::Fault;
+use crate::instance::Instance;
 use roster_bundle::Bundle;
 use roster_instance::{Case, CaseFault, Roster};
 use roster_reports::nurse_of;
 use roster_text::{TextFault, parse_bundle, tokens};
 use std::alloc::Global;
-
-/// What the texts of an instance say.
-pub struct Instance {
-    pub bundle: Bundle,
-    pub case: Case,
-    pub roster: Roster,
-}
-
-// By hand, so that who drops an instance has one call to prove and not the drops of all its parts.
-impl Drop for Instance {
-    fn drop(self) {
-        let Instance {
-            bundle: _,
-            case: _,
-            roster: _,
-        } = self;
-    }
-}
-
-impl Instance {
-    /// The bundle, the case and the roster.
-    pub fn into_parts(self) -> (Bundle, Case, Roster)
-        ensures bundle { result.0 ≡ self.bundle }
-        ensures case { result.1 ≡ self.case }
-        ensures roster { result.2 ≡ self.roster }
-    {
-        let Instance {
-            bundle,
-            case,
-            roster,
-        } = self;
-        (bundle, case, roster)
-    }
-}
 
 /// What the bytes of an input say, or why they are refused.
 pub fn read_instance<'a>(alloc: Global, source: &'a [u8]) -> Result<Instance, Fault<'a>>
@@ -78,7 +45,6 @@ pub fn keep_roster<'a>(
     requires says { SpellsInstance source.now instance }
     requires few { keep ≤ most_keep }
     ensures kept { IfOk result (IsKeptAt instance keep) }
-    ensures fitting { IfOk result (λ kept. fits_case kept.case kept.roster ≡ true) }
     ensures refused { IfErr result (StopsReading source.now) }
 {
     let (bundle, case, roster) = instance.into_parts();

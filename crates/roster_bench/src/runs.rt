@@ -68,7 +68,7 @@ fn command_of(plan: &Plan) -> Command
             searches: Some(searches),
             seed: plan.size.seed,
             from: 0,
-            kicks: true,
+            kicks_alone: true,
             keep: 0,
         },
     }

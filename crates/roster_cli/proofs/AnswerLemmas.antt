@@ -14,7 +14,7 @@ use Rattle.roster_reports.specs.Lines.{Text, sizes_text}
 use Rattle.roster_answers.specs.Lines.{status_of}
 use Rattle.roster_answers.specs.declared.fault.Fault.{Fault}
 use Rattle.roster_answers.specs.declared.fault.Fault.TheVariants as fault
-use Rattle.roster_answers.specs.declared.reading.Instance.{Instance}
+use Rattle.roster_answers.specs.declared.instance.Instance.{Instance}
 use Rattle.roster_request.specs.declared.request.Command.{Command}
 use Rattle.roster_request.specs.declared.request.Command.TheVariants as command
 use Rattle.roster_instance.specs.Rosters.{Rows, fits_case}
@@ -112,7 +112,7 @@ some_report command.Sizes c r = (plain (sizes_text c), refl)
 some_report (command.Best nurse from keep) c r = (best_report (string_bytes nurse) from c r, refl)
 some_report (command.Improve rounds from keep) c r = (improve_report rounds from c r, refl)
 some_report (command.Bound rounds nodes from keep) c r = let some = some_log c from r (record { rounds = rounds; nodes = nodes }) in (bound_report some.0 c r, of_floors (record { rounds = rounds; nodes = nodes }) from c r some.0 some.1)
-some_report (command.Polish searches seed from kicks keep) c r = (kickless from c r, no_kick (searches_for c searches) from kicks c r)
+some_report (command.Polish searches seed from alone keep) c r = (kickless from c r, no_kick (searches_for c searches) from alone c r)
 some_report (command.Who day shift skill from) c r =
     let names : AskedNames = record { day = string_bytes day; shift = string_bytes shift; skill = option_map string_bytes skill } in
     let some = some_order (takers c from (without_absent_work c r) (asked_by c names)) in
@@ -149,7 +149,7 @@ module _ {W L : Type 0} (output : Output W) (log : Output L) (command : Command)
   roster_fits : fits_case (meaning_of source i.bundle) (roster_of source i.bundle) ≡ true
   roster_fits =
       let roster = says.roster ∙ ap (λ m. rows_of source m i.bundle) says.case in
-      subst (λ m. fits_case m (roster_of source i.bundle) ≡ true) says.case (subst (λ r. fits_case i.case r ≡ true) roster says.fitting)
+      subst (λ m. fits_case m (roster_of source i.bundle) ≡ true) says.case (subst (λ r. fits_case i.case r ≡ true) roster i.fits)
 
   module _ (p : Report) (is : IsAnswer command source i.bundle p) where
     as_taken : (outcome : CommandEnd) → IsOutcomeOf p source i.bundle outcome → Leaves output p.output outcome → LeavesLog log p.log outcome → Answers output log command source outcome

@@ -12,7 +12,6 @@ use Rattle.roster_rules.specs.Penalties.{penalty}
 use Rattle.roster_instance.specs.Rosters.{Rows, fits_case}
 use Rattle.roster_case.specs.Shown.{weeks_text}
 use Rattle.roster_rules.specs.declared.fault.HardFault.{HardFault}
-use Rattle.roster_rules.specs.Improver.{run}
 use Rattle.roster_rounds.specs.PutIn.{IsAccepted}
 use Rattle.roster_polish.specs.Plans.{IsPlanned, missing, unmendable}
 use Rattle.roster_polish.specs.Polished.{IsPolishing}
@@ -23,7 +22,7 @@ use Rattle.roster_reports.specs.Lines.{Text, sizes_text, taker_line}
 use Rattle.roster_answers.specs.Lines.{IsFirstBreach, output_line, status_of}
 use Rattle.roster_answers.specs.declared.fault.Fault.{Fault}
 use Rattle.roster_answers.specs.declared.fault.Fault.TheVariants as fault
-use Rattle.roster_answers.specs.declared.reading.Instance.{Instance}
+use Rattle.roster_answers.specs.declared.instance.Instance.{Instance}
 use Rattle.roster_request.specs.declared.request.Command.{Command}
 use Rattle.roster_request.specs.declared.request.Command.TheVariants as command
 use Rattle.roster_answers.specs.Answer.{AskedNames, CommandEnd, HasFault, Input, IsBoundReport, IsRefusedFor, IsTaken, Leaves, LeavesLog, Logs, Output, ReadsAll, Report, SpellsBundle, Tells, Untouched, asked_by, best_report, cost_report, improve_report, plain, roster_of, unknown_asked}
@@ -86,7 +85,7 @@ abbrev pub keep_of : Command → ℕ
 keep_of (command.Best nurse from keep) = min keep most_keep
 keep_of (command.Improve rounds from keep) = min keep most_keep
 keep_of (command.Bound rounds nodes from keep) = min keep most_keep
-keep_of (command.Polish searches seed from kicks keep) = min keep most_keep
+keep_of (command.Polish searches seed from alone keep) = min keep most_keep
 keep_of (command.Plan searches seed from keep) = min keep most_keep
 keep_of _ = 0
 
@@ -102,7 +101,7 @@ IsReportIn command.Sizes c r p = p ≡ plain (sizes_text c)
 IsReportIn (command.Best nurse from keep) c r p = p ≡ best_report (string_bytes nurse) from c r
 IsReportIn (command.Improve rounds from keep) c r p = p ≡ improve_report rounds from c r
 IsReportIn (command.Bound rounds nodes from keep) c r p = IsBoundReport (record { rounds = rounds; nodes = nodes }) from c r p
-IsReportIn (command.Polish searches seed from kicks keep) c r p = IsPolishReport (searches_for c searches) from kicks c r p
+IsReportIn (command.Polish searches seed from alone keep) c r p = IsPolishReport (searches_for c searches) from alone c r p
 IsReportIn (command.Plan searches seed from keep) c r p = IsPlanReport (searches_for c searches) from false c r p
 IsReportIn (command.Who day shift skill from) c r p = IsWhoReport (record { day = string_bytes day; shift = string_bytes shift; skill = option_map string_bytes skill }) from c r p
 
@@ -116,10 +115,10 @@ abbrev pub IsReportFor : Command → Instance → Report → Type 0
 IsReportFor command instance p = IsReportIn command instance.case instance.roster p
 
 abbrev pub IsPolishFor : Course → Instance → Report → Type 0
-IsPolishFor course instance p = IsPolishReport course.searches course.from course.kicks instance.case instance.roster p
+IsPolishFor course instance p = IsPolishReport course.searches course.from course.kicks_alone instance.case instance.roster p
 
 abbrev pub IsPlanFor : Course → Instance → Report → Type 0
-IsPlanFor course instance p = IsPlanReport course.searches course.from course.kicks instance.case instance.roster p
+IsPlanFor course instance p = IsPlanReport course.searches course.from course.kicks_alone instance.case instance.roster p
 
 abbrev pub IsWhoFor : AskedNames → (from : ℕ) → Instance → Report → Type 0
 IsWhoFor names from instance p = IsWhoReport names from instance.case instance.roster p

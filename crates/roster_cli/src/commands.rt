@@ -1,8 +1,7 @@
 //! What each command writes for an instance.
 
-ghost use Rattle.std.specs.Prelude.{◌≡◌, ◌≤◌, true, option_map, string_bytes};
+ghost use Rattle.std.specs.Prelude.{◌≡◌, ◌≤◌, option_map, string_bytes};
 ghost use Rattle.roster_instance.specs.Limits.{most_keep};
-ghost use Rattle.roster_instance.specs.Rosters.{fits_case};
 ghost use Rattle.roster_answers.specs.Answer.{Reports, names_in, outcome_of, output_of};
 ghost use Rattle.roster_cli.specs.Answer.{IsReportFor, keep_of, searches_for};
 
@@ -31,7 +30,6 @@ pub(crate) fn report<'a, Out: Write, Log: Write>(
     output: &mut Watch<Out>,
     log: &mut Watch<Log>,
 ) -> Result<(), Fault<'a>>
-    requires { fits_case instance.case instance.roster ≡ true }
     ensures { Reports (output_of Out.contents output.old output.new)
         (output_of Log.contents log.old log.new)
         (IsReportFor command.now instance) source.now instance.bundle (outcome_of result) }
@@ -70,14 +68,14 @@ pub(crate) fn report<'a, Out: Write, Log: Write>(
             searches,
             seed,
             from,
-            kicks,
+            kicks_alone,
             ..
         } => {
             let course = Course {
                 searches: searches_for(&instance.case, *searches),
                 seed: *seed as u64,
                 from: *from,
-                kicks: *kicks,
+                kicks_alone: *kicks_alone,
             };
             report_polish(alloc, &course, source, instance, output, log)
         }
@@ -91,7 +89,7 @@ pub(crate) fn report<'a, Out: Write, Log: Write>(
                 searches: searches_for(&instance.case, *searches),
                 seed: *seed as u64,
                 from: *from,
-                kicks: false,
+                kicks_alone: false,
             };
             report_plan(alloc, &course, source, instance, output, log)
         }

@@ -1,7 +1,6 @@
 //! The command `plan`: a first roster, from rows that may break the hard rules.
 
-ghost use Rattle.std.specs.Prelude.{◌≡◌, true, [], IfOk, IfErr, OnOk};
-ghost use Rattle.roster_instance.specs.Rosters.{fits_case};
+ghost use Rattle.std.specs.Prelude.{◌≡◌, [], IfOk, IfErr, OnOk};
 ghost use Rattle.roster_rules.specs.HardRules.{hard_faults};
 ghost use Rattle.roster_answers.specs.Answer.{Reports, outcome_of, output_of};
 ghost use Rattle.roster_cli.specs.Answer.{IsPlanFor, IsUnfound};
@@ -30,7 +29,6 @@ pub(crate) fn report_plan<'a, Out: Write, Log: Write>(
     output: &mut Watch<Out>,
     log: &mut Watch<Log>,
 ) -> Result<(), Fault<'a>>
-    requires { fits_case instance.case instance.roster ≡ true }
     ensures { Reports (output_of Out.contents output.old output.new)
         (output_of Log.contents log.old log.new)
         (IsPlanFor course.now instance) source.now instance.bundle (outcome_of result) }
@@ -60,7 +58,6 @@ pub(crate) fn report_plan<'a, Out: Write, Log: Write>(
 
 /// Holds the roster that was found. The fault is its first breach of the hard rules, or else want of memory.
 fn hold_found<'a>(alloc: Global, source: &'a [u8], instance: Instance) -> Result<Held, Fault<'a>>
-    requires { fits_case instance.case instance.roster ≡ true }
     ensures held { IfOk result (λ held. held ≡ record
         { case = instance.case; roster = instance.roster }) }
     ensures kept { OnOk result (hard_faults instance.case instance.roster ≡ []) }

@@ -1,7 +1,6 @@
 //! The command `polish`: a roster that is settled again and again, after kicks.
 
-ghost use Rattle.std.specs.Prelude.{◌≡◌, min, true};
-ghost use Rattle.roster_instance.specs.Rosters.{fits_case};
+ghost use Rattle.std.specs.Prelude.{◌≡◌, min};
 ghost use Rattle.roster_polish.specs.Polished.{most_searches};
 ghost use Rattle.roster_answers.specs.Answer.{Reports, outcome_of, output_of};
 ghost use Rattle.roster_cli.specs.Answer.{IsPolishFor};
@@ -24,7 +23,6 @@ pub(crate) fn report_polish<'a, Out: Write, Log: Write>(
     output: &mut Watch<Out>,
     log: &mut Watch<Log>,
 ) -> Result<(), Fault<'a>>
-    requires { fits_case instance.case instance.roster ≡ true }
     ensures { Reports (output_of Out.contents output.old output.new)
         (output_of Log.contents log.old log.new)
         (IsPolishFor course.now instance) source.now instance.bundle (outcome_of result) }

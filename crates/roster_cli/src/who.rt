@@ -1,9 +1,8 @@
 //! The command `who`: who may take a shift.
 
-ghost use Rattle.std.specs.Prelude.{◌≡◌, ◌<◌, All, IfErr, OnErr, OnOk, true};
+ghost use Rattle.std.specs.Prelude.{◌≡◌, ◌<◌, All, IfErr, OnErr, OnOk};
 ghost use Rattle.roster_text.specs.Io.{Stops, StopsIn, Writes};
 ghost use Rattle.roster_instance.specs.Meaning.{nurse_count};
-ghost use Rattle.roster_instance.specs.Rosters.{fits_case};
 ghost use Rattle.roster_answers.specs.Answer.{EndsBy, StopsOutput, names_in, outcome_of, output_of};
 ghost use Rattle.roster_cli.specs.Answer.{IsWhoFor, who_line, who_text};
 
@@ -27,7 +26,6 @@ pub(crate) fn report_who<'a, Out: Write>(
     mut instance: Instance,
     output: &mut Watch<Out>,
 ) -> Result<(), Fault<'a>>
-    requires { fits_case instance.case instance.roster ≡ true }
     ensures { EndsBy (output_of Out.contents output.old output.new)
         (IsWhoFor (names_in asking.entry) asking.entry.from instance) source.now instance.bundle
         (outcome_of result) }
@@ -45,8 +43,7 @@ fn report_takers<'a, Out: Write>(
     meter: &mut Meter,
     output: &mut Watch<Out>,
 ) -> Result<(), Fault<'a>>
-    requires fits { fits_case instance.now.case instance.now.roster ≡ true }
-    requires none { meter.old ≡ 0 }
+    requires { meter.old ≡ 0 }
     ensures { EndsBy (output_of Out.contents output.old output.new)
         (IsWhoFor (names_in asking.entry) asking.entry.from instance.now) source.now instance.now.bundle
         (outcome_of result) }

@@ -303,12 +303,12 @@ fn asks_for_bound(alloc: Global, words: &[&str], (rounds, from, keep): (u16, u16
 type Asked = (Option<u32>, u32, u16, bool);
 
 /// Whether the words ask for such a run of searches.
-fn asks_for_searches(alloc: Global, words: &[&str], (searches, seed, from, kicks): Asked) -> bool {
+fn asks_for_searches(alloc: Global, words: &[&str], (searches, seed, from, alone): Asked) -> bool {
     let Ok(request) = request_of(alloc, words) else {
         return false;
     };
-    matches!(request.command, Command::Polish { searches: some, seed: begin, from: first, kicks: alone, keep: 0 }
-        if some == searches && begin == seed && first == from && alone == kicks)
+    matches!(request.command, Command::Polish { searches: some, seed: begin, from: first, kicks_alone, keep: 0 }
+        if some == searches && begin == seed && first == from && kicks_alone == alone)
 }
 
 /// Whether the words ask who may take the shift of this name on this day, with a skill or with any, from a week on.

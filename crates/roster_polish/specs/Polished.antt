@@ -27,8 +27,8 @@ abbrev pub first_run : Meaning → ℕ → Rows → Run
 first_run c from given = run c (best_row c from) settling_rounds given
 
 -- why a settling is given up: no search is left, the roster is dearer than is asked, or it was so dear that all rounds may not be enough
-abbrev pub IsGivenUp : Meaning → (most left : ℕ) → (before after : Rows) → Type 0
-IsGivenUp c most left before after = (left ≡ 0) ⊎ (most < penalty c after) ⊎ (settling_rounds ≤ penalty c before + 1)
+abbrev pub IsGivenUp : Meaning → (aim left : ℕ) → (before after : Rows) → Type 0
+IsGivenUp c aim left before after = (left ≡ 0) ⊎ (aim < penalty c after) ⊎ (settling_rounds ≤ penalty c before + 1)
 
 -- how many rounds a run of at most so many makes: it ends with the first that changes nothing
 unfoldable pub rounds_made : Meaning → ℕ → (rounds : ℕ) → Rows → ℕ

@@ -64,14 +64,14 @@ pub(crate) fn try_fade<T: RowTables>(
     }
     let aim = Aim {
         first: 0,
-        most: held.total(),
+        penalty: held.total(),
         from,
     };
     held.replace_rows(&space.faded);
     stay_if_no_dearer(held, aim, &mut kicking.searches, space, meter)
 }
 
-/// Fades rows, and says whether they keep the hard rules then. The days before week `from` are as they are given.
+/// Fades rows, and says whether they keep the hard rules then. The frozen days are as they are given.
 pub(crate) fn fade_rows<T: RowTables>(
     base: &Base<'_>,
     kicking: &mut Kicking,
@@ -194,8 +194,8 @@ pub(crate) fn make_fade_pass<T: RowTables>(
     }
 }
 
-/// Gives a nurse the best row by what the places pay without the present one, or leaves her out. The days before week `from` are as they
-/// are given. Says whether she was searched.
+/// Gives a nurse the best row by what the places pay without the present one, or leaves her out. The frozen days are as they are given.
+/// Says whether she was searched.
 fn fade_nurse<T: RowTables>(
     base: &Base<'_>,
     turn: Turn,

@@ -37,7 +37,7 @@ struct Draw {
     first: u16,
     last: u16,
     share: u32,
-    most: u32,
+    most_points: u32,
 }
 
 /// Kicks a few nurses out of their rows and settles the roster again. Where it is then no dearer, it stays and is kept; else the roster
@@ -55,9 +55,13 @@ pub(crate) fn try_kick<T: RowTables>(
         kicking.new.searches space.new meter.old meter.new result }
 {
     held.keeps_rules();
-    let most = held.total();
+    let penalty = held.total();
     let first = kick_nurses(held, from, kicking, space, meter);
-    let aim = Aim { first, most, from };
+    let aim = Aim {
+        first,
+        penalty,
+        from,
+    };
     stay_if_no_dearer(held, aim, &mut kicking.searches, space, meter)
 }
 
@@ -101,7 +105,7 @@ fn draw_kick(weeks: u16, from: u16, random: &mut Random) -> Draw
         first: first as u16,
         last: (first + length) as u16,
         share: 10 + random.below(61),
-        most: 5 + random.below(56),
+        most_points: 5 + random.below(56),
     }
 }
 
@@ -141,7 +145,7 @@ fn raise(draw: Draw, dearer: &mut [u8], random: &mut Random)
 {
     for place in 0..dearer.len() {
         let raised = random.below(100) < draw.share;
-        let points = 1 + random.below(draw.most.max(1)) % 255;
+        let points = 1 + random.below(draw.most_points.max(1)) % 255;
         dearer[place] = if raised { points as u8 } else { 0 };
     }
 }

@@ -31,7 +31,7 @@ pub struct Course {
     pub searches: u32,
     pub seed: u64,
     pub from: u16,
-    pub kicks: bool,
+    pub kicks_alone: bool,
 }
 
 /// How a run ended: whether it is sure that no nurse has a cheaper row, and the penalty at the end.
@@ -61,9 +61,11 @@ pub fn polish<W: Write, T: RowTables>(
         (course.now.searches + first_searches held.old.case) ≤ greatest_u64 }
     ensures case { held.new.case ≡ held.old.case }
     ensures ok { IfOk result (PolishesGiven W.contents held.old.case course.now.from
-        held.old.roster course.now.searches course.now.kicks held.new.roster log.old log.new) }
+        held.old.roster course.now.searches course.now.kicks_alone held.new.roster log.old
+        log.new) }
     ensures err { IfErr result (GivenLogStops W.contents held.old.case course.now.from
-        held.old.roster course.now.searches course.now.kicks held.new.roster log.old log.new) }
+        held.old.roster course.now.searches course.now.kicks_alone held.new.roster log.old
+        log.new) }
     ensures no_dearer { penalty held.old.case held.new.roster ≤ penalty held.old.case
         held.old.roster }
     ensures frozen { FrozenDaysStay held.old.case course.now.from held.old.roster held.new.roster }
@@ -93,9 +95,9 @@ pub fn polish_found<W: Write, T: RowTables>(
         (course.now.searches + first_searches held.old.case) ≤ greatest_u64 }
     ensures case { held.new.case ≡ held.old.case }
     ensures ok { IfOk result (Polishes W.contents held.old.case course.now.from held.old.roster
-        start course.now.searches course.now.kicks held.new.roster log.old log.new) }
+        start course.now.searches course.now.kicks_alone held.new.roster log.old log.new) }
     ensures err { IfErr result (PolishLogStops W.contents held.old.case course.now.from
-        held.old.roster start course.now.searches course.now.kicks held.new.roster log.old
+        held.old.roster start course.now.searches course.now.kicks_alone held.new.roster log.old
         log.new) }
     ensures no_dearer { penalty held.old.case held.new.roster ≤ penalty held.old.case
         held.old.roster }
@@ -151,19 +153,19 @@ fn begin<T: RowTables>(
     requires fits { FitsPolish held.now.case space.old }
     requires room { meter.old + extensions_of held.now.case course.now.searches ≤ greatest_u64 }
     ensures kept { space.new.kept ≡ held.now.roster }
-    ensures fadeless { course.now.kicks ≡ true → result.passes ≡ 0 }
+    ensures fadeless { course.now.kicks_alone ≡ true → result.passes ≡ 0 }
     ensures counted { meter.new + extensions_of held.now.case result.searches.left ≤ meter.old
         + extensions_of held.now.case course.now.searches }
     ensures fits { FitsPolish held.now.case space.new }
 {
     held.case().keeps_limits();
     let nurses = held.case().nurses() as u32;
-    let parts = if course.kicks { 2 } else { 3 };
+    let parts = if course.kicks_alone { 2 } else { 3 };
     let rounds = rounds_within(course.searches, parts, nurses);
     let base = Base::of(held, course.from);
     let pace = Pace {
         rounds: rounds as u16,
-        moves: if course.kicks { 1 } else { MOVES },
+        moves: if course.kicks_alone { 1 } else { MOVES },
     };
     improve_worths(&base, pace, &mut space.floor, meter);
     space.keep(held);
@@ -196,13 +198,15 @@ pub(crate) fn rounds_within(searches: u32, parts: u32, nurses: u32) -> u32
 fn passes_within(course: &Course, left: u32, nurses: u32) -> u64
     requires some { 0 < nurses }
     requires few { nurses ≤ most_nurses }
-    ensures fadeless { course.now.kicks ≡ true → result ≡ 0 }
-    ensures long { course.now.kicks ≡ false → 25 * nurses + spared course.now.searches
-        nurses ≤ left → TakesAllBut (spared course.now.searches nurses) left nurses result }
-    ensures short { course.now.kicks ≡ false → left < 25 * nurses + spared course.now.searches
-        nurses → TakesAllBut (course.now.searches / 2) left nurses result }
+    ensures fadeless { course.now.kicks_alone ≡ true → result ≡ 0 }
+    ensures long { course.now.kicks_alone ≡ false →
+        25 * nurses + spared course.now.searches nurses ≤ left →
+        TakesAllBut (spared course.now.searches nurses) left nurses result }
+    ensures short { course.now.kicks_alone ≡ false →
+        left < 25 * nurses + spared course.now.searches nurses →
+        TakesAllBut (course.now.searches / 2) left nurses result }
 {
-    if course.kicks {
+    if course.kicks_alone {
         return 0;
     }
     let spare = (course.searches / 100 * 3).max(10 * nurses);

@@ -13,7 +13,6 @@ ghost use Rattle.roster_polish.specs.declared.settle.Pass.TheVariants.{Changed, 
 ghost use Rattle.roster_polish.specs.Polished.{FitsPolish, IsGivenUp, first_run, first_searches, settling_searches};
 ghost use Rattle.roster_laws.specs.Settled.{HasBestRow};
 ghost use Rattle.roster_polish.specs.Settled.{IsSettled, Spends, extensions_of};
-ghost use Rattle.roster_polish.specs.Tries.{CanSearch};
 
 use crate::searches::Searches;
 use crate::space::PolishSpace;
@@ -27,7 +26,7 @@ use roster_state::Meter;
 #[derive(Clone, Copy)]
 pub(crate) struct Aim {
     pub(crate) first: usize,
-    pub(crate) most: u64,
+    pub(crate) penalty: u64,
     pub(crate) from: u16,
 }
 
@@ -83,34 +82,10 @@ pub(crate) fn settle_first<T: RowTables>(
     false
 }
 
-/// What `settle` does, with the workspace of a run's memory and what its last searches tell. The roster that is kept there stays.
-pub(crate) fn settle_in<T: RowTables>(
-    held: &mut Held,
-    aim: Aim,
-    searches: &mut Searches,
-    space: &mut PolishSpace<T>,
-    meter: &mut Meter,
-) -> bool
-    requires able { CanSearch held.old.case searches.old space.old meter.old }
-    ensures case { held.new.case ≡ held.old.case }
-    ensures kept { space.new.kept ≡ space.old.kept }
-    ensures settled { result ≡ true → IsSettled held.old.case aim.from held.new.roster }
-    ensures given_up { result ≡ false → IsGivenUp held.old.case aim.most searches.new.left
-        held.old.roster held.new.roster }
-    ensures frozen { FrozenDaysStay held.old.case aim.from held.old.roster held.new.roster }
-    ensures no_dearer { penalty held.old.case held.new.roster ≤ penalty held.old.case
-        held.old.roster }
-    ensures spends { Spends held.old.case meter.old searches.old.left meter.new searches.new.left }
-    ensures fits { FitsPolish held.old.case space.new }
-{
-    let PolishSpace { floor, last, .. } = space;
-    settle(held, aim, searches, &mut floor.rows.workspace, last, meter)
-}
-
 /// Makes steps until no nurse has a cheaper row, and says whether it came so far: first from a nurse on, then for all, pass by pass.
 /// Each search is one of those that are left. It gives up where none is left, or where the roster is still too far above the penalty
 /// that is to be reached.
-fn settle<T: RowTables>(
+pub(crate) fn settle<T: RowTables>(
     held: &mut Held,
     aim: Aim,
     searches: &mut Searches,
@@ -123,7 +98,7 @@ fn settle<T: RowTables>(
     requires room { meter.old + extensions_of held.old.case searches.old.left ≤ greatest_u64 }
     ensures case { held.new.case ≡ held.old.case }
     ensures settled { result ≡ true → IsSettled held.old.case aim.from held.new.roster }
-    ensures given_up { result ≡ false → IsGivenUp held.old.case aim.most searches.new.left
+    ensures given_up { result ≡ false → IsGivenUp held.old.case aim.penalty searches.new.left
         held.old.roster held.new.roster }
     ensures frozen { FrozenDaysStay held.old.case aim.from held.old.roster held.new.roster }
     ensures no_dearer { penalty held.old.case held.new.roster ≤ penalty held.old.case
@@ -142,7 +117,7 @@ fn settle<T: RowTables>(
         if first == 0 && end == Pass::Unchanged {
             return true;
         }
-        if end == Pass::Stopped || held.total() > aim.most.saturating_add(slack(pass)) {
+        if end == Pass::Stopped || held.total() > aim.penalty.saturating_add(slack(pass)) {
             return false;
         }
         first = 0;

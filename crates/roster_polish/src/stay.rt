@@ -7,7 +7,7 @@ ghost use Rattle.roster_laws.specs.FrozenDays.{FrozenDaysStay};
 ghost use Rattle.roster_polish.specs.Tries.{CanSearch, StaysNoDearer};
 
 use crate::searches::Searches;
-use crate::settle::{Aim, settle_in};
+use crate::settle::{Aim, settle};
 use crate::space::PolishSpace;
 use roster_case::Held;
 use roster_offers::RowTables;
@@ -24,13 +24,15 @@ pub(crate) fn stay_if_no_dearer<T: RowTables>(
 ) -> bool
     requires able { CanSearch held.old.case searches.old space.old meter.old }
     requires keeps { keeps_hard held.old.case space.old.kept ≡ true }
-    requires most { aim.most ≡ penalty held.old.case space.old.kept }
+    requires penalty { aim.penalty ≡ penalty held.old.case space.old.kept }
     requires frozen { FrozenDaysStay held.old.case aim.from space.old.kept held.old.roster }
     ensures tried { StaysNoDearer held.old.case aim.from space.old.kept held.new searches.old
         searches.new space.new meter.old meter.new result }
 {
-    let settled = settle_in(held, aim, searches, space, meter);
-    if settled && held.total() <= aim.most {
+    let PolishSpace { floor, last, .. } = space;
+    let workspace = &mut floor.rows.workspace;
+    let settled = settle(held, aim, searches, workspace, last, meter);
+    if settled && held.total() <= aim.penalty {
         space.keep(held);
         true
     } else {

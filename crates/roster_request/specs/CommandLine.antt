@@ -132,7 +132,7 @@ name_of command.Sizes = codes "sizes"
 name_of (command.Best nurse from keep) = codes "best"
 name_of (command.Improve rounds from keep) = codes "improve"
 name_of (command.Bound rounds nodes from keep) = codes "bound"
-name_of (command.Polish searches seed from kicks keep) = codes "polish"
+name_of (command.Polish searches seed from alone keep) = codes "polish"
 name_of (command.Plan searches seed from keep) = codes "plan"
 name_of (command.Who day shift skill from) = codes "who"
 
@@ -233,8 +233,8 @@ HasArguments (command.Best nurse from keep) rows = (first_of (codes "nurse") row
 HasArguments (command.Improve rounds from keep) rows = IsNumberOf (codes "rounds") rounds rows × IsNumberOf (codes "from") from rows × IsNumberOf (codes "keep") keep rows
 HasArguments (command.Bound rounds nodes from keep) rows =
     IsNumberOf (codes "rounds") rounds rows × IsNumberOf (codes "nodes") nodes rows × IsNumberOf (codes "from") from rows × IsNumberOf (codes "keep") keep rows
-HasArguments (command.Polish searches seed from kicks keep) rows =
-    IsNumberIfGiven (codes "searches") searches rows × IsNumberOf (codes "seed") seed rows × IsNumberOf (codes "from") from rows × IsFlag (codes "kicks") kicks rows × IsNumberOf (codes "keep") keep rows
+HasArguments (command.Polish searches seed from alone keep) rows =
+    IsNumberIfGiven (codes "searches") searches rows × IsNumberOf (codes "seed") seed rows × IsNumberOf (codes "from") from rows × IsFlag (codes "kicks") alone rows × IsNumberOf (codes "keep") keep rows
 HasArguments (command.Plan searches seed from keep) rows = IsNumberIfGiven (codes "searches") searches rows × IsNumberOf (codes "seed") seed rows × IsNumberOf (codes "from") from rows × IsNumberOf (codes "keep") keep rows
 HasArguments (command.Who day shift skill from) rows =
     (first_of (codes "day") rows ≡ Some (string_bytes day)) × (first_of (codes "shift") rows ≡ Some (string_bytes shift)) × (first_of (codes "skill") rows ≡ option_map string_bytes skill) × IsNumberOf (codes "from") from rows
@@ -245,7 +245,7 @@ abbrev pub IsInRange : Command → Type 0
 IsInRange (command.Best nurse from keep) = (from ≤ most_from) × (keep ≤ most_keep)
 IsInRange (command.Improve rounds from keep) = (rounds ≤ most_rounds) × (from ≤ most_from) × (keep ≤ most_keep)
 IsInRange (command.Bound rounds nodes from keep) = (rounds ≤ most_rounds) × (nodes ≤ most_nodes) × (from ≤ most_from) × (keep ≤ most_keep)
-IsInRange (command.Polish searches seed from kicks keep) = IfSome searches (λ n. n ≤ most_searches) × (from ≤ most_from) × (keep ≤ most_keep)
+IsInRange (command.Polish searches seed from alone keep) = IfSome searches (λ n. n ≤ most_searches) × (from ≤ most_from) × (keep ≤ most_keep)
 IsInRange (command.Plan searches seed from keep) = IfSome searches (λ n. n ≤ most_searches) × (from ≤ most_from) × (keep ≤ most_keep)
 IsInRange (command.Who day shift skill from) = from ≤ most_from
 IsInRange _ = Unit {0}

@@ -28,7 +28,7 @@ pub enum Command {
         from: u16,
         keep: u16,
     },
-    /// Writes a number that no roster costs less than: none that keeps the hard rules and the weeks before week `from` as they stand.
+    /// Writes a number that no roster costs less than: none that keeps the hard rules, the weeks before week `from` and fixed days.
     /// It is the last that rises in so many rounds, and then in so many partings of the rosters.
     Bound {
         rounds: u16,
@@ -36,14 +36,14 @@ pub enum Command {
         from: u16,
         keep: u16,
     },
-    /// Writes the solutions after a run that settles the roster, fades it, unless `kicks` asks for kicks alone, and then kicks nurses out
+    /// Writes the solutions after a run that settles the roster, fades it, unless kicks alone are asked for, and then kicks nurses out
     /// of their rows, again and again, as long as so many searches allow; where no number is given, the case says how many. The seed
     /// decides what each kick is, and in which order a fade takes the nurses. The weeks before week `from` stay as they are.
     Polish {
         searches: Option<u32>,
         seed: u32,
         from: u16,
-        kicks: bool,
+        kicks_alone: bool,
         keep: u16,
     },
     /// Looks for solutions that keep the hard rules, from whatever solutions it was given, and settles and polishes them as `Polish`

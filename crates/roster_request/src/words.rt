@@ -102,7 +102,7 @@ fn command_in(alloc: Global, name: &str, given: &ArgMatches<'_>) -> Result<Comma
             searches: searches_of(given),
             seed: seed_of(given),
             from: from_of(given),
-            kicks: kicks_of(given),
+            kicks_alone: kicks_alone_of(given),
             keep: keep_of(given),
         }),
         "plan" => Ok(Command::Plan {
@@ -184,7 +184,7 @@ fn seed_of(given: &ArgMatches<'_>) -> u32
 }
 
 /// Whether kicks alone are asked for.
-fn kicks_of(given: &ArgMatches<'_>) -> bool
+fn kicks_alone_of(given: &ArgMatches<'_>) -> bool
     ensures { IsFlag (codes "kicks") result (rows_of (found_of given.now)) }
 {
     given.get_flag(KICKS)

@@ -93,7 +93,7 @@ fn command_of(alloc: Global, name: &str) -> Result<Command, AllocError> {
             searches: Some(0),
             seed: 1,
             from: 0,
-            kicks: false,
+            kicks_alone: false,
             keep: 0,
         },
         "who" => Command::Who {

@@ -35,13 +35,18 @@ const END: &str = "settled 0\n";
 const FADED: &str = "start 70\nfade 0\nsettled 0\n";
 
 /// The status of a run over them by a seed, with kicks alone or with a fade, and what a log with so much room has then.
-fn run_by(alloc: Global, seed: u32, kicks: bool, room: usize) -> Result<(u8, Vec<u8>), AllocError> {
+fn run_by(
+    alloc: Global,
+    seed: u32,
+    kicks_alone: bool,
+    room: usize,
+) -> Result<(u8, Vec<u8>), AllocError> {
     let request = Request {
         command: Command::Polish {
-            searches: Some(if kicks { 300 } else { 100 }),
+            searches: Some(if kicks_alone { 300 } else { 100 }),
             seed,
             from: 0,
-            kicks,
+            kicks_alone,
             keep: 0,
         },
         files: Vec::new(alloc),

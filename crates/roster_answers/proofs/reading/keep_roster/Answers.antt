@@ -1,11 +1,10 @@
-use Rattle.std.proofs.Common.{◌≡◌, ◌∙◌, ap, true}
+use Rattle.std.proofs.Common.{◌∙◌, ap}
 use Rattle.roster_instance.specs.Meaning.{Meaning}
 use Rattle.roster_instance.specs.Rosters.{fits_case}
 use Rattle.roster_answers.proofs.AnswerLemmas.{fits_kept}
 use Rattle.roster_answers.proofs.reading.keep_roster.Goals as goal
 
-pub returns-in-Ok-clause-fitting : goal.returns-in-Ok-clause-fitting
-returns-in-Ok-clause-fitting c =
-    let parts = c.into_parts-bundle.result in
-    let fits : fits_case parts.1 parts.2 ≡ true = (λ i. fits_case (c.into_parts-bundle.ensures.case i) (c.into_parts-bundle.ensures.roster i)) ∙ c.requires.says.fitting in
-    ap (λ (m : Meaning). fits_case m parts.2) c.in-Ok.ensures ∙ fits_kept parts.1 parts.2 c.args.keep parts.2 fits
+pub invariant_of-result : goal.invariant_of-result
+invariant_of-result c =
+    let parts = c.into_parts-bundle in
+    record { fits = ap (λ (m : Meaning). fits_case m parts.result.2) c.in-Ok.ensures ∙ fits_kept parts.result.1 parts.result.2 c.args.keep parts.result.2 parts.ensures.fits }

@@ -57,7 +57,7 @@ returns-in-Bound g c =
 pub returns-in-Polish : goal.returns-in-Polish
 returns-in-Polish g c =
     let made = c.report_polish.ensures in
-    record { report = made.report; is = subst (λ x. IsReportIn x c.args.instance.case c.args.instance.roster made.report) (sym c.in-Polish.is) (subst (λ n. IsPolishReport n c.in-Polish.from c.in-Polish.kicks c.args.instance.case c.args.instance.roster made.report) c.searches_for.ensures made.is); ends = made.ends; logged = made.logged }
+    record { report = made.report; is = subst (λ x. IsReportIn x c.args.instance.case c.args.instance.roster made.report) (sym c.in-Polish.is) (subst (λ n. IsPolishReport n c.in-Polish.from c.in-Polish.kicks_alone c.args.instance.case c.args.instance.roster made.report) c.searches_for.ensures made.is); ends = made.ends; logged = made.logged }
 
 pub returns-in-Plan : goal.returns-in-Plan
 returns-in-Plan g c =

@@ -27,7 +27,7 @@ stay_if_no_dearer-requires g c =
         room = rw told.case (room_left k c.args.meter.now c.args.kicking.now.searches.left first.new.meter first.new.kicking.searches.left 18446744073709551615 told.spends c.requires.able.room);
       };
       keeps = rw (told.case, kept) c.keeps_rules.ensures.keeps;
-      most = c.total-most.ensures.total ∙ sym (λ i. penalty (told.case i) (kept i));
+      penalty = c.total-penalty.ensures.total ∙ sym (λ i. penalty (told.case i) (kept i));
       frozen = rw kept (subst (λ (m : Meaning). FrozenDaysStay m c.args.from c.args.held.now.roster first.new.held.roster) (sym told.case) told.frozen);
     }
 

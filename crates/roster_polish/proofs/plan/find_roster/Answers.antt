@@ -1,4 +1,4 @@
-use Rattle.std.proofs.Common.{◌≡◌, ◌∙◌, ◌≤◌, false, Option, ap, arith, is_some, not, subst, sym, true}
+use Rattle.std.proofs.Common.{◌≡◌, ◌∙◌, ◌≤◌, false, Option, ap, arith, is_some, not, subst, sym}
 use Rattle.roster_rules.specs.declared.fault.HardFault.{HardFault}
 use Rattle.std.proofs.lemmas.Bool.{true≢false}
 use Rattle.roster_instance.specs.Rosters.{Rows}

@@ -1,7 +1,6 @@
 use Rattle.std.proofs.Common.{◌≡◌, ◌-◌, ◌*◌, ◌/◌, ◌<◌, ℕ, ap, arith, mul_assoc, sym}
 use Rattle.std.proofs.Math.Nat.{div-mul-le_self, lt-div-mul-add, mul-div_cancel_left}
 use Rattle.roster_polish.specs.Fades.{TakesAllBut}
-use Rattle.roster_polish.proofs.run.passes_within.Goals as goal
 
 -- sixteen times as many passes as whole ones
 passes_of : (kept left nurses : ℕ) → 0 < nurses → TakesAllBut kept left nurses (16 * ((left - kept) / nurses))

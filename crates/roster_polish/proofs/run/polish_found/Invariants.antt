@@ -11,7 +11,7 @@ invariant-loop-kicks_before g l = record {
   case : l.held.case ≡ l.fn.held.case;
   kept : l.space.kept ≡ l.held.roster;
   frozen : FrozenDaysStay l.fn.held.case l.course.from l.fn.held.roster l.held.roster;
-  going : Underway g.W.Write.contents l.fn.held.case l.course.from l.fn.held.roster l.start l.course.kicks l.fn.log l.log l.kicks_before l.sent l.settled l.held.roster;
+  going : Underway g.W.Write.contents l.fn.held.case l.course.from l.fn.held.roster l.start l.course.kicks_alone l.fn.log l.log l.kicks_before l.sent l.settled l.held.roster;
   counted : l.meter + extensions_of l.fn.held.case l.kicking.searches.left ≤ l.fn.meter + extensions_of l.fn.held.case (l.course.searches + settling_searches l.fn.held.case l.course.from l.fn.held.roster);
   fits : FitsPolish l.fn.held.case l.space;
 }

@@ -1,7 +1,7 @@
 use Rattle.std.proofs.Common.{◌∙◌, codes}
 use Rattle.clap.specs.Words.{found_of}
 use Rattle.clap.proofs.WalkLemmas.{one_text-rows}
-use Rattle.roster_request.proofs.words.kicks_of.Goals as goal
+use Rattle.roster_request.proofs.words.kicks_alone_of.Goals as goal
 
 pub returns : goal.returns
 returns c =
